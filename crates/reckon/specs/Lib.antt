@@ -1,0 +1,5 @@
+pub mod Lists
+pub mod Numbers
+pub mod RootSearch
+pub mod Roots
+pub mod Tests
