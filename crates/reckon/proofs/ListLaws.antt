@@ -117,8 +117,8 @@ module _ (skipped : ℕ → Bool) (f : ℕ → ℕ) (old : List ℕ) where
     filled-store e {v} q =
         rw (add-one i)
         (ext-getD 0 _ _
-          (length-set (filled i skipped f old) i v ∙ (length-filled i skipped f old ∙ sym (length-filled (suc i) skipped f old)))
-          (λ k l. at k (omega (arith, length-set (filled i skipped f old) i v, length-filled i skipped f old, l)) (ℕ-discrete k i)))
+        (length-set (filled i skipped f old) i v ∙ (length-filled i skipped f old ∙ sym (length-filled (suc i) skipped f old)))
+        (λ k l. at k (omega (arith, length-set (filled i skipped f old) i v, length-filled i skipped f old, l)) (ℕ-discrete k i)))
       where
         at : (k : ℕ) → k < length old → Dec (k ≡ i) → getD (set (filled i skipped f old) i v) k 0 ≡ getD (filled (suc i) skipped f old) k 0
         at k l (yes z) =
@@ -132,11 +132,12 @@ module _ (skipped : ℕ → Bool) (f : ℕ → ℕ) (old : List ℕ) where
     filled-keep e =
         rw (add-one i)
         (ext-getD 0 _ _ (length-filled i skipped f old ∙ sym (length-filled (suc i) skipped f old))
-          (λ k l. at k (omega (arith, length-filled i skipped f old, l)) (ℕ-discrete k i)))
+        (λ k l. at k (omega (arith, length-filled i skipped f old, l)) (ℕ-discrete k i)))
       where
         here : (b : Bool) → skipped i ≡ b → getD (filled (suc i) skipped f old) i 0 ≡ getD old i 0
         here true s = filled-skipped (suc i) skipped f old i h s
         here false s = filled-in (suc i) skipped f old i h (omega arith) s ∙ sym (e s)
+
         at : (k : ℕ) → k < length old → Dec (k ≡ i) → getD (filled i skipped f old) k 0 ≡ getD (filled (suc i) skipped f old) k 0
         at k l (yes z) = rw z (filled-ahead ∙ sym (here (skipped i) refl))
         at k l (no z) = beside k l z
@@ -171,6 +172,7 @@ getD-joined (suc n) k f h i j a b = go (ℕ-discrete i n) (λ l. getD-joined n k
   where
     long : length (joined n f) ≡ k * n
     long = length-joined n k f h
+
     go : Dec (i ≡ n) → (i < n → getD (joined n f) (k * i + j) 0 ≡ getD (f i) j 0) → getD (joined n f ++ f n) (k * i + j) 0 ≡ getD (f i) j 0
     go (yes e) ih = rw e (subst (λ (m : ℕ). getD (joined n f ++ f n) (m + j) 0 ≡ getD (f n) j 0) long (getD-append-add (joined n f) (f n) j 0))
     go (no d) ih =
@@ -189,7 +191,7 @@ module _ (old : List ℕ) (a : ℕ) (new : List ℕ) (fits : a + length new ≤ 
   length-placed =
       length-append (take a old) (new ++ drop (length new) (drop a old))
       ∙ rw (head-long, length-append new (drop (length new) (drop a old)), length-drop (length new) (drop a old), length-drop a old)
-        (omega arith)
+      (omega arith)
 
   pub placed-before : (i : ℕ) → i < a → getD (placed old a new) i 0 ≡ getD old i 0
   unfolding placed

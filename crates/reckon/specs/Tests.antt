@@ -30,7 +30,6 @@ pub record Row : Type 0 where
   pub fine : Bool
 
 infix 70 _unless_
-
 abbrev pub _unless_ : ℕ → Bool → Row
 number unless fine = record { number = number; fine = fine }
 
