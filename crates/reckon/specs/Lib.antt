@@ -2,4 +2,6 @@ pub mod Lists
 pub mod Numbers
 pub mod RootSearch
 pub mod Roots
+pub mod Tables
 pub mod Tests
+pub mod Worked

@@ -2,4 +2,8 @@
 // The vocabulary of lists that every crate's definitions use stands in specs/Lists.antt, specs/Tests.antt.
 //
 //   numbers   lesser, greater, number, part
+//   roots     square_root, cube_root
+//   tables    rain_fine, inflow_fine, rain_by, inflow_by, rain_added, inflow_added
 pub mod numbers;
+pub mod roots;
+pub mod tables;

@@ -1,0 +1,106 @@
+-- Document 01, "Units and ranges": the tables of rain and of inflow, and what they have given by a clock.
+-- Assumes nothing.
+use mathlib.Core.Path.{_≡_}
+use mathlib.Core.Bool.{Bool, true, _&&_}
+use mathlib.Core.List.{List, [], _∷_}
+use Prim.Native.Nat.{ℕ, _+_, _-_, _*_, _/_, _%_, _≤_, _<_, min}
+use lib.Dec.{eqb, leb}
+use lib.ListN.{length, getD}
+use Rattle.reckon.specs.Tests.{pick, every, allBelow}
+use Rattle.reckon.specs.Lists.{sumBelow}
+use Rattle.reckon.specs.declared.tables.Kind.{Kind}
+
+-- "Rain rows: from, to, rate": "µm per hour, 0 to 1,000,000"
+abbrev pub rainKind : Kind
+rainKind = record { width = 3; lead = 0; most = 1_000_000 }
+
+-- "Inflow rows: row, column, from, to, litres": "litres per second, 0 to 100,000"
+abbrev pub inflowKind : Kind
+inflowKind = record { width = 5; lead = 2; most = 100_000 }
+
+-- "clock, table times: ms, 0 to 604,800,000"
+abbrev pub lastClock : ℕ
+lastClock = 604_800_000
+
+-- "At most 64 rows of each"
+abbrev pub mostRows : ℕ
+mostRows = 64
+
+-- the ms of an hour
+abbrev pub hour : ℕ
+hour = 3_600_000
+
+-- where row j's from stands; its to and its amount follow
+abbrev pub rowStart : Kind → ℕ → ℕ
+rowStart k j = k .width * j + k .lead
+
+-- "A row has run by clock t for max(0, min(t, to) − from) ms" (a difference below 0 is 0)
+abbrev pub ran : ℕ → ℕ → ℕ → ℕ
+ran from to t = min t to - from
+
+-- amount·time run, of the row whose from, to and amount stand at a place
+unfoldable pub rowGives : List ℕ → ℕ → ℕ → ℕ
+rowGives rows at t = getD rows (at + 2) 0 * ran (getD rows at 0) (getD rows (at + 1) 0) t
+
+-- "overlapping rows add": the sum over the rows that count
+unfoldable pub given : Kind → (ℕ → Bool) → List ℕ → ℕ → ℕ
+given k counts rows t = sumBelow (length rows / k .width) (λ j. pick (counts j) (rowGives rows (rowStart k j) t) 0)
+
+-- "Rain by clock t: sum of rate·time run, / 3,600,000"
+unfoldable pub rainBy : List ℕ → ℕ → ℕ
+rainBy rows t = given rainKind (λ j. true) rows t / hour
+
+-- the inflow row j is for the square at row r, column c
+unfoldable pub onSquare : List ℕ → ℕ → ℕ → ℕ → Bool
+onSquare rows r c j = eqb (getD rows (5 * j) 0) r && eqb (getD rows (5 * j + 1) 0) c
+
+-- "Inflow by t on a square: sum of litres·time run, / D²"
+unfoldable pub inflowBy : List ℕ → ℕ → ℕ → ℕ → ℕ → ℕ
+inflowBy rows r c side t = given inflowKind (onSquare rows r c) rows t / (side * side)
+
+-- "What a step adds is the amount by its end less the amount by its start"
+abbrev pub rainAdded : List ℕ → ℕ → ℕ → ℕ
+rainAdded rows start end = rainBy rows end - rainBy rows start
+
+abbrev pub inflowAdded : List ℕ → ℕ → ℕ → ℕ → ℕ → ℕ → ℕ
+inflowAdded rows r c side start end = inflowBy rows r c side end - inflowBy rows r c side start
+
+-- ---- refusal 4, but for the square of an inflow row: "odd length (3s, 5s), over 64 rows, a value out of range, from > to"
+
+unfoldable pub rowFine : ℕ → List ℕ → ℕ → Bool
+rowFine most rows at =
+    every (leb (getD rows at 0) (getD rows (at + 1) 0) ∷ leb (getD rows (at + 1) 0) lastClock ∷ leb (getD rows (at + 2) 0) most ∷ [])
+
+unfoldable pub tableFine : Kind → List ℕ → Bool
+tableFine k rows =
+    every
+    (eqb (length rows % k .width) 0
+    ∷ leb (length rows / k .width) mostRows
+    ∷ allBelow (length rows / k .width) (λ j. rowFine (k .most) rows (rowStart k j))
+    ∷ [])
+
+-- ---- what is asked of a table, and what the public functions give
+
+-- few enough rows, amounts and clock in range: what a table that passes its test meets (`fine-fits`)
+pub record Fits (k : Kind) (rows : List ℕ) (t : ℕ) : Type 0 where
+  pub few : length rows / k .width ≤ mostRows
+  pub amounts : (j : ℕ) → j < length rows / k .width → getD rows (rowStart k j + 2) 0 ≤ k .most
+  pub clock : t ≤ lastClock
+
+abbrev pub RainFine : List ℕ → Bool → Type 0
+RainFine rows r = r ≡ tableFine rainKind rows
+
+abbrev pub InflowFine : List ℕ → Bool → Type 0
+InflowFine rows r = r ≡ tableFine inflowKind rows
+
+abbrev pub RainBy : List ℕ → ℕ → ℕ → Type 0
+RainBy rows t r = r ≡ rainBy rows t
+
+abbrev pub InflowBy : List ℕ → ℕ → ℕ → ℕ → ℕ → ℕ → Type 0
+InflowBy rows r c side t x = x ≡ inflowBy rows r c side t
+
+abbrev pub RainAdded : List ℕ → ℕ → ℕ → ℕ → Type 0
+RainAdded rows start end r = r ≡ rainAdded rows start end
+
+abbrev pub InflowAdded : List ℕ → ℕ → ℕ → ℕ → ℕ → ℕ → ℕ → Type 0
+InflowAdded rows r c side start end x = x ≡ inflowAdded rows r c side start end

@@ -1,0 +1,166 @@
+// What a table of rain or of inflow has given by a clock, and whether a table is in range.
+// Rain rows: from, to, rate. Inflow rows: row, column, from, to, litres.
+use crate::numbers::lesser;
+use crate::numbers::number;
+ghost use mathlib.Core.Path.{_≡_};
+ghost use Prim.Native.Nat.{_+_, _*_, _/_, _≤_, _<_};
+ghost use lib.ListN.{length, getD};
+ghost use Rattle.reckon.specs.Tests.{pick};
+ghost use Rattle.reckon.specs.Tables.{rainKind, inflowKind, ran, rowStart, rowGives, onSquare, rowFine, tableFine, Fits, RainFine, InflowFine, RainBy, InflowBy, RainAdded, InflowAdded};
+
+// A kind of table: how many numbers a row has, how many of them stand before its from, the most that its last may be.
+pub struct Kind {
+    pub width: usize,
+    pub lead: usize,
+    pub most: u64,
+}
+
+const RAIN: Kind = Kind {
+    width: 3,
+    lead: 0,
+    most: 1_000_000,
+};
+
+const INFLOW: Kind = Kind {
+    width: 5,
+    lead: 2,
+    most: 100_000,
+};
+
+const MOST_ROWS: usize = 64;
+
+const LAST_CLOCK: u64 = 604_800_000;
+
+const HOUR: u64 = 3_600_000;
+
+// How long a row has run by clock t.
+fn row_ran(from: u64, to: u64, t: u64) -> u64
+    ensures { λ r. ⌜ r ≡ ran from to t ⌝ }
+{
+    let end = lesser(t, to);
+    if from < end { end - from } else { 0 }
+}
+
+// What the row whose from, to and amount stand at a place has given by clock t.
+fn row_gives(rows: &[u32], at: usize, t: u64) -> u64
+    requires { ⌜ (at + 2 < length (now rows)) × (getD (now rows) (at + 2) 0 ≤ 1000000) × (t ≤ 604800000) ⌝ }
+    ensures { λ r. ⌜ r ≡ rowGives (now (rows .entry)) at t ⌝ }
+{
+    let from = number(rows, at);
+    let to = number(rows, at + 1);
+    let amount = number(rows, at + 2);
+    amount * row_ran(from, to, t)
+}
+
+// Rain by clock t, in µm.
+pub fn rain_by(rows: &[u32], t: u64) -> u64
+    requires { ⌜ Fits rainKind (now rows) t ⌝ }
+    ensures { λ r. ⌜ RainBy (now (rows .entry)) t r ⌝ }
+{
+    let n = rows.len() / 3;
+    let mut sum: u64 = 0;
+    let mut j: usize = 0;
+    while j < n {
+        sum += row_gives(rows, 3 * j, t);
+        j += 1;
+    }
+    sum / HOUR
+}
+
+// What row j of an inflow table adds to the sum of the square at row r, column c.
+fn inflow_row(rows: &[u32], j: usize, r: u64, c: u64, t: u64) -> u64
+    requires { ⌜ (j < length (now rows) / 5) × Fits inflowKind (now rows) t ⌝ }
+    ensures { λ x. ⌜ x ≡ pick (onSquare (now (rows .entry)) r c j) (rowGives (now (rows .entry)) (rowStart inflowKind j) t) 0 ⌝ }
+{
+    if number(rows, 5 * j) != r {
+        return 0;
+    }
+    if number(rows, 5 * j + 1) != c {
+        return 0;
+    }
+    row_gives(rows, 5 * j + 2, t)
+}
+
+// Inflow by clock t on the square at row r, column c, in µm over a square of the given side.
+pub fn inflow_by(rows: &[u32], r: u64, c: u64, side: u64, t: u64) -> u64
+    requires { ⌜ Fits inflowKind (now rows) t ⌝ }
+    requires { ⌜ (0 < side) × (side ≤ 100) ⌝ }
+    ensures { λ x. ⌜ InflowBy (now (rows .entry)) r c side t x ⌝ }
+{
+    let n = rows.len() / 5;
+    let mut sum: u64 = 0;
+    let mut j: usize = 0;
+    while j < n {
+        sum += inflow_row(rows, j, r, c, t);
+        j += 1;
+    }
+    sum / (side * side)
+}
+
+// What rain adds between two clocks.
+pub fn rain_added(rows: &[u32], start: u64, end: u64) -> u64
+    requires { ⌜ Fits rainKind (now rows) end ⌝ }
+    requires { ⌜ start ≤ end ⌝ }
+    ensures { λ r. ⌜ RainAdded (now (rows .entry)) start end r ⌝ }
+{
+    rain_by(rows, end) - rain_by(rows, start)
+}
+
+// What inflow adds between two clocks on the square at row r, column c.
+pub fn inflow_added(rows: &[u32], r: u64, c: u64, side: u64, start: u64, end: u64) -> u64
+    requires { ⌜ Fits inflowKind (now rows) end ⌝ }
+    requires { ⌜ (start ≤ end) × (0 < side) × (side ≤ 100) ⌝ }
+    ensures { λ x. ⌜ InflowAdded (now (rows .entry)) r c side start end x ⌝ }
+{
+    inflow_by(rows, r, c, side, end) - inflow_by(rows, r, c, side, start)
+}
+
+// The row whose from, to and amount stand at a place is in range.
+fn row_fine(most: u64, rows: &[u32], at: usize) -> bool
+    requires { ⌜ at + 2 < length (now rows) ⌝ }
+    ensures { λ r. ⌜ r ≡ rowFine most (now (rows .entry)) at ⌝ }
+{
+    let to = number(rows, at + 1);
+    if to < number(rows, at) {
+        return false;
+    }
+    if LAST_CLOCK < to {
+        return false;
+    }
+    number(rows, at + 2) <= most
+}
+
+// Whole rows, at most 64 of them, each in range.
+fn table_fine(kind: Kind, rows: &[u32]) -> bool
+    requires { ⌜ (kind .lead + 3 ≡ kind .width) × (kind .width ≤ 5) ⌝ }
+    ensures { λ r. ⌜ r ≡ tableFine kind (now (rows .entry)) ⌝ }
+{
+    let width = kind.width;
+    let n = rows.len() / width;
+    if rows.len() % width != 0 {
+        return false;
+    }
+    if MOST_ROWS < n {
+        return false;
+    }
+    let mut j: usize = 0;
+    while j < n {
+        if !row_fine(kind.most, rows, width * j + kind.lead) {
+            return false;
+        }
+        j += 1;
+    }
+    true
+}
+
+pub fn rain_fine(rows: &[u32]) -> bool
+    ensures { λ r. ⌜ RainFine (now (rows .entry)) r ⌝ }
+{
+    table_fine(RAIN, rows)
+}
+
+pub fn inflow_fine(rows: &[u32]) -> bool
+    ensures { λ r. ⌜ InflowFine (now (rows .entry)) r ⌝ }
+{
+    table_fine(INFLOW, rows)
+}
