@@ -92,6 +92,12 @@ root-over p b a h =
     let x = pow-cancel p (lt-of-le-of-lt h (a .high)) in
     omega arith
 
+-- a greater number has no lesser root
+pub root-mono : {p n m r s : ℕ} → Root p n r → Root p m s → n ≤ m → r ≤ s
+root-mono {p} a b h =
+    let x = pow-cancel p (lt-of-le-of-lt (le-trans (a .low) h) (b .high)) in
+    omega arith
+
 -- ---- the number that computes is the root
 
 digits-right : (p n k r : ℕ) → r ^ p ≤ n → n < (r + 2 ^ k) ^ p → Root p n (rootFrom p n k r)

@@ -1,0 +1,4 @@
+pub mod LengthLaws
+pub mod RuleLaws
+pub mod WeighingLaws
+pub mod WorkedSquares

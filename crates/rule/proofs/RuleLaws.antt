@@ -1,0 +1,49 @@
+-- The tests of the rules and of one square, as facts.
+-- Assumes nothing.
+use mathlib.Core.Path.{_≡_, refl, sym, _∙_}
+use mathlib.Core.Bool.{Bool, true, false}
+use mathlib.Core.List.{List, [], _∷_}
+use Prim.Native.Nat.{ℕ, _≤_, _<_}
+use lib.Dec.{leb}
+use borrow.Author.Tests.{leb-true, le-leb, lt-leb}
+use Rattle.reckon.specs.Tests.{every}
+use Rattle.reckon.proofs.TestLaws.{every-each, every-fails}
+use Rattle.rule.specs.Rules.{mostSide, mostBed, mostDepth, mostRoughness, mostTolerance, mostLength, mostUpdate, sideFine, groundFine, waterFine, rulesFine, RulesInRange, GroundInRange, WaterInRange}
+use Rattle.rule.specs.declared.rules.Rules.{Rules}
+
+pub rules-are : (r : Rules) → sideFine r ≡ true → rulesFine r ≡ true → RulesInRange r
+unfolding sideFine rulesFine
+rules-are r a b =
+    let s = every-each (leb 1 (r .«square_side») ∷ leb (r .«square_side») mostSide ∷ []) a in
+    let t =
+    every-each
+    (leb (r .tolerance) mostTolerance
+    ∷ leb 1 (r .shortest)
+    ∷ leb (r .shortest) (r .longest)
+    ∷ leb (r .longest) mostLength
+    ∷ leb 1 (r .update)
+    ∷ leb (r .update) mostUpdate
+    ∷ [])
+    b in
+    record {
+      side-from = leb-true _ _ (s .0);
+      side-to = leb-true _ _ (s .1 .0);
+      tolerance-to = leb-true _ _ (t .0);
+      shortest-from = leb-true _ _ (t .1 .0);
+      shortest-to = leb-true _ _ (t .1 .1 .0);
+      longest-to = leb-true _ _ (t .1 .1 .1 .0);
+      update-from = leb-true _ _ (t .1 .1 .1 .1 .0);
+      update-to = leb-true _ _ (t .1 .1 .1 .1 .1 .0);
+    }
+
+pub ground-is : (bed k : ℕ) → groundFine bed k ≡ true → GroundInRange bed k
+unfolding groundFine
+ground-is bed k e =
+    let t = every-each (leb bed mostBed ∷ leb 1 k ∷ leb k mostRoughness ∷ []) e in
+    record { bed-to = leb-true _ _ (t .0); roughness-from = leb-true _ _ (t .1 .0); roughness-to = leb-true _ _ (t .1 .1 .0) }
+
+pub water-is : (d p : ℕ) → waterFine d p ≡ true → WaterInRange d p
+unfolding waterFine
+water-is d p e =
+    let t = every-each (leb d mostDepth ∷ leb p mostDepth ∷ []) e in
+    record { depth-to = leb-true _ _ (t .0); last-to = leb-true _ _ (t .1 .0) }

@@ -1,0 +1,5 @@
+pub mod Drops
+pub mod Length
+pub mod Rules
+pub mod Weighing
+pub mod Worked

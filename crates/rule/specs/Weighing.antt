@@ -1,0 +1,99 @@
+-- Document 01, "The step": what leaves one square through its four sides, from its depth d, its last leaving P, its roughness k,
+-- how long the step lasts (ms) and its four drops V for north, east, south and west. Divisions round down.
+-- Assumes nothing.
+use mathlib.Core.Path.{_≡_}
+use mathlib.Core.Bool.{Bool, _||_}
+use mathlib.Core.List.{List, [], _∷_}
+use Prim.Native.Nat.{ℕ, _+_, _*_, _/_, _≤_, min, max}
+use lib.Dec.{eqb}
+use lib.ListN.{getD}
+use Rattle.reckon.specs.Tests.{pick}
+use Rattle.reckon.specs.Roots.{rootOf}
+use Rattle.rule.specs.Rules.{mostDepth, mostRoughness, mostSide, mostLength}
+use Rattle.rule.specs.declared.rules.Rules.{Rules}
+
+-- the lesser of two drops that are positive, 0 where neither is
+unfoldable pub lesserPositive : ℕ → ℕ → ℕ
+lesserPositive a b = pick (eqb a 0) b (pick (eqb b 0) a (min a b))
+
+-- "let Vmin be the least positive drop"
+unfoldable pub leastDrop : List ℕ → ℕ
+leastDrop v = lesserPositive (lesserPositive (getD v 0 0) (getD v 1 0)) (lesserPositive (getD v 2 0) (getD v 3 0))
+
+-- "VM the greatest"
+unfoldable pub greatestDrop : List ℕ → ℕ
+greatestDrop v = max (max (getD v 0 0) (getD v 1 0)) (max (getD v 2 0) (getD v 3 0))
+
+-- "T the sum of the four plus Vmin"
+unfoldable pub dropSum : List ℕ → ℕ
+dropSum v = getD v 0 0 + getD v 1 0 + getD v 2 0 + getD v 3 0 + leastDrop v
+
+-- "h: the largest whole number with h³ ≤ d²"
+unfoldable pub heightOf : ℕ → ℕ
+heightOf d = rootOf 3 (d * d)
+
+-- "s: the largest with s² ≤ 100·VM / D (rounded down)"
+unfoldable pub slopeOf : Rules → ℕ → ℕ
+slopeOf r drop = rootOf 2 (100 * drop / r .«square_side»)
+
+-- "Critical speed, mm/s: the largest c with c² ≤ 981·d / 100"
+unfoldable pub criticalSpeed : ℕ → ℕ
+criticalSpeed d = rootOf 2 (981 * d / 100)
+
+-- "Manning speed: h·s / (10·k)"
+unfoldable pub manningSpeed : Rules → ℕ → ℕ → ℕ → ℕ
+manningSpeed r d k drop = heightOf d * slopeOf r drop / (10 * k)
+
+-- "v is the smaller"
+unfoldable pub speedOf : Rules → ℕ → ℕ → ℕ → ℕ
+speedOf r d k drop = min (criticalSpeed d) (manningSpeed r d k drop)
+
+-- "Most through the steepest side: m = v·Δt·d / (D·1,000,000)"
+unfoldable pub mostThrough : Rules → ℕ → ℕ → ℕ → ℕ → ℕ
+mostThrough r d k ms drop = speedOf r d k drop * ms * d / (r .«square_side» * 1_000_000)
+
+-- "Total: the smallest of d, m·T / VM, and Vmin + P"
+unfoldable pub totalOf : Rules → ℕ → ℕ → ℕ → ℕ → List ℕ → ℕ
+totalOf r d p k ms v = min d (min (mostThrough r d k ms (greatestDrop v) * dropSum v / greatestDrop v) (leastDrop v + p))
+
+-- "Through each side: total·V / T"
+unfoldable pub throughSides : ℕ → List ℕ → List ℕ
+throughSides total v =
+    (total * getD v 0 0 / dropSum v)
+    ∷ (total * getD v 1 0 / dropSum v)
+    ∷ (total * getD v 2 0 / dropSum v)
+    ∷ (total * getD v 3 0 / dropSum v)
+    ∷ []
+
+-- "If d = 0 or no drop is positive, nothing leaves. Otherwise .."
+unfoldable pub weighed : Rules → ℕ → ℕ → ℕ → ℕ → List ℕ → List ℕ
+weighed r d p k ms v = pick (eqb d 0 || eqb (greatestDrop v) 0) (0 ∷ 0 ∷ 0 ∷ 0 ∷ []) (throughSides (totalOf r d p k ms v) v)
+
+-- ---- what is asked, and what the public function gives
+
+-- no level is above the highest bed with the greatest depth on it
+abbrev pub mostDrop : ℕ
+mostDrop = 1_100_000_000
+
+pub record DropsInRange (v : List ℕ) : Type 0 where
+  pub north : getD v 0 0 ≤ mostDrop
+  pub east : getD v 1 0 ≤ mostDrop
+  pub south : getD v 2 0 ≤ mostDrop
+  pub west : getD v 3 0 ≤ mostDrop
+
+-- side, depth and roughness, as a speed or a candidate asks them
+pub record SquareInRange (r : Rules) (d k : ℕ) : Type 0 where
+  pub side-from : 1 ≤ r .«square_side»
+  pub side-to : r .«square_side» ≤ mostSide
+  pub depth-to : d ≤ mostDepth
+  pub roughness-from : 1 ≤ k
+  pub roughness-to : k ≤ mostRoughness
+
+pub record Weighable (r : Rules) (d p k ms : ℕ) (v : List ℕ) : Type 0 where
+  pub square : SquareInRange r d k
+  pub last-to : p ≤ mostDepth
+  pub lasts-to : ms ≤ mostLength
+  pub drops : DropsInRange v
+
+abbrev pub Weighs : Rules → ℕ → ℕ → ℕ → ℕ → List ℕ → List ℕ → Type 0
+Weighs rules d p k ms v r = r ≡ weighed rules d p k ms v

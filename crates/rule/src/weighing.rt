@@ -1,0 +1,155 @@
+// The weighing: what leaves one square through its four sides.
+use crate::rules::Rules;
+use reckon::numbers::greater;
+use reckon::numbers::lesser;
+use reckon::numbers::part;
+use reckon::roots::cube_root;
+use reckon::roots::square_root;
+ghost use mathlib.Core.Path.{_≡_};
+ghost use Prim.Native.Nat.{_*_, _/_, _<_, _≤_, min};
+ghost use Rattle.rule.specs.Rules.{mostDepth, mostLength};
+ghost use Rattle.rule.specs.Weighing.{lesserPositive, leastDrop, greatestDrop, dropSum, heightOf, slopeOf, criticalSpeed, speedOf, mostThrough, totalOf, throughSides, mostDrop, DropsInRange, SquareInRange, Weighable, Weighs};
+
+// The lesser of two drops that are positive, 0 where neither is.
+fn lesser_positive(a: u64, b: u64) -> u64
+    ensures { λ r. ⌜ r ≡ lesserPositive a b ⌝ }
+{
+    if a == 0 {
+        return b;
+    }
+    if b == 0 {
+        return a;
+    }
+    lesser(a, b)
+}
+
+pub(crate) fn least_drop(drops: [u64; 4]) -> u64
+    ensures { λ r. ⌜ r ≡ leastDrop drops ⌝ }
+{
+    lesser_positive(
+        lesser_positive(drops[0], drops[1]),
+        lesser_positive(drops[2], drops[3]),
+    )
+}
+
+fn greatest_drop(drops: [u64; 4]) -> u64
+    ensures { λ r. ⌜ r ≡ greatestDrop drops ⌝ }
+{
+    greater(greater(drops[0], drops[1]), greater(drops[2], drops[3]))
+}
+
+// The four, and the least again.
+fn drop_sum(drops: [u64; 4], least: u64) -> u64
+    requires { ⌜ DropsInRange drops ⌝ }
+    requires { ⌜ least ≡ leastDrop drops ⌝ }
+    ensures { λ r. ⌜ r ≡ dropSum drops ⌝ }
+{
+    drops[0] + drops[1] + drops[2] + drops[3] + least
+}
+
+pub(crate) fn height(depth: u64) -> u64
+    requires { ⌜ depth ≤ mostDepth ⌝ }
+    ensures { λ r. ⌜ r ≡ heightOf depth ⌝ }
+{
+    cube_root(depth * depth)
+}
+
+pub(crate) fn slope(rules: Rules, drop: u64) -> u64
+    requires { ⌜ (0 < rules .«square_side») × (drop ≤ mostDrop) ⌝ }
+    ensures { λ r. ⌜ r ≡ slopeOf rules drop ⌝ }
+{
+    square_root(100 * drop / rules.square_side)
+}
+
+fn critical_speed(depth: u64) -> u64
+    requires { ⌜ depth ≤ mostDepth ⌝ }
+    ensures { λ r. ⌜ r ≡ criticalSpeed depth ⌝ }
+{
+    square_root(981 * depth / 100)
+}
+
+// The smaller of critical and Manning speed, mm/s.
+fn speed(rules: Rules, depth: u64, roughness: u64, drop: u64) -> u64
+    requires { ⌜ (SquareInRange rules depth roughness) × (drop ≤ mostDrop) ⌝ }
+    ensures { λ r. ⌜ r ≡ speedOf rules depth roughness drop ⌝ }
+{
+    let manning = height(depth) * slope(rules, drop) / (10 * roughness);
+    lesser(critical_speed(depth), manning)
+}
+
+// The most through the steepest side, held to the depth: as it stands it passes 64 bits.
+fn most_held(rules: Rules, depth: u64, roughness: u64, lasts: u64, drop: u64) -> u64
+    requires { ⌜ (SquareInRange rules depth roughness) × (drop ≤ mostDrop) × (lasts ≤ mostLength) ⌝ }
+    ensures { λ r. ⌜ r ≡ min depth (mostThrough rules depth roughness lasts drop) ⌝ }
+{
+    let moved = speed(rules, depth, roughness, drop) * lasts;
+    part(depth, moved, rules.square_side * 1_000_000)
+}
+
+// All that leaves, where there is water and a drop.
+fn total(
+    rules: Rules,
+    depth: u64,
+    last: u64,
+    roughness: u64,
+    lasts: u64,
+    drops: [u64; 4],
+    least: u64,
+    sum: u64,
+) -> u64
+    requires { ⌜ Weighable rules depth last roughness lasts drops ⌝ }
+    requires { ⌜ (0 < greatestDrop drops) × (least ≡ leastDrop drops) × (sum ≡ dropSum drops) ⌝ }
+    ensures { λ r. ⌜ r ≡ totalOf rules depth last roughness lasts drops ⌝ }
+{
+    let steepest = greatest_drop(drops);
+    let by_speed = most_held(rules, depth, roughness, lasts, steepest) * sum / steepest;
+    lesser(depth, lesser(by_speed, least + last))
+}
+
+// One side's share of the total.
+fn through(total: u64, drop: u64, sum: u64) -> u64
+    requires { ⌜ (total ≤ mostDepth) × (drop ≤ mostDrop) × (0 < sum) ⌝ }
+    ensures { λ r. ⌜ r ≡ total * drop / sum ⌝ }
+{
+    if drop == 0 {
+        return 0;
+    }
+    total * drop / sum
+}
+
+fn through_sides(total: u64, drops: [u64; 4], sum: u64) -> [u64; 4]
+    requires { ⌜ DropsInRange drops ⌝ }
+    requires { ⌜ (total ≤ mostDepth) × (0 < sum) × (sum ≡ dropSum drops) ⌝ }
+    ensures { λ r. ⌜ r ≡ throughSides total drops ⌝ }
+{
+    [
+        through(total, drops[0], sum),
+        through(total, drops[1], sum),
+        through(total, drops[2], sum),
+        through(total, drops[3], sum),
+    ]
+}
+
+// What leaves through the four sides, north, east, south, west.
+pub fn weigh(
+    rules: Rules,
+    depth: u64,
+    last: u64,
+    roughness: u64,
+    lasts: u64,
+    drops: [u64; 4],
+) -> [u64; 4]
+    requires { ⌜ Weighable rules depth last roughness lasts drops ⌝ }
+    ensures { λ r. ⌜ Weighs rules depth last roughness lasts drops r ⌝ }
+{
+    if depth == 0 {
+        return [0, 0, 0, 0];
+    }
+    if greatest_drop(drops) == 0 {
+        return [0, 0, 0, 0];
+    }
+    let least = least_drop(drops);
+    let sum = drop_sum(drops, least);
+    let all = total(rules, depth, last, roughness, lasts, drops, least, sum);
+    through_sides(all, drops, sum)
+}
