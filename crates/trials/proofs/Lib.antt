@@ -1,0 +1,2 @@
+pub mod RingLaws
+pub mod RoomLaws
