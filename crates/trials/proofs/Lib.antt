@@ -1,2 +1,5 @@
+pub mod AloneLaws
 pub mod RingLaws
 pub mod RoomLaws
+pub mod Standing
+pub mod StepLaws
