@@ -3,14 +3,14 @@
 use mathlib.Core.Path.{_≡_, refl, sym, ap, ap₂, _∙_, subst}
 use mathlib.Core.Bool.{Bool, true}
 use mathlib.Core.List.{List, [], _∷_}
-use Prim.Native.Nat.{ℕ, zero, suc, _+_, _-_, _≤_, _<_, min}
+use Prim.Native.Nat.{ℕ, _-_, _<_, min}
 use native.Mathlib.Omega.{arith}
 use lib.ListN.{length}
-use Rattle.trials.specs.Ring.{slotAfter, keptAfter, ringFine}
+use Rattle.trials.specs.Ring.{slotAfter}
 use Rattle.trials.specs.Series.{Outcome, refused, done, andThen, Engine, State, fine, stepped, step, replay, Fresh}
 use Rattle.trials.specs.Owes.{Laws}
 use Rattle.trials.proofs.RingLaws.{Ring, ring-fine, after-below}
-use Rattle.trials.proofs.StepLaws.{not-done, Made, step-made, ring-after}
+use Rattle.trials.proofs.StepLaws.{not-done, Made, step-made}
 
 -- a take-back's look at a state
 abbrev pub lookAt : (E : Engine) → State E → ℕ

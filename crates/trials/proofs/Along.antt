@@ -3,7 +3,7 @@
 use mathlib.Core.Path.{_≡_, sym, subst}
 use mathlib.Core.Bool.{true}
 use mathlib.Core.List.{List, [], _∷_}
-use Rattle.trials.specs.Series.{Outcome, done, Engine, State, Call, start, series, replay, Fresh, Stands}
+use Rattle.trials.specs.Series.{done, Engine, State, Call, start, series, replay, Fresh, Stands}
 use Rattle.trials.specs.Owes.{Laws}
 use Rattle.trials.proofs.AloneLaws.{Last, last}
 use Rattle.trials.proofs.Standing.{never-made}

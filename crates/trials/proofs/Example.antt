@@ -1,16 +1,16 @@
 -- A counter that meets the laws, so that they are no empty promise, and document 01's case of K = 1 on it, computed.
 -- Assumes nothing.
-use mathlib.Core.Path.{_≡_, refl, sym, ap, _∙_}
+use mathlib.Core.Path.{_≡_, refl}
 use mathlib.Core.Bool.{Bool, true, false}
 use mathlib.Core.List.{List, [], _∷_}
-use Prim.Native.Nat.{ℕ, zero, suc, _+_, _-_, _/_, _≤_, _<_}
+use Prim.Native.Nat.{ℕ, _+_, _-_}
 use native.Mathlib.Omega.{arith}
 use lib.ListN.{length, getD}
 use Rattle.reckon.specs.Tests.{pick, every}
 use Rattle.reckon.specs.Lists.{placed}
 use Rattle.trials.specs.Ring.{slotsIn, slotAfter, slotBefore, ringFine}
 use Rattle.trials.specs.Room.{recordIn, storedIn}
-use Rattle.trials.specs.Series.{Outcome, refused, done, andThen, Engine, State, step, takeBack, Call, stepping, takingBack, series, start, Fresh, Stands}
+use Rattle.trials.specs.Series.{refused, done, andThen, Engine, State, step, takeBack, Call, stepping, takingBack, series, start, Fresh, Stands}
 use Rattle.trials.specs.Owes.{Laws}
 use Rattle.trials.proofs.RoomLaws.{slots-stored, read-stored, read-other}
 use Rattle.trials.proofs.StepLaws.{not-done}
@@ -54,15 +54,31 @@ counter-laws = record {
   unmake-made = λ {i} {v} {made} e. rw (counted true i v made e .is-it);
 }
 
--- a room for one record
+-- a fresh run with room for one record
 one-slot : State counter
 one-slot = record { seen = 5; room = 9 ∷ []; kept = 0; newest = 0 }
+
+fresh : Fresh counter one-slot
+unfolding one-slot
+fresh = record { kept-none = refl; newest-last = refl }
+
+-- so demand 3 holds of the counter
+counter-stands : (cs : List (Call counter)) → Stands counter one-slot (series counter cs (start counter one-slot))
+counter-stands = never-made counter counter-laws one-slot fresh
 
 -- "K = 1: step, step, take-back, take-back: the last gives 10"
 last-gives-10 : takeBack counter (series counter (stepping 7 ∷ stepping 3 ∷ takingBack ∷ []) (start counter one-slot) .at) ≡ refused 10
 unfolding one-slot series step takeBack andThen pick every placed recordIn slotAfter slotBefore ringFine
 last-gives-10 = refl
 
+-- and the first step still stands
 first-stands : series counter (stepping 7 ∷ stepping 3 ∷ takingBack ∷ takingBack ∷ []) (start counter one-slot) .at .seen ≡ 12
 unfolding one-slot series step takeBack andThen pick every placed recordIn slotAfter slotBefore ringFine
 first-stands = refl
+
+-- with room for two, both are taken back
+both-back :
+    series counter (stepping 7 ∷ stepping 3 ∷ takingBack ∷ takingBack ∷ [])
+    (start counter (record { seen = 5; room = 9 ∷ 9 ∷ []; kept = 0; newest = 1 })) .at .seen ≡ 5
+unfolding series step takeBack andThen pick every placed recordIn slotAfter slotBefore ringFine
+both-back = refl

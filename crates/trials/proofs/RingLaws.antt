@@ -1,19 +1,18 @@
 -- Laws of the ring: one slot back undoes one slot on, and fewer than K places back lies another slot.
 -- Assumes nothing.
-use mathlib.Core.Path.{_≡_, refl, sym, ap, _∙_, subst}
+use mathlib.Core.Path.{_≡_, refl, sym, _∙_}
 use mathlib.Core.Bool.{Bool, true, false}
 use mathlib.Core.List.{List, [], _∷_}
 use mathlib.Core.Logic.{_≢_}
-use Prim.Native.Nat.{ℕ, zero, suc, _+_, _-_, _*_, _≤_, _<_}
+use Prim.Native.Nat.{ℕ, zero, suc, _+_, _-_, _≤_, _<_}
 use native.Mathlib.Nat.{mul-comm}
 use native.Mathlib.Omega.{arith}
 use native.Mathlib.Decide.{decLe, decLt}
 use lib.Dec.{ltb, leb}
 use borrow.Author.Tests.{ltb-true, leb-true, lt-ltb, le-ltb, le-leb, lt-leb}
-use Rattle.reckon.specs.Tests.{pick}
 use Rattle.reckon.proofs.TestLaws.{pick-true, pick-false, every-each, each-every, every-fails}
 use Rattle.reckon.proofs.QuotientLaws.{part-within}
-use Rattle.trials.specs.Ring.{slotsIn, slotStart, slotAfter, slotBefore, slotAgo, ringFine}
+use Rattle.trials.specs.Ring.{slotsIn, slotStart, slotAfter, slotBefore, slotAgo, keptAfter, ringFine}
 
 -- ---- a slot of a room lies within it
 pub slot-within : (size : ℕ) {w numbers : ℕ} → 0 < size → w < slotsIn size numbers → slotStart size w + size ≤ numbers
@@ -100,6 +99,11 @@ pub record Ring (K kept newest : ℕ) : Type 0 where
   pub some : 0 < K
   pub kept-fits : kept ≤ K
   pub newest-below : newest < K
+
+-- they stay so after a step
+pub ring-after : {K kept newest : ℕ} → Ring K kept newest → Ring K (keptAfter K kept) (slotAfter K newest)
+ring-after {K} {kept} {newest} r =
+    record { some = r .some; kept-fits = omega arith; newest-below = after-below K newest (r .some) }
 
 module _ (K kept newest : ℕ) where
   abbrev tests : List Bool

@@ -2,15 +2,15 @@
 -- the records still kept: a step does the same to both, and a take-back reads the record that the last standing step wrote.
 -- Assumes nothing.
 use mathlib.Core.Path.{_≡_, refl, sym, ap, ap₂, _∙_, subst}
-use mathlib.Core.Bool.{Bool, true, false}
+use mathlib.Core.Bool.{true}
 use mathlib.Core.List.{List, [], _∷_}
 use mathlib.Core.Logic.{_≢_}
-use Prim.Native.Nat.{ℕ, zero, suc, _+_, _-_, _≤_, _<_, min, max}
+use Prim.Native.Nat.{ℕ, zero, suc, _+_, _-_, _≤_, _<_, max}
 use native.Mathlib.Decide.{decLt}
 use native.Mathlib.Omega.{arith}
 use lib.ListN.{length}
-use Rattle.trials.specs.Ring.{slotAfter, slotBefore, slotAgo, keptAfter, ringFine}
-use Rattle.trials.specs.Series.{Outcome, refused, done, andThen, Engine, State, fine, stepped, step, restored, fromRecord, looked, takeBack, Call, stepping, takingBack, running, run, Trail, start, older, afterStep, afterBack, repeat, called, series, replay, Fresh, shown, Stands}
+use Rattle.trials.specs.Ring.{slotAfter, slotBefore, slotAgo, keptAfter}
+use Rattle.trials.specs.Series.{Outcome, refused, done, andThen, Engine, State, fine, stepped, step, restored, looked, takeBack, Call, stepping, takingBack, running, run, Trail, start, older, afterStep, afterBack, repeat, called, series, replay, Fresh, shown, Stands}
 use Rattle.trials.specs.Owes.{Laws}
 use Rattle.trials.proofs.RingLaws.{Ring, ring-fine, none-fails, after-below, before-after, ago-none, ago-more, ago-below, ago-other}
 use Rattle.trials.proofs.StepLaws.{not-done, Made, step-made, back-made}

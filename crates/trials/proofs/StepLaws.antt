@@ -1,13 +1,13 @@
 -- One step and its take-back: the record of a step lies in the newest slot, and it gives back what was there.
 -- Assumes nothing.
-use mathlib.Core.Path.{_≡_, refl, sym, ap, _∙_, subst}
-use mathlib.Core.Bool.{Bool, true, false}
-use Prim.Native.Nat.{ℕ, zero, suc, _+_, _-_, _≤_, _<_, min}
+use mathlib.Core.Path.{_≡_, refl, sym, _∙_, subst}
+use mathlib.Core.Bool.{true}
+use Prim.Native.Nat.{ℕ, suc, _-_, _<_}
 use native.Mathlib.Omega.{arith}
-use Rattle.trials.specs.Ring.{slotAfter, slotBefore, keptAfter, ringFine}
-use Rattle.trials.specs.Series.{Outcome, refused, done, andThen, Engine, State, fine, stepped, step, restored, fromRecord, looked, takeBack}
+use Rattle.trials.specs.Ring.{slotAfter}
+use Rattle.trials.specs.Series.{Outcome, refused, done, andThen, Engine, State, fine, stepped, step, restored, takeBack}
 use Rattle.trials.specs.Owes.{Laws}
-use Rattle.trials.proofs.RingLaws.{Ring, fine-ring, ring-fine, after-below, before-after}
+use Rattle.trials.proofs.RingLaws.{Ring, fine-ring, ring-fine, ring-after, after-below, before-after}
 
 pub not-done : {A : Type 0} {n : ℕ} {a : A} → refused n ≡ done a → ⊥
 not-done e = let z : _≡_ {A = ℕ} 0 1 = cc in omega arith
@@ -33,11 +33,6 @@ module _ (E : Engine) (L : Laws E) where
       go (done m) q d =
           let ok : fine E s ≡ true = L .make-fine q in
           record { ring = fine-ring K (s .kept) (s .newest) ok; made = m; make-made = rw ok at q; is-stepped = cc }
-
-  -- the ring stays in range
-  pub ring-after : {K kept newest : ℕ} → Ring K kept newest → Ring K (keptAfter K kept) (slotAfter K newest)
-  ring-after {K} {kept} {newest} r =
-      record { some = r .some; kept-fits = omega arith; newest-below = after-below K newest (r .some) }
 
   -- where a step is kept, the look passes and the newest record gives an answer, a take-back is made
   pub back-made : (s : State E) (left : ℕ) (before : E .Seen) → Ring (E .slots (s .room)) (s .kept) (s .newest) → s .kept ≡ suc left

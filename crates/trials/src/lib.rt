@@ -7,7 +7,6 @@
 //   slot_before    the slot that is the newest after a take-back
 //   kept_after     how many records are kept after a step
 //   ring_fine      whether K, kept and newest are in range
-ghost use mathlib.Core.Path.{_≡_};
 ghost use Prim.Native.Nat.{_<_, _^_};
 ghost use Rattle.trials.specs.Ring.{slotStart, SlotsIn, SlotStart, SlotAfter, SlotBefore, KeptAfter, RingFine};
 
