@@ -1,10 +1,11 @@
 -- What every step that is made keeps holds all along a series, of the steps that stand: the run of these alone makes each of them.
 -- Assumes nothing.
-use mathlib.Core.Path.{_≡_, sym, subst}
+use mathlib.Core.Path.{_≡_, refl, sym, subst}
 use mathlib.Core.Bool.{true}
 use mathlib.Core.List.{List, [], _∷_}
 use Rattle.trials.specs.Series.{done, Engine, State, Call, start, series, replay, Fresh, Stands}
 use Rattle.trials.specs.Owes.{Laws}
+use Rattle.trials.proofs.StepLaws.{Made, seen-after}
 use Rattle.trials.proofs.AloneLaws.{Last, last}
 use Rattle.trials.proofs.Standing.{never-made}
 
@@ -18,8 +19,9 @@ module _ (E : Engine) (L : Laws E) (f : State E) (F : Fresh E f) (P : List (E .I
     along-alone [] t e = let q : f ≡ t = cc in subst (λ (x : State E). P [] (x .seen)) q at-first
     along-alone (i ∷ is) t e =
         let l : Last E L f F i is t = last E L f F i is t e in
-        subst (λ (x : State E). P (i ∷ is) (x .seen)) (sym (l .is-stepped))
-        (kept-by-a-step i is (l .before .seen) (l .made) (l .make-made) (along-alone is (l .before) (l .again-before)))
+        let M : Made E L i (l .before) t = l .last-made in
+        subst (λ (v : E .Seen). P (i ∷ is) v) (sym (seen-after E L (E .slots (l .before .room)) refl M))
+        (kept-by-a-step i is (l .before .seen) (M .made) (M .make-made) (along-alone is (l .before) (l .again-before)))
 
     pub along : (cs : List (Call E)) → P (series E cs (start E f) .standing) (series E cs (start E f) .at .seen)
     along cs =

@@ -4,17 +4,16 @@
 use mathlib.Core.Path.{_≡_, refl, sym, ap, ap₂, _∙_, subst}
 use mathlib.Core.Bool.{true}
 use mathlib.Core.List.{List, [], _∷_}
-use mathlib.Core.Logic.{_≢_}
 use Prim.Native.Nat.{ℕ, zero, suc, _+_, _-_, _≤_, _<_, max}
 use native.Mathlib.Decide.{decLt}
 use native.Mathlib.Omega.{arith}
 use lib.ListN.{length}
-use Rattle.trials.specs.Ring.{slotAfter, slotBefore, slotAgo, keptAfter}
+use Rattle.trials.specs.Ring.{slotAfter, slotBefore, slotAgo}
 use Rattle.trials.specs.Series.{Outcome, refused, done, andThen, Engine, State, fine, stepped, step, restored, looked, takeBack, Call, stepping, takingBack, running, run, Trail, start, older, afterStep, afterBack, repeat, called, series, replay, Fresh, shown, Stands}
 use Rattle.trials.specs.Owes.{Laws}
-use Rattle.trials.proofs.RingLaws.{Ring, ring-fine, none-fails, after-below, before-after, ago-none, ago-more, ago-below, ago-other}
-use Rattle.trials.proofs.StepLaws.{not-done, Made, step-made, back-made}
-use Rattle.trials.proofs.AloneLaws.{Alone, Last, alone, last, alone-ring, slots-next, lookAt, same-look}
+use Rattle.trials.proofs.RingLaws.{none-fails, ago-none, ago-more}
+use Rattle.trials.proofs.StepLaws.{not-done, RingOf, ring-of-fine, Made, step-made, made-step, some-slot, seen-after, newest-after, kept-after, slots-after, ring-made, before-newest, newest-record, older-record, back-made}
+use Rattle.trials.proofs.AloneLaws.{Alone, Last, alone, last, alone-ring, lookAt, same-look}
 
 module _ (E : Engine) (L : Laws E) (f : State E) (F : Fresh E f) where
   abbrev K : ℕ
@@ -36,48 +35,61 @@ module _ (E : Engine) (L : Laws E) (f : State E) (F : Fresh E f) where
 
   -- ---- a step
 
-  -- a record stored in the next slot of two rooms that agree on the newest k: they agree on the newest k + 1, up to K
-  records-step : (r : E .Record) (R S : E .Room) (n k : ℕ) → L .Fits r
-      → E .slots R ≡ K → E .slots S ≡ K → n < K → ((j : ℕ) → j < k → E .read R (slotAgo K n j) ≡ E .read S (slotAgo K n j))
-      → (j : ℕ) → j < keptAfter K k
-      → E .read (E .store R (slotAfter K n) r) (slotAgo K (slotAfter K n) j) ≡ E .read (E .store S (slotAfter K n) r) (slotAgo K (slotAfter K n) j)
-  records-step r R S n k e a s b h zero l =
-      let w : slotAfter K n < K = after-below K n (omega arith) in
-      rw (ago-none K (slotAfter K n)) (L .read-stored R (slotAfter K n) r e (rw a w) ∙ sym (L .read-stored S (slotAfter K n) r e (rw s w)))
-  records-step r R S n k e a s b h (suc j) l =
-      let w : slotAfter K n < K = after-below K n (omega arith) in
-      let u : slotAgo K (slotAfter K n) (suc j) < K = ago-below K (suc j) (slotAfter K n) w in
-      let d : slotAgo K (slotAfter K n) (suc j) ≢ slotAfter K n = ago-other K j (slotAfter K n) w (omega arith) in
-      let c : slotAgo K (slotAfter K n) (suc j) ≡ slotAgo K n j = ago-more K (slotAfter K n) j ∙ ap (λ (x : ℕ). slotAgo K x j) (before-after K n b) in
-      L .read-other R (slotAfter K n) (slotAgo K (slotAfter K n) (suc j)) r e (rw a w) (rw a u) d
-      ∙ (ap (E .read R) c ∙ (h j (omega arith) ∙ (sym (ap (E .read S) c)
-      ∙ sym (L .read-other S (slotAfter K n) (slotAgo K (slotAfter K n) (suc j)) r e (rw s w) (rw s u) d))))
-
-  step-case : (i : E .Inputs) (s t : State E) (is : List (E .Inputs)) (peak : ℕ) → Same s is peak → Made E L i s t
-      → Same t (i ∷ is) (max peak (length is + 1))
-  unfolding replay step andThen
+  step-case : (i : E .Inputs) (s t : State E) (is : List (E .Inputs)) (peak : ℕ) → Same s is peak → Made E L i s t →
+      Same t (i ∷ is) (max peak (length is + 1))
+  unfolding replay andThen
   step-case i s t is peak I M =
-      let a : State E = I .run-alone in
-      let A : Alone E L f F is a = alone E L f F is a (I .again) in
-      let m : E .Seen × E .Record = M .made in
-      let pos : 0 < K = subst (λ (k : ℕ). 0 < k) (I .same-slots) (M .ring .some) in
-      let below : s .newest < K = rw (I .same-newest) (A .newest-below pos) in
-      let ok : fine E a ≡ true = ring-fine (E .slots (a .room)) (a .kept) (a .newest) (alone-ring E L f F A pos) in
-      let made-alone : E .make (fine E a) i (a .seen) ≡ done m = rw (ok, ← I .same-seen) (M .make-made) in
-      let is-t : t ≡ stepped E K s m = subst (λ (k : ℕ). t ≡ stepped E k s m) (I .same-slots) (M .is-stepped) in
-      subst (λ (x : State E). Same x (i ∷ is) (max peak (length is + 1))) (sym is-t)
-      (record {
-        run-alone = stepped E K a m;
-        again = rw (I .again, made-alone, A .same-slots);
-        same-seen = refl;
-        same-newest = ap (slotAfter K) (I .same-newest);
-        same-slots = slots-next E L f F (s .room) (s .newest) (m .1) (L .made-fits (M .make-made)) (I .same-slots) pos;
-        kept-is = omega arith;
+      record {
+        run-alone = u;
+        again = rw (I .again) (made-step E L i a u N);
+        same-seen = seen-after E L K slots-s M ∙ sym (seen-after E L K slots-a N);
+        same-newest = newest;
+        same-slots = slots-after E L K slots-s M;
+        kept-is = omega (arith, kept-after E L K slots-s M, I .kept-is, I .peak-high);
         peak-high = omega arith;
-        same-records = λ j h. subst (λ (n : ℕ). E .read (E .store (s .room) (slotAfter K (s .newest)) (m .1)) (slotAgo K (slotAfter K (s .newest)) j)
-            ≡ E .read (E .store (a .room) (slotAfter K n) (m .1)) (slotAgo K (slotAfter K (s .newest)) j)) (I .same-newest)
-            (records-step (m .1) (s .room) (a .room) (s .newest) (s .kept) (L .made-fits (M .make-made)) (I .same-slots) (A .same-slots) below (I .same-records) j h);
-      })
+        same-records = records;
+      }
+    where
+      a : State E
+      a = I .run-alone
+
+      A : Alone E L f F is a
+      A = alone E L f F is a (I .again)
+
+      slots-s : E .slots (s .room) ≡ K
+      slots-s = I .same-slots
+
+      slots-a : E .slots (a .room) ≡ K
+      slots-a = A .same-slots
+
+      -- the run alone makes the step too
+      u : State E
+      u = stepped E (E .slots (a .room)) a (M .made)
+
+      N : Made E L i a u
+      N = record {
+        ring = alone-ring E L f F A (some-slot E L K slots-s M);
+        made = M .made;
+        make-made = rw (← I .same-seen) (M .make-made);
+        is-stepped = refl;
+      }
+
+      newest : t .newest ≡ u .newest
+      newest = newest-after E L K slots-s M ∙ (ap (slotAfter K) (I .same-newest) ∙ sym (newest-after E L K slots-a N))
+
+      records : (j : ℕ) → j < t .kept → E .read (t .room) (slotAgo K (t .newest) j) ≡ E .read (u .room) (slotAgo K (t .newest) j)
+      records zero h =
+          rw (ago-none K (t .newest))
+          (newest-record E L K slots-s M ∙ (sym (newest-record E L K slots-a N) ∙ ap (E .read (u .room)) (sym newest)))
+      records (suc j) h =
+          let more : suc j < K = omega (arith, kept-after E L K slots-s M) in
+          let here : slotAgo K (t .newest) (suc j) ≡ slotAgo K (s .newest) j =
+          ago-more K (t .newest) j ∙ ap (λ (n : ℕ). slotAgo K n j) (before-newest E L K slots-s M) in
+          let there : slotAgo K (a .newest) j ≡ slotAgo K (s .newest) j = ap (λ (n : ℕ). slotAgo K n j) (sym (I .same-newest)) in
+          rw here
+          (older-record E L K slots-s M j more
+          ∙ (I .same-records j (omega (arith, kept-after E L K slots-s M))
+          ∙ (ap (E .read (a .room)) (sym there) ∙ (sym (older-record E L K slots-a N j more) ∙ ap (E .read (u .room)) there))))
 
   step-good : (i : E .Inputs) (x : Trail E) → Good x → Good (afterStep E i x (step E i (x .at)))
   step-good i x I = go (step E i (x .at)) refl
@@ -94,49 +106,70 @@ module _ (E : Engine) (L : Laws E) (f : State E) (F : Fresh E f) where
     is-made : takeBack E s ≡ done (restored E K s left old)
     then-same : Same (restored E K s left old) is peak
 
-  back-case : (s : State E) (left : ℕ) (i : E .Inputs) (is : List (E .Inputs)) (peak : ℕ) → s .kept ≡ suc left → Same s (i ∷ is) peak → Back s left is peak
+  back-case : (s : State E) (left : ℕ) (i : E .Inputs) (is : List (E .Inputs)) (peak : ℕ) → s .kept ≡ suc left → Same s (i ∷ is) peak →
+      Back s left is peak
   back-case s left i is peak e I =
-      let t : State E = I .run-alone in
-      let l : Last E L f F i is t = last E L f F i is t (I .again) in
-      let b : State E = l .before in
-      let m : E .Seen × E .Record = l .made in
-      let A : Alone E L f F is b = l .alone-before in
-      let w : ℕ = slotAfter K (b .newest) in
-      let fits : L .Fits (m .1) = L .made-fits (l .make-made) in
-      let below : w < K = after-below K (b .newest) (l .some) in
-      let below-b : w < E .slots (b .room) = rw (A .same-slots) below in
-      let newest-is : s .newest ≡ w = I .same-newest ∙ ap (λ (z : State E). z .newest) (l .is-stepped) in
-      let seen-is : s .seen ≡ m .0 = I .same-seen ∙ ap (λ (z : State E). z .seen) (l .is-stepped) in
-      let room-is : t .room ≡ E .store (b .room) w (m .1) = ap (λ (z : State E). z .room) (l .is-stepped) in
-      let before-is : slotBefore K (s .newest) ≡ b .newest = ap (slotBefore K) newest-is ∙ before-after K (b .newest) (A .newest-below (l .some)) in
-      let there : (j : ℕ) → E .read (t .room) (slotAgo K (s .newest) j) ≡ E .read (E .store (b .room) w (m .1)) (slotAgo K w j) =
-      λ j. ap (λ (R : E .Room). E .read R (slotAgo K (s .newest) j)) room-is ∙ ap (λ (n : ℕ). E .read (E .store (b .room) w (m .1)) (slotAgo K n j)) newest-is in
-      let reads : E .read (s .room) (s .newest) ≡ m .1 =
-      ap (E .read (s .room)) (sym (ago-none K (s .newest)))
-      ∙ (I .same-records 0 (omega arith) ∙ (there 0 ∙ (ap (E .read (E .store (b .room) w (m .1))) (ago-none K w) ∙ L .read-stored (b .room) w (m .1) fits below-b))) in
-      let ring : Ring (E .slots (s .room)) (s .kept) (s .newest) =
-      rw (I .same-slots) (record { some = l .some; kept-fits = omega arith; newest-below = rw newest-is below }) in
       record {
         old = b .seen;
         is-made =
             subst (λ (k : ℕ). takeBack E s ≡ done (restored E k s left (b .seen))) (I .same-slots)
-            (back-made E L s left (b .seen) ring e (rw seen-is (L .look-after (l .make-made))) (rw (reads, seen-is) (L .unmake-made (l .make-made))));
+            (back-made E L s left (b .seen) ring e (ap (E .look true) seen ∙ L .look-after (M .make-made)) (ap₂ (E .unmake) reads seen ∙ L .unmake-made (M .make-made)));
         then-same = record {
           run-alone = b;
           again = l .again-before;
           same-seen = refl;
-          same-newest = before-is;
+          same-newest = before;
           same-slots = I .same-slots;
-          kept-is = omega arith;
-          peak-high = omega arith;
-          same-records = λ j h.
-              ap (E .read (s .room)) (sym (ago-more K (s .newest) j))
-              ∙ (I .same-records (suc j) (omega arith)
-              ∙ (there (suc j) ∙ (L .read-other (b .room) w (slotAgo K w (suc j)) (m .1) fits
-              below-b (rw (A .same-slots) (ago-below K (suc j) w below)) (ago-other K j w below (omega arith))
-              ∙ (ap (λ (n : ℕ). E .read (b .room) (slotAgo K n (suc j))) (sym newest-is) ∙ ap (E .read (b .room)) (ago-more K (s .newest) j)))));
+          kept-is = omega (arith, I .kept-is);
+          peak-high = omega (arith, I .peak-high);
+          same-records = records;
         };
       }
+    where
+      t : State E
+      t = I .run-alone
+
+      l : Last E L f F i is t
+      l = last E L f F i is t (I .again)
+
+      b : State E
+      b = l .before
+
+      M : Made E L i b t
+      M = l .last-made
+
+      slots-b : E .slots (b .room) ≡ K
+      slots-b = l .alone-before .same-slots
+
+      kept-low : s .kept ≤ K
+      kept-low = omega (arith, I .kept-is, I .peak-high)
+
+      ring : RingOf E L s
+      ring = rw (I .same-slots, I .same-newest) (record {
+        some = some-slot E L K slots-b M;
+        kept-fits = kept-low;
+        newest-below = omega (arith, ring-made E L K slots-b M .newest-below, slots-after E L K slots-b M);
+      })
+
+      seen : s .seen ≡ M .made .0
+      seen = I .same-seen ∙ seen-after E L K slots-b M
+
+      -- the newest record is the one that the last standing step wrote
+      reads : E .read (s .room) (s .newest) ≡ M .made .1
+      reads =
+          ap (E .read (s .room)) (sym (ago-none K (s .newest)))
+          ∙ (I .same-records 0 (omega arith) ∙ (ap (E .read (t .room)) (ago-none K (s .newest) ∙ I .same-newest) ∙ newest-record E L K slots-b M))
+
+      before : slotBefore K (s .newest) ≡ b .newest
+      before = ap (slotBefore K) (I .same-newest) ∙ before-newest E L K slots-b M
+
+      records : (j : ℕ) → j < left → E .read (s .room) (slotAgo K (slotBefore K (s .newest)) j) ≡ E .read (b .room) (slotAgo K (slotBefore K (s .newest)) j)
+      records j h =
+          let there : slotAgo K (slotBefore K (s .newest)) j ≡ slotAgo K (b .newest) j = ap (λ (n : ℕ). slotAgo K n j) before in
+          ap (E .read (s .room)) (sym (ago-more K (s .newest) j))
+          ∙ (I .same-records (suc j) (omega arith)
+          ∙ (ap (E .read (t .room)) (ago-more K (s .newest) j ∙ there)
+          ∙ (older-record E L K slots-b M j (omega (arith, kept-low)) ∙ ap (E .read (b .room)) (sym there))))
 
   back-kept : (s : State E) (left : ℕ) (is : List (E .Inputs)) (peak : ℕ) → s .kept ≡ suc left → Same s is peak → Back s left (older E is) peak
   back-kept s left [] peak e I = absurd (let h : s .kept + (peak - K) ≡ 0 = I .kept-is in omega arith)
@@ -207,10 +240,8 @@ module _ (E : Engine) (L : Laws E) (f : State E) (F : Fresh E f) where
       go : Dec (0 < K) → fine E s ≡ fine E t
       go (yes h) =
           let below : s .newest < K = rw (I .same-newest) (A .newest-below h) in
-          let ring : Ring (E .slots (s .room)) (s .kept) (s .newest) =
-          rw (I .same-slots) (record { some = h; kept-fits = omega (arith, I .kept-is, I .peak-high); newest-below = below }) in
-          ring-fine (E .slots (s .room)) (s .kept) (s .newest) ring
-          ∙ sym (ring-fine (E .slots (t .room)) (t .kept) (t .newest) (alone-ring E L f F A h))
+          let ring : RingOf E L s = rw (I .same-slots) (record { some = h; kept-fits = omega (arith, I .kept-is, I .peak-high); newest-below = below }) in
+          ring-of-fine E L s ring ∙ sym (ring-of-fine E L t (alone-ring E L f F A h))
       go (no h) =
           none-fails (E .slots (s .room)) (s .kept) (s .newest) (omega (arith, I .same-slots))
           ∙ sym (none-fails (E .slots (t .room)) (t .kept) (t .newest) (omega (arith, A .same-slots)))
