@@ -18,8 +18,8 @@ module _ (E : Engine) (L : Laws E) (f : State E) (F : Fresh E f) (P : List (E .I
     unfolding replay
     along-alone [] t e = let q : f ≡ t = cc in subst (λ (x : State E). P [] (x .seen)) q at-first
     along-alone (i ∷ is) t e =
-        let l : Last E L f F i is t = last E L f F i is t e in
-        let M : Made E L i (l .before) t = l .last-made in
+        let l : Last E f i is t = last E L f F i is t e in
+        let M : Made E i (l .before) t = l .last-made in
         subst (λ (v : E .Seen). P (i ∷ is) v) (sym (seen-after E L (E .slots (l .before .room)) refl M))
         (kept-by-a-step i is (l .before .seen) (M .made) (M .make-made) (along-alone is (l .before) (l .again-before)))
 

@@ -1,5 +1,4 @@
--- Laws of a list of numbers as a room of slots: slots lie apart, so a record stored in one is read from it and is not seen in another.
--- With records of one size they are the three room laws that an engine owes.
+-- The three room laws that an engine owes, for records of one size in a list of numbers: slots lie apart.
 -- Assumes nothing.
 use mathlib.Core.Path.{_≡_, sym, ap, _∙_}
 use mathlib.Core.List.{List, _++_}

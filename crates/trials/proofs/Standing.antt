@@ -1,5 +1,4 @@
--- A trial taken back was never made. Along a series the state agrees with the run of the standing steps alone on all that is seen and on
--- the records still kept: a step does the same to both, and a take-back reads the record that the last standing step wrote.
+-- A trial taken back was never made: a step does the same to the series and to the standing steps alone, and a take-back reads the last one's record.
 -- Assumes nothing.
 use mathlib.Core.Path.{_≡_, refl, sym, ap, ap₂, _∙_, subst}
 use mathlib.Core.Bool.{true}
@@ -12,7 +11,7 @@ use Rattle.trials.specs.Ring.{slotAfter, slotBefore, slotAgo}
 use Rattle.trials.specs.Series.{Outcome, refused, done, andThen, Engine, State, fine, stepped, step, restored, looked, takeBack, Call, stepping, takingBack, running, run, Trail, start, older, afterStep, afterBack, repeat, called, series, replay, Fresh, shown, Stands}
 use Rattle.trials.specs.Owes.{Laws}
 use Rattle.trials.proofs.RingLaws.{none-fails, ago-none, ago-more}
-use Rattle.trials.proofs.StepLaws.{not-done, RingOf, ring-of-fine, Made, step-made, made-step, some-slot, seen-after, newest-after, kept-after, slots-after, ring-made, before-newest, newest-record, older-record, back-made}
+use Rattle.trials.proofs.StepLaws.{not-done, RingOf, ring-is-fine, Made, step-made, made-step, some-slot, seen-after, newest-after, kept-after, slots-after, ring-made, before-newest, newest-record, older-record, back-made}
 use Rattle.trials.proofs.AloneLaws.{Alone, Last, alone, last, alone-ring, lookAt, same-look}
 
 module _ (E : Engine) (L : Laws E) (f : State E) (F : Fresh E f) where
@@ -35,13 +34,13 @@ module _ (E : Engine) (L : Laws E) (f : State E) (F : Fresh E f) where
 
   -- ---- a step
 
-  step-case : (i : E .Inputs) (s t : State E) (is : List (E .Inputs)) (peak : ℕ) → Same s is peak → Made E L i s t →
+  step-case : (i : E .Inputs) (s t : State E) (is : List (E .Inputs)) (peak : ℕ) → Same s is peak → Made E i s t →
       Same t (i ∷ is) (max peak (length is + 1))
   unfolding replay andThen
   step-case i s t is peak I M =
       record {
         run-alone = u;
-        again = rw (I .again) (made-step E L i a u N);
+        again = rw (I .again) (made-step E i a u N);
         same-seen = seen-after E L K slots-s M ∙ sym (seen-after E L K slots-a N);
         same-newest = newest;
         same-slots = slots-after E L K slots-s M;
@@ -53,7 +52,7 @@ module _ (E : Engine) (L : Laws E) (f : State E) (F : Fresh E f) where
       a : State E
       a = I .run-alone
 
-      A : Alone E L f F is a
+      A : Alone E f is a
       A = alone E L f F is a (I .again)
 
       slots-s : E .slots (s .room) ≡ K
@@ -66,9 +65,9 @@ module _ (E : Engine) (L : Laws E) (f : State E) (F : Fresh E f) where
       u : State E
       u = stepped E (E .slots (a .room)) a (M .made)
 
-      N : Made E L i a u
+      N : Made E i a u
       N = record {
-        ring = alone-ring E L f F A (some-slot E L K slots-s M);
+        ring = alone-ring E f A (some-slot E L K slots-s M);
         made = M .made;
         make-made = rw (← I .same-seen) (M .make-made);
         is-stepped = refl;
@@ -83,8 +82,8 @@ module _ (E : Engine) (L : Laws E) (f : State E) (F : Fresh E f) where
           (newest-record E L K slots-s M ∙ (sym (newest-record E L K slots-a N) ∙ ap (E .read (u .room)) (sym newest)))
       records (suc j) h =
           let more : suc j < K = omega (arith, kept-after E L K slots-s M) in
-          let here : slotAgo K (t .newest) (suc j) ≡ slotAgo K (s .newest) j =
-          ago-more K (t .newest) j ∙ ap (λ (n : ℕ). slotAgo K n j) (before-newest E L K slots-s M) in
+          let back : slotBefore K (t .newest) ≡ s .newest = before-newest E L K slots-s M in
+          let here : slotAgo K (t .newest) (suc j) ≡ slotAgo K (s .newest) j = ago-more K (t .newest) j ∙ ap (λ (n : ℕ). slotAgo K n j) back in
           let there : slotAgo K (a .newest) j ≡ slotAgo K (s .newest) j = ap (λ (n : ℕ). slotAgo K n j) (sym (I .same-newest)) in
           rw here
           (older-record E L K slots-s M j more
@@ -113,7 +112,8 @@ module _ (E : Engine) (L : Laws E) (f : State E) (F : Fresh E f) where
         old = b .seen;
         is-made =
             subst (λ (k : ℕ). takeBack E s ≡ done (restored E k s left (b .seen))) (I .same-slots)
-            (back-made E L s left (b .seen) ring e (ap (E .look true) seen ∙ L .look-after (M .make-made)) (ap₂ (E .unmake) reads seen ∙ L .unmake-made (M .make-made)));
+            (back-made E s left (b .seen) ring e (ap (E .look true) seen ∙ L .look-after (M .make-made))
+            (ap₂ (E .unmake) reads seen ∙ L .unmake-made (M .make-made)));
         then-same = record {
           run-alone = b;
           again = l .again-before;
@@ -129,13 +129,13 @@ module _ (E : Engine) (L : Laws E) (f : State E) (F : Fresh E f) where
       t : State E
       t = I .run-alone
 
-      l : Last E L f F i is t
+      l : Last E f i is t
       l = last E L f F i is t (I .again)
 
       b : State E
       b = l .before
 
-      M : Made E L i b t
+      M : Made E i b t
       M = l .last-made
 
       slots-b : E .slots (b .room) ≡ K
@@ -144,7 +144,7 @@ module _ (E : Engine) (L : Laws E) (f : State E) (F : Fresh E f) where
       kept-low : s .kept ≤ K
       kept-low = omega (arith, I .kept-is, I .peak-high)
 
-      ring : RingOf E L s
+      ring : RingOf E s
       ring = rw (I .same-slots, I .same-newest) (record {
         some = some-slot E L K slots-b M;
         kept-fits = kept-low;
@@ -234,14 +234,14 @@ module _ (E : Engine) (L : Laws E) (f : State E) (F : Fresh E f) where
       t : State E
       t = I .run-alone
 
-      A : Alone E L f F is t
+      A : Alone E f is t
       A = alone E L f F is t (I .again)
 
       go : Dec (0 < K) → fine E s ≡ fine E t
       go (yes h) =
           let below : s .newest < K = rw (I .same-newest) (A .newest-below h) in
-          let ring : RingOf E L s = rw (I .same-slots) (record { some = h; kept-fits = omega (arith, I .kept-is, I .peak-high); newest-below = below }) in
-          ring-of-fine E L s ring ∙ sym (ring-of-fine E L t (alone-ring E L f F A h))
+          let ring : RingOf E s = rw (I .same-slots) (record { some = h; kept-fits = omega (arith, I .kept-is, I .peak-high); newest-below = below }) in
+          ring-is-fine E s ring ∙ sym (ring-is-fine E t (alone-ring E f A h))
       go (no h) =
           none-fails (E .slots (s .room)) (s .kept) (s .newest) (omega (arith, I .same-slots))
           ∙ sym (none-fails (E .slots (t .room)) (t .kept) (t .newest) (omega (arith, A .same-slots)))
@@ -277,7 +277,7 @@ module _ (E : Engine) (L : Laws E) (f : State E) (F : Fresh E f) where
       t : State E
       t = I .run-alone
 
-      A : Alone E L f F (x .standing) t
+      A : Alone E f (x .standing) t
       A = alone E L f F (x .standing) t (I .again)
 
       same : fine E (x .at) ≡ fine E t

@@ -61,6 +61,7 @@ module _ (E : Engine) where
         newest = slotAfter K (s .newest);
       }
 
+  -- a step: refused by the engine's number, or made and recorded
   unfoldable pub step : E .Inputs → State → Outcome State
   step i s = andThen (E .make (fine s) i (s .seen)) (λ made. done (stepped (E .slots (s .room)) s made))
 
@@ -78,6 +79,7 @@ module _ (E : Engine) where
   looked zero rest = rest
   looked (suc n) rest = refused (suc n)
 
+  -- a take-back: refused by what comes before 10, by 10, or by what the record holds, or made
   unfoldable pub takeBack : State → Outcome State
   takeBack s = looked (E .look (fine s) (s .seen)) (fromRecord (E .slots (s .room)) s (s .kept))
 
@@ -98,6 +100,7 @@ module _ (E : Engine) where
   runOn i more (suc n) s made =
       pick (more (s .seen)) (ranOn (step i s) s made (λ t. runOn i more n t (suc made))) (record { state = s; steps = made; number = 0 })
 
+  -- "A run to an end makes steps while clock < end": the test is that of the clock
   abbrev pub run : E .Inputs → (E .Seen → Bool) → ℕ → State → Ran
   run i more n s = runOn i more n s 0
 
@@ -115,6 +118,7 @@ module _ (E : Engine) where
     pub standing : List (E .Inputs)
     pub peak : ℕ
 
+  -- "from a fresh run", before the first call
   abbrev pub start : State → Trail
   start s = record { at = s; standing = []; peak = 0 }
 
@@ -144,6 +148,7 @@ module _ (E : Engine) where
   called takingBack x = afterBack x (takeBack (x .at))
   called (running i more n) x = repeat (run i more n (x .at) .steps) i x
 
+  -- call after call
   unfoldable pub series : List Call → Trail → Trail
   series [] x = x
   series (c ∷ cs) x = series cs (called c x)
