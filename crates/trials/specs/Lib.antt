@@ -1,0 +1,4 @@
+pub mod Owes
+pub mod Ring
+pub mod Room
+pub mod Series
