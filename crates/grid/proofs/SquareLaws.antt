@@ -1,0 +1,227 @@
+-- Laws of squares: a side with a square leads there and back, a side without one is on the rim, a walk carries the column.
+-- Assumes nothing.
+use mathlib.Core.Path.{_≡_, refl, sym, ap, _∙_}
+use mathlib.Core.Bool.{true, false}
+use Prim.Native.Nat.{ℕ, zero, suc, _+_, _-_, _*_, _/_, _%_, _≤_, _<_}
+use native.Mathlib.Nat.{mul-le-mul, mul-le-mul-right, suc-mul, zero-mod, mod-lt, mod-self, mod-eq-of-lt, mod-add-mod, mul-mod-left, div-add-mod', div-lt-iff-lt-mul, mul-add-mod-self-right, mul-add-div-right, div-eq-of-lt, add-zero}
+use native.Mathlib.Decide.{decLe, decLt, ℕ-discrete}
+use native.Mathlib.Omega.{arith}
+use lib.Dec.{ltb}
+use borrow.Author.Tests.{leb-true, le-leb, lt-leb, lt-ltb, le-ltb, eq-eqb, ne-eqb}
+use Rattle.reckon.specs.Tests.{every}
+use Rattle.reckon.proofs.TestLaws.{pick-true, pick-false, pick-both, every-each, each-every, all-of, all-fails}
+use Rattle.grid.specs.declared.squares.Shape.{Shape}
+use Rattle.grid.specs.Squares.{longest, mostSquares, north, east, south, west, sides, squares, squareAt, within, beside, opposite, onRim, shapeFine, FineShape, Stands, NextColumn}
+
+-- ---- the shape
+
+pub few-squares : (s : Shape) → s .rows ≤ longest → s .columns ≤ longest → squares s ≤ mostSquares
+few-squares s h g = omega (arith, mul-le-mul h g)
+
+pub ranges-of-fine : (s : Shape) → shapeFine s ≡ true → FineShape s
+unfolding shapeFine
+ranges-of-fine s e =
+    let p = every-each _ e in
+    let rh : s .rows ≤ longest = leb-true _ _ (p .1 .0) in
+    let ch : s .columns ≤ longest = leb-true _ _ (p .1 .1 .1 .0) in
+    record {
+      rows-low = leb-true _ _ (p .0);
+      rows-high = rh;
+      columns-low = leb-true _ _ (p .1 .1 .0);
+      columns-high = ch;
+      few = few-squares s rh ch;
+    }
+
+pub fine-of-ranges : (s : Shape) → FineShape s → shapeFine s ≡ true
+unfolding shapeFine
+fine-of-ranges s f =
+    each-every _
+    (le-leb _ _ (f .rows-low), (le-leb _ _ (f .rows-high), (le-leb _ _ (f .columns-low), (le-leb _ _ (f .columns-high), tt))))
+
+-- ---- rows and columns
+
+module _ (s : Shape) where
+  pub square-within : {row column : ℕ} → row < s .rows → column < s .columns → squareAt s row column < squares s
+  square-within {row} h g =
+      let m : suc row * s .columns ≤ squares s = mul-le-mul-right (s .columns) h in
+      omega (arith, suc-mul row (s .columns))
+
+  pub row-of : (row : ℕ) {column : ℕ} → column < s .columns → squareAt s row column / s .columns ≡ row
+  row-of row {column} h =
+      mul-add-div-right (omega arith) row column ∙ (ap (λ (k : ℕ). row + k) (div-eq-of-lt h) ∙ add-zero row)
+
+  pub column-of : (row : ℕ) {column : ℕ} → column < s .columns → squareAt s row column % s .columns ≡ column
+  column-of row {column} h = mul-add-mod-self-right row (s .columns) column ∙ mod-eq-of-lt h
+
+  -- a square is in its row and column
+  pub square-in : (i : ℕ) → squareAt s (i / s .columns) (i % s .columns) ≡ i
+  square-in i = div-add-mod' i (s .columns)
+
+  pub row-within : {i : ℕ} → 0 < s .columns → i < squares s → i / s .columns < s .rows
+  row-within p h = div-lt-iff-lt-mul p .1 h
+
+  pub column-within : (i : ℕ) {column : ℕ} → 0 < s .columns → column ≡ i % s .columns → column < s .columns
+  column-within i p e = rw e (mod-lt i p)
+
+  -- ---- the column that a walk carries
+
+  pub carried : (i : ℕ) {column r : ℕ} → column ≡ i % s .columns → NextColumn s column r → r ≡ (i + 1) % s .columns
+  carried i e n = n ∙ (rw e (mod-add-mod i (s .columns) 1))
+
+  pub wraps : (column : ℕ) → column + 1 ≡ s .columns → (column + 1) % s .columns ≡ 0
+  wraps column e = rw e (mod-self (s .columns))
+
+  pub moves : {column : ℕ} → column < s .columns → (column + 1 ≡ s .columns → ⊥) → (column + 1) % s .columns ≡ column + 1
+  moves h d = mod-eq-of-lt (omega arith)
+
+  -- ---- the square on a side
+
+  module _ (i : ℕ) {side : ℕ} where
+    pub north-some : side ≡ north → s .columns ≤ i → beside s i side ≡ i - s .columns
+    unfolding beside
+    north-some e h = rw e (pick-true _ _ (le-leb (s .columns) i h))
+
+    pub north-none : side ≡ north → i < s .columns → beside s i side ≡ squares s
+    unfolding beside
+    north-none e h = rw e (pick-false _ _ (lt-leb (s .columns) i h))
+
+    pub east-some : side ≡ east → ((i + 1) % s .columns ≡ 0 → ⊥) → beside s i side ≡ i + 1
+    unfolding beside
+    east-some e h = rw e (pick-false _ _ (ne-eqb ((i + 1) % s .columns) 0 h))
+
+    pub east-none : side ≡ east → (i + 1) % s .columns ≡ 0 → beside s i side ≡ squares s
+    unfolding beside
+    east-none e h = rw e (pick-true _ _ (eq-eqb ((i + 1) % s .columns) 0 h))
+
+    pub south-some : side ≡ south → i + s .columns < squares s → beside s i side ≡ i + s .columns
+    unfolding beside
+    south-some e h = rw e (pick-true _ _ (lt-ltb (i + s .columns) (squares s) h))
+
+    pub south-none : side ≡ south → squares s ≤ i + s .columns → beside s i side ≡ squares s
+    unfolding beside
+    south-none e h = rw e (pick-false _ _ (le-ltb (i + s .columns) (squares s) h))
+
+    pub west-some : side ≡ west → (i % s .columns ≡ 0 → ⊥) → beside s i side ≡ i - 1
+    unfolding beside
+    west-some e h = rw e (pick-false _ _ (ne-eqb (i % s .columns) 0 h))
+
+    pub west-none : side ≡ west → i % s .columns ≡ 0 → beside s i side ≡ squares s
+    unfolding beside
+    west-none e h = rw e (pick-true _ _ (eq-eqb (i % s .columns) 0 h))
+
+  -- there is a square to the west of every column but the first, and to the east of every column but the last
+  pub west-in : (i : ℕ) → (i % s .columns ≡ 0 → ⊥) → 1 ≤ i
+  west-in zero h = absurd (h (zero-mod (s .columns)))
+  west-in (suc i) h = omega arith
+
+  pub east-in : {i : ℕ} → i < squares s → ((i + 1) % s .columns ≡ 0 → ⊥) → i + 1 < squares s
+  east-in {i} h d = go (ℕ-discrete (i + 1) (squares s))
+    where
+      go : Dec (i + 1 ≡ squares s) → i + 1 < squares s
+      go (yes e) = absurd (d (rw e (mul-mod-left (s .rows) (s .columns))))
+      go (no e) = omega arith
+
+  pub beside-le : {i : ℕ} → i < squares s → (side : ℕ) → beside s i side ≤ squares s
+  unfolding beside
+  beside-le h zero = pick-both (λ (j : ℕ). j ≤ squares s) _ (omega arith) (omega arith)
+  beside-le h (suc zero) = pick-both (λ (j : ℕ). j ≤ squares s) _ (omega arith) (omega arith)
+  beside-le {i} h (suc (suc zero)) = go (decLt (i + s .columns) (squares s))
+    where
+      go : Dec (i + s .columns < squares s) → beside s i south ≤ squares s
+      go (yes l) = rw (south-some i {side = south} refl l) (omega arith)
+      go (no l) = rw (south-none i {side = south} refl (omega arith)) (omega arith)
+  beside-le h (suc (suc (suc _))) = pick-both (λ (j : ℕ). j ≤ squares s) _ (omega arith) (omega arith)
+
+pub opposite-opposite : (side : ℕ) → side < sides → opposite (opposite side) ≡ side
+unfolding opposite
+opposite-opposite zero h = refl
+opposite-opposite (suc zero) h = refl
+opposite-opposite (suc (suc zero)) h = refl
+opposite-opposite (suc (suc (suc zero))) h = refl
+opposite-opposite (suc (suc (suc (suc _)))) h = absurd (omega arith)
+
+pub opposite-small : (side : ℕ) → opposite side < sides
+unfolding opposite
+opposite-small zero = omega arith
+opposite-small (suc zero) = omega arith
+opposite-small (suc (suc zero)) = omega arith
+opposite-small (suc (suc (suc _))) = omega arith
+
+-- ---- the same by the column that a square stands in
+
+module _ (s : Shape) {i column : ℕ} (st : Stands s i column) where
+  pub column-small : column < s .columns
+  column-small = column-within s i (st .fine .columns-low) (st .column-is)
+
+  next-is : (column + 1) % s .columns ≡ (i + 1) % s .columns
+  next-is = carried s i (st .column-is) refl
+
+  pub at-last : column + 1 ≡ s .columns → (i + 1) % s .columns ≡ 0
+  at-last e = sym next-is ∙ wraps s column e
+
+  pub before-last : (column + 1 ≡ s .columns → ⊥) → (i + 1) % s .columns ≡ 0 → ⊥
+  before-last d z = omega (arith, moves s column-small d, next-is, z)
+
+  pub at-first : column ≡ 0 → i % s .columns ≡ 0
+  at-first e = sym (st .column-is) ∙ e
+
+  pub after-first : (column ≡ 0 → ⊥) → i % s .columns ≡ 0 → ⊥
+  after-first d z = d (st .column-is ∙ z)
+
+-- ---- there and back
+
+module _ (s : Shape) {i : ℕ} (inside : i < squares s) where
+  -- to a side and back by the opposite one is where one was
+  pub there-and-back : (side : ℕ) → side < sides → beside s i side < squares s → beside s (beside s i side) (opposite side) ≡ i
+  unfolding opposite
+  there-and-back zero h l = go (decLe (s .columns) i)
+    where
+      go : Dec (s .columns ≤ i) → beside s (beside s i north) south ≡ i
+      go (yes b) =
+          let back : i - s .columns + s .columns ≡ i = omega arith in
+          rw (north-some s i {side = north} refl b) (south-some s (i - s .columns) {side = south} refl (omega arith) ∙ back)
+      go (no b) = absurd (omega (arith, l, north-none s i {side = north} refl (omega arith)))
+  there-and-back (suc zero) h l = go (ℕ-discrete ((i + 1) % s .columns) 0)
+    where
+      go : Dec ((i + 1) % s .columns ≡ 0) → beside s (beside s i east) west ≡ i
+      go (yes b) = absurd (omega (arith, l, east-none s i {side = east} refl b))
+      go (no b) =
+          let back : i + 1 - 1 ≡ i = omega arith in
+          rw (east-some s i {side = east} refl b) (west-some s (i + 1) {side = west} refl b ∙ back)
+  there-and-back (suc (suc zero)) h l = go (decLt (i + s .columns) (squares s))
+    where
+      go : Dec (i + s .columns < squares s) → beside s (beside s i south) north ≡ i
+      go (yes b) =
+          let back : i + s .columns - s .columns ≡ i = omega arith in
+          rw (south-some s i {side = south} refl b) (north-some s (i + s .columns) {side = north} refl (omega arith) ∙ back)
+      go (no b) = absurd (omega (arith, l, south-none s i {side = south} refl (omega arith)))
+  there-and-back (suc (suc (suc zero))) h l = go (ℕ-discrete (i % s .columns) 0)
+    where
+      go : Dec (i % s .columns ≡ 0) → beside s (beside s i west) east ≡ i
+      go (yes b) = absurd (omega (arith, l, west-none s i {side = west} refl b))
+      go (no b) =
+          let back : i - 1 + 1 ≡ i = omega (arith, west-in s i b) in
+          rw (west-some s i {side = west} refl b) (east-some s (i - 1) {side = east} refl (rw back b) ∙ back)
+  there-and-back (suc (suc (suc (suc _)))) h l = absurd (omega arith)
+
+-- ---- the rim
+
+module _ (s : Shape) (i : ℕ) where
+  pub on-the-rim : {side : ℕ} → side < sides → beside s i side ≡ squares s → true ≡ onRim s i
+  unfolding onRim within
+  on-the-rim {side} h e =
+      rw (all-fails sides (λ k. ltb (beside s i k) (squares s)) side h (rw e (le-ltb (squares s) (squares s) (omega arith))))
+
+  pub off-the-rim : ((side : ℕ) → side < sides → beside s i side < squares s) → false ≡ onRim s i
+  unfolding onRim within
+  off-the-rim f = rw (all-of sides (λ k. ltb (beside s i k) (squares s)) (λ k l. lt-ltb _ _ (f k l)))
+
+-- a square that has all four neighbours
+pub inner :
+    (s : Shape) {i : ℕ} → i < squares s → s .columns ≤ i → ((i + 1) % s .columns ≡ 0 → ⊥) → i + s .columns < squares s →
+    (i % s .columns ≡ 0 → ⊥) → (side : ℕ) → side < sides → beside s i side < squares s
+inner s {i} h n e so w zero l = rw (north-some s i {side = north} refl n) (omega arith)
+inner s {i} h n e so w (suc zero) l = rw (east-some s i {side = east} refl e) (east-in s h e)
+inner s {i} h n e so w (suc (suc zero)) l = rw (south-some s i {side = south} refl so) so
+inner s {i} h n e so w (suc (suc (suc zero))) l = rw (west-some s i {side = west} refl w) (omega arith)
+inner s {i} h n e so w (suc (suc (suc (suc _)))) l = absurd (omega arith)

@@ -1,0 +1,124 @@
+// The squares of a grid, row by row from the north, and the square on a side of one. No division: a walk over the squares carries
+// the column.
+ghost use mathlib.Core.Path.{_≡_};
+ghost use Prim.Native.Nat.{_<_};
+ghost use Rattle.grid.specs.Squares.{BesideOn, FineShape, NextColumn, RimJudged, ShapeJudged, SquareFound, SquaresOf, Stands, sides};
+
+pub struct Shape {
+    pub rows: usize,
+    pub columns: usize,
+}
+
+pub const NORTH: usize = 0;
+
+pub const EAST: usize = 1;
+
+pub const SOUTH: usize = 2;
+
+pub const WEST: usize = 3;
+
+// The most rows, and the most columns.
+const LONGEST: usize = 64;
+
+// Whether there are 1 to 64 rows and 1 to 64 columns.
+pub fn shape_fine(shape: Shape) -> bool
+    ensures { λ r. ⌜ ShapeJudged shape r ⌝ }
+{
+    let rows = shape.rows;
+    let columns = shape.columns;
+    if rows == 0 {
+        return false;
+    }
+    if LONGEST < rows {
+        return false;
+    }
+    if columns == 0 {
+        return false;
+    }
+    if LONGEST < columns {
+        return false;
+    }
+    true
+}
+
+// The number of squares.
+pub fn squares_of(shape: Shape) -> usize
+    requires { ⌜ FineShape shape ⌝ }
+    ensures { λ r. ⌜ SquaresOf shape r ⌝ }
+{
+    shape.rows * shape.columns
+}
+
+// The square in a row and a column.
+pub fn square_at(shape: Shape, row: usize, column: usize) -> usize
+    requires { ⌜ (FineShape shape) × (row < shape .rows) × (column < shape .columns) ⌝ }
+    ensures { λ r. ⌜ SquareFound shape row column r ⌝ }
+{
+    row * shape.columns + column
+}
+
+// The column of the square after one in a column.
+pub fn next_column(shape: Shape, column: usize) -> usize
+    requires { ⌜ (FineShape shape) × (column < shape .columns) ⌝ }
+    ensures { λ r. ⌜ NextColumn shape column r ⌝ }
+{
+    let next = column + 1;
+    let columns = shape.columns;
+    if next == columns {
+        return 0;
+    }
+    next
+}
+
+// The square on a side of a square that stands in a column, or the number of squares where there is none.
+pub fn beside_on(shape: Shape, square: usize, column: usize, side: usize) -> usize
+    requires { ⌜ (Stands shape square column) × (side < sides) ⌝ }
+    ensures { λ r. ⌜ BesideOn shape square side r ⌝ }
+{
+    let columns = shape.columns;
+    let none = squares_of(shape);
+    if side == NORTH {
+        if columns <= square {
+            return square - columns;
+        }
+        return none;
+    }
+    if side == EAST {
+        if column + 1 == columns {
+            return none;
+        }
+        return square + 1;
+    }
+    if side == SOUTH {
+        let at = square + columns;
+        if at < none {
+            return at;
+        }
+        return none;
+    }
+    if column == 0 {
+        return none;
+    }
+    square - 1
+}
+
+// Whether a square that stands in a column has a side with no square.
+pub fn on_rim(shape: Shape, square: usize, column: usize) -> bool
+    requires { ⌜ Stands shape square column ⌝ }
+    ensures { λ r. ⌜ RimJudged shape square r ⌝ }
+{
+    let columns = shape.columns;
+    if square < columns {
+        return true;
+    }
+    if column + 1 == columns {
+        return true;
+    }
+    if column == 0 {
+        return true;
+    }
+    if squares_of(shape) <= square + columns {
+        return true;
+    }
+    false
+}
