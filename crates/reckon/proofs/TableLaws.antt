@@ -12,7 +12,8 @@ use lib.ListN.{length, getD}
 use borrow.Author.Tests.{leb-true, le-leb, lt-leb, eq-eqb, ne-eqb}
 use Rattle.reckon.specs.Tests.{pick, every, allBelow}
 use Rattle.reckon.specs.Lists.{sumBelow}
-use Rattle.reckon.specs.Tables.{rainKind, inflowKind, lastClock, mostRows, hour, rowStart, ran, rowGives, given, rainBy, onSquare, inflowBy, rowFine, tableFine, Fits}
+use Rattle.reckon.specs.Ranges.{lastClock, mostRows}
+use Rattle.reckon.specs.Tables.{rainKind, inflowKind, hour, rowStart, ran, rowGives, given, rainBy, onSquare, inflowBy, rowFine, tableFine, Fits}
 use Rattle.reckon.specs.declared.tables.Kind.{Kind}
 use Rattle.reckon.proofs.TestLaws.{pick-both, and-both, and-false, and-true, every-each, each-every, every-fails, all-at, all-fails}
 use Rattle.reckon.proofs.ListLaws.{sum-mono, sum-le}

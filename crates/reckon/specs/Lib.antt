@@ -1,5 +1,6 @@
 pub mod Lists
 pub mod Numbers
+pub mod Ranges
 pub mod RootSearch
 pub mod Roots
 pub mod Tables

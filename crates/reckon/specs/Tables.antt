@@ -8,23 +8,16 @@ use lib.Dec.{eqb, leb}
 use lib.ListN.{length, getD}
 use Rattle.reckon.specs.Tests.{pick, every, allBelow}
 use Rattle.reckon.specs.Lists.{sumBelow}
+use Rattle.reckon.specs.Ranges.{lastClock, mostRain, mostLitres, mostRows}
 use Rattle.reckon.specs.declared.tables.Kind.{Kind}
 
 -- "Rain rows: from, to, rate": "µm per hour, 0 to 1,000,000"
 abbrev pub rainKind : Kind
-rainKind = record { width = 3; lead = 0; most = 1_000_000 }
+rainKind = record { width = 3; lead = 0; most = mostRain }
 
 -- "Inflow rows: row, column, from, to, litres": "litres per second, 0 to 100,000"
 abbrev pub inflowKind : Kind
-inflowKind = record { width = 5; lead = 2; most = 100_000 }
-
--- "clock, table times: ms, 0 to 604,800,000"
-abbrev pub lastClock : ℕ
-lastClock = 604_800_000
-
--- "At most 64 rows of each"
-abbrev pub mostRows : ℕ
-mostRows = 64
+inflowKind = record { width = 5; lead = 2; most = mostLitres }
 
 -- the ms of an hour
 abbrev pub hour : ℕ

@@ -2,6 +2,10 @@
 // Rain rows: from, to, rate. Inflow rows: row, column, from, to, litres.
 use crate::numbers::lesser;
 use crate::numbers::number;
+use crate::ranges::LAST_CLOCK;
+use crate::ranges::MOST_LITRES;
+use crate::ranges::MOST_RAIN;
+use crate::ranges::MOST_ROWS;
 ghost use mathlib.Core.Path.{_≡_};
 ghost use Prim.Native.Nat.{_+_, _*_, _/_, _≤_, _<_};
 ghost use lib.ListN.{length, getD};
@@ -18,18 +22,14 @@ pub struct Kind {
 const RAIN: Kind = Kind {
     width: 3,
     lead: 0,
-    most: 1_000_000,
+    most: MOST_RAIN,
 };
 
 const INFLOW: Kind = Kind {
     width: 5,
     lead: 2,
-    most: 100_000,
+    most: MOST_LITRES,
 };
-
-const MOST_ROWS: usize = 64;
-
-const LAST_CLOCK: u64 = 604_800_000;
 
 const HOUR: u64 = 3_600_000;
 

@@ -15,7 +15,8 @@ use Rattle.reckon.specs.Tests.{pick}
 use Rattle.reckon.proofs.TestLaws.{pick-true, pick-false, pick-both}
 use Rattle.reckon.proofs.QuotientLaws.{div-mono}
 use Rattle.reckon.proofs.RootLaws.{root-mono}
-use Rattle.rule.specs.Rules.{mostLength, RulesInRange}
+use Rattle.reckon.specs.Ranges.{mostLength}
+use Rattle.rule.specs.Rules.{RulesInRange}
 use Rattle.rule.specs.Weighing.{lesserPositive, leastDrop, heightOf, slopeOf, mostDrop, DropsInRange, SquareInRange}
 use Rattle.rule.specs.Length.{candidate, counts, sideCandidates, candidatesOf, leastFrom, heldBetween, freshLength, isUpdate, lengthAt, lastsFor}
 use Rattle.rule.specs.declared.rules.Rules.{Rules}

@@ -8,7 +8,8 @@ use lib.Dec.{leb}
 use borrow.Author.Tests.{leb-true, le-leb, lt-leb}
 use Rattle.reckon.specs.Tests.{every}
 use Rattle.reckon.proofs.TestLaws.{every-each, every-fails}
-use Rattle.rule.specs.Rules.{mostSide, mostBed, mostDepth, mostRoughness, mostTolerance, mostLength, mostUpdate, sideFine, groundFine, waterFine, rulesFine, RulesInRange, GroundInRange, WaterInRange}
+use Rattle.reckon.specs.Ranges.{mostSide, mostBed, mostDepth, mostRoughness, mostTolerance, mostLength, mostUpdate}
+use Rattle.rule.specs.Rules.{sideFine, groundFine, rulesFine, RulesInRange, GroundInRange}
 use Rattle.rule.specs.declared.rules.Rules.{Rules}
 
 pub rules-are : (r : Rules) → sideFine r ≡ true → rulesFine r ≡ true → RulesInRange r
@@ -41,9 +42,3 @@ unfolding groundFine
 ground-is bed k e =
     let t = every-each (leb bed mostBed ∷ leb 1 k ∷ leb k mostRoughness ∷ []) e in
     record { bed-to = leb-true _ _ (t .0); roughness-from = leb-true _ _ (t .1 .0); roughness-to = leb-true _ _ (t .1 .1 .0) }
-
-pub water-is : (d p : ℕ) → waterFine d p ≡ true → WaterInRange d p
-unfolding waterFine
-water-is d p e =
-    let t = every-each (leb d mostDepth ∷ leb p mostDepth ∷ []) e in
-    record { depth-to = leb-true _ _ (t .0); last-to = leb-true _ _ (t .1 .0) }

@@ -16,7 +16,7 @@ use Rattle.reckon.specs.Roots.{Root, rootOf}
 use Rattle.reckon.proofs.TestLaws.{pick-true, pick-false, pick-both}
 use Rattle.reckon.proofs.QuotientLaws.{div-mono, le-scaled}
 use Rattle.reckon.proofs.RootLaws.{root-is, root-right, root-le, root-over}
-use Rattle.rule.specs.Rules.{mostDepth, mostSide, mostRoughness, mostLength}
+use Rattle.reckon.specs.Ranges.{mostDepth, mostSide, mostRoughness, mostLength}
 use Rattle.rule.specs.Weighing.{lesserPositive, leastDrop, greatestDrop, dropSum, heightOf, slopeOf, criticalSpeed, manningSpeed, speedOf, mostThrough, totalOf, throughSides, weighed, mostDrop, DropsInRange, SquareInRange}
 use Rattle.rule.specs.declared.rules.Rules.{Rules}
 

@@ -7,7 +7,7 @@ use Prim.Native.Nat.{ℕ, _-_, _*_, _/_, _%_, _≤_, min, max}
 use lib.Dec.{eqb, ltb}
 use lib.ListN.{getD}
 use Rattle.reckon.specs.Tests.{pick}
-use Rattle.rule.specs.Rules.{mostTolerance}
+use Rattle.reckon.specs.Ranges.{mostTolerance}
 use Rattle.rule.specs.Weighing.{heightOf, slopeOf, SquareInRange, DropsInRange}
 use Rattle.rule.specs.declared.rules.Rules.{Rules}
 

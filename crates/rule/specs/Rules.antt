@@ -1,4 +1,4 @@
--- Document 01, "Units and ranges": the rules of a call, and the tests of refusals 1, 2, 3 and 5 that concern one square or the rules.
+-- Document 01, "Units and ranges": the rules of a call, and the tests of refusals 1, 2 and 5 that concern the rules or one square.
 -- Assumes nothing.
 use mathlib.Core.Path.{_≡_}
 use mathlib.Core.Bool.{Bool}
@@ -6,37 +6,8 @@ use mathlib.Core.List.{[], _∷_}
 use Prim.Native.Nat.{ℕ, _≤_}
 use lib.Dec.{leb}
 use Rattle.reckon.specs.Tests.{every}
+use Rattle.reckon.specs.Ranges.{mostSide, mostBed, mostRoughness, mostTolerance, mostLength, mostUpdate}
 use Rattle.rule.specs.declared.rules.Rules.{Rules}
-
--- ---- the ranges, by the names of the table
-
--- "side D: m, 1 to 100"
-abbrev pub mostSide : ℕ
-mostSide = 100
-
--- "bed: µm, 0 to 1,000,000,000"
-abbrev pub mostBed : ℕ
-mostBed = 1_000_000_000
-
--- "depth d, last leaving P: µm over the square, 0 to 100,000,000"
-abbrev pub mostDepth : ℕ
-mostDepth = 100_000_000
-
--- "roughness k (ten-thousandths of Manning's n): 1 to 10,000"
-abbrev pub mostRoughness : ℕ
-mostRoughness = 10_000
-
--- "slope tolerance q: ten-thousandths, 0 to 10,000"
-abbrev pub mostTolerance : ℕ
-mostTolerance = 10_000
-
--- "shortest, longest step: ms, 1 ≤ shortest ≤ longest ≤ 60,000"
-abbrev pub mostLength : ℕ
-mostLength = 60_000
-
--- "update time U: ms, 1 to 3,600,000"
-abbrev pub mostUpdate : ℕ
-mostUpdate = 3_600_000
 
 -- ---- the tests, each by its refusal's number
 
@@ -47,10 +18,6 @@ sideFine r = every (leb 1 (r .«square_side») ∷ leb (r .«square_side») most
 -- 2: "bed or roughness of a square not closed out of range"
 unfoldable pub groundFine : ℕ → ℕ → Bool
 groundFine bed k = every (leb bed mostBed ∷ leb 1 k ∷ leb k mostRoughness ∷ [])
-
--- 3: "depth or P of a square not closed out of range"
-unfoldable pub waterFine : ℕ → ℕ → Bool
-waterFine d p = every (leb d mostDepth ∷ leb p mostDepth ∷ [])
 
 -- 5: "q, step limits, U .. out of range"
 unfoldable pub rulesFine : Rules → Bool
@@ -64,7 +31,7 @@ rulesFine r =
     ∷ leb (r .update) mostUpdate
     ∷ [])
 
--- ---- the same as facts: what a call whose tests pass may rely on (`rules-are`, `ground-is`, `water-is`)
+-- ---- the same as facts: what a call whose tests pass may rely on (`rules-are`, `ground-is`)
 
 pub record RulesInRange (r : Rules) : Type 0 where
   pub side-from : 1 ≤ r .«square_side»
@@ -81,10 +48,6 @@ pub record GroundInRange (bed k : ℕ) : Type 0 where
   pub roughness-from : 1 ≤ k
   pub roughness-to : k ≤ mostRoughness
 
-pub record WaterInRange (d p : ℕ) : Type 0 where
-  pub depth-to : d ≤ mostDepth
-  pub last-to : p ≤ mostDepth
-
 -- ---- what the public functions give
 
 abbrev pub SideFine : Rules → Bool → Type 0
@@ -95,6 +58,3 @@ RulesFine rules r = r ≡ rulesFine rules
 
 abbrev pub GroundFine : ℕ → ℕ → Bool → Type 0
 GroundFine bed k r = r ≡ groundFine bed k
-
-abbrev pub WaterFine : ℕ → ℕ → Bool → Type 0
-WaterFine d p r = r ≡ waterFine d p

@@ -9,7 +9,7 @@ use lib.Dec.{eqb}
 use lib.ListN.{getD}
 use Rattle.reckon.specs.Tests.{pick}
 use Rattle.reckon.specs.Roots.{rootOf}
-use Rattle.rule.specs.Rules.{mostDepth, mostRoughness, mostSide, mostLength}
+use Rattle.reckon.specs.Ranges.{mostDepth, mostRoughness, mostSide, mostLength}
 use Rattle.rule.specs.declared.rules.Rules.{Rules}
 
 -- the lesser of two drops that are positive, 0 where neither is

@@ -2,7 +2,7 @@
 ghost use mathlib.Core.Path.{_≡_};
 ghost use Prim.Native.Nat.{_+_, _≤_};
 ghost use Rattle.rule.specs.Drops.{DropTo, DropOff};
-ghost use Rattle.rule.specs.Rules.{mostBed, mostDepth};
+ghost use Rattle.reckon.specs.Ranges.{mostBed, mostDepth};
 use crate::rules::Rules;
 
 // The drop from a square's level towards that of an open or exit neighbour: 0 where it is no drop.

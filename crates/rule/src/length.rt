@@ -8,7 +8,7 @@ use reckon::numbers::lesser;
 ghost use mathlib.Core.Path.{_≡_};
 ghost use Prim.Native.Nat.{_<_, _≤_};
 ghost use Rattle.reckon.specs.Tests.{pick};
-ghost use Rattle.rule.specs.Rules.{mostTolerance};
+ghost use Rattle.reckon.specs.Ranges.{mostTolerance};
 ghost use Rattle.rule.specs.Weighing.{mostDrop, SquareInRange};
 ghost use Rattle.rule.specs.Length.{candidate, counts, Candidacy, Shorter, HeldLength, IsUpdate, LastsFor};
 

@@ -1,6 +1,12 @@
 // The rules of a call, and the ranges of document 01: one test for each refusal number.
+use reckon::ranges::MOST_BED;
+use reckon::ranges::MOST_LENGTH;
+use reckon::ranges::MOST_ROUGHNESS;
+use reckon::ranges::MOST_SIDE;
+use reckon::ranges::MOST_TOLERANCE;
+use reckon::ranges::MOST_UPDATE;
 ghost use mathlib.Core.Path.{_≡_};
-ghost use Rattle.rule.specs.Rules.{SideFine, RulesFine, GroundFine, WaterFine};
+ghost use Rattle.rule.specs.Rules.{SideFine, RulesFine, GroundFine};
 
 // square_side is D in m; tolerance is q in ten-thousandths; shortest, longest and update (U) are in ms.
 pub struct Rules {
@@ -10,20 +16,6 @@ pub struct Rules {
     pub longest: u64,
     pub update: u64,
 }
-
-const MOST_SIDE: u64 = 100;
-
-const MOST_TOLERANCE: u64 = 10_000;
-
-const MOST_LENGTH: u64 = 60_000;
-
-const MOST_UPDATE: u64 = 3_600_000;
-
-const MOST_BED: u32 = 1_000_000_000;
-
-const MOST_ROUGHNESS: u32 = 10_000;
-
-const MOST_DEPTH: u32 = 100_000_000;
 
 // Refusal 1: the side D is in range.
 pub fn side_fine(rules: Rules) -> bool
@@ -68,14 +60,4 @@ pub fn ground_fine(bed: u32, roughness: u32) -> bool
         return false;
     }
     roughness <= MOST_ROUGHNESS
-}
-
-// Refusal 3: depth and last leaving of a square not closed are in range.
-pub fn water_fine(depth: u32, last: u32) -> bool
-    ensures { λ r. ⌜ WaterFine depth last r ⌝ }
-{
-    if MOST_DEPTH < depth {
-        return false;
-    }
-    last <= MOST_DEPTH
 }

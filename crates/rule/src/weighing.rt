@@ -7,7 +7,7 @@ use reckon::roots::cube_root;
 use reckon::roots::square_root;
 ghost use mathlib.Core.Path.{_≡_};
 ghost use Prim.Native.Nat.{_*_, _/_, _<_, _≤_, min};
-ghost use Rattle.rule.specs.Rules.{mostDepth, mostLength};
+ghost use Rattle.reckon.specs.Ranges.{mostDepth, mostLength};
 ghost use Rattle.rule.specs.Weighing.{lesserPositive, leastDrop, greatestDrop, dropSum, heightOf, slopeOf, criticalSpeed, speedOf, mostThrough, totalOf, throughSides, mostDrop, DropsInRange, SquareInRange, Weighable, Weighs};
 
 // The lesser of two drops that are positive, 0 where neither is.

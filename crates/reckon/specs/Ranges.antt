@@ -1,0 +1,65 @@
+-- Document 01, "Units and ranges": the ends of the ranges by the names of its table, and the test of a depth and a last leaving.
+-- Assumes nothing.
+use mathlib.Core.Path.{_≡_}
+use mathlib.Core.Bool.{Bool}
+use mathlib.Core.List.{[], _∷_}
+use Prim.Native.Nat.{ℕ}
+use lib.Dec.{leb}
+use Rattle.reckon.specs.Tests.{every}
+
+-- "side D: m, 1 to 100"
+abbrev pub mostSide : ℕ
+mostSide = 100
+
+-- "bed: µm, 0 to 1,000,000,000"
+abbrev pub mostBed : ℕ
+mostBed = 1_000_000_000
+
+-- "depth d, last leaving P: µm over the square, 0 to 100,000,000"
+abbrev pub mostDepth : ℕ
+mostDepth = 100_000_000
+
+-- "roughness k (ten-thousandths of Manning's n): 1 to 10,000"
+abbrev pub mostRoughness : ℕ
+mostRoughness = 10_000
+
+-- "slope tolerance q: ten-thousandths, 0 to 10,000"
+abbrev pub mostTolerance : ℕ
+mostTolerance = 10_000
+
+-- "shortest, longest step: ms, 1 ≤ shortest ≤ longest ≤ 60,000"
+abbrev pub mostLength : ℕ
+mostLength = 60_000
+
+-- "update time U: ms, 1 to 3,600,000"
+abbrev pub mostUpdate : ℕ
+mostUpdate = 3_600_000
+
+-- "clock, table times: ms, 0 to 604,800,000"
+abbrev pub lastClock : ℕ
+lastClock = 604_800_000
+
+-- "rain rate: µm per hour, 0 to 1,000,000"
+abbrev pub mostRain : ℕ
+mostRain = 1_000_000
+
+-- "inflow: litres per second, 0 to 100,000"
+abbrev pub mostLitres : ℕ
+mostLitres = 100_000
+
+-- "outflow total: µm over one square, 0 to 10^15"
+abbrev pub mostOutflow : ℕ
+mostOutflow = 1_000_000_000_000_000
+
+-- "At most 64 rows of each"
+abbrev pub mostRows : ℕ
+mostRows = 64
+
+-- refusal 3: "depth or P of a square not closed out of range"
+unfoldable pub waterFine : ℕ → ℕ → Bool
+waterFine d p = every (leb d mostDepth ∷ leb p mostDepth ∷ [])
+
+-- ---- what the public function gives
+
+abbrev pub WaterFine : ℕ → ℕ → Bool → Type 0
+WaterFine d p r = r ≡ waterFine d p

@@ -1,0 +1,36 @@
+// The ends of document 01's ranges, and the test of a depth and a last leaving, which steps and take-backs share.
+ghost use Rattle.reckon.specs.Ranges.{WaterFine};
+
+pub const MOST_SIDE: u64 = 100;
+
+pub const MOST_BED: u32 = 1_000_000_000;
+
+pub const MOST_DEPTH: u32 = 100_000_000;
+
+pub const MOST_ROUGHNESS: u32 = 10_000;
+
+pub const MOST_TOLERANCE: u64 = 10_000;
+
+pub const MOST_LENGTH: u64 = 60_000;
+
+pub const MOST_UPDATE: u64 = 3_600_000;
+
+pub const LAST_CLOCK: u64 = 604_800_000;
+
+pub const MOST_RAIN: u64 = 1_000_000;
+
+pub const MOST_LITRES: u64 = 100_000;
+
+pub const MOST_OUTFLOW: u64 = 1_000_000_000_000_000;
+
+pub const MOST_ROWS: usize = 64;
+
+// Refusal 3: depth and last leaving of a square not closed are in range.
+pub fn water_fine(depth: u32, last: u32) -> bool
+    ensures { λ r. ⌜ WaterFine depth last r ⌝ }
+{
+    if MOST_DEPTH < depth {
+        return false;
+    }
+    last <= MOST_DEPTH
+}
