@@ -3,7 +3,7 @@
 -- Assumes nothing.
 use mathlib.Core.Path.{_≡_, refl, sym, ap, _∙_, subst}
 use mathlib.Core.Bool.{Bool, true, false, _&&_, _||_}
-use mathlib.Core.List.{List, [], _∷_}
+use mathlib.Core.List.{List, [], _∷_, _++_}
 use Prim.Native.Nat.{ℕ, zero, suc, _+_, _≤_, _<_}
 use native.Mathlib.Nat.{not-suc-le-zero}
 use native.Mathlib.Numerals.{add-one}
@@ -11,7 +11,7 @@ use native.Mathlib.Decide.{ℕ-discrete}
 use native.Mathlib.Omega.{arith}
 use lib.Dec.{T, leb}
 use lib.ListN.{getD}
-use Rattle.reckon.specs.Tests.{pick, every, allBelow, firstFailing, Row, _unless_, refusal}
+use Rattle.reckon.specs.Tests.{pick, every, allBelow, firstFailing, Row, _unless_, refusal, numbered}
 
 pub not-both : {b : Bool} {A : Type 0} → b ≡ true → b ≡ false → A
 not-both p q = absurd (let z : true ≡ false = sym p ∙ q in let y : _≡_ {A = ℕ} 0 1 = cc in omega arith)
@@ -191,11 +191,6 @@ abbrev pub Passed : List Row → Type 0
 Passed [] = Unit {0}
 Passed (r ∷ rs) = (r .fine ≡ true) × Passed rs
 
--- no row has the number 0
-abbrev pub numbered : List Row → Bool
-numbered [] = true
-numbered (r ∷ rs) = leb 1 (r .number) && numbered rs
-
 T-right : (a b : Bool) → T (a && b) → T b
 T-right true b t = t
 T-right false b t = absurd t
@@ -225,3 +220,38 @@ module _ (n : ℕ) {b : Bool} (rs : List Row) where
   pub refusal-later : b ≡ true → refusal (n unless b ∷ rs) ≡ refusal rs
   unfolding refusal
   refusal-later e = pick-true (refusal rs) n e
+
+-- one table after another: nothing is refused where neither refuses; a refusal of the first stands; else the second decides
+pub refusal-both : (rs ss : List Row) → T (numbered rs) → refusal (rs ++ ss) ≡ 0 → (refusal rs ≡ 0) × (refusal ss ≡ 0)
+unfolding refusal pick
+refusal-both [] ss t e = (refl, e)
+refusal-both (r ∷ rs) ss t e = go (r .fine) (r .number) t e (refusal-both rs ss)
+  where
+    go :
+        (b : Bool) (n : ℕ) → T (leb 1 n && numbered rs) → pick b (refusal (rs ++ ss)) n ≡ 0 →
+        (T (numbered rs) → refusal (rs ++ ss) ≡ 0 → (refusal rs ≡ 0) × (refusal ss ≡ 0)) →
+        (pick b (refusal rs) n ≡ 0) × (refusal ss ≡ 0)
+    go true n t e f = f (T-right (leb 1 n) (numbered rs) t) e
+    go false n t e f = absurd (subst (λ (m : ℕ). T (leb 1 m && numbered rs)) e t)
+
+pub refusal-first : (rs ss : List Row) → T (numbered rs) → (refusal rs ≡ 0 → ⊥) → refusal (rs ++ ss) ≡ refusal rs
+unfolding refusal pick
+refusal-first [] ss t d = absurd (d refl)
+refusal-first (r ∷ rs) ss t d = go (r .fine) (r .number) t d (refusal-first rs ss)
+  where
+    go :
+        (b : Bool) (n : ℕ) → T (leb 1 n && numbered rs) → (pick b (refusal rs) n ≡ 0 → ⊥) →
+        (T (numbered rs) → (refusal rs ≡ 0 → ⊥) → refusal (rs ++ ss) ≡ refusal rs) → pick b (refusal (rs ++ ss)) n ≡ pick b (refusal rs) n
+    go true n t d f = f (T-right (leb 1 n) (numbered rs) t) d
+    go false n t d f = refl
+
+pub refusal-second : (rs ss : List Row) → T (numbered rs) → refusal rs ≡ 0 → refusal (rs ++ ss) ≡ refusal ss
+unfolding refusal pick
+refusal-second [] ss t e = refl
+refusal-second (r ∷ rs) ss t e = go (r .fine) (r .number) t e (refusal-second rs ss)
+  where
+    go :
+        (b : Bool) (n : ℕ) → T (leb 1 n && numbered rs) → pick b (refusal rs) n ≡ 0 →
+        (T (numbered rs) → refusal rs ≡ 0 → refusal (rs ++ ss) ≡ refusal ss) → pick b (refusal (rs ++ ss)) n ≡ refusal ss
+    go true n t e f = f (T-right (leb 1 n) (numbered rs) t) e
+    go false n t e f = absurd (subst (λ (m : ℕ). T (leb 1 m && numbered rs)) e t)

@@ -1,0 +1,7 @@
+pub mod After
+pub mod Engine
+pub mod Flows
+pub mod Record
+pub mod Runs
+pub mod Settle
+pub mod TakeBack

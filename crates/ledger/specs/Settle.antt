@@ -1,0 +1,63 @@
+-- A step whose record is worked out but not yet written, settled: refused by 8 or 9, or written to the world. What the ledger's inner
+-- function gives; `settled-is` joins it to the world after a step.
+-- Assumes nothing.
+use mathlib.Core.Path.{_≡_}
+use mathlib.Core.Bool.{Bool, false}
+use mathlib.Core.List.{List, [], _∷_}
+use Prim.Native.Nat.{ℕ, _+_, _≤_, _<_}
+use lib.Dec.{eqb, leb}
+use lib.ListN.{length, getD}
+use Rattle.reckon.specs.Tests.{pick, Row, _unless_, refusal}
+use Rattle.reckon.specs.Lists.{filled}
+use Rattle.reckon.specs.Ranges.{mostDepth, mostLength, lastClock, mostOutflow}
+use Rattle.trials.specs.Ring.{slotAfter, keptAfter}
+use Rattle.trials.specs.Room.{storedIn}
+use Rattle.grid.specs.Squares.{squares, FineShape}
+use Rattle.ledger.specs.Runs.{Plan, World}
+use Rattle.ledger.specs.Flows.{shut, gone}
+use Rattle.ledger.specs.Record.{recordSize, heldIn, lastedIn, leavesIn, addedIn, roomSlots}
+use Rattle.ledger.specs.After.{Moves, newDepth, depthsFit, newOutflow}
+
+-- what a record says was moved, with the length that the step leaves held
+abbrev pub movesIn : List ℕ → ℕ → Moves
+movesIn rec length = record { leaves = leavesIn rec; added = addedIn rec; lasts = lastedIn rec; length = length }
+
+module _ (p : Plan) (rec : List ℕ) (length : ℕ) (w : World) where
+  unfoldable pub settleRows : List Row
+  settleRows = 8 unless depthsFit p (movesIn rec length) w ∷ 9 unless leb (newOutflow p (movesIn rec length) w) mostOutflow ∷ []
+
+  unfoldable pub settleNumber : ℕ
+  settleNumber = refusal settleRows
+
+  unfoldable pub written : World
+  written =
+      record {
+        depths = filled (squares (p .shape)) (shut p) (newDepth p (movesIn rec length) w) (w .depths);
+        lasts = filled (squares (p .shape)) (shut p) (gone (leavesIn rec)) (w .lasts);
+        records = storedIn (recordSize p) (w .records) (slotAfter (roomSlots p (w .records)) (w .run .newest)) rec;
+        run =
+            record {
+              clock = w .run .clock + lastedIn rec;
+              length = length;
+              outflow = newOutflow p (movesIn rec length) w;
+              kept = keptAfter (roomSlots p (w .records)) (w .run .kept);
+              newest = slotAfter (roomSlots p (w .records)) (w .run .newest);
+            };
+      }
+
+  unfoldable pub settled : World
+  settled = pick (eqb settleNumber 0) written w
+
+-- What is asked: all that is lent is of its size, the run is in range, and no square sends more than it holds.
+pub record Settles (p : Plan) (rec : List ℕ) (newLength : ℕ) (w : World) : Type 0 where
+  pub fine : FineShape (p .shape)
+  pub marks-long : length (p .marks) ≡ squares (p .shape)
+  pub depths-long : length (w .depths) ≡ squares (p .shape)
+  pub lasts-long : length (w .lasts) ≡ squares (p .shape)
+  pub record-long : length rec ≡ recordSize p
+  pub newest-in : w .run .newest < roomSlots p (w .records)
+  pub outflow-to : w .run .outflow ≤ mostOutflow
+  pub clock-to : w .run .clock + lastedIn rec ≤ lastClock
+  pub length-to : newLength ≤ mostLength
+  pub depths-to : (i : ℕ) → i < squares (p .shape) → shut p i ≡ false → getD (w .depths) i 0 ≤ mostDepth
+  pub covered : (i : ℕ) → i < squares (p .shape) → shut p i ≡ false → gone (leavesIn rec) i ≤ getD (w .depths) i 0

@@ -1,0 +1,102 @@
+-- Document 01, "The record" and "Numbers given back on refusal": the take-back.
+-- Assumes nothing.
+use mathlib.Core.Path.{_≡_}
+use mathlib.Core.Bool.{Bool, _||_, not}
+use mathlib.Core.List.{List, [], _∷_}
+use Prim.Native.Nat.{ℕ, _+_, _-_}
+use lib.Dec.{eqb, leb}
+use lib.ListN.{length, getD}
+use Rattle.reckon.specs.Tests.{pick, every, allBelow, Row, _unless_, refusal}
+use Rattle.reckon.specs.Lists.{filled}
+use Rattle.reckon.specs.Ranges.{mostDepth, mostLength, waterFine}
+use Rattle.trials.specs.Ring.{slotBefore}
+use Rattle.grid.specs.Squares.{squares, shapeFine}
+use Rattle.grid.specs.Marks.{marksFine}
+use Rattle.ledger.specs.Runs.{Plan, World, runFine, answered}
+use Rattle.ledger.specs.Flows.{shut, gone, came, offGrid}
+use Rattle.ledger.specs.Record.{heldIn, lastedIn, leavesIn, lastIn, addedIn, roomSlots, newestRecord}
+use Rattle.ledger.specs.declared.runs.Answer.{Answer}
+
+-- ---- the tests, each by its refusal's number
+
+-- 1: "a slice not one number a square"
+unfoldable pub oneEach : Plan → List ℕ → Bool
+oneEach p l = eqb (length l) (squares (p .shape))
+
+-- 3: "depth or P of a square not closed out of range"
+unfoldable pub watersFine : Plan → List ℕ → List ℕ → Bool
+watersFine p depths lasts = allBelow (squares (p .shape)) (λ i. shut p i || waterFine (getD depths i 0) (getD lasts i 0))
+
+-- 11: "length or lasted not 1 to 60,000"
+unfoldable pub timesFine : List ℕ → Bool
+timesFine rec = every (leb 1 (heldIn rec) ∷ leb (heldIn rec) mostLength ∷ leb 1 (lastedIn rec) ∷ leb (lastedIn rec) mostLength ∷ [])
+
+module _ (p : Plan) (w : World) (rec : List ℕ) where
+  -- "Depth before = depth + four leaving − what neighbours sent − amount added": what is put together, and what is taken off it
+  unfoldable pub heldAndGone : ℕ → ℕ
+  heldAndGone i = getD (w .depths) i 0 + gone (leavesIn rec) i
+
+  unfoldable pub cameAndAdded : ℕ → ℕ
+  cameAndAdded i = came p (leavesIn rec) i + addedIn rec i
+
+  unfoldable pub depthBefore : ℕ → ℕ
+  depthBefore i = heldAndGone i - cameAndAdded i
+
+  -- 11: "P or depth restored out of range"
+  unfoldable pub squareRestorable : ℕ → Bool
+  squareRestorable i =
+      shut p i || every (leb (lastIn rec i) mostDepth ∷ leb (cameAndAdded i) (heldAndGone i) ∷ leb (depthBefore i) mostDepth ∷ [])
+
+  -- 11: ".. also lasted > clock, P or depth restored out of range, more outflow than the total"
+  unfoldable pub restorable : Bool
+  restorable =
+      every
+      (timesFine rec
+      ∷ leb (lastedIn rec) (w .run .clock)
+      ∷ allBelow (squares (p .shape)) squareRestorable
+      ∷ leb (offGrid p (leavesIn rec)) (w .run .outflow)
+      ∷ [])
+
+  -- "P, length, clock and outflow go back likewise; kept falls by one, newest moves back one slot; the record room is not written"
+  unfoldable pub worldBefore : World
+  worldBefore =
+      record {
+        depths = filled (squares (p .shape)) (shut p) depthBefore (w .depths);
+        lasts = filled (squares (p .shape)) (shut p) (lastIn rec) (w .lasts);
+        records = w .records;
+        run =
+            record {
+              clock = w .run .clock - lastedIn rec;
+              length = heldIn rec;
+              outflow = w .run .outflow - offGrid p (leavesIn rec);
+              kept = w .run .kept - 1;
+              newest = slotBefore (roomSlots p (w .records)) (w .run .newest);
+            };
+      }
+
+module _ (p : Plan) (w : World) where
+  -- "A take-back is lent rows, columns, marks, depths, P, run and records": the table's rows for it, in their order
+  unfoldable pub backRows : List Row
+  backRows =
+      1 unless every (shapeFine (p .shape) ∷ oneEach p (p .marks) ∷ oneEach p (w .depths) ∷ oneEach p (w .lasts) ∷ [])
+      ∷ 2 unless marksFine (p .shape) (p .marks)
+      ∷ 3 unless watersFine p (w .depths) (w .lasts)
+      ∷ 6 unless runFine (roomSlots p (w .records)) (w .run)
+      ∷ 10 unless not (eqb (w .run .kept) 0)
+      ∷ 11 unless restorable p w (newestRecord p w)
+      ∷ []
+
+  unfoldable pub backNumber : ℕ
+  backNumber = refusal backRows
+
+  -- ".. with the run as it was and every lent slice as it was", or the world before the step
+  unfoldable pub takenBack : World
+  takenBack = pick (eqb backNumber 0) (worldBefore p w (newestRecord p w)) w
+
+-- ---- what the public function gives
+
+-- the answer, the depths and the last leaving afterwards
+pub record TakesBack (p : Plan) (w : World) (a : Answer) (depths lasts : List ℕ) : Type 0 where
+  pub answer : a ≡ answered (backNumber p w) (takenBack p w .run)
+  pub depths-are : depths ≡ takenBack p w .depths
+  pub lasts-are : lasts ≡ takenBack p w .lasts
