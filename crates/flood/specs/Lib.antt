@@ -1,0 +1,4 @@
+pub mod Drops
+pub mod Refusals
+pub mod Run
+pub mod Step

@@ -1,0 +1,2 @@
+// The flood program's library over lent slices: one step, a run to a stated clock, a fresh run. A take-back is the ledger's.
+pub mod run;
