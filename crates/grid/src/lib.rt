@@ -2,5 +2,7 @@
 //
 //   squares   Shape, shape_fine, squares_of, square_at, next_column, beside_on, on_rim
 //   marks     is_closed, is_exit, marks_fine, inflow_squares_fine
+//   masks     row_mask, ones, next_set
 pub mod marks;
+pub mod masks;
 pub mod squares;
