@@ -19,9 +19,9 @@ use Rattle.reckon.specs.Lists.{sumBelow}
 use Rattle.reckon.proofs.TestLaws.{pick-true, pick-false, failing-le, failing-at, failing-none, failing-before, failing-fails}
 use Rattle.reckon.proofs.ListLaws.{sum-ext}
 use Rattle.grid.specs.declared.squares.Shape.{Shape}
-use Rattle.grid.specs.Squares.{longest, squares}
+use Rattle.grid.specs.Squares.{squares}
 use Rattle.grid.specs.Marks.{closed, Alike}
-use Rattle.grid.specs.Masks.{saysYes, digit, maskFrom, rowMask, bitAt, nextSet, foldBelow, onSet, walkFrom, walk}
+use Rattle.grid.specs.Masks.{bits, saysYes, digit, maskFrom, rowMask, bitAt, nextSet, foldBelow, onSet, walkFrom, walk}
 
 -- ---- digits
 
@@ -144,12 +144,12 @@ module _ (says : ℕ → Bool) (first columns : ℕ) where
   row-none = (le-refl columns, ap (maskFrom says (first + columns)) (let e : 0 ≡ columns - columns = omega arith in e))
 
   module _ {left mask : ℕ} (p : Passed left mask) where
-    pub row-small : 0 < left → columns ≤ longest → mask < 2 ^ 63
+    pub row-small : 0 < left → columns ≤ bits → mask < 2 ^ 63
     row-small h g =
         rw (p .1) (le-trans (mask-small says (first + left) (columns - left)) (pow-mono {i = columns - left} {j = 63} (omega (arith, p .0))))
 
     -- there is room for one column more
-    pub row-room : (b : Bool) {bit : ℕ} → 0 < left → columns ≤ longest → bit ≡ digit b → mask * 2 + bit < 2 ^ longest
+    pub row-room : (b : Bool) {bit : ℕ} → 0 < left → columns ≤ bits → bit ≡ digit b → mask * 2 + bit < 2 ^ bits
     row-room b h g e = omega (arith, row-small h g, digit-le b)
 
     pub row-more : {bit : ℕ} → 0 < left → bit ≡ digit (says (first + (left - 1))) → Passed (left - 1) (mask * 2 + bit)
@@ -216,41 +216,41 @@ module _ (mask c : ℕ) where
   ahead k = not (bitAt mask (c + k))
 
   -- it is where the zeros end, held to 64
-  next-by-zeros : c ≤ longest → nextSet mask c ≡ min (c + trailingZeros longest (mask / 2 ^ c)) longest
+  next-by-zeros : c ≤ bits → nextSet mask c ≡ min (c + trailingZeros bits (mask / 2 ^ c)) bits
   unfolding nextSet
   next-by-zeros h =
-      let same : firstFailing longest ahead ≡ trailingZeros longest (mask / 2 ^ c) =
-      (λ j. firstFailing longest (λ k. not (bit-shifted mask c k j))) ∙ sym (zeros-first longest (mask / 2 ^ c)) in
-      omega (arith, failing-fewer (longest - c) longest ahead (omega arith), same)
+      let same : firstFailing bits ahead ≡ trailingZeros bits (mask / 2 ^ c) =
+      (λ j. firstFailing bits (λ k. not (bit-shifted mask c k j))) ∙ sym (zeros-first bits (mask / 2 ^ c)) in
+      omega (arith, failing-fewer (bits - c) bits ahead (omega arith), same)
 
-  pub next-at : c ≤ longest → c + trailingZeros longest (mask / 2 ^ c) < longest → c + trailingZeros longest (mask / 2 ^ c) ≡ nextSet mask c
+  pub next-at : c ≤ bits → c + trailingZeros bits (mask / 2 ^ c) < bits → c + trailingZeros bits (mask / 2 ^ c) ≡ nextSet mask c
   next-at h l = omega (arith, next-by-zeros h)
 
-  pub next-none : c ≤ longest → longest ≤ c + trailingZeros longest (mask / 2 ^ c) → longest ≡ nextSet mask c
+  pub next-none : c ≤ bits → bits ≤ c + trailingZeros bits (mask / 2 ^ c) → bits ≡ nextSet mask c
   next-none h l = omega (arith, next-by-zeros h)
 
-  pub next-past : c ≡ longest → longest ≡ nextSet mask c
+  pub next-past : c ≡ bits → bits ≡ nextSet mask c
   unfolding nextSet
-  next-past e = omega (arith, failing-le (longest - c) ahead)
+  next-past e = omega (arith, failing-le (bits - c) ahead)
 
   pub next-from : c ≤ nextSet mask c
   unfolding nextSet
   next-from = omega arith
 
-  pub next-le : c ≤ longest → nextSet mask c ≤ longest
+  pub next-le : c ≤ bits → nextSet mask c ≤ bits
   unfolding nextSet
-  next-le h = omega (arith, failing-le (longest - c) ahead)
+  next-le h = omega (arith, failing-le (bits - c) ahead)
 
   -- it is set, and those that it passes are not
-  pub next-set : nextSet mask c < longest → bitAt mask (nextSet mask c) ≡ true
+  pub next-set : nextSet mask c < bits → bitAt mask (nextSet mask c) ≡ true
   unfolding nextSet
-  next-set h = not-false _ (failing-fails (longest - c) ahead (omega arith))
+  next-set h = not-false _ (failing-fails (bits - c) ahead (omega arith))
 
   pub next-passes : (k : ℕ) → c ≤ k → k < nextSet mask c → bitAt mask k ≡ false
   unfolding nextSet
   next-passes k h l =
       subst (λ (j : ℕ). bitAt mask j ≡ false) (let e : c + (k - c) ≡ k = omega arith in e)
-      (not-true _ (failing-before (longest - c) ahead (k - c) (omega arith)))
+      (not-true _ (failing-before (bits - c) ahead (k - c) (omega arith)))
 
 -- ---- the walk
 
@@ -287,36 +287,36 @@ module _ {A : Type 0} (f : ℕ → A → A) (a : A) where
 
     -- the walk from a column on ends where all columns end
     walk-on :
-        (n c : ℕ) → c ≤ longest → longest ≤ n + c → walkFrom mask n f c (foldBelow c (onSet mask f) a) ≡ foldBelow longest (onSet mask f) a
+        (n c : ℕ) → c ≤ bits → bits ≤ n + c → walkFrom mask n f c (foldBelow c (onSet mask f) a) ≡ foldBelow bits (onSet mask f) a
     unfolding walkFrom
-    walk-on zero c h g = ap (λ (k : ℕ). foldBelow k (onSet mask f) a) (let e : c ≡ longest = omega arith in e)
-    walk-on (suc n) c h g = go (decLt (nextSet mask c) longest) (walk-on n (nextSet mask c + 1))
+    walk-on zero c h g = ap (λ (k : ℕ). foldBelow k (onSet mask f) a) (let e : c ≡ bits = omega arith in e)
+    walk-on (suc n) c h g = go (decLt (nextSet mask c) bits) (walk-on n (nextSet mask c + 1))
       where
-        here : nextSet mask c < longest → f (nextSet mask c) (foldBelow c (onSet mask f) a) ≡ foldBelow (nextSet mask c + 1) (onSet mask f) a
+        here : nextSet mask c < bits → f (nextSet mask c) (foldBelow c (onSet mask f) a) ≡ foldBelow (nextSet mask c + 1) (onSet mask f) a
         here l =
             ap (f (nextSet mask c)) (sym (fold-to-next c))
             ∙ (sym (pick-true (f (nextSet mask c) (foldBelow (nextSet mask c) (onSet mask f) a)) _ (next-set mask c l))
             ∙ sym (fold-more (nextSet mask c) (onSet mask f) a))
 
         go :
-            Dec (nextSet mask c < longest) →
-            (nextSet mask c + 1 ≤ longest → longest ≤ n + (nextSet mask c + 1) →
-            walkFrom mask n f (nextSet mask c + 1) (foldBelow (nextSet mask c + 1) (onSet mask f) a) ≡ foldBelow longest (onSet mask f) a) →
-            walkFrom mask (suc n) f c (foldBelow c (onSet mask f) a) ≡ foldBelow longest (onSet mask f) a
+            Dec (nextSet mask c < bits) →
+            (nextSet mask c + 1 ≤ bits → bits ≤ n + (nextSet mask c + 1) →
+            walkFrom mask n f (nextSet mask c + 1) (foldBelow (nextSet mask c + 1) (onSet mask f) a) ≡ foldBelow bits (onSet mask f) a) →
+            walkFrom mask (suc n) f c (foldBelow c (onSet mask f) a) ≡ foldBelow bits (onSet mask f) a
         go (yes l) ih =
-            pick-true _ _ (lt-ltb (nextSet mask c) longest l)
+            pick-true _ _ (lt-ltb (nextSet mask c) bits l)
             ∙ (ap (walkFrom mask n f (nextSet mask c + 1)) (here l) ∙ ih (omega arith) (omega (arith, next-from mask c)))
         go (no l) ih =
-            pick-false _ _ (le-ltb (nextSet mask c) longest (omega arith))
-            ∙ (sym (fold-to-next c) ∙ ap (λ (k : ℕ). foldBelow k (onSet mask f) a) (let e : nextSet mask c ≡ longest = omega (arith, next-le mask c h) in e))
+            pick-false _ _ (le-ltb (nextSet mask c) bits (omega arith))
+            ∙ (sym (fold-to-next c) ∙ ap (λ (k : ℕ). foldBelow k (onSet mask f) a) (let e : nextSet mask c ≡ bits = omega (arith, next-le mask c h) in e))
 
     -- the walk visits the set columns, each once and in rising order, and no other
-    pub walk-visits : walk mask f a ≡ foldBelow longest (onSet mask f) a
-    walk-visits = ap (walkFrom mask longest f 0) (sym (fold-none (onSet mask f) a)) ∙ walk-on longest 0 (omega arith) (omega arith)
+    pub walk-visits : walk mask f a ≡ foldBelow bits (onSet mask f) a
+    walk-visits = ap (walkFrom mask bits f 0) (sym (fold-none (onSet mask f) a)) ∙ walk-on bits 0 (omega arith) (omega arith)
 
     -- where the others change nothing it does what a walk over all columns does
-    pub walk-all : ((c : ℕ) (x : A) → bitAt mask c ≡ false → f c x ≡ x) → walk mask f a ≡ foldBelow longest f a
-    walk-all idle = walk-visits ∙ fold-ext longest (onSet mask f) f a (λ c x l. same c x (bitAt mask c) refl)
+    pub walk-all : ((c : ℕ) (x : A) → bitAt mask c ≡ false → f c x ≡ x) → walk mask f a ≡ foldBelow bits f a
+    walk-all idle = walk-visits ∙ fold-ext bits (onSet mask f) f a (λ c x l. same c x (bitAt mask c) refl)
       where
         same : (c : ℕ) (x : A) (b : Bool) → bitAt mask c ≡ b → onSet mask f c x ≡ f c x
         same c x true e = pick-true (f c x) x e
@@ -324,11 +324,11 @@ module _ {A : Type 0} (f : ℕ → A → A) (a : A) where
 
   -- the same of a row's mask, over the row's own columns
   pub walk-row :
-      (says : ℕ → Bool) (first n : ℕ) → n ≤ longest → ((c : ℕ) (x : A) → c < n → says (first + c) ≡ false → f c x ≡ x) →
+      (says : ℕ → Bool) (first n : ℕ) → n ≤ bits → ((c : ℕ) (x : A) → c < n → says (first + c) ≡ false → f c x ≡ x) →
       walk (maskFrom says first n) f a ≡ foldBelow n f a
   walk-row says first n h idle =
       walk-visits m
-      ∙ (fold-idle n longest (onSet m f) a h (λ c x g l. pick-false (f c x) x (mask-past says first g))
+      ∙ (fold-idle n bits (onSet m f) a h (λ c x g l. pick-false (f c x) x (mask-past says first g))
       ∙ fold-ext n (onSet m f) f a (λ c x l. same c x l (says (first + c)) refl))
     where
       m : ℕ

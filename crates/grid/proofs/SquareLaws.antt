@@ -208,12 +208,12 @@ module _ (s : Shape) {i : ℕ} (inside : i < squares s) where
 
 module _ (s : Shape) (i : ℕ) where
   pub on-the-rim : {side : ℕ} → side < sides → beside s i side ≡ squares s → true ≡ onRim s i
-  unfolding onRim within
+  unfolding onRim
   on-the-rim {side} h e =
       rw (all-fails sides (λ k. ltb (beside s i k) (squares s)) side h (rw e (le-ltb (squares s) (squares s) (omega arith))))
 
   pub off-the-rim : ((side : ℕ) → side < sides → beside s i side < squares s) → false ≡ onRim s i
-  unfolding onRim within
+  unfolding onRim
   off-the-rim f = rw (all-of sides (λ k. ltb (beside s i k) (squares s)) (λ k l. lt-ltb _ _ (f k l)))
 
 -- a square that has all four neighbours

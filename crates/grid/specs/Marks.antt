@@ -34,12 +34,9 @@ markFine s marks i = leb (markAt marks i) exitMark && (not (exit marks i) || onR
 unfoldable pub marksFine : Shape → List ℕ → Bool
 marksFine s marks = allBelow (squares s) (markFine s marks)
 
--- "Inflow rows: row, column, from, to, litres. At most 64 rows"
+-- "Inflow rows: row, column, from, to, litres"
 abbrev pub inflowWords : ℕ
 inflowWords = 5
-
-abbrev pub mostInflowWords : ℕ
-mostInflowWords = 320
 
 abbrev pub inflowRow : List ℕ → ℕ → ℕ
 inflowRow rows j = getD rows (inflowWords * j) 0
@@ -67,11 +64,6 @@ pub record Alike (marks a b : List ℕ) : Type 0 where
 pub record Marked (s : Shape) (marks : List ℕ) : Type 0 where
   pub fine : FineShape s
   pub whole : length marks ≡ squares s
-
--- whole inflow rows, at most 64
-pub record InflowRows (rows : List ℕ) : Type 0 where
-  pub even : length rows % inflowWords ≡ 0
-  pub few : length rows ≤ mostInflowWords
 
 -- ---- what the public functions give
 

@@ -9,13 +9,17 @@ use lib.ListN.{length, getD}
 use lib.Count.{ones}
 use Rattle.reckon.specs.Tests.{pick, firstFailing}
 use Rattle.grid.specs.declared.squares.Shape.{Shape}
-use Rattle.grid.specs.Squares.{longest}
 use Rattle.grid.specs.Marks.{closed}
+
+-- "one 64-bit number"
+abbrev pub bits : ℕ
+bits = 64
 
 -- "not closed and at least a given depth": least is that depth, and numbers hold one a square
 unfoldable pub saysYes : List ℕ → List ℕ → ℕ → ℕ → Bool
 saysYes marks numbers least i = not (closed marks i) && leb least (getD numbers i 0)
 
+-- 1 for yes, 0 for no
 unfoldable pub digit : Bool → ℕ
 digit b = pick b 1 0
 
@@ -34,7 +38,7 @@ bitAt mask c = eqb (mask / 2 ^ c % 2) 1
 
 -- the next set column at or after c, or 64 where there is none
 unfoldable pub nextSet : ℕ → ℕ → ℕ
-nextSet mask c = c + firstFailing (longest - c) (λ k. not (bitAt mask (c + k)))
+nextSet mask c = c + firstFailing (bits - c) (λ k. not (bitAt mask (c + k)))
 
 -- f of each column below n in turn
 unfoldable pub foldBelow : {A : Type 0} → ℕ → (ℕ → A → A) → A → A
@@ -48,14 +52,14 @@ onSet mask f c a = pick (bitAt mask c) (f c a) a
 -- f of each set column in turn, from column c on: the next set one, and then on from the column after it, at most n of them
 unfoldable pub walkFrom : {A : Type 0} → ℕ → ℕ → (ℕ → A → A) → ℕ → A → A
 walkFrom mask zero f c a = a
-walkFrom mask (suc n) f c a = pick (ltb (nextSet mask c) longest) (walkFrom mask n f (nextSet mask c + 1) (f (nextSet mask c) a)) a
+walkFrom mask (suc n) f c a = pick (ltb (nextSet mask c) bits) (walkFrom mask n f (nextSet mask c + 1) (f (nextSet mask c) a)) a
 
 abbrev pub walk : {A : Type 0} → ℕ → (ℕ → A → A) → A → A
-walk mask f a = walkFrom mask longest f 0 a
+walk mask f a = walkFrom mask bits f 0 a
 
 -- a row of at most 64 squares that both lists have
 pub record RowLent (marks numbers : List ℕ) (first columns : ℕ) : Type 0 where
-  pub columns-high : columns ≤ longest
+  pub columns-high : columns ≤ bits
   pub marks-long : first + columns ≤ length marks
   pub numbers-long : first + columns ≤ length numbers
 

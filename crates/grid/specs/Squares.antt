@@ -40,7 +40,7 @@ abbrev pub squareAt : Shape → ℕ → ℕ → ℕ
 squareAt s row column = row * s .columns + column
 
 -- "off the grid" is every other number
-unfoldable pub within : Shape → ℕ → Bool
+abbrev pub within : Shape → ℕ → Bool
 within s i = ltb i (squares s)
 
 -- the neighbour on a side (from 3 on: west), or the number of squares where that is off the grid
@@ -72,6 +72,12 @@ pub record FineShape (s : Shape) : Type 0 where
   pub columns-low : 1 ≤ s .columns
   pub columns-high : s .columns ≤ longest
   pub few : squares s ≤ mostSquares
+
+-- a row and a column of a fine grid
+pub record OnGrid (s : Shape) (row column : ℕ) : Type 0 where
+  pub fine : FineShape s
+  pub row-in : row < s .rows
+  pub column-in : column < s .columns
 
 -- a square of a fine grid, with its column
 pub record Stands (s : Shape) (square column : ℕ) : Type 0 where

@@ -2,8 +2,7 @@
 ghost use mathlib.Core.Path.{_≡_};
 ghost use Prim.Native.Nat.{_<_, _≤_};
 ghost use lib.ListN.{length};
-ghost use Rattle.grid.specs.Squares.{longest};
-ghost use Rattle.grid.specs.Masks.{NextFound, OnesOf, RowLent, RowMasked, digit, saysYes};
+ghost use Rattle.grid.specs.Masks.{NextFound, OnesOf, RowLent, RowMasked, bits, digit, saysYes};
 use crate::marks::is_closed;
 
 // The columns that a mask has room for.
@@ -46,7 +45,7 @@ pub fn ones(mask: u64) -> u64
 
 // The next set column at or after a column, or 64 where there is none.
 pub fn next_set(mask: u64, column: usize) -> usize
-    requires { ⌜ column ≤ longest ⌝ }
+    requires { ⌜ column ≤ bits ⌝ }
     ensures { λ r. ⌜ NextFound mask column r ⌝ }
 {
     if column == BITS {

@@ -26,7 +26,7 @@ loop-holds c =
 
 inflow-square-fine-requires : tie.Need-inflow-square-fine-requires Inv-loop μ-loop
 inflow-square-fine-requires c κs =
-    (c .before .before .before .before .pre .0, omega (arith, c .loop-test .taken))
+    (c .before .before .before .before .pre, omega (arith, c .loop-test .taken))
 
 returns : tie.Need-returns Inv-loop μ-loop
 unfolding inflowSquaresFine

@@ -4,7 +4,7 @@ use Prim.Native.Nat.{_/_, _^_}
 use native.Mathlib.Omega.{arith}
 use lib.Count.{trailing-le}
 use borrow.Author.Needs.{needs}
-use Rattle.grid.specs.Squares.{longest}
+use Rattle.grid.specs.Masks.{bits}
 use Rattle.grid.proofs.MaskLaws.{next-at, next-none, next-past}
 use Rattle.grid.proofs.masks.next_set.Statement.{statement}
 use Rattle.grid.proofs.masks.next_set.Tie as tie
@@ -18,11 +18,11 @@ shr-next c = search needs
 
 cast-next : tie.Need-cast-next
 cast-next c =
-    omega (arith, trailing-le longest (c .before .args .mask / 2 ^ c .before .args .column))
+    omega (arith, trailing-le bits (c .before .args .mask / 2 ^ c .before .args .column))
 
 add-next : tie.Need-add-next
 add-next c =
-    omega (arith, trailing-le longest (c .before .args .mask / 2 ^ c .before .args .column))
+    omega (arith, trailing-le bits (c .before .args .mask / 2 ^ c .before .args .column))
 
 returns-2 : tie.Need-returns-2
 returns-2 c =

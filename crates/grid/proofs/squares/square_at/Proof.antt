@@ -8,11 +8,11 @@ use Rattle.grid.proofs.squares.square_at.Tie as tie
 
 mul-result : tie.Need-mul-result
 mul-result c =
-    omega (arith, square-within _ (c .before .pre .1) (c .before .pre .2))
+    omega (arith, square-within _ (c .before .pre .row-in) (c .before .pre .column-in))
 
 add-result : tie.Need-add-result
 add-result c =
-    omega (arith, square-within _ (c .before .pre .1) (c .before .pre .2))
+    omega (arith, square-within _ (c .before .pre .row-in) (c .before .pre .column-in))
 
 returns : tie.Need-returns
 returns c = search needs
