@@ -278,49 +278,54 @@ module _ {A : Type 0} where
       go (yes e) ih = rw e
       go (no e) ih = idle n (foldBelow n f a) (omega arith) (omega arith) ∙ ih (omega arith)
 
+-- g changes nothing at a column that is not set
+abbrev pub Idle : {A : Type 0} → ℕ → (ℕ → A → A) → Type 0
+Idle {A} mask g = (c : ℕ) (x : A) → bitAt mask c ≡ false → g c x ≡ x
+
+-- so nothing happens up to the next set column
+pub fold-to-next :
+    {A : Type 0} (mask : ℕ) {g : ℕ → A → A} → Idle mask g → (a : A) (c : ℕ) → foldBelow (nextSet mask c) g a ≡ foldBelow c g a
+fold-to-next mask {g} idle a c =
+    fold-idle c (nextSet mask c) g a (next-from mask c) (λ k x h l. idle k x (next-passes mask c k h l))
+
+-- where f does at the set columns what g does, walking by f is going over all columns by g
+module _ {A : Type 0} (mask : ℕ) (f g : ℕ → A → A) (idle : Idle mask g) (same : (c : ℕ) (x : A) → bitAt mask c ≡ true → f c x ≡ g c x) (a : A) where
+  walk-on : (n c : ℕ) → c ≤ bits → bits ≤ n + c → walkFrom mask n f c (foldBelow c g a) ≡ foldBelow bits g a
+  unfolding walkFrom
+  walk-on zero c h l = ap (λ (k : ℕ). foldBelow k g a) (let e : c ≡ bits = omega arith in e)
+  walk-on (suc n) c h l = go (decLt next bits) (walk-on n (next + 1))
+    where
+      next : ℕ
+      next = nextSet mask c
+
+      here : next < bits → f next (foldBelow c g a) ≡ foldBelow (next + 1) g a
+      here m =
+          same next (foldBelow c g a) (next-set mask c m)
+          ∙ (ap (g next) (sym (fold-to-next mask idle a c)) ∙ sym (fold-more next g a))
+
+      go :
+          Dec (next < bits) →
+          (next + 1 ≤ bits → bits ≤ n + (next + 1) → walkFrom mask n f (next + 1) (foldBelow (next + 1) g a) ≡ foldBelow bits g a) →
+          walkFrom mask (suc n) f c (foldBelow c g a) ≡ foldBelow bits g a
+      go (yes m) ih =
+          pick-true _ _ (lt-ltb next bits m)
+          ∙ (ap (walkFrom mask n f (next + 1)) (here m) ∙ ih (omega arith) (omega (arith, next-from mask c)))
+      go (no m) ih =
+          pick-false _ _ (le-ltb next bits (omega arith))
+          ∙ (sym (fold-to-next mask idle a c) ∙ ap (λ (k : ℕ). foldBelow k g a) (let e : next ≡ bits = omega (arith, next-le mask c h) in e))
+
+  pub walk-as : walk mask f a ≡ foldBelow bits g a
+  walk-as = ap (walkFrom mask bits f 0) (sym (fold-none g a)) ∙ walk-on bits 0 (omega arith) (omega arith)
+
 module _ {A : Type 0} (f : ℕ → A → A) (a : A) where
-  module _ (mask : ℕ) where
-    -- up to the next set column nothing happens
-    pub fold-to-next : (c : ℕ) → foldBelow (nextSet mask c) (onSet mask f) a ≡ foldBelow c (onSet mask f) a
-    fold-to-next c =
-        fold-idle c (nextSet mask c) (onSet mask f) a (next-from mask c) (λ k x h l. pick-false (f k x) x (next-passes mask c k h l))
+  -- the walk visits the set columns, each once and in rising order, and no other
+  pub walk-visits : (mask : ℕ) → walk mask f a ≡ foldBelow bits (onSet mask f) a
+  walk-visits mask =
+      walk-as mask f (onSet mask f) (λ c x e. pick-false (f c x) x e) (λ c x e. sym (pick-true (f c x) x e)) a
 
-    -- the walk from a column on ends where all columns end
-    walk-on :
-        (n c : ℕ) → c ≤ bits → bits ≤ n + c → walkFrom mask n f c (foldBelow c (onSet mask f) a) ≡ foldBelow bits (onSet mask f) a
-    unfolding walkFrom
-    walk-on zero c h g = ap (λ (k : ℕ). foldBelow k (onSet mask f) a) (let e : c ≡ bits = omega arith in e)
-    walk-on (suc n) c h g = go (decLt (nextSet mask c) bits) (walk-on n (nextSet mask c + 1))
-      where
-        here : nextSet mask c < bits → f (nextSet mask c) (foldBelow c (onSet mask f) a) ≡ foldBelow (nextSet mask c + 1) (onSet mask f) a
-        here l =
-            ap (f (nextSet mask c)) (sym (fold-to-next c))
-            ∙ (sym (pick-true (f (nextSet mask c) (foldBelow (nextSet mask c) (onSet mask f) a)) _ (next-set mask c l))
-            ∙ sym (fold-more (nextSet mask c) (onSet mask f) a))
-
-        go :
-            Dec (nextSet mask c < bits) →
-            (nextSet mask c + 1 ≤ bits → bits ≤ n + (nextSet mask c + 1) →
-            walkFrom mask n f (nextSet mask c + 1) (foldBelow (nextSet mask c + 1) (onSet mask f) a) ≡ foldBelow bits (onSet mask f) a) →
-            walkFrom mask (suc n) f c (foldBelow c (onSet mask f) a) ≡ foldBelow bits (onSet mask f) a
-        go (yes l) ih =
-            pick-true _ _ (lt-ltb (nextSet mask c) bits l)
-            ∙ (ap (walkFrom mask n f (nextSet mask c + 1)) (here l) ∙ ih (omega arith) (omega (arith, next-from mask c)))
-        go (no l) ih =
-            pick-false _ _ (le-ltb (nextSet mask c) bits (omega arith))
-            ∙ (sym (fold-to-next c) ∙ ap (λ (k : ℕ). foldBelow k (onSet mask f) a) (let e : nextSet mask c ≡ bits = omega (arith, next-le mask c h) in e))
-
-    -- the walk visits the set columns, each once and in rising order, and no other
-    pub walk-visits : walk mask f a ≡ foldBelow bits (onSet mask f) a
-    walk-visits = ap (walkFrom mask bits f 0) (sym (fold-none (onSet mask f) a)) ∙ walk-on bits 0 (omega arith) (omega arith)
-
-    -- where the others change nothing it does what a walk over all columns does
-    pub walk-all : ((c : ℕ) (x : A) → bitAt mask c ≡ false → f c x ≡ x) → walk mask f a ≡ foldBelow bits f a
-    walk-all idle = walk-visits ∙ fold-ext bits (onSet mask f) f a (λ c x l. same c x (bitAt mask c) refl)
-      where
-        same : (c : ℕ) (x : A) (b : Bool) → bitAt mask c ≡ b → onSet mask f c x ≡ f c x
-        same c x true e = pick-true (f c x) x e
-        same c x false e = pick-false (f c x) x e ∙ sym (idle c x e)
+  -- where the others change nothing it does what going over all columns does
+  pub walk-all : (mask : ℕ) → Idle mask f → walk mask f a ≡ foldBelow bits f a
+  walk-all mask idle = walk-as mask f f idle (λ c x e. refl) a
 
   -- the same of a row's mask, over the row's own columns
   pub walk-row :
@@ -329,11 +334,11 @@ module _ {A : Type 0} (f : ℕ → A → A) (a : A) where
   walk-row says first n h idle =
       walk-visits m
       ∙ (fold-idle n bits (onSet m f) a h (λ c x g l. pick-false (f c x) x (mask-past says first g))
-      ∙ fold-ext n (onSet m f) f a (λ c x l. same c x l (says (first + c)) refl))
+      ∙ fold-ext n (onSet m f) f a (λ c x l. at c x l (says (first + c)) refl))
     where
       m : ℕ
       m = maskFrom says first n
 
-      same : (c : ℕ) (x : A) → c < n → (b : Bool) → says (first + c) ≡ b → onSet m f c x ≡ f c x
-      same c x l true e = pick-true (f c x) x (mask-in says first l ∙ e)
-      same c x l false e = pick-false (f c x) x (mask-in says first l ∙ e) ∙ sym (idle c x l e)
+      at : (c : ℕ) (x : A) → c < n → (b : Bool) → says (first + c) ≡ b → onSet m f c x ≡ f c x
+      at c x l true e = pick-true (f c x) x (mask-in says first l ∙ e)
+      at c x l false e = pick-false (f c x) x (mask-in says first l ∙ e) ∙ sym (idle c x l e)

@@ -11,7 +11,7 @@ use borrow.Author.Tests.{leb-true, le-leb, lt-leb, lt-ltb, le-ltb, eq-eqb, ne-eq
 use Rattle.reckon.specs.Tests.{every}
 use Rattle.reckon.proofs.TestLaws.{pick-true, pick-false, pick-both, every-each, each-every, all-of, all-fails}
 use Rattle.grid.specs.declared.squares.Shape.{Shape}
-use Rattle.grid.specs.Squares.{longest, mostSquares, north, east, south, west, sides, squares, squareAt, within, beside, opposite, onRim, shapeFine, FineShape, Stands, NextColumn}
+use Rattle.grid.specs.Squares.{longest, mostSquares, north, east, south, west, sides, squares, squareAt, beside, opposite, onRim, shapeFine, FineShape, Stands, NextColumn}
 
 -- ---- the shape
 
