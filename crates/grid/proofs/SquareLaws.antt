@@ -18,19 +18,14 @@ use Rattle.grid.specs.Squares.{longest, mostSquares, north, east, south,
 pub few-squares : (s : Shape) → s .rows ≤ longest → s .columns ≤ longest → squares s ≤ mostSquares
 few-squares s h g = omega (arith, mul-le-mul h g)
 
+pub fine-shape : (s : Shape) → 1 ≤ s .rows → s .rows ≤ longest → 1 ≤ s .columns → s .columns ≤ longest → FineShape s
+fine-shape s a b c d = record { rows-low = a; rows-high = b; columns-low = c; columns-high = d; few = few-squares s b d }
+
 pub ranges-of-fine : (s : Shape) → shapeFine s ≡ true → FineShape s
 unfolding shapeFine
 ranges-of-fine s e =
     let p = every-each _ e in
-    let rh : s .rows ≤ longest = leb-true _ _ (p .1 .0) in
-    let ch : s .columns ≤ longest = leb-true _ _ (p .1 .1 .1 .0) in
-    record {
-      rows-low = leb-true _ _ (p .0);
-      rows-high = rh;
-      columns-low = leb-true _ _ (p .1 .1 .0);
-      columns-high = ch;
-      few = few-squares s rh ch;
-    }
+    fine-shape s (leb-true _ _ (p .0)) (leb-true _ _ (p .1 .0)) (leb-true _ _ (p .1 .1 .0)) (leb-true _ _ (p .1 .1 .1 .0))
 
 pub fine-of-ranges : (s : Shape) → FineShape s → shapeFine s ≡ true
 unfolding shapeFine

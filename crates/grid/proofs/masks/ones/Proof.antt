@@ -7,8 +7,7 @@ use Rattle.grid.proofs.masks.ones.Statement.{statement}
 use Rattle.grid.proofs.masks.ones.Tie as tie
 
 cast-result : tie.Need-cast-result
-cast-result c =
-    omega (arith, ones-le 64 (c .args .mask) (c .fits .mask .fits))
+cast-result c = omega (arith, ones-le 64 (c .args .mask) (c .fits .mask .fits))
 
 returns : tie.Need-returns
 returns c = search needs

@@ -13,8 +13,7 @@ is-closed-requires c κs = search needs
 
 returns : tie.Need-returns
 unfolding digit saysYes pick
-returns c =
-    rw (sym (c .before .is-closed .ensures) ∙ c .if1 .taken)
+returns c = rw (sym (c .before .is-closed .ensures) ∙ c .if1 .taken)
 
 mul-if2 : tie.Need-mul-if2
 mul-if2 c = search needs
