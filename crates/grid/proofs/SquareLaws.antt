@@ -135,6 +135,20 @@ opposite-opposite (suc (suc zero)) h = refl
 opposite-opposite (suc (suc (suc zero))) h = refl
 opposite-opposite (suc (suc (suc (suc _)))) h = absurd (omega arith)
 
+pub opposite-low : (side : ℕ) → side < south → side + 2 ≡ opposite side
+unfolding opposite
+opposite-low zero h = refl
+opposite-low (suc zero) h = refl
+opposite-low (suc (suc _)) h = absurd (omega arith)
+
+pub opposite-high : (side : ℕ) → south ≤ side → side < sides → side - 2 ≡ opposite side
+unfolding opposite
+opposite-high zero h l = absurd (omega arith)
+opposite-high (suc zero) h l = absurd (omega arith)
+opposite-high (suc (suc zero)) h l = refl
+opposite-high (suc (suc (suc zero))) h l = refl
+opposite-high (suc (suc (suc (suc _)))) h l = absurd (omega arith)
+
 pub opposite-small : (side : ℕ) → opposite side < sides
 unfolding opposite
 opposite-small zero = omega arith

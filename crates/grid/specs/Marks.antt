@@ -17,13 +17,15 @@ closedMark = 0
 abbrev pub exitMark : ℕ
 exitMark = 2
 
--- a mark past the end reads closed
+-- one mark a square; a mark past the end reads closed
 abbrev pub markAt : List ℕ → ℕ → ℕ
 markAt marks i = getD marks i closedMark
 
+-- "a closed square"
 unfoldable pub closed : List ℕ → ℕ → Bool
 closed marks i = eqb (markAt marks i) closedMark
 
+-- "an exit"
 unfoldable pub exit : List ℕ → ℕ → Bool
 exit marks i = eqb (markAt marks i) exitMark
 

@@ -102,5 +102,8 @@ NextColumn s column r = r ≡ (column + 1) % s .columns
 abbrev pub BesideOn : Shape → ℕ → ℕ → ℕ → Type 0
 BesideOn s i side r = r ≡ beside s i side
 
+abbrev pub OppositeOf : ℕ → ℕ → Type 0
+OppositeOf side r = r ≡ opposite side
+
 abbrev pub RimJudged : Shape → ℕ → Bool → Type 0
 RimJudged s i r = r ≡ onRim s i

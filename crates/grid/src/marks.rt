@@ -18,6 +18,7 @@ const EXIT: u8 = 2;
 // The numbers of an inflow row.
 const INFLOW_WORDS: usize = 5;
 
+// Whether a square is closed.
 pub fn is_closed(marks: &[u8], square: usize) -> bool
     requires { ⌜ square < length (now marks) ⌝ }
     ensures { λ r. ⌜ ClosedJudged (now (marks .entry)) square r ⌝ }
@@ -25,6 +26,7 @@ pub fn is_closed(marks: &[u8], square: usize) -> bool
     marks[square] == CLOSED
 }
 
+// Whether a square is an exit.
 pub fn is_exit(marks: &[u8], square: usize) -> bool
     requires { ⌜ square < length (now marks) ⌝ }
     ensures { λ r. ⌜ ExitJudged (now (marks .entry)) square r ⌝ }
