@@ -1,7 +1,7 @@
 -- Laws of masks: a mask's bits are the answers of the row's squares, and its ones are counted square by square.
 -- Assumes nothing.
 use mathlib.Core.Path.{_≡_, refl, sym, ap, ap₂, _∙_}
-use mathlib.Core.Bool.{Bool, true, false, _&&_, not}
+use mathlib.Core.Bool.{Bool, true, false, _&&_}
 use mathlib.Core.List.{List}
 use Prim.Native.Nat.{ℕ, zero, suc, _+_, _-_, _*_, _/_, _%_, _^_, _≤_, _<_}
 use native.Mathlib.Nat.{le-refl, le-trans, pow-suc, add-comm, add-suc, add-zero, zero-add, add-assoc, suc-mul, zero-mul, zero-div, div-one, div-div-eq-div-mul}
@@ -169,19 +169,26 @@ module _ (says : ℕ → Bool) (first columns : ℕ) where
         p .1
         ∙ ap₂ (maskFrom says) (let e : first + left ≡ first = omega arith in e) (let e : columns - left ≡ columns = omega arith in e)
 
--- ---- lists that are alike have the same masks
+-- ---- what a square says, and lists that are alike
+
+module _ (marks numbers : List ℕ) (least i : ℕ) where
+  pub says-closed : closed marks i ≡ true → saysYes marks numbers least i ≡ false
+  unfolding saysYes
+  says-closed e = rw e
+
+  pub says-open : closed marks i ≡ false → saysYes marks numbers least i ≡ leb least (getD numbers i 0)
+  unfolding saysYes
+  says-open e = rw e
 
 says-alike :
     (marks : List ℕ) {a b : List ℕ} → Alike marks a b → (least i : ℕ) → saysYes marks a least i ≡ saysYes marks b least i
-unfolding saysYes
 says-alike marks {a} {b} h least i = go (closed marks i) refl
   where
-    go :
-        (t : Bool) → closed marks i ≡ t →
-        (not (closed marks i) && leb least (getD a i 0)) ≡ (not (closed marks i) && leb least (getD b i 0))
-    go true e = rw e
-    go false e = rw (h .at i e)
+    go : (t : Bool) → closed marks i ≡ t → saysYes marks a least i ≡ saysYes marks b least i
+    go true e = says-closed marks a least i e ∙ sym (says-closed marks b least i e)
+    go false e = says-open marks a least i e ∙ (ap (leb least) (h .at i e) ∙ sym (says-open marks b least i e))
 
+-- the mask of a row depends on no closed square
 pub mask-alike :
     (marks : List ℕ) {a b : List ℕ} → Alike marks a b → (least first n : ℕ) →
     maskFrom (saysYes marks a least) first n ≡ maskFrom (saysYes marks b least) first n

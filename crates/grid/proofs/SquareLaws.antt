@@ -36,10 +36,12 @@ fine-of-ranges s f =
 -- ---- rows and columns
 
 module _ (s : Shape) where
+  -- a whole row is on the grid
+  pub row-fits : {row : ℕ} → row < s .rows → row * s .columns + s .columns ≤ squares s
+  row-fits {row} h = omega (arith, suc-mul row (s .columns), mul-le-mul-right (s .columns) h)
+
   pub square-within : {row column : ℕ} → row < s .rows → column < s .columns → squareAt s row column < squares s
-  square-within {row} h g =
-      let m : suc row * s .columns ≤ squares s = mul-le-mul-right (s .columns) h in
-      omega (arith, suc-mul row (s .columns))
+  square-within h g = omega (arith, row-fits h)
 
   pub row-of : (row : ℕ) {column : ℕ} → column < s .columns → squareAt s row column / s .columns ≡ row
   row-of row {column} h =
