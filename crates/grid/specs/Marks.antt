@@ -33,6 +33,7 @@ exit marks i = eqb (markAt marks i) exitMark
 unfoldable pub markFine : Shape → List ℕ → ℕ → Bool
 markFine s marks i = leb (markAt marks i) exitMark && (not (exit marks i) || onRim s i)
 
+-- the same of every square
 unfoldable pub marksFine : Shape → List ℕ → Bool
 marksFine s marks = allBelow (squares s) (markFine s marks)
 
@@ -40,6 +41,7 @@ marksFine s marks = allBelow (squares s) (markFine s marks)
 abbrev pub inflowWords : ℕ
 inflowWords = 5
 
+-- the row and the column that inflow row j names
 abbrev pub inflowRow : List ℕ → ℕ → ℕ
 inflowRow rows j = getD rows (inflowWords * j) 0
 
@@ -55,6 +57,7 @@ inflowSquareFine s marks rows j =
     ∷ not (closed marks (squareAt s (inflowRow rows j) (inflowColumn rows j)))
     ∷ [])
 
+-- the same of every whole row of the table
 unfoldable pub inflowSquaresFine : Shape → List ℕ → List ℕ → Bool
 inflowSquaresFine s marks rows = allBelow (length rows / inflowWords) (inflowSquareFine s marks rows)
 

@@ -23,7 +23,7 @@ saysYes marks numbers least i = not (closed marks i) && leb least (getD numbers 
 unfoldable pub digit : Bool → ℕ
 digit b = pick b 1 0
 
--- "bit c set exactly when the square in column c": the number whose n binary digits, the lowest first, are those of the squares from `first` on
+-- "bit c set exactly when": the number whose n binary digits, the lowest first, are those of the squares from `first` on
 unfoldable pub maskFrom : (ℕ → Bool) → ℕ → ℕ → ℕ
 maskFrom says first zero = 0
 maskFrom says first (suc n) = digit (says first) + maskFrom says (suc first) n * 2
@@ -36,7 +36,7 @@ rowMask s says row = maskFrom says (row * s .columns) (s .columns)
 unfoldable pub bitAt : ℕ → ℕ → Bool
 bitAt mask c = eqb (mask / 2 ^ c % 2) 1
 
--- the next set column at or after c, or 64 where there is none
+-- "the next wet column": the first set one at or after c, or 64 where there is none
 unfoldable pub nextSet : ℕ → ℕ → ℕ
 nextSet mask c = c + firstFailing (bits - c) (λ k. not (bitAt mask (c + k)))
 
@@ -54,6 +54,7 @@ unfoldable pub walkFrom : {A : Type 0} → ℕ → ℕ → (ℕ → A → A) →
 walkFrom mask zero f c a = a
 walkFrom mask (suc n) f c a = pick (ltb (nextSet mask c) bits) (walkFrom mask n f (nextSet mask c + 1) (f (nextSet mask c) a)) a
 
+-- "the wet walk": over the whole mask
 abbrev pub walk : {A : Type 0} → ℕ → (ℕ → A → A) → A → A
 walk mask f a = walkFrom mask bits f 0 a
 
