@@ -1,2 +1,4 @@
 pub mod MarkLaws
+pub mod MaskLaws
 pub mod SquareLaws
+pub mod WalkLaws

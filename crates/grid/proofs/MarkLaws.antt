@@ -68,7 +68,8 @@ module _ (s : Shape) (marks rows : List ℕ) (j : ℕ) where
   inflow-no-column e h = sym (every-fails _ 1 (le-ltb (inflowColumn rows j) (s .columns) (omega arith)))
 
   -- on the grid its mark decides
-  module _ {row column at : ℕ} {b : Bool} (r : row ≡ inflowRow rows j) (c : column ≡ inflowColumn rows j) (a : at ≡ squareAt s row column) (e : b ≡ closed marks at) where
+  module _ {row column at : ℕ} {b : Bool} (r : row ≡ inflowRow rows j) (c : column ≡ inflowColumn rows j)
+      (a : at ≡ squareAt s row column) (e : b ≡ closed marks at) where
     same : b ≡ closed marks (squareAt s (inflowRow rows j) (inflowColumn rows j))
     same = e ∙ ap (closed marks) (a ∙ ap₂ (squareAt s) r c)
 

@@ -11,26 +11,21 @@ use borrow.Author.Tests.{leb-true, le-leb, lt-leb, lt-ltb, le-ltb, eq-eqb, ne-eq
 use Rattle.reckon.specs.Tests.{every}
 use Rattle.reckon.proofs.TestLaws.{pick-true, pick-false, pick-both, every-each, each-every, all-of, all-fails}
 use Rattle.grid.specs.declared.squares.Shape.{Shape}
-use Rattle.grid.specs.Squares.{longest, mostSquares, north, east, south, west, sides, squares, squareAt, within, beside, opposite, onRim, shapeFine, FineShape, Stands, NextColumn}
+use Rattle.grid.specs.Squares.{longest, mostSquares, north, east, south, west, sides, squares, squareAt, beside, opposite, onRim, shapeFine, FineShape, Stands, NextColumn}
 
 -- ---- the shape
 
 pub few-squares : (s : Shape) → s .rows ≤ longest → s .columns ≤ longest → squares s ≤ mostSquares
 few-squares s h g = omega (arith, mul-le-mul h g)
 
+pub fine-shape : (s : Shape) → 1 ≤ s .rows → s .rows ≤ longest → 1 ≤ s .columns → s .columns ≤ longest → FineShape s
+fine-shape s a b c d = record { rows-low = a; rows-high = b; columns-low = c; columns-high = d; few = few-squares s b d }
+
 pub ranges-of-fine : (s : Shape) → shapeFine s ≡ true → FineShape s
 unfolding shapeFine
 ranges-of-fine s e =
     let p = every-each _ e in
-    let rh : s .rows ≤ longest = leb-true _ _ (p .1 .0) in
-    let ch : s .columns ≤ longest = leb-true _ _ (p .1 .1 .1 .0) in
-    record {
-      rows-low = leb-true _ _ (p .0);
-      rows-high = rh;
-      columns-low = leb-true _ _ (p .1 .1 .0);
-      columns-high = ch;
-      few = few-squares s rh ch;
-    }
+    fine-shape s (leb-true _ _ (p .0)) (leb-true _ _ (p .1 .0)) (leb-true _ _ (p .1 .1 .0)) (leb-true _ _ (p .1 .1 .1 .0))
 
 pub fine-of-ranges : (s : Shape) → FineShape s → shapeFine s ≡ true
 unfolding shapeFine
@@ -41,10 +36,12 @@ fine-of-ranges s f =
 -- ---- rows and columns
 
 module _ (s : Shape) where
+  -- a whole row is on the grid
+  pub row-fits : {row : ℕ} → row < s .rows → row * s .columns + s .columns ≤ squares s
+  row-fits {row} h = omega (arith, suc-mul row (s .columns), mul-le-mul-right (s .columns) h)
+
   pub square-within : {row column : ℕ} → row < s .rows → column < s .columns → squareAt s row column < squares s
-  square-within {row} h g =
-      let m : suc row * s .columns ≤ squares s = mul-le-mul-right (s .columns) h in
-      omega (arith, suc-mul row (s .columns))
+  square-within h g = omega (arith, row-fits h)
 
   pub row-of : (row : ℕ) {column : ℕ} → column < s .columns → squareAt s row column / s .columns ≡ row
   row-of row {column} h =
@@ -140,6 +137,20 @@ opposite-opposite (suc (suc zero)) h = refl
 opposite-opposite (suc (suc (suc zero))) h = refl
 opposite-opposite (suc (suc (suc (suc _)))) h = absurd (omega arith)
 
+pub opposite-low : (side : ℕ) → side < south → side + 2 ≡ opposite side
+unfolding opposite
+opposite-low zero h = refl
+opposite-low (suc zero) h = refl
+opposite-low (suc (suc _)) h = absurd (omega arith)
+
+pub opposite-high : (side : ℕ) → south ≤ side → side < sides → side - 2 ≡ opposite side
+unfolding opposite
+opposite-high zero h l = absurd (omega arith)
+opposite-high (suc zero) h l = absurd (omega arith)
+opposite-high (suc (suc zero)) h l = refl
+opposite-high (suc (suc (suc zero))) h l = refl
+opposite-high (suc (suc (suc (suc _)))) h l = absurd (omega arith)
+
 pub opposite-small : (side : ℕ) → opposite side < sides
 unfolding opposite
 opposite-small zero = omega arith
@@ -208,12 +219,12 @@ module _ (s : Shape) {i : ℕ} (inside : i < squares s) where
 
 module _ (s : Shape) (i : ℕ) where
   pub on-the-rim : {side : ℕ} → side < sides → beside s i side ≡ squares s → true ≡ onRim s i
-  unfolding onRim within
+  unfolding onRim
   on-the-rim {side} h e =
       rw (all-fails sides (λ k. ltb (beside s i k) (squares s)) side h (rw e (le-ltb (squares s) (squares s) (omega arith))))
 
   pub off-the-rim : ((side : ℕ) → side < sides → beside s i side < squares s) → false ≡ onRim s i
-  unfolding onRim within
+  unfolding onRim
   off-the-rim f = rw (all-of sides (λ k. ltb (beside s i k) (squares s)) (λ k l. lt-ltb _ _ (f k l)))
 
 -- a square that has all four neighbours

@@ -3,7 +3,7 @@
 use mathlib.Core.Path.{_≡_}
 use mathlib.Core.Bool.{Bool, false, _&&_, _||_, not}
 use mathlib.Core.List.{List, [], _∷_}
-use Prim.Native.Nat.{ℕ, _+_, _*_, _/_, _%_, _≤_}
+use Prim.Native.Nat.{ℕ, _+_, _*_, _/_}
 use lib.Dec.{leb, ltb, eqb}
 use lib.ListN.{length, getD}
 use Rattle.reckon.specs.Tests.{every, allBelow}
@@ -17,13 +17,15 @@ closedMark = 0
 abbrev pub exitMark : ℕ
 exitMark = 2
 
--- a mark past the end reads closed
+-- one mark a square; a mark past the end reads closed
 abbrev pub markAt : List ℕ → ℕ → ℕ
 markAt marks i = getD marks i closedMark
 
+-- "a closed square"
 unfoldable pub closed : List ℕ → ℕ → Bool
 closed marks i = eqb (markAt marks i) closedMark
 
+-- "an exit"
 unfoldable pub exit : List ℕ → ℕ → Bool
 exit marks i = eqb (markAt marks i) exitMark
 
@@ -31,16 +33,15 @@ exit marks i = eqb (markAt marks i) exitMark
 unfoldable pub markFine : Shape → List ℕ → ℕ → Bool
 markFine s marks i = leb (markAt marks i) exitMark && (not (exit marks i) || onRim s i)
 
+-- the same of every square
 unfoldable pub marksFine : Shape → List ℕ → Bool
 marksFine s marks = allBelow (squares s) (markFine s marks)
 
--- "Inflow rows: row, column, from, to, litres. At most 64 rows"
+-- "Inflow rows: row, column, from, to, litres"
 abbrev pub inflowWords : ℕ
 inflowWords = 5
 
-abbrev pub mostInflowWords : ℕ
-mostInflowWords = 320
-
+-- the row and the column that inflow row j names
 abbrev pub inflowRow : List ℕ → ℕ → ℕ
 inflowRow rows j = getD rows (inflowWords * j) 0
 
@@ -56,6 +57,7 @@ inflowSquareFine s marks rows j =
     ∷ not (closed marks (squareAt s (inflowRow rows j) (inflowColumn rows j)))
     ∷ [])
 
+-- the same of every whole row of the table
 unfoldable pub inflowSquaresFine : Shape → List ℕ → List ℕ → Bool
 inflowSquaresFine s marks rows = allBelow (length rows / inflowWords) (inflowSquareFine s marks rows)
 
@@ -67,11 +69,6 @@ pub record Alike (marks a b : List ℕ) : Type 0 where
 pub record Marked (s : Shape) (marks : List ℕ) : Type 0 where
   pub fine : FineShape s
   pub whole : length marks ≡ squares s
-
--- whole inflow rows, at most 64
-pub record InflowRows (rows : List ℕ) : Type 0 where
-  pub even : length rows % inflowWords ≡ 0
-  pub few : length rows ≤ mostInflowWords
 
 -- ---- what the public functions give
 

@@ -29,6 +29,7 @@ south = 2
 abbrev pub west : ℕ
 west = 3
 
+-- "the four sides"
 abbrev pub sides : ℕ
 sides = 4
 
@@ -36,21 +37,22 @@ sides = 4
 abbrev pub squares : Shape → ℕ
 squares s = s .rows * s .columns
 
+-- the square in a row and a column, both from 0
 abbrev pub squareAt : Shape → ℕ → ℕ → ℕ
 squareAt s row column = row * s .columns + column
 
 -- "off the grid" is every other number
-unfoldable pub within : Shape → ℕ → Bool
+abbrev pub within : Shape → ℕ → Bool
 within s i = ltb i (squares s)
 
--- the neighbour on a side (from 3 on: west), or the number of squares where that is off the grid
+-- "neighbour" and "off the grid": the square to the north, east, south or west of square i, or the number of squares where there is none
 unfoldable pub beside : Shape → ℕ → ℕ → ℕ
 beside s i zero = pick (leb (s .columns) i) (i - s .columns) (squares s)
 beside s i (suc zero) = pick (eqb ((i + 1) % s .columns) 0) (squares s) (i + 1)
 beside s i (suc (suc zero)) = pick (ltb (i + s .columns) (squares s)) (i + s .columns) (squares s)
 beside s i (suc (suc (suc _))) = pick (eqb (i % s .columns) 0) (squares s) (i - 1)
 
--- the side of a neighbour that lies towards the own square
+-- "what neighbours send": the neighbour's side that lies towards the own square
 unfoldable pub opposite : ℕ → ℕ
 opposite zero = south
 opposite (suc zero) = west
@@ -72,6 +74,12 @@ pub record FineShape (s : Shape) : Type 0 where
   pub columns-low : 1 ≤ s .columns
   pub columns-high : s .columns ≤ longest
   pub few : squares s ≤ mostSquares
+
+-- a row and a column of a fine grid
+pub record OnGrid (s : Shape) (row column : ℕ) : Type 0 where
+  pub fine : FineShape s
+  pub row-in : row < s .rows
+  pub column-in : column < s .columns
 
 -- a square of a fine grid, with its column
 pub record Stands (s : Shape) (square column : ℕ) : Type 0 where
@@ -95,6 +103,9 @@ NextColumn s column r = r ≡ (column + 1) % s .columns
 
 abbrev pub BesideOn : Shape → ℕ → ℕ → ℕ → Type 0
 BesideOn s i side r = r ≡ beside s i side
+
+abbrev pub OppositeOf : ℕ → ℕ → Type 0
+OppositeOf side r = r ≡ opposite side
 
 abbrev pub RimJudged : Shape → ℕ → Bool → Type 0
 RimJudged s i r = r ≡ onRim s i

@@ -3,7 +3,7 @@ ghost use mathlib.Core.Path.{_≡_};
 ghost use Prim.Native.Nat.{_*_, _+_, _<_, _≤_};
 ghost use lib.ListN.{length};
 ghost use Rattle.grid.specs.Squares.{Stands};
-ghost use Rattle.grid.specs.Marks.{ClosedJudged, ExitJudged, InflowRows, InflowSquaresJudged, Marked, MarksJudged, inflowSquareFine, inflowWords, markFine};
+ghost use Rattle.grid.specs.Marks.{ClosedJudged, ExitJudged, InflowSquaresJudged, Marked, MarksJudged, inflowSquareFine, inflowWords, markFine};
 use crate::squares::Shape;
 use crate::squares::next_column;
 use crate::squares::on_rim;
@@ -18,6 +18,7 @@ const EXIT: u8 = 2;
 // The numbers of an inflow row.
 const INFLOW_WORDS: usize = 5;
 
+// Whether a square is closed.
 pub fn is_closed(marks: &[u8], square: usize) -> bool
     requires { ⌜ square < length (now marks) ⌝ }
     ensures { λ r. ⌜ ClosedJudged (now (marks .entry)) square r ⌝ }
@@ -25,6 +26,7 @@ pub fn is_closed(marks: &[u8], square: usize) -> bool
     marks[square] == CLOSED
 }
 
+// Whether a square is an exit.
 pub fn is_exit(marks: &[u8], square: usize) -> bool
     requires { ⌜ square < length (now marks) ⌝ }
     ensures { λ r. ⌜ ExitJudged (now (marks .entry)) square r ⌝ }
@@ -86,7 +88,7 @@ fn inflow_square_fine(shape: Shape, marks: &[u8], rows: &[u32], j: usize) -> boo
 
 // Whether the square of every inflow row is on the grid and not closed.
 pub fn inflow_squares_fine(shape: Shape, marks: &[u8], rows: &[u32]) -> bool
-    requires { ⌜ (Marked shape (now marks)) × (InflowRows (now rows)) ⌝ }
+    requires { ⌜ Marked shape (now marks) ⌝ }
     ensures { λ r. ⌜ InflowSquaresJudged shape (now (marks .entry)) (now (rows .entry)) r ⌝ }
 {
     let count = rows.len() / INFLOW_WORDS;

@@ -2,7 +2,7 @@
 // the column.
 ghost use mathlib.Core.Path.{_≡_};
 ghost use Prim.Native.Nat.{_<_};
-ghost use Rattle.grid.specs.Squares.{BesideOn, FineShape, NextColumn, RimJudged, ShapeJudged, SquareFound, SquaresOf, Stands, sides};
+ghost use Rattle.grid.specs.Squares.{BesideOn, FineShape, NextColumn, OnGrid, OppositeOf, RimJudged, ShapeJudged, SquareFound, SquaresOf, Stands, sides};
 
 pub struct Shape {
     pub rows: usize,
@@ -51,7 +51,7 @@ pub fn squares_of(shape: Shape) -> usize
 
 // The square in a row and a column.
 pub fn square_at(shape: Shape, row: usize, column: usize) -> usize
-    requires { ⌜ (FineShape shape) × (row < shape .rows) × (column < shape .columns) ⌝ }
+    requires { ⌜ OnGrid shape row column ⌝ }
     ensures { λ r. ⌜ SquareFound shape row column r ⌝ }
 {
     row * shape.columns + column
@@ -100,6 +100,17 @@ pub fn beside_on(shape: Shape, square: usize, column: usize, side: usize) -> usi
         return none;
     }
     square - 1
+}
+
+// The side that lies across from a side.
+pub fn opposite_side(side: usize) -> usize
+    requires { ⌜ side < sides ⌝ }
+    ensures { λ r. ⌜ OppositeOf side r ⌝ }
+{
+    if side < SOUTH {
+        return side + 2;
+    }
+    side - 2
 }
 
 // Whether a square that stands in a column has a side with no square.

@@ -23,27 +23,33 @@ number-requires-2 : tie.Need-number-requires-2
 number-requires-2 c κs = search needs
 
 returns : tie.Need-returns
-returns c =
-    inflow-no-row _ _ _ _ (c .before .before .before .number .ensures) (c .if1 .taken)
+returns c = inflow-no-row _ _ _ _ (c .before .before .before .number .ensures) (c .if1 .taken)
 
 returns-2 : tie.Need-returns-2
-returns-2 c =
-    inflow-no-column _ _ _ _ (c .before .before .before .before .number2 .ensures) (c .if2 .taken)
+returns-2 c = inflow-no-column _ _ _ _ (c .before .before .before .before .number2 .ensures) (c .if2 .taken)
 
 square-at-requires : tie.Need-square-at-requires
 square-at-requires c κs = search needs
 
 is-closed-requires : tie.Need-is-closed-requires
 is-closed-requires c κs =
-    omega (arith, c .square-at .ensures, square-within (c .before .before .before .before .before .before .before .before .before .args .shape) (c .before .before .before .if1 .left) (c .before .if2 .left), c .before .before .before .before .before .before .before .before .before .pre .0 .whole)
+    let start = c .before .before .before .before .before .before .before .before .before in
+    let on-row = c .before .before .before .if1 .left in
+    omega (arith, square-within (start .args .shape) on-row (c .before .if2 .left), start .pre .0 .whole)
 
 returns-3 : tie.Need-returns-3
 returns-3 c =
-    inflow-on-closed _ _ _ _ (c .before .before .before .before .before .before .before .before .number .ensures) (c .before .before .before .before .before .before .before .number2 .ensures) (c .before .before .square-at .ensures) (c .before .is-closed .ensures) (c .if3 .taken)
+    let at = c .before .before in
+    let read = at .before .before .before .before .before in
+    inflow-on-closed _ _ _ _ (read .before .number .ensures) (read .number2 .ensures) (at .square-at .ensures) (c .before .is-closed .ensures) (c .if3 .taken)
 
 returns-4 : tie.Need-returns-4
 returns-4 c =
-    inflow-on-open _ _ _ _ (c .before .before .before .before .before .before .before .before .number .ensures) (c .before .before .before .before .before .before .before .number2 .ensures) (c .before .before .square-at .ensures) (c .before .is-closed .ensures) (c .before .before .before .before .before .if1 .left) (c .before .before .before .if2 .left) (c .if3 .left)
+    let at = c .before .before in
+    let read = at .before .before .before .before .before in
+    let on-row = at .before .before .before .if1 .left in
+    inflow-on-open _ _ _ _ (read .before .number .ensures) (read .number2 .ensures) (at .square-at .ensures) (c .before .is-closed .ensures)
+    on-row (at .before .if2 .left) (c .if3 .left)
 
 pub inflow-square-fine-spec : {M : Type 1} → statement M
 inflow-square-fine-spec =

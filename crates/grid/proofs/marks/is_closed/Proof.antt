@@ -10,8 +10,7 @@ shared-slice-read-result c = search needs
 
 returns : tie.Need-returns
 unfolding closed
-returns c =
-    search needs
+returns c = search needs
 
 pub is-closed-spec : {M : Type 1} → statement M
 is-closed-spec = tie.close (tie.spec shared-slice-read-result returns)

@@ -11,8 +11,7 @@ shared-slice-read-mark c = search needs
 
 returns : tie.Need-returns
 unfolding markFine exit
-returns c =
-    rw (lt-leb _ _ (c .if1 .taken))
+returns c = rw (lt-leb _ _ (c .if1 .taken))
 
 on-rim-requires : tie.Need-on-rim-requires
 on-rim-requires c κs = search needs
@@ -24,8 +23,7 @@ returns-2 c =
 
 returns-3 : tie.Need-returns-3
 unfolding markFine exit
-returns-3 c =
-    rw (le-leb _ _ (c .before .if1 .left), ne-eqb _ _ (c .if2 .left))
+returns-3 c = rw (le-leb _ _ (c .before .if1 .left), ne-eqb _ _ (c .if2 .left))
 
 pub mark-fine-spec : {M : Type 1} → statement M
 mark-fine-spec =

@@ -19,46 +19,51 @@ Inv-loop shape marks squares square₀ column₀ square column =
     (square ≤ squares) × (column ≡ square % shape .columns) × (allBelow square (markFine shape marks) ≡ true)
 
 abbrev μ-loop : tie.MeasureT-loop
-μ-loop shape marks squares square₀ column₀ square column =
-    squares - square
+μ-loop shape marks squares square₀ column₀ square column = squares - square
 
 squares-of-requires : tie.Need-squares-of-requires Inv-loop μ-loop
-squares-of-requires c κs =
-    search needs
+squares-of-requires c κs = search needs
 
 loop-holds : tie.Need-loop-holds Inv-loop μ-loop
-loop-holds c =
-    (omega arith, sym (zero-mod _), all-none _)
+loop-holds c = (omega arith, sym (zero-mod _), all-none _)
 
 mark-fine-requires : tie.Need-mark-fine-requires Inv-loop μ-loop
-mark-fine-requires c κs =
-    (record { fine = c .before .before .before .before .pre .fine; inside = omega (arith, c .before .before .squares-of .ensures, c .loop-test .taken); column-is = c .before .loop .inv .1 }, omega (arith, c .before .before .squares-of .ensures, c .loop-test .taken, c .before .before .before .before .pre .whole))
+mark-fine-requires c κs = search needs
 
 returns : tie.Need-returns Inv-loop μ-loop
 unfolding marksFine
 returns c =
-    sym (all-fails _ _ (c .before .before .before .loop .square) (omega (arith, c .before .before .before .before .squares-of .ensures, c .before .before .loop-test .taken)) (sym (c .before .mark-fine .ensures) ∙ not-true _ (c .if1 .taken)))
+    let l = c .before .before .before .loop in
+    sym
+    (all-fails _ _ (l .square) (omega (arith, c .before .before .before .before .squares-of .ensures))
+    (sym (c .before .mark-fine .ensures) ∙ not-true _ (c .if1 .taken)))
 
 add-square : tie.Need-add-square Inv-loop μ-loop
-add-square c =
-    omega (arith, c .before .before .before .before .squares-of .ensures, c .before .before .before .before .before .before .pre .fine .few, c .before .before .loop-test .taken)
+add-square c = search needs
 
 next-column-requires : tie.Need-next-column-requires Inv-loop μ-loop
 next-column-requires c κs =
-    (c .before .before .before .before .before .before .pre .fine, column-within (c .before .before .before .before .before .before .args .shape) (c .before .before .before .loop .square) (c .before .before .before .before .before .before .pre .fine .columns-low) (c .before .before .before .loop .inv .1))
+    let l = c .before .before .before .loop in
+    let start = c .before .before .before .before .before .before in
+    (start .pre .fine, column-within (start .args .shape) (l .square) (start .pre .fine .columns-low) (l .inv .1))
 
 loop-less : tie.Need-loop-less Inv-loop μ-loop
-loop-less c =
-    omega arith
+loop-less c = omega arith
 
 loop-again : tie.Need-loop-again Inv-loop μ-loop
 loop-again c =
-    (omega arith, carried (c .before .before .before .before .before .before .before .args .shape) (c .before .before .before .before .loop .square) (c .before .before .before .before .loop .inv .1) (c .next-column .ensures), all-more _ _ (c .before .before .before .before .loop .inv .2) (sym (c .before .before .mark-fine .ensures) ∙ not-false _ (c .before .if1 .left)))
+    let l = c .before .before .before .before .loop in
+    let shape = c .before .before .before .before .before .before .before .args .shape in (
+      omega arith,
+      carried shape (l .square) (l .inv .1) (c .next-column .ensures),
+      all-more _ _ (l .inv .2) (sym (c .before .before .mark-fine .ensures) ∙ not-false _ (c .before .if1 .left)),
+    )
 
 returns-2 : tie.Need-returns-2 Inv-loop μ-loop
 unfolding marksFine
 returns-2 c =
-    sym (all-whole _ (c .before .loop .inv .2) (omega (arith, c .before .before .squares-of .ensures, c .before .loop .inv .0, c .loop-test .left)))
+    let l = c .before .loop in
+    sym (all-whole _ (l .inv .2) (omega (arith, c .before .before .squares-of .ensures)))
 
 pub marks-fine-spec : {M : Type 1} → statement M
 marks-fine-spec =

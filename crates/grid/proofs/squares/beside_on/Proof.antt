@@ -11,20 +11,18 @@ squares-of-requires : tie.Need-squares-of-requires
 squares-of-requires c κs = search needs
 
 returns : tie.Need-returns
-returns c =
-    sym (north-some _ _ (c .before .if1 .taken) (c .if2 .taken))
+returns c = sym (north-some _ _ (c .before .if1 .taken) (c .if2 .taken))
 
 returns-2 : tie.Need-returns-2
-returns-2 c =
-    c .before .before .squares-of .ensures ∙ sym (north-none _ _ (c .before .if1 .taken) (c .if2 .left))
+returns-2 c = c .before .before .squares-of .ensures ∙ sym (north-none _ _ (c .before .if1 .taken) (c .if2 .left))
 
 add-if4 : tie.Need-add-if4
-add-if4 c =
-    omega (arith, column-small _ (c .before .before .before .pre .0))
+add-if4 c = omega (arith, column-small _ (c .before .before .before .pre .0))
 
 returns-3 : tie.Need-returns-3
 returns-3 c =
-    c .before .before .before .squares-of .ensures ∙ sym (east-none _ _ (c .before .if3 .taken) (at-last _ (c .before .before .before .before .pre .0) (c .if4 .taken)))
+    let at = c .before .before .before in
+    at .squares-of .ensures ∙ sym (east-none _ _ (c .before .if3 .taken) (at-last _ (at .before .pre .0) (c .if4 .taken)))
 
 add-result : tie.Need-add-result
 add-result c = search needs
@@ -38,15 +36,18 @@ add-at c = search needs
 
 returns-5 : tie.Need-returns-5
 returns-5 c =
-    sym (south-some _ _ (c .before .if5 .taken) (omega (arith, c .before .before .before .before .squares-of .ensures, c .if6 .taken)))
+    let at = c .before .before .before .before in
+    sym (south-some _ _ (c .before .if5 .taken) (omega (arith, at .squares-of .ensures, c .if6 .taken)))
 
 returns-6 : tie.Need-returns-6
 returns-6 c =
-    c .before .before .before .before .squares-of .ensures ∙ sym (south-none _ _ (c .before .if5 .taken) (omega (arith, c .before .before .before .before .squares-of .ensures, c .if6 .left)))
+    let at = c .before .before .before .before in
+    at .squares-of .ensures ∙ sym (south-none _ _ (c .before .if5 .taken) (omega (arith, at .squares-of .ensures, c .if6 .left)))
 
 returns-7 : tie.Need-returns-7
 returns-7 c =
-    c .before .before .before .before .squares-of .ensures ∙ sym (west-none _ _ (omega arith) (at-first _ (c .before .before .before .before .before .pre .0) (c .if7 .taken)))
+    let at = c .before .before .before .before in
+    at .squares-of .ensures ∙ sym (west-none _ _ (omega arith) (at-first _ (at .before .pre .0) (c .if7 .taken)))
 
 sub-result : tie.Need-sub-result
 sub-result c =

@@ -9,12 +9,10 @@ use Rattle.grid.proofs.squares.on_rim.Statement.{statement}
 use Rattle.grid.proofs.squares.on_rim.Tie as tie
 
 returns : tie.Need-returns
-returns c =
-    on-the-rim _ _ {side = north} (omega arith) (north-none _ _ refl (c .if1 .taken))
+returns c = on-the-rim _ _ {side = north} (omega arith) (north-none _ _ refl (c .if1 .taken))
 
 add-if2 : tie.Need-add-if2
-add-if2 c =
-    omega (arith, column-small _ (c .before .pre))
+add-if2 c = omega (arith, column-small _ (c .before .pre))
 
 returns-2 : tie.Need-returns-2
 returns-2 c =
@@ -36,7 +34,12 @@ returns-4 c =
 
 returns-5 : tie.Need-returns-5
 returns-5 c =
-    off-the-rim _ _ (inner (c .before .before .before .before .before .args .shape) (c .before .before .before .before .before .pre .inside) (c .before .before .before .before .if1 .left) (before-last _ (c .before .before .before .before .before .pre) (c .before .before .before .if2 .left)) (omega (arith, c .before .squares-of .ensures, c .if4 .left)) (after-first _ (c .before .before .before .before .before .pre) (c .before .before .if3 .left)))
+    let start = c .before .before .before .before .before in
+    let north-in = c .before .before .before .before .if1 .left in
+    let east-in = before-last _ (start .pre) (c .before .before .before .if2 .left) in
+    let west-in = after-first _ (start .pre) (c .before .before .if3 .left) in
+    off-the-rim _ _
+    (inner (start .args .shape) (start .pre .inside) north-in east-in (omega (arith, c .before .squares-of .ensures)) west-in)
 
 pub on-rim-spec : {M : Type 1} → statement M
 on-rim-spec =

@@ -7,12 +7,10 @@ use Rattle.grid.proofs.squares.square_at.Statement.{statement}
 use Rattle.grid.proofs.squares.square_at.Tie as tie
 
 mul-result : tie.Need-mul-result
-mul-result c =
-    omega (arith, square-within _ (c .before .pre .1) (c .before .pre .2))
+mul-result c = omega (arith, square-within _ (c .before .pre .row-in) (c .before .pre .column-in))
 
 add-result : tie.Need-add-result
-add-result c =
-    omega (arith, square-within _ (c .before .pre .1) (c .before .pre .2))
+add-result c = omega (arith, square-within _ (c .before .pre .row-in) (c .before .pre .column-in))
 
 returns : tie.Need-returns
 returns c = search needs

@@ -1,0 +1,195 @@
+-- Laws of masks: a mask's bits are the answers of the row's squares, and its ones are counted square by square.
+-- Assumes nothing.
+use mathlib.Core.Path.{_≡_, refl, sym, ap, ap₂, _∙_}
+use mathlib.Core.Bool.{Bool, true, false, _&&_}
+use mathlib.Core.List.{List}
+use Prim.Native.Nat.{ℕ, zero, suc, _+_, _-_, _*_, _/_, _%_, _^_, _≤_, _<_}
+use native.Mathlib.Nat.{le-refl, le-trans, pow-suc, add-comm, add-suc, add-zero, zero-add, add-assoc, suc-mul, zero-mul, zero-div, div-one, div-div-eq-div-mul}
+use native.Mathlib.Decide.{decLt}
+use native.Mathlib.Omega.{arith}
+use lib.Dec.{leb, ltb, eqb, lit<}
+use lib.ListN.{getD}
+use lib.Count.{ones, ones-step}
+use lib.Pow.{pow-mono, pow-add}
+use borrow.Author.Tests.{lt-ltb, le-ltb}
+use Rattle.reckon.specs.Tests.{pick}
+use Rattle.reckon.specs.Lists.{sumBelow}
+use Rattle.reckon.proofs.ListLaws.{sum-ext}
+use Rattle.grid.specs.declared.squares.Shape.{Shape}
+use Rattle.grid.specs.Squares.{squares}
+use Rattle.grid.specs.Marks.{closed, Alike}
+use Rattle.grid.specs.Masks.{bits, saysYes, digit, maskFrom, rowMask, bitAt}
+
+-- ---- digits
+
+digit-le : (b : Bool) → digit b ≤ 1
+unfolding digit pick
+digit-le true = omega arith
+digit-le false = omega arith
+
+digit-is : (b : Bool) → eqb (digit b) 1 ≡ b
+unfolding digit pick
+digit-is true = refl
+digit-is false = refl
+
+ltb-suc : (a b : ℕ) → ltb a b ≡ ltb (suc a) (suc b)
+ltb-suc a b = go (decLt a b)
+  where
+    go : Dec (a < b) → ltb a b ≡ ltb (suc a) (suc b)
+    go (yes l) = lt-ltb a b l ∙ sym (lt-ltb (suc a) (suc b) (omega arith))
+    go (no l) = le-ltb a b (omega arith) ∙ sym (le-ltb (suc a) (suc b) (omega arith))
+
+-- ---- the bits of a mask
+
+pub bit-low : (x : ℕ) → bitAt x 0 ≡ eqb (x % 2) 1
+unfolding bitAt
+bit-low x = ap (λ (y : ℕ). eqb (y % 2) 1) (div-one x)
+
+-- the bits from c on
+pub bit-shifted : (x c k : ℕ) → bitAt x (c + k) ≡ bitAt (x / 2 ^ c) k
+unfolding bitAt
+bit-shifted x c k =
+    ap (λ (y : ℕ). eqb (y % 2) 1) (ap (λ (y : ℕ). x / y) (pow-add 2 c k) ∙ sym (div-div-eq-div-mul x (2 ^ c) (2 ^ k)))
+
+pub bit-high : (x k : ℕ) → bitAt x (suc k) ≡ bitAt (x / 2) k
+bit-high x k = ap (bitAt x) (let e : suc k ≡ 1 + k = omega arith in e) ∙ bit-shifted x 1 k
+
+module _ (says : ℕ → Bool) where
+  mask-low : (i n : ℕ) → maskFrom says i (suc n) % 2 ≡ digit (says i)
+  unfolding maskFrom
+  mask-low i n = omega (arith, digit-le (says i))
+
+  mask-high : (i n : ℕ) → maskFrom says i (suc n) / 2 ≡ maskFrom says (suc i) n
+  unfolding maskFrom
+  mask-high i n = omega (arith, digit-le (says i))
+
+  pub mask-small : (i n : ℕ) → maskFrom says i n < 2 ^ n
+  unfolding maskFrom
+  mask-small i zero = lit< tt
+  mask-small i (suc n) = omega (arith, mask-small (suc i) n, digit-le (says i), pow-suc 2 n)
+
+  no-bit : (i c : ℕ) → bitAt (maskFrom says i 0) c ≡ false
+  unfolding maskFrom bitAt
+  no-bit i c = rw (zero-div (2 ^ c))
+
+  -- bit c is set exactly where column c is one of the n and says yes
+  pub mask-bit : (i n c : ℕ) → bitAt (maskFrom says i n) c ≡ (ltb c n && says (i + c))
+  mask-bit i zero c = no-bit i c ∙ rw (le-ltb c 0 (omega arith))
+  mask-bit i (suc n) zero =
+      rw (lt-ltb 0 (suc n) (omega arith))
+      (bit-low (maskFrom says i (suc n)) ∙ (ap (λ (y : ℕ). eqb y 1) (mask-low i n) ∙ (digit-is (says i) ∙ ap says (sym (add-zero i)))))
+  mask-bit i (suc n) (suc c) =
+      bit-high (maskFrom says i (suc n)) c
+      ∙ (ap (λ (y : ℕ). bitAt y c) (mask-high i n)
+      ∙ (mask-bit (suc i) n c
+      ∙ ap₂ (λ (b : Bool) (k : ℕ). b && says k) (ltb-suc c n) (let e : suc i + c ≡ i + suc c = omega arith in e)))
+
+  pub mask-in : (i : ℕ) {n c : ℕ} → c < n → bitAt (maskFrom says i n) c ≡ says (i + c)
+  mask-in i {n} {c} h = mask-bit i n c ∙ rw (lt-ltb c n h)
+
+  pub mask-past : (i : ℕ) {n c : ℕ} → n ≤ c → bitAt (maskFrom says i n) c ≡ false
+  mask-past i {n} {c} h = mask-bit i n c ∙ rw (le-ltb c n h)
+
+-- ---- the ones of masks
+
+pub sum-parts : (n m : ℕ) (f : ℕ → ℕ) → sumBelow (n + m) f ≡ sumBelow n f + sumBelow m (λ k. f (n + k))
+unfolding sumBelow
+sum-parts n zero f = ap (λ (k : ℕ). sumBelow k f) (add-zero n) ∙ sym (add-zero (sumBelow n f))
+sum-parts n (suc m) f =
+    ap (λ (k : ℕ). sumBelow k f) (add-suc n m)
+    ∙ (ap (λ (k : ℕ). k + f (n + m)) (sum-parts n m f) ∙ add-assoc (sumBelow n f) (sumBelow m (λ k. f (n + k))) (f (n + m)))
+
+no-ones : (says : ℕ → Bool) (i : ℕ) → ones (maskFrom says i 0) ≡ sumBelow 0 (λ c. digit (says (i + c)))
+unfolding maskFrom sumBelow ones
+no-ones says i = refl
+
+sum-first :
+    (says : ℕ → Bool) (i n : ℕ) →
+    sumBelow (suc n) (λ c. digit (says (i + c))) ≡ digit (says i) + sumBelow n (λ c. digit (says (suc i + c)))
+unfolding sumBelow
+sum-first says i n =
+    ap (λ (k : ℕ). sumBelow k (λ c. digit (says (i + c)))) (let e : suc n ≡ 1 + n = omega arith in e)
+    ∙ (sum-parts 1 n (λ c. digit (says (i + c)))
+    ∙ ap₂ _+_ (zero-add (digit (says (i + 0))) ∙ ap (λ (k : ℕ). digit (says k)) (add-zero i))
+    (sum-ext n _ _ (λ k l. ap (λ (j : ℕ). digit (says j)) (let e : i + (1 + k) ≡ suc i + k = omega arith in e))))
+
+pub ones-of-mask : (says : ℕ → Bool) (i n : ℕ) → ones (maskFrom says i n) ≡ sumBelow n (λ c. digit (says (i + c)))
+ones-of-mask says i zero = no-ones says i
+ones-of-mask says i (suc n) =
+    ones-step (maskFrom says i (suc n))
+    ∙ (ap₂ (λ (x y : ℕ). x + ones y) (mask-low says i n) (mask-high says i n)
+    ∙ (ap (λ (x : ℕ). digit (says i) + x) (ones-of-mask says (suc i) n) ∙ sym (sum-first says i n)))
+
+-- the ones over all rows are the squares that say yes
+pub ones-of-rows :
+    (s : Shape) (says : ℕ → Bool) → sumBelow (s .rows) (λ row. ones (rowMask s says row)) ≡ sumBelow (squares s) (λ i. digit (says i))
+unfolding sumBelow
+ones-of-rows s says = go (s .rows)
+  where
+    go : (rows : ℕ) → sumBelow rows (λ row. ones (rowMask s says row)) ≡ sumBelow (rows * s .columns) (λ i. digit (says i))
+    go zero = ap (λ (k : ℕ). sumBelow k (λ i. digit (says i))) (sym (zero-mul (s .columns)))
+    go (suc rows) =
+        ap₂ _+_ (go rows) (ones-of-mask says (rows * s .columns) (s .columns))
+        ∙ (sym (sum-parts (rows * s .columns) (s .columns) (λ i. digit (says i)))
+        ∙ ap (λ (k : ℕ). sumBelow k (λ i. digit (says i))) (sym (suc-mul rows (s .columns))))
+
+-- ---- a row made from its last column down: what is passed so far, one column more, and the end
+
+module _ (says : ℕ → Bool) (first columns : ℕ) where
+  abbrev pub Built : ℕ → ℕ → Type 0
+  Built left mask = (left ≤ columns) × (mask ≡ maskFrom says (first + left) (columns - left))
+
+  pub row-none : Built columns 0
+  unfolding maskFrom
+  row-none = (le-refl columns, ap (maskFrom says (first + columns)) (let e : 0 ≡ columns - columns = omega arith in e))
+
+  module _ {left mask : ℕ} (p : Built left mask) where
+    pub row-small : 0 < left → columns ≤ bits → mask < 2 ^ 63
+    row-small h g =
+        rw (p .1)
+        (le-trans (mask-small says (first + left) (columns - left)) (pow-mono {i = columns - left} {j = 63} (omega (arith, p .0))))
+
+    -- there is room for one column more
+    pub row-room : (b : Bool) {bit : ℕ} → 0 < left → columns ≤ bits → bit ≡ digit b → mask * 2 + bit < 2 ^ bits
+    row-room b h g e = omega (arith, row-small h g, digit-le b)
+
+    pub row-more : {bit : ℕ} → 0 < left → bit ≡ digit (says (first + (left - 1))) → Built (left - 1) (mask * 2 + bit)
+    unfolding maskFrom
+    row-more {bit} h e =
+        let more : columns - (left - 1) ≡ suc (columns - left) = omega (arith, p .0) in
+        let next : first + left ≡ suc (first + (left - 1)) = omega arith in (
+          omega (arith, p .0),
+          add-comm (mask * 2) bit
+              ∙ (ap₂ (λ (x y : ℕ). x + y * 2) e (p .1 ∙ ap (λ (x : ℕ). maskFrom says x (columns - left)) next)
+              ∙ ap (maskFrom says (first + (left - 1))) (sym more)),
+        )
+
+    pub row-whole : left ≤ 0 → mask ≡ maskFrom says first columns
+    row-whole h =
+        p .1
+        ∙ ap₂ (maskFrom says) (let e : first + left ≡ first = omega arith in e) (let e : columns - left ≡ columns = omega arith in e)
+
+-- ---- what a square says, and lists that are alike
+
+module _ (marks numbers : List ℕ) (least i : ℕ) where
+  pub says-closed : closed marks i ≡ true → saysYes marks numbers least i ≡ false
+  unfolding saysYes
+  says-closed e = rw e
+
+  pub says-open : closed marks i ≡ false → saysYes marks numbers least i ≡ leb least (getD numbers i 0)
+  unfolding saysYes
+  says-open e = rw e
+
+says-alike :
+    (marks : List ℕ) {a b : List ℕ} → Alike marks a b → (least i : ℕ) → saysYes marks a least i ≡ saysYes marks b least i
+says-alike marks {a} {b} h least i = go (closed marks i) refl
+  where
+    go : (t : Bool) → closed marks i ≡ t → saysYes marks a least i ≡ saysYes marks b least i
+    go true e = says-closed marks a least i e ∙ sym (says-closed marks b least i e)
+    go false e = says-open marks a least i e ∙ (ap (leb least) (h .at i e) ∙ sym (says-open marks b least i e))
+
+-- the mask of a row depends on no closed square
+pub mask-alike :
+    (marks : List ℕ) {a b : List ℕ} → Alike marks a b → (least first n : ℕ) →
+    maskFrom (saysYes marks a least) first n ≡ maskFrom (saysYes marks b least) first n
+mask-alike marks h least first n = λ j. maskFrom (λ i. says-alike marks h least i j) first n

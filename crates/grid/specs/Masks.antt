@@ -1,0 +1,76 @@
+-- Document 01, "Flow arrows and wet rows": a row of the grid as one 64-bit number, its ones, and the walk over its set columns.
+-- Assumes nothing.
+use mathlib.Core.Path.{_≡_}
+use mathlib.Core.Bool.{Bool, _&&_, not}
+use mathlib.Core.List.{List}
+use Prim.Native.Nat.{ℕ, zero, suc, _+_, _-_, _*_, _/_, _%_, _^_, _≤_}
+use lib.Dec.{leb, ltb, eqb}
+use lib.ListN.{length, getD}
+use lib.Count.{ones}
+use Rattle.reckon.specs.Tests.{pick, firstFailing}
+use Rattle.grid.specs.declared.squares.Shape.{Shape}
+use Rattle.grid.specs.Marks.{closed}
+
+-- "one 64-bit number"
+abbrev pub bits : ℕ
+bits = 64
+
+-- "not closed and at least a given depth": least is that depth, and numbers hold one a square
+unfoldable pub saysYes : List ℕ → List ℕ → ℕ → ℕ → Bool
+saysYes marks numbers least i = not (closed marks i) && leb least (getD numbers i 0)
+
+-- 1 for yes, 0 for no
+unfoldable pub digit : Bool → ℕ
+digit b = pick b 1 0
+
+-- "bit c set exactly when": the number whose n binary digits, the lowest first, are those of the squares from `first` on
+unfoldable pub maskFrom : (ℕ → Bool) → ℕ → ℕ → ℕ
+maskFrom says first zero = 0
+maskFrom says first (suc n) = digit (says first) + maskFrom says (suc first) n * 2
+
+-- "each grid row becomes one 64-bit number"
+abbrev pub rowMask : Shape → (ℕ → Bool) → ℕ → ℕ
+rowMask s says row = maskFrom says (row * s .columns) (s .columns)
+
+-- bit c of a number
+unfoldable pub bitAt : ℕ → ℕ → Bool
+bitAt mask c = eqb (mask / 2 ^ c % 2) 1
+
+-- "the next wet column": the first set one at or after c, or 64 where there is none
+unfoldable pub nextSet : ℕ → ℕ → ℕ
+nextSet mask c = c + firstFailing (bits - c) (λ k. not (bitAt mask (c + k)))
+
+-- f of each column below n in turn
+unfoldable pub foldBelow : {A : Type 0} → ℕ → (ℕ → A → A) → A → A
+foldBelow zero f a = a
+foldBelow (suc n) f a = f n (foldBelow n f a)
+
+-- f at a set column, nothing at any other
+abbrev pub onSet : {A : Type 0} → ℕ → (ℕ → A → A) → ℕ → A → A
+onSet mask f c a = pick (bitAt mask c) (f c a) a
+
+-- f of each set column in turn, from column c on: the next set one, and then on from the column after it, at most n of them
+unfoldable pub walkFrom : {A : Type 0} → ℕ → ℕ → (ℕ → A → A) → ℕ → A → A
+walkFrom mask zero f c a = a
+walkFrom mask (suc n) f c a = pick (ltb (nextSet mask c) bits) (walkFrom mask n f (nextSet mask c + 1) (f (nextSet mask c) a)) a
+
+-- "the wet walk": over the whole mask
+abbrev pub walk : {A : Type 0} → ℕ → (ℕ → A → A) → A → A
+walk mask f a = walkFrom mask bits f 0 a
+
+-- a row of at most 64 squares that both lists have
+pub record RowLent (marks numbers : List ℕ) (first columns : ℕ) : Type 0 where
+  pub columns-high : columns ≤ bits
+  pub marks-long : first + columns ≤ length marks
+  pub numbers-long : first + columns ≤ length numbers
+
+-- ---- what the public functions give
+
+abbrev pub RowMasked : List ℕ → List ℕ → ℕ → ℕ → ℕ → ℕ → Type 0
+RowMasked marks numbers least first columns r = r ≡ maskFrom (saysYes marks numbers least) first columns
+
+abbrev pub OnesOf : ℕ → ℕ → Type 0
+OnesOf mask r = r ≡ ones mask
+
+abbrev pub NextFound : ℕ → ℕ → ℕ → Type 0
+NextFound mask column r = r ≡ nextSet mask column
