@@ -11,21 +11,28 @@ use Rattle.rule.specs.declared.rules.Rules.{Rules}
 use Rattle.ledger.specs.Runs.{Plan}
 use Rattle.ledger.specs.Flows.{shut}
 
--- demand 3: "Heights, tables and rules may differ from call to call"
-pub record Given : Type 0 where
+-- the rules and the ground's heights and roughness
+pub record Ground : Type 0 where
   pub rules : Rules
   pub beds : List ℕ
   pub roughness : List ℕ
+
+abbrev pub ground : Rules → List ℕ → List ℕ → Ground
+ground r b k = record { rules = r; beds = b; roughness = k }
+
+-- demand 3: "Heights, tables and rules may differ from call to call"
+pub record Given : Type 0 where
+  pub lie : Ground
   pub rain : List ℕ
   pub inflow : List ℕ
 
-abbrev pub given : Rules → List ℕ → List ℕ → List ℕ → List ℕ → Given
-given r b k a f = record { rules = r; beds = b; roughness = k; rain = a; inflow = f }
+abbrev pub given : Ground → List ℕ → List ℕ → Given
+given o rain inflow = record { lie = o; rain = rain; inflow = inflow }
 
-module _ (p : Plan) (g : Given) (depths : List ℕ) where
+module _ (p : Plan) (r : Rules) (beds depths : List ℕ) where
   -- "Level = bed + depth"
   abbrev pub levelAt : ℕ → ℕ
-  levelAt i = level (getD (g .beds) i 0) (getD depths i 0)
+  levelAt i = level (getD beds i 0) (getD depths i 0)
 
   -- "towards an open or exit neighbour, own level less its level if positive, else 0; towards a closed square or off the grid, 0; but
   -- off the grid from an exit, the drop is the depth d"
@@ -33,7 +40,7 @@ module _ (p : Plan) (g : Given) (depths : List ℕ) where
   sideDrop i side =
       pick (within (p .shape) (beside (p .shape) i side))
       (pick (shut p (beside (p .shape) i side)) 0 (dropTo (levelAt i) (levelAt (beside (p .shape) i side))))
-      (pick (exit (p .marks) i) (dropOff (g .rules) (getD depths i 0)) 0)
+      (pick (exit (p .marks) i) (dropOff r (getD depths i 0)) 0)
 
   -- "The four sides' drops of one cell, V for north, east, south and west"
   unfoldable pub dropsOf : ℕ → List ℕ

@@ -1,4 +1,5 @@
 pub mod Drops
+pub mod Ready
 pub mod Refusals
 pub mod Run
 pub mod Step

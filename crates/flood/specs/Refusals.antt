@@ -22,12 +22,12 @@ use Rattle.ledger.specs.After.{lateRows, worldAfter}
 use Rattle.ledger.specs.TakeBack.{oneEach, watersFine}
 use Rattle.ledger.specs.Engine.{Seen, seenOf, StepRule}
 use Rattle.ledger.specs.declared.runs.Answer.{Answer}
-use Rattle.flood.specs.Drops.{Given}
+use Rattle.flood.specs.Drops.{Ground, Given}
 use Rattle.flood.specs.Step.{stepMoves}
 
 -- 2: "bed or roughness of a square not closed out of range"
-unfoldable pub groundsFine : Plan → Given → Bool
-groundsFine p g = allBelow (squares (p .shape)) (λ i. shut p i || groundFine (getD (g .beds) i 0) (getD (g .roughness) i 0))
+unfoldable pub groundsFine : Plan → Ground → Bool
+groundsFine p o = allBelow (squares (p .shape)) (λ i. shut p i || groundFine (getD (o .beds) i 0) (getD (o .roughness) i 0))
 
 -- 5: "end not a multiple of U or out of range"
 unfoldable pub endFine : Rules → ℕ → Bool
@@ -39,22 +39,22 @@ module _ (p : Plan) (g : Given) where
   checkRows five ring v =
       -- "shape or D out of range, a slice not one number a square"
       1 unless
-        every
-        (shapeFine (p .shape)
-        ∷ sideFine (g .rules)
-        ∷ oneEach p (p .marks)
-        ∷ oneEach p (g .beds)
-        ∷ oneEach p (g .roughness)
-        ∷ oneEach p (v .depths)
-        ∷ oneEach p (v .lasts)
-        ∷ [])
+      every
+      (shapeFine (p .shape)
+      ∷ sideFine (g .lie .rules)
+      ∷ oneEach p (p .marks)
+      ∷ oneEach p (g .lie .beds)
+      ∷ oneEach p (g .lie .roughness)
+      ∷ oneEach p (v .depths)
+      ∷ oneEach p (v .lasts)
+      ∷ [])
       -- "mark above 2, exit off the rim, bed or roughness of a square not closed out of range"
-      ∷ 2 unless every (marksFine (p .shape) (p .marks) ∷ groundsFine p g ∷ [])
+      ∷ 2 unless every (marksFine (p .shape) (p .marks) ∷ groundsFine p (g .lie) ∷ [])
       -- "depth or P of a square not closed out of range"
       ∷ 3 unless watersFine p (v .depths) (v .lasts)
       -- "table: odd length (3s, 5s), over 64 rows, a value out of range, from > to, inflow on a closed or missing square"
       ∷ 4 unless
-        every (tableFine rainKind (g .rain) ∷ tableFine inflowKind (g .inflow) ∷ inflowSquaresFine (p .shape) (p .marks) (g .inflow) ∷ [])
+      every (tableFine rainKind (g .rain) ∷ tableFine inflowKind (g .inflow) ∷ inflowSquaresFine (p .shape) (p .marks) (g .inflow) ∷ [])
       -- "q, step limits, U .. out of range; end not a multiple of U or out of range"
       ∷ 5 unless five
       -- "K = 0, or a run value out of range"
@@ -63,7 +63,7 @@ module _ (p : Plan) (g : Given) where
 
   -- a step's rows 1 to 6
   abbrev pub stepChecks : Bool → Seen → List Row
-  stepChecks ring v = checkRows (rulesFine (g .rules)) ring v
+  stepChecks ring v = checkRows (rulesFine (g .lie .rules)) ring v
 
   -- whether K, kept and newest of a world are in range
   abbrev pub ringOf : World → Bool
@@ -71,7 +71,7 @@ module _ (p : Plan) (g : Given) where
 
   -- rows 1 to 6 of a run to an end
   abbrev pub runChecks : ℕ → World → List Row
-  runChecks end w = checkRows (every (rulesFine (g .rules) ∷ endFine (g .rules) end ∷ [])) (ringOf w) (seenOf w)
+  runChecks end w = checkRows (every (rulesFine (g .lie .rules) ∷ endFine (g .lie .rules) end ∷ [])) (ringOf w) (seenOf w)
 
   -- ---- the step
 

@@ -13,38 +13,45 @@ use Rattle.ledger.specs.Runs.{Plan}
 use Rattle.ledger.specs.Flows.{Leaves, shut}
 use Rattle.ledger.specs.After.{Moves}
 use Rattle.ledger.specs.Engine.{Seen}
-use Rattle.flood.specs.Drops.{Given, dropsOf}
+use Rattle.flood.specs.Drops.{Ground, Given, dropsOf}
 
-module _ (p : Plan) (g : Given) (v : Seen) where
+-- ---- amounts, by how long the step lasts
+
+module _ (p : Plan) (o : Ground) (depths : List ℕ) where
   -- "For each square not closed with d > 0 and each side": the candidates of one square, and of all
   unfoldable pub squareCandidates : ℕ → List ℕ
-  squareCandidates i =
-      pick (shut p i) [] (candidatesOf (g .rules) (getD (v .depths) i 0) (getD (g .roughness) i 0) (dropsOf p g (v .depths) i))
+  squareCandidates i = pick (shut p i) [] (candidatesOf (o .rules) (getD depths i 0) (getD (o .roughness) i 0) (dropsOf p (o .rules) (o .beds) depths i))
 
   unfoldable pub candidates : List ℕ
   candidates = joined (squares (p .shape)) squareCandidates
 
+  -- what leaves a square not closed through a side
+  unfoldable pub leavesFor : List ℕ → ℕ → Leaves
+  leavesFor lasts ms i side =
+      pick (shut p i) 0 (getD (weighed (o .rules) (getD depths i 0) (getD lasts i 0) (getD (o .roughness) i 0) ms (dropsOf p (o .rules) (o .beds) depths i)) side 0)
+
+-- "What a step adds is the amount by its end less the amount by its start": rain on every square, inflow on the square's own rows
+unfoldable pub addedFor : Plan → Given → ℕ → ℕ → ℕ → ℕ
+addedFor p g start end i =
+    rainAdded (g .rain) start end
+    + inflowAdded (g .inflow) (i / p .shape .columns) (i % p .shape .columns) (g .lie .rules .«square_side») start end
+
+-- ---- the step
+
+module _ (p : Plan) (g : Given) (v : Seen) where
   -- "Step length: when the clock is a multiple of U it is worked afresh .. the run holds it until the next such clock"
   unfoldable pub stepLength : ℕ
-  stepLength = lengthAt (g .rules) (v .clock) (v .length) candidates
+  stepLength = lengthAt (g .lie .rules) (v .clock) (v .length) (candidates p (g .lie) (v .depths))
 
   -- "The step lasts the smaller of that length and the time to the next multiple of U"
   unfoldable pub stepLasts : ℕ
-  stepLasts = lastsFor (g .rules) (v .clock) stepLength
-
-  -- what leaves a square not closed through a side
-  unfoldable pub stepLeaves : Leaves
-  stepLeaves i side =
-      pick (shut p i) 0
-      (getD
-        (weighed (g .rules) (getD (v .depths) i 0) (getD (v .lasts) i 0) (getD (g .roughness) i 0) stepLasts (dropsOf p g (v .depths) i))
-        side 0)
-
-  -- "What a step adds is the amount by its end less the amount by its start": rain on every square, inflow on the square's own rows
-  unfoldable pub stepAdded : ℕ → ℕ
-  stepAdded i =
-      rainAdded (g .rain) (v .clock) (v .clock + stepLasts)
-      + inflowAdded (g .inflow) (i / p .shape .columns) (i % p .shape .columns) (g .rules .«square_side») (v .clock) (v .clock + stepLasts)
+  stepLasts = lastsFor (g .lie .rules) (v .clock) stepLength
 
   abbrev pub stepMoves : Moves
-  stepMoves = record { leaves = stepLeaves; added = stepAdded; lasts = stepLasts; length = stepLength }
+  stepMoves =
+      record {
+        leaves = leavesFor p (g .lie) (v .depths) (v .lasts) stepLasts;
+        added = addedFor p g (v .clock) (v .clock + stepLasts);
+        lasts = stepLasts;
+        length = stepLength;
+      }

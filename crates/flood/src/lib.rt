@@ -1,2 +1,4 @@
 // The flood program's library over lent slices: one step, a run to a stated clock, a fresh run. A take-back is the ledger's.
+pub mod drops;
+pub mod length;
 pub mod run;

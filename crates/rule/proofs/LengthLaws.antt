@@ -34,7 +34,11 @@ rough-area-le s = mul-le-mul (area-le s) (s .roughness-to)
 
 -- ---- the least of a list
 
-least-append : (best : ℕ) (xs ys : List ℕ) → leastFrom best (xs ++ ys) ≡ leastFrom (leastFrom best xs) ys
+pub least-none : (best : ℕ) → leastFrom best [] ≡ best
+unfolding leastFrom
+least-none best = refl
+
+pub least-append : (best : ℕ) (xs ys : List ℕ) → leastFrom best (xs ++ ys) ≡ leastFrom (leastFrom best xs) ys
 unfolding leastFrom
 least-append best [] ys = refl
 least-append best (x ∷ xs) ys = least-append (min best x) xs ys

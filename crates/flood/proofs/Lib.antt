@@ -1,0 +1,2 @@
+pub mod DropLaws
+pub mod LengthLaws

@@ -1,0 +1,36 @@
+-- `flood::drops::drops_of` meets its contract.
+-- Assumes nothing.
+use borrow.Author.Needs.{needs}
+use Rattle.flood.specs.Drops.{dropsOf}
+use Rattle.flood.proofs.drops.drops_of.Statement.{statement}
+use Rattle.flood.proofs.drops.drops_of.Tie as tie
+
+level-of-requires : tie.Need-level-of-requires
+level-of-requires c κs = search needs
+
+side-drop-requires : tie.Need-side-drop-requires
+side-drop-requires c κs = search needs
+
+side-drop-requires-2 : tie.Need-side-drop-requires-2
+side-drop-requires-2 c κs = search needs
+
+side-drop-requires-3 : tie.Need-side-drop-requires-3
+side-drop-requires-3 c κs = search needs
+
+side-drop-requires-4 : tie.Need-side-drop-requires-4
+side-drop-requires-4 c κs = search needs
+
+returns : tie.Need-returns
+unfolding dropsOf
+returns c = cc
+
+pub drops-of-spec : {M : Type 1} → statement M
+drops-of-spec =
+    tie.close
+    (tie.spec
+    level-of-requires
+    side-drop-requires
+    side-drop-requires-2
+    side-drop-requires-3
+    side-drop-requires-4
+    returns)

@@ -1,0 +1,21 @@
+-- `flood::drops::level_of` meets its contract: two 32-bit numbers.
+-- Assumes nothing.
+use native.Mathlib.Omega.{arith}
+use borrow.Author.Needs.{needs}
+use Rattle.flood.proofs.drops.level_of.Statement.{statement}
+use Rattle.flood.proofs.drops.level_of.Tie as tie
+
+number-requires : tie.Need-number-requires
+number-requires c κs = search needs
+
+number-requires-2 : tie.Need-number-requires-2
+number-requires-2 c κs = search needs
+
+add-result : tie.Need-add-result
+add-result c = omega (arith, c .before .before .before .shared-slice-known .given (c .before .before .before .before .args .square), c .before .before .shared-slice-known2 .given (c .before .before .before .before .args .square))
+
+returns : tie.Need-returns
+returns c = search needs
+
+pub level-of-spec : {M : Type 1} → statement M
+level-of-spec = tie.close (tie.spec number-requires number-requires-2 add-result returns)
