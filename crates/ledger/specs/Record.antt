@@ -1,16 +1,19 @@
 -- Document 01, "The record": its words, by name.
 -- Assumes nothing.
-use mathlib.Core.Bool.{Bool}
+use mathlib.Core.Path.{_≡_}
+use mathlib.Core.Bool.{Bool, true}
 use mathlib.Core.List.{List, [], _∷_}
 use Prim.Native.Nat.{ℕ, _+_, _*_}
 use lib.ListN.{length, getD}
 use Rattle.reckon.specs.Tests.{pick}
-use Rattle.reckon.specs.Lists.{joined}
+use Rattle.reckon.specs.Lists.{joined, placed}
 use Rattle.trials.specs.Ring.{slotsIn}
 use Rattle.trials.specs.Room.{recordIn}
-use Rattle.grid.specs.Squares.{north, east, south, west, squares}
-use Rattle.ledger.specs.Runs.{Plan, World}
-use Rattle.ledger.specs.Flows.{Leaves, shut}
+use Rattle.grid.specs.declared.squares.Shape.{Shape}
+use Rattle.grid.specs.Squares.{north, east, south, west, squares, FineShape}
+use Rattle.ledger.specs.Runs.{Plan, World, plan}
+use Rattle.ledger.specs.Flows.{Leaves, shut, gone, sent, came, offSide, offSquare, offGrid}
+use Rattle.ledger.specs.declared.record.Found.{Found}
 
 -- "One record is 2 + 6·squares numbers": the words before the squares, and those of a square
 abbrev pub headWords : ℕ
@@ -70,3 +73,59 @@ roomSlots p records = slotsIn (recordSize p) (length records)
 -- the newest record
 unfoldable pub newestRecord : Plan → World → List ℕ
 newestRecord p w = recordIn (recordSize p) (w .records) (w .run .newest)
+
+-- ---- what is asked, and what the public functions give
+
+-- a record of a plan, each of its size
+pub record Recorded (p : Plan) (rec : List ℕ) : Type 0 where
+  pub fine : FineShape (p .shape)
+  pub marks-long : length (p .marks) ≡ squares (p .shape)
+  pub record-long : length rec ≡ recordSize p
+
+abbrev pub SizeOf : Shape → ℕ → Type 0
+SizeOf s r = r ≡ recordSize (plan s [])
+
+abbrev pub HeldBefore : List ℕ → ℕ → Type 0
+HeldBefore rec r = r ≡ heldIn rec
+
+abbrev pub Lasted : List ℕ → ℕ → Type 0
+Lasted rec r = r ≡ lastedIn rec
+
+abbrev pub Leaving : List ℕ → ℕ → ℕ → ℕ → Type 0
+Leaving rec i side r = r ≡ leavesIn rec i side
+
+abbrev pub LastBefore : List ℕ → ℕ → ℕ → Type 0
+LastBefore rec i r = r ≡ lastIn rec i
+
+abbrev pub AddedBy : List ℕ → ℕ → ℕ → Type 0
+AddedBy rec i r = r ≡ addedIn rec i
+
+abbrev pub GoneFrom : List ℕ → ℕ → ℕ → Type 0
+GoneFrom rec i r = r ≡ gone (leavesIn rec) i
+
+abbrev pub SentTo : Plan → List ℕ → ℕ → ℕ → ℕ → Type 0
+SentTo p rec i side r = r ≡ sent p (leavesIn rec) i side
+
+abbrev pub CameTo : Plan → List ℕ → ℕ → ℕ → Type 0
+CameTo p rec i r = r ≡ came p (leavesIn rec) i
+
+abbrev pub OffFrom : Plan → List ℕ → ℕ → ℕ → Type 0
+OffFrom p rec i r = r ≡ offSquare p (leavesIn rec) i
+
+-- a record before and after its head, a square, or a closed square is written
+abbrev pub HeadPut : List ℕ → ℕ → ℕ → List ℕ → Type 0
+HeadPut old held lasted new = new ≡ placed old 0 (held ∷ lasted ∷ [])
+
+abbrev pub SquarePut : List ℕ → ℕ → List ℕ → ℕ → ℕ → List ℕ → Type 0
+SquarePut old i leaves last added new =
+    new ≡
+    placed old (wordPlace i north) (getD leaves north 0 ∷ getD leaves east 0 ∷ getD leaves south 0 ∷ getD leaves west 0 ∷ last ∷ added ∷ [])
+
+abbrev pub ClosedPut : List ℕ → ℕ → List ℕ → Type 0
+ClosedPut old i new = new ≡ placed old (wordPlace i north) (0 ∷ 0 ∷ 0 ∷ 0 ∷ 0 ∷ 0 ∷ [])
+
+-- ---- what a walk over the squares finds: whether a test holds, and if so what left the grid
+
+pub record Walked (p : Plan) (rec : List ℕ) (test : Bool) (r : Found) : Type 0 where
+  pub fits-is : r .fits ≡ test
+  pub off-is : r .fits ≡ true → r .off ≡ offGrid p (leavesIn rec)

@@ -31,6 +31,10 @@ pub record World : Type 0 where
 abbrev pub world : List ℕ → List ℕ → List ℕ → Run → World
 world d p r u = record { depths = d; lasts = p; records = r; run = u }
 
+-- depths alone as a world, for what goes by nothing else of it
+abbrev pub ofDepths : List ℕ → World
+ofDepths d = world d [] [] (record { clock = 0; length = 0; outflow = 0; kept = 0; newest = 0 })
+
 -- refusal 6: "K = 0, or a run value out of range"
 unfoldable pub runFine : ℕ → Run → Bool
 runFine K u =

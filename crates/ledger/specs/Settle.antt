@@ -2,21 +2,22 @@
 -- function gives; `settled-is` joins it to the world after a step.
 -- Assumes nothing.
 use mathlib.Core.Path.{_≡_}
-use mathlib.Core.Bool.{Bool, false}
+use mathlib.Core.Bool.{Bool, true, false, _||_}
 use mathlib.Core.List.{List, [], _∷_}
 use Prim.Native.Nat.{ℕ, _+_, _≤_, _<_}
 use lib.Dec.{eqb, leb}
-use lib.ListN.{length, getD}
+use lib.ListN.{length, getD, set}
 use Rattle.reckon.specs.Tests.{pick, Row, _unless_, refusal}
 use Rattle.reckon.specs.Lists.{filled}
 use Rattle.reckon.specs.Ranges.{mostDepth, mostLength, lastClock, mostOutflow}
 use Rattle.trials.specs.Ring.{slotAfter, keptAfter}
 use Rattle.trials.specs.Room.{storedIn}
 use Rattle.grid.specs.Squares.{squares, FineShape}
-use Rattle.ledger.specs.Runs.{Plan, World}
+use Rattle.ledger.specs.Runs.{Plan, World, ofDepths}
 use Rattle.ledger.specs.Flows.{shut, gone}
-use Rattle.ledger.specs.Record.{recordSize, heldIn, lastedIn, leavesIn, addedIn, roomSlots}
+use Rattle.ledger.specs.Record.{recordSize, heldIn, lastedIn, leavesIn, addedIn, roomSlots, Recorded, Walked}
 use Rattle.ledger.specs.After.{Moves, newDepth, depthsFit, newOutflow}
+use Rattle.ledger.specs.declared.record.Found.{Found}
 
 -- what a record says was moved, with the length that the step leaves held
 abbrev pub movesIn : List ℕ → ℕ → Moves
@@ -48,6 +49,8 @@ module _ (p : Plan) (rec : List ℕ) (length : ℕ) (w : World) where
   unfoldable pub settled : World
   settled = pick (eqb settleNumber 0) written w
 
+-- ---- what is asked, and what the public function gives
+
 -- What is asked: all that is lent is of its size, the run is in range, and no square sends more than it holds.
 pub record Settles (p : Plan) (rec : List ℕ) (newLength : ℕ) (w : World) : Type 0 where
   pub fine : FineShape (p .shape)
@@ -61,3 +64,39 @@ pub record Settles (p : Plan) (rec : List ℕ) (newLength : ℕ) (w : World) : T
   pub length-to : newLength ≤ mostLength
   pub depths-to : (i : ℕ) → i < squares (p .shape) → shut p i ≡ false → getD (w .depths) i 0 ≤ mostDepth
   pub covered : (i : ℕ) → i < squares (p .shape) → shut p i ≡ false → gone (leavesIn rec) i ≤ getD (w .depths) i 0
+
+-- the refusal's number, 0 for none, and the world afterwards
+pub record SettlesTo (p : Plan) (rec : List ℕ) (newLength : ℕ) (w : World) (refused : ℕ) (after : World) : Type 0 where
+  pub number : refused ≡ settleNumber p rec newLength w
+  pub world-is : after ≡ settled p rec newLength w
+
+-- ---- inside
+
+-- the new depth that a record gives a square, and all of them
+abbrev pub depthBy : Plan → List ℕ → List ℕ → ℕ → ℕ
+depthBy p rec depths i = newDepth p (movesIn rec 0) (ofDepths depths) i
+
+abbrev pub depthsBy : Plan → List ℕ → List ℕ → List ℕ
+depthsBy p rec depths = filled (squares (p .shape)) (shut p) (depthBy p rec depths) depths
+
+-- a record and the depths that it starts from: no square sends more than it holds
+pub record Gathers (p : Plan) (rec : List ℕ) (depths : List ℕ) : Type 0 where
+  pub recorded : Recorded p rec
+  pub depths-long : length depths ≡ squares (p .shape)
+  pub covered : (i : ℕ) → i < squares (p .shape) → shut p i ≡ false → gone (leavesIn rec) i ≤ getD depths i 0
+
+-- a square gathered: whether its new depth is in range, and if so it is stored
+pub record GatheredOne (p : Plan) (rec depths : List ℕ) (i : ℕ) (old : List ℕ) (r : Bool) (new : List ℕ) : Type 0 where
+  pub fits-is : r ≡ (shut p i || leb (depthBy p rec depths i) mostDepth)
+  pub stored : r ≡ true → new ≡ set old i (pick (shut p i) (getD depths i 0) (depthBy p rec depths i))
+  pub long : length new ≡ length old
+
+-- all squares gathered
+pub record GatheredAll (p : Plan) (rec depths : List ℕ) (r : Found) (new : List ℕ) : Type 0 where
+  pub found : Walked p rec (depthsFit p (movesIn rec 0) (ofDepths depths)) r
+  pub stored : r .fits ≡ true → new ≡ depthsBy p rec depths
+
+-- a record whose squares' leavings are in range
+pub record SmallLeaving (p : Plan) (rec : List ℕ) : Type 0 where
+  pub recorded : Recorded p rec
+  pub small : (i : ℕ) → i < squares (p .shape) → shut p i ≡ false → gone (leavesIn rec) i ≤ mostDepth

@@ -1,20 +1,21 @@
 -- Document 01, "The record" and "Numbers given back on refusal": the take-back.
 -- Assumes nothing.
 use mathlib.Core.Path.{_≡_}
-use mathlib.Core.Bool.{Bool, _||_, not}
+use mathlib.Core.Bool.{Bool, true, false, _||_, not}
 use mathlib.Core.List.{List, [], _∷_}
-use Prim.Native.Nat.{ℕ, _+_, _-_}
+use Prim.Native.Nat.{ℕ, _+_, _-_, _≤_, _<_}
 use lib.Dec.{eqb, leb}
 use lib.ListN.{length, getD}
 use Rattle.reckon.specs.Tests.{pick, every, allBelow, Row, _unless_, refusal}
 use Rattle.reckon.specs.Lists.{filled}
 use Rattle.reckon.specs.Ranges.{mostDepth, mostLength, waterFine}
 use Rattle.trials.specs.Ring.{slotBefore}
-use Rattle.grid.specs.Squares.{squares, shapeFine}
+use Rattle.grid.specs.declared.squares.Shape.{Shape}
+use Rattle.grid.specs.Squares.{squares, shapeFine, FineShape}
 use Rattle.grid.specs.Marks.{marksFine}
-use Rattle.ledger.specs.Runs.{Plan, World, runFine, answered}
+use Rattle.ledger.specs.Runs.{Plan, World, ofDepths, runFine, answered}
 use Rattle.ledger.specs.Flows.{shut, gone, came, offGrid}
-use Rattle.ledger.specs.Record.{heldIn, lastedIn, leavesIn, lastIn, addedIn, roomSlots, newestRecord}
+use Rattle.ledger.specs.Record.{heldIn, lastedIn, leavesIn, lastIn, addedIn, roomSlots, newestRecord, Recorded}
 use Rattle.ledger.specs.declared.runs.Answer.{Answer}
 
 -- ---- the tests, each by its refusal's number
@@ -93,10 +94,48 @@ module _ (p : Plan) (w : World) where
   unfoldable pub takenBack : World
   takenBack = pick (eqb backNumber 0) (worldBefore p w (newestRecord p w)) w
 
--- ---- what the public function gives
+-- ---- what is asked, and what the public functions give
+
+abbrev pub OneEach : Shape → ℕ → Bool → Type 0
+OneEach s numbers r = r ≡ eqb numbers (squares s)
+
+-- a plan and the water on it, one number a square
+pub record Watered (p : Plan) (depths lasts : List ℕ) : Type 0 where
+  pub fine : FineShape (p .shape)
+  pub marks-long : length (p .marks) ≡ squares (p .shape)
+  pub depths-long : length depths ≡ squares (p .shape)
+  pub lasts-long : length lasts ≡ squares (p .shape)
+
+abbrev pub WatersJudged : Plan → List ℕ → List ℕ → Bool → Type 0
+WatersJudged p depths lasts r = r ≡ watersFine p depths lasts
 
 -- the answer, the depths and the last leaving afterwards
 pub record TakesBack (p : Plan) (w : World) (a : Answer) (depths lasts : List ℕ) : Type 0 where
   pub answer : a ≡ answered (backNumber p w) (takenBack p w .run)
   pub depths-are : depths ≡ takenBack p w .depths
   pub lasts-are : lasts ≡ takenBack p w .lasts
+
+-- ---- inside
+
+-- a world that refusals 1 to 10 leave to its newest record
+pub record Kept (p : Plan) (w : World) : Type 0 where
+  pub watered : Watered p (w .depths) (w .lasts)
+  pub marks-fine : marksFine (p .shape) (p .marks) ≡ true
+  pub waters-fine : watersFine p (w .depths) (w .lasts) ≡ true
+  pub run-fine : runFine (roomSlots p (w .records)) (w .run) ≡ true
+  pub some-kept : w .run .kept ≡ 0 → ⊥
+
+-- the number of the first refusal before 11, 0 for none
+pub record Looked (p : Plan) (w : World) (n : ℕ) : Type 0 where
+  pub refused : (n ≡ 0 → ⊥) → n ≡ backNumber p w
+  pub passed : n ≡ 0 → Kept p w
+
+-- a record and the depths that it leads to, one number a square
+pub record Led (p : Plan) (rec depths : List ℕ) : Type 0 where
+  pub recorded : Recorded p rec
+  pub depths-long : length depths ≡ squares (p .shape)
+
+-- a square whose depth before is in range
+pub record Restores (p : Plan) (rec depths : List ℕ) (i : ℕ) : Type 0 where
+  pub enough : cameAndAdded p (ofDepths depths) rec i ≤ heldAndGone p (ofDepths depths) rec i
+  pub small : depthBefore p (ofDepths depths) rec i ≤ mostDepth

@@ -1,5 +1,12 @@
 // The ledger: what follows once the amounts through the sides are known. New depths, last leaving and outflow; the record of a step
 // and its words; the take-back. It does not know the rule that gave the amounts.
 //
-//   runs       Run, Answer; run_fine
+//   runs        Run, Answer; run_fine
+//   record      record_size; a record's words read: held_before, lasted, leaving, last_before, added_by; its amounts: gone_from,
+//               sent_to, came_to, off_from; its words written: put_head, put_square, put_closed
+//   settle      Settled; settle
+//   take_back   one_each, waters_fine, take_back
+pub mod record;
 pub mod runs;
+pub mod settle;
+pub mod take_back;

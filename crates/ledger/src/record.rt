@@ -1,0 +1,242 @@
+// The record of a step: its words read and written by name, and the amounts that they give. Only this file knows a word's place.
+ghost use mathlib.Core.Path.{_≡_};
+ghost use mathlib.Core.List.{[], _∷_};
+ghost use Prim.Native.Nat.{_+_, _<_, _^_, _≤_};
+ghost use lib.ListN.{getD, length};
+ghost use Rattle.reckon.specs.Lists.{placed};
+ghost use Rattle.reckon.specs.Ranges.{mostLength};
+ghost use Rattle.grid.specs.Squares.{FineShape, Stands, east, north, opposite, sides, south, west};
+ghost use Rattle.ledger.specs.Runs.{plan};
+ghost use Rattle.ledger.specs.Flows.{offSide};
+ghost use Rattle.ledger.specs.Record.{AddedBy, CameTo, ClosedPut, GoneFrom, HeadPut, HeldBefore, LastBefore, Lasted, Leaving, OffFrom, Recorded, SentTo, SizeOf, SquarePut, addedWord, headWords, lastWord, leavesIn, squareWords, wordPlace};
+use grid::marks::is_closed;
+use grid::squares::EAST;
+use grid::squares::NORTH;
+use grid::squares::SOUTH;
+use grid::squares::Shape;
+use grid::squares::WEST;
+use grid::squares::beside_on;
+use grid::squares::squares_of;
+use reckon::numbers::number;
+
+// The words before the squares, and those of a square: its four sides, then these two.
+const HEAD_WORDS: usize = 2;
+
+const SQUARE_WORDS: usize = 6;
+
+const LAST_WORD: usize = 4;
+
+const ADDED_WORD: usize = 5;
+
+// What a walk over the squares finds: whether each passes its test, and if so what left the grid.
+pub(crate) struct Found {
+    pub(crate) fits: bool,
+    pub(crate) off: u64,
+}
+
+// Found where a square fails.
+pub(crate) const UNFIT: Found = Found {
+    fits: false,
+    off: 0,
+};
+
+// The words of a record.
+pub fn record_size(shape: Shape) -> usize
+    requires { ⌜ FineShape shape ⌝ }
+    ensures { λ r. ⌜ SizeOf shape r ⌝ }
+{
+    HEAD_WORDS + SQUARE_WORDS * squares_of(shape)
+}
+
+// Where a word of a square stands.
+fn word_place(square: usize, word: usize) -> usize
+    requires { ⌜ wordPlace square word < 2 ^ 64 ⌝ }
+    ensures { λ r. ⌜ r ≡ wordPlace square word ⌝ }
+{
+    HEAD_WORDS + (SQUARE_WORDS * square + word)
+}
+
+// The length held before the step.
+pub fn held_before(rec: &[u32]) -> u64
+    requires { ⌜ headWords ≤ length (now rec) ⌝ }
+    ensures { λ r. ⌜ HeldBefore (now (rec .entry)) r ⌝ }
+{
+    number(rec, 0)
+}
+
+// How long the step lasted.
+pub fn lasted(rec: &[u32]) -> u64
+    requires { ⌜ headWords ≤ length (now rec) ⌝ }
+    ensures { λ r. ⌜ Lasted (now (rec .entry)) r ⌝ }
+{
+    number(rec, 1)
+}
+
+// What left a square through a side.
+pub fn leaving(rec: &[u32], square: usize, side: usize) -> u64
+    requires { ⌜ wordPlace square side < length (now rec) ⌝ }
+    ensures { λ r. ⌜ Leaving (now (rec .entry)) square side r ⌝ }
+{
+    number(rec, word_place(square, side))
+}
+
+// A square's last leaving before the step.
+pub fn last_before(rec: &[u32], square: usize) -> u32
+    requires { ⌜ wordPlace square lastWord < length (now rec) ⌝ }
+    ensures { λ r. ⌜ LastBefore (now (rec .entry)) square r ⌝ }
+{
+    let at = word_place(square, LAST_WORD);
+    rec[at]
+}
+
+// What the step added to a square.
+pub fn added_by(rec: &[u32], square: usize) -> u64
+    requires { ⌜ wordPlace square addedWord < length (now rec) ⌝ }
+    ensures { λ r. ⌜ AddedBy (now (rec .entry)) square r ⌝ }
+{
+    number(rec, word_place(square, ADDED_WORD))
+}
+
+// What left a square through its four sides.
+pub fn gone_from(rec: &[u32], square: usize) -> u64
+    requires { ⌜ wordPlace square west < length (now rec) ⌝ }
+    ensures { λ r. ⌜ GoneFrom (now (rec .entry)) square r ⌝ }
+{
+    leaving(rec, square, NORTH)
+        + leaving(rec, square, EAST)
+        + leaving(rec, square, SOUTH)
+        + leaving(rec, square, WEST)
+}
+
+// The side of a neighbour that lies towards the own square.
+fn opposite_of(side: usize) -> usize
+    requires { ⌜ side < sides ⌝ }
+    ensures { λ r. ⌜ r ≡ opposite side ⌝ }
+{
+    if side < SOUTH {
+        side + SOUTH
+    } else {
+        side - SOUTH
+    }
+}
+
+// What the neighbour on a side sent: nothing where there is none, or a closed one.
+pub fn sent_to(
+    shape: Shape,
+    marks: &[u8],
+    rec: &[u32],
+    square: usize,
+    column: usize,
+    side: usize,
+) -> u64
+    requires { ⌜ Recorded (plan shape (now marks)) (now rec) ⌝ }
+    requires { ⌜ Stands shape square column ⌝ }
+    requires { ⌜ side < sides ⌝ }
+    ensures { λ r. ⌜ SentTo (plan shape (now (marks .entry))) (now (rec .entry)) square side r ⌝ }
+{
+    let at = beside_on(shape, square, column, side);
+    if squares_of(shape) <= at {
+        return 0;
+    }
+    if is_closed(marks, at) {
+        return 0;
+    }
+    leaving(rec, at, opposite_of(side))
+}
+
+// What the neighbours sent.
+pub fn came_to(shape: Shape, marks: &[u8], rec: &[u32], square: usize, column: usize) -> u64
+    requires { ⌜ Recorded (plan shape (now marks)) (now rec) ⌝ }
+    requires { ⌜ Stands shape square column ⌝ }
+    ensures { λ r. ⌜ CameTo (plan shape (now (marks .entry))) (now (rec .entry)) square r ⌝ }
+{
+    let north = sent_to(shape, marks, rec, square, column, NORTH);
+    let east = sent_to(shape, marks, rec, square, column, EAST);
+    let south = sent_to(shape, marks, rec, square, column, SOUTH);
+    let west = sent_to(shape, marks, rec, square, column, WEST);
+    north + east + south + west
+}
+
+// What a square sent off the grid through a side.
+fn off_side(
+    shape: Shape,
+    marks: &[u8],
+    rec: &[u32],
+    square: usize,
+    column: usize,
+    side: usize,
+) -> u64
+    requires { ⌜ Recorded (plan shape (now marks)) (now rec) ⌝ }
+    requires { ⌜ Stands shape square column ⌝ }
+    requires { ⌜ side < sides ⌝ }
+    ensures { λ r. ⌜ r ≡ offSide (plan shape (now (marks .entry))) (leavesIn (now (rec .entry))) square side ⌝ }
+{
+    if beside_on(shape, square, column, side) < squares_of(shape) {
+        return 0;
+    }
+    leaving(rec, square, side)
+}
+
+// What a square sent off the grid: nothing where it is closed.
+pub fn off_from(shape: Shape, marks: &[u8], rec: &[u32], square: usize, column: usize) -> u64
+    requires { ⌜ Recorded (plan shape (now marks)) (now rec) ⌝ }
+    requires { ⌜ Stands shape square column ⌝ }
+    ensures { λ r. ⌜ OffFrom (plan shape (now (marks .entry))) (now (rec .entry)) square r ⌝ }
+{
+    if is_closed(marks, square) {
+        return 0;
+    }
+    let north = off_side(shape, marks, rec, square, column, NORTH);
+    let east = off_side(shape, marks, rec, square, column, EAST);
+    let south = off_side(shape, marks, rec, square, column, SOUTH);
+    let west = off_side(shape, marks, rec, square, column, WEST);
+    north + east + south + west
+}
+
+// Stores six words one after the other.
+fn put_six(rec: &mut [u32], at: usize, words: [u32; 6])
+    requires { ⌜ at + squareWords ≤ length (now rec) ⌝ }
+    ensures { λ _. ⌜ now (rec .exit) ≡ placed (now (rec .entry)) at (getD words 0 0 ∷ getD words 1 0 ∷ getD words 2 0 ∷ getD words 3 0 ∷ getD words 4 0 ∷ getD words 5 0 ∷ []) ⌝ }
+{
+    rec[at] = words[0];
+    rec[at + 1] = words[1];
+    rec[at + 2] = words[2];
+    rec[at + 3] = words[3];
+    rec[at + 4] = words[4];
+    rec[at + 5] = words[5];
+}
+
+// Writes the length held before the step, and how long it lasts.
+pub fn put_head(rec: &mut [u32], held: u64, lasts: u64)
+    requires { ⌜ headWords ≤ length (now rec) ⌝ }
+    requires { ⌜ (held ≤ mostLength) × (lasts ≤ mostLength) ⌝ }
+    ensures { λ _. ⌜ HeadPut (now (rec .entry)) held lasts (now (rec .exit)) ⌝ }
+{
+    rec[0] = held as u32;
+    rec[1] = lasts as u32;
+}
+
+// Writes a square: what leaves through its sides, its last leaving before, what is added.
+pub fn put_square(rec: &mut [u32], square: usize, leaves: [u64; 4], last: u32, added: u32)
+    requires { ⌜ wordPlace square squareWords ≤ length (now rec) ⌝ }
+    requires { ⌜ (getD leaves north 0 < 2 ^ 32) × (getD leaves east 0 < 2 ^ 32) × (getD leaves south 0 < 2 ^ 32) × (getD leaves west 0 < 2 ^ 32) ⌝ }
+    ensures { λ _. ⌜ SquarePut (now (rec .entry)) square leaves last added (now (rec .exit)) ⌝ }
+{
+    let words = [
+        leaves[0] as u32,
+        leaves[1] as u32,
+        leaves[2] as u32,
+        leaves[3] as u32,
+        last,
+        added,
+    ];
+    put_six(rec, word_place(square, NORTH), words);
+}
+
+// Writes a closed square: six zeros.
+pub fn put_closed(rec: &mut [u32], square: usize)
+    requires { ⌜ wordPlace square squareWords ≤ length (now rec) ⌝ }
+    ensures { λ _. ⌜ ClosedPut (now (rec .entry)) square (now (rec .exit)) ⌝ }
+{
+    put_six(rec, word_place(square, NORTH), [0, 0, 0, 0, 0, 0]);
+}

@@ -1,0 +1,227 @@
+// A step whose record is worked out, settled: refused by 8 or 9, or written to depths, last leaving, record room and run.
+// Nothing lent but the working room is written before both are decided.
+ghost use mathlib.Core.Path.{_≡_};
+ghost use mathlib.Core.Bool.{false};
+ghost use Prim.Native.Nat.{_<_, _≤_};
+ghost use lib.ListN.{getD, length, set};
+ghost use Rattle.reckon.specs.Tests.{pick};
+ghost use Rattle.reckon.specs.Lists.{filled};
+ghost use Rattle.reckon.specs.Ranges.{mostDepth};
+ghost use Rattle.grid.specs.Squares.{Stands, squares, west};
+ghost use Rattle.grid.specs.Marks.{closed};
+ghost use Rattle.ledger.specs.Runs.{plan, world};
+ghost use Rattle.ledger.specs.Flows.{gone};
+ghost use Rattle.ledger.specs.Record.{leavesIn, wordPlace};
+ghost use Rattle.ledger.specs.After.{newOutflow};
+ghost use Rattle.ledger.specs.Settle.{GatheredAll, GatheredOne, Gathers, Settles, SettlesTo, SmallLeaving, depthBy, depthsBy, movesIn, written};
+use crate::record::Found;
+use crate::record::UNFIT;
+use crate::record::added_by;
+use crate::record::came_to;
+use crate::record::gone_from;
+use crate::record::lasted;
+use crate::record::off_from;
+use crate::record::record_size;
+use crate::runs::Run;
+use grid::marks::is_closed;
+use grid::squares::Shape;
+use grid::squares::next_column;
+use grid::squares::squares_of;
+use reckon::numbers::number;
+use reckon::ranges::MOST_DEPTH;
+use reckon::ranges::MOST_OUTFLOW;
+
+// The refusal's number, 0 for none, and the run afterwards.
+pub struct Settled {
+    pub refused: u32,
+    pub run: Run,
+}
+
+// A square's new depth.
+fn new_depth(
+    shape: Shape,
+    marks: &[u8],
+    rec: &[u32],
+    depths: &[u32],
+    square: usize,
+    column: usize,
+) -> u64
+    requires { ⌜ Gathers (plan shape (now marks)) (now rec) (now depths) ⌝ }
+    requires { ⌜ (Stands shape square column) × (closed (now marks) square ≡ false) ⌝ }
+    ensures { λ r. ⌜ r ≡ depthBy (plan shape (now (marks .entry))) (now (rec .entry)) (now (depths .entry)) square ⌝ }
+{
+    let remains = number(depths, square) - gone_from(rec, square);
+    remains + came_to(shape, marks, rec, square, column) + added_by(rec, square)
+}
+
+// Puts a square's new depth, or its old one if it is closed, into the working room, unless the new depth is above the most.
+fn gather_square(
+    shape: Shape,
+    marks: &[u8],
+    rec: &[u32],
+    depths: &[u32],
+    square: usize,
+    column: usize,
+    fresh: &mut [u32],
+) -> bool
+    requires { ⌜ Gathers (plan shape (now marks)) (now rec) (now depths) ⌝ }
+    requires { ⌜ (Stands shape square column) × (square < length (now fresh)) ⌝ }
+    ensures { λ r. ⌜ GatheredOne (plan shape (now (marks .entry))) (now (rec .entry)) (now (depths .entry)) square (now (fresh .entry)) r (now (fresh .exit)) ⌝ }
+{
+    if is_closed(marks, square) {
+        fresh[square] = depths[square];
+        return true;
+    }
+    let depth = new_depth(shape, marks, rec, depths, square, column);
+    if (MOST_DEPTH as u64) < depth {
+        return false;
+    }
+    fresh[square] = depth as u32;
+    true
+}
+
+// Gathers every square's new depth, and what leaves the grid.
+fn gather(shape: Shape, marks: &[u8], rec: &[u32], depths: &[u32], fresh: &mut [u32]) -> Found
+    requires { ⌜ Gathers (plan shape (now marks)) (now rec) (now depths) ⌝ }
+    requires { ⌜ length (now fresh) ≡ squares shape ⌝ }
+    ensures { λ r. ⌜ GatheredAll (plan shape (now (marks .entry))) (now (rec .entry)) (now (depths .entry)) r (now (fresh .exit)) ⌝ }
+{
+    let squares = squares_of(shape);
+    let mut off: u64 = 0;
+    let mut square = 0;
+    let mut column = 0;
+    while square < squares {
+        if !gather_square(shape, marks, rec, depths, square, column, fresh) {
+            return UNFIT;
+        }
+        off += off_from(shape, marks, rec, square, column);
+        square += 1;
+        column = next_column(shape, column);
+    }
+    Found {
+        fits: true,
+        off: off,
+    }
+}
+
+// Copies numbers over as many others.
+fn copy(from: &[u32], to: &mut [u32])
+    requires { ⌜ length (now to) ≡ length (now from) ⌝ }
+    ensures { λ _. ⌜ now (to .exit) ≡ now (from .entry) ⌝ }
+{
+    let count = from.len();
+    let mut i = 0;
+    while i < count {
+        to[i] = from[i];
+        i += 1;
+    }
+}
+
+// Writes the last leaving of a square that is not closed.
+fn write_last(marks: &[u8], rec: &[u32], square: usize, lasts: &mut [u32])
+    requires { ⌜ (square < length (now marks)) × (wordPlace square west < length (now rec)) × (square < length (now lasts)) ⌝ }
+    requires { ⌜ (closed (now marks) square ≡ false → gone (leavesIn (now rec)) square ≤ mostDepth) ⌝ }
+    ensures { λ _. ⌜ now (lasts .exit) ≡ pick (closed (now (marks .entry)) square) (now (lasts .entry)) (set (now (lasts .entry)) square (gone (leavesIn (now (rec .entry))) square)) ⌝ }
+{
+    if is_closed(marks, square) {
+        return;
+    }
+    lasts[square] = gone_from(rec, square) as u32;
+}
+
+// Writes the last leaving of every square that is not closed.
+fn write_lasts(shape: Shape, marks: &[u8], rec: &[u32], lasts: &mut [u32])
+    requires { ⌜ SmallLeaving (plan shape (now marks)) (now rec) ⌝ }
+    requires { ⌜ length (now lasts) ≡ squares shape ⌝ }
+    ensures { λ _. ⌜ now (lasts .exit) ≡ filled (squares shape) (closed (now (marks .entry))) (gone (leavesIn (now (rec .entry)))) (now (lasts .entry)) ⌝ }
+{
+    let squares = squares_of(shape);
+    let mut square = 0;
+    while square < squares {
+        write_last(marks, rec, square, lasts);
+        square += 1;
+    }
+}
+
+// Writes the step: its record into the slot after the newest, depths and last leaving; gives the run after it.
+fn write(
+    shape: Shape,
+    marks: &[u8],
+    rec: &[u32],
+    length: u64,
+    outflow: u64,
+    run: Run,
+    fresh: &[u32],
+    depths: &mut [u32],
+    lasts: &mut [u32],
+    records: &mut [u32],
+) -> Run
+    requires { ⌜ Settles (plan shape (now marks)) (now rec) length (world (now depths) (now lasts) (now records) run) ⌝ }
+    requires { ⌜ now fresh ≡ depthsBy (plan shape (now marks)) (now rec) (now depths) ⌝ }
+    requires { ⌜ outflow ≡ newOutflow (plan shape (now marks)) (movesIn (now rec) length) (world (now depths) (now lasts) (now records) run) ⌝ }
+    ensures { λ r. ⌜ world (now (depths .exit)) (now (lasts .exit)) (now (records .exit)) r ≡ written (plan shape (now (marks .entry))) (now (rec .entry)) length (world (now (depths .entry)) (now (lasts .entry)) (now (records .entry)) run) ⌝ }
+{
+    let size = record_size(shape);
+    let slots = trials::slots_in(size, records.len());
+    let slot = trials::slot_after(slots, run.newest);
+    let at = trials::slot_start(size, slot);
+    let end = at + size;
+    copy(rec, &mut records[at..end]);
+    copy(fresh, depths);
+    write_lasts(shape, marks, rec, lasts);
+    Run {
+        clock: run.clock + lasted(rec),
+        length: length,
+        outflow: outflow,
+        kept: trials::kept_after(slots, run.kept),
+        newest: slot,
+    }
+}
+
+// Settles a step by its record and the length that it leaves held. `fresh` is working room for the new depths.
+pub fn settle(
+    shape: Shape,
+    marks: &[u8],
+    rec: &[u32],
+    length: u64,
+    run: Run,
+    depths: &mut [u32],
+    lasts: &mut [u32],
+    records: &mut [u32],
+    fresh: &mut [u32],
+) -> Settled
+    requires { ⌜ Settles (plan shape (now marks)) (now rec) length (world (now depths) (now lasts) (now records) run) ⌝ }
+    requires { ⌜ lib.ListN.length (now fresh) ≡ squares shape ⌝ }
+    ensures { λ r. ⌜ SettlesTo (plan shape (now (marks .entry))) (now (rec .entry)) length (world (now (depths .entry)) (now (lasts .entry)) (now (records .entry)) run) (r .refused) (world (now (depths .exit)) (now (lasts .exit)) (now (records .exit)) (r .run)) ⌝ }
+{
+    let found = gather(shape, marks, rec, depths, fresh);
+    if !found.fits {
+        return Settled {
+            refused: 8,
+            run: run,
+        };
+    }
+    let outflow = run.outflow + found.off;
+    if MOST_OUTFLOW < outflow {
+        return Settled {
+            refused: 9,
+            run: run,
+        };
+    }
+    let after = write(
+        shape,
+        marks,
+        rec,
+        length,
+        outflow,
+        run,
+        fresh,
+        depths,
+        lasts,
+        records,
+    );
+    Settled {
+        refused: 0,
+        run: after,
+    }
+}
