@@ -1,0 +1,1 @@
+// Refusals 1 to 6 of the calls that are lent everything.
