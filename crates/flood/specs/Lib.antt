@@ -1,3 +1,4 @@
+pub mod Added
 pub mod Drops
 pub mod Ready
 pub mod Refusals
