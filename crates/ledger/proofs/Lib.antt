@@ -1,0 +1,2 @@
+pub mod EngineLaws
+pub mod ReadBack
