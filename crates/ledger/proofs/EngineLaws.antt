@@ -280,19 +280,6 @@ module _ (p : Plan) where
 
   -- ---- what is seen needs no record room
 
-  module _ (m : Moves) (w : World) where
-    pub late-bare : lateRows p m (bare (seenOf w)) ≡ lateRows p m w
-    unfolding lateRows depthsFit newDepth remains newOutflow
-    late-bare = refl
-
-    pub after-bare : seenOf (worldAfter p m (bare (seenOf w))) ≡ seenOf (worldAfter p m w)
-    unfolding worldAfter newDepth remains newOutflow
-    after-bare = refl
-
-    pub record-bare : stepRecord p m (bare (seenOf w)) ≡ stepRecord p m w
-    unfolding stepRecord
-    record-bare = refl
-
   module _ (w : World) (rec : List ℕ) where
     pub restorable-bare : restorable p (bare (seenOf w)) rec ≡ restorable p w rec
     unfolding restorable squareRestorable depthBefore heldAndGone cameAndAdded
