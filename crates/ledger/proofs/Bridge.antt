@@ -1,4 +1,4 @@
--- Worlds and the engine's states say the same: a take-back and a step, told over a world, are the engine's over its state.
+-- Worlds and the engine's states say the same, row by row: a take-back and a step of a world are the engine's of its state.
 -- Assumes nothing.
 use mathlib.Core.Path.{_≡_, refl, sym, ap, _∙_}
 use mathlib.Core.Bool.{Bool, true, false, not}

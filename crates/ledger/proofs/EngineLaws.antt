@@ -54,6 +54,7 @@ outcome-done (suc n) e = absurd (not-done e)
 module _ (p : Plan) where
   -- ---- what a take-back's look has seen
 
+  -- the look's rows as facts
   pub record Looks (ring : Bool) (v : Seen) : Type 0 where
     pub shape-fine : shapeFine (p .shape) ≡ true
     pub marks-long : length (p .marks) ≡ squares (p .shape)
@@ -101,54 +102,17 @@ module _ (p : Plan) where
     unfolding watersFine waterFine
     waters-of L =
         all-of (squares (p .shape)) _
-        (λ i inside. or-of (shut p i) _ (λ e. each-every _ (le-leb _ _ (L .depth-to i inside e), (le-leb _ _ (L .last-to i inside e), tt))))
+        (λ i inside. or-of (shut p i) _ (λ e. each-every _ (omega (arith, le-leb, L .depth-to i inside e, L .last-to i inside e))))
 
     pub seen-look : Looks ring v → refusal (lookRows p ring v) ≡ 0
     unfolding lookRows oneEach
     seen-look L =
-        passed-refusal _ (
-          each-every _ (
-            L .shape-fine,
-            (
-              eq-eqb _ _ (L .marks-long),
-              (
-                eq-eqb _ _ (L .depths-long),
-                (
-                  eq-eqb _ _ (L .lasts-long),
-                  tt,
-                ),
-              ),
-            ),
-          ),
-          (
-            L .marks-fine,
-            (
-              waters-of L,
-              (
-                each-every _ (
-                  L .ring-fine,
-                  (
-                    le-leb _ _ (L .clock-to),
-                    (
-                      le-leb _ _ (L .length-from),
-                      (
-                        le-leb _ _ (L .length-to),
-                        (
-                          le-leb _ _ (L .outflow-to),
-                          tt,
-                        ),
-                      ),
-                    ),
-                  ),
-                ),
-                tt,
-              ),
-            ),
-          ),
-        )
+        passed-refusal _
+        (each-every _ (L .shape-fine, omega (arith, eq-eqb)), (L .marks-fine, (waters-of L, (each-every _ (L .ring-fine, omega (arith, le-leb)), tt))))
 
   -- ---- a step within its bounds, taken back
 
+  -- what a rule owes of what a step moves
   record Bounded (m : Moves) (v : Seen) : Type 0 where
     lasts-from : 1 ≤ m .lasts
     lasts-to : m .lasts ≤ mostLength
@@ -226,34 +190,12 @@ module _ (p : Plan) where
     square-back i inside =
         or-of (shut p i) _
         (λ e.
-        each-every _ (
-          rw (step-last p m w i inside e) (le-leb _ _ (L .last-to i inside e)),
-          (
-            le-leb _ _ (came-fits i inside e),
-            (
-              rw (depth-back i inside e) (le-leb _ _ (L .depth-to i inside e)),
-              tt,
-            ),
-          ),
-        ))
+        let last-is = step-last p m w i inside e in
+        each-every _ (omega (arith, le-leb, last-is, L .last-to i inside e, came-fits i inside e, depth-back i inside e, L .depth-to i inside e)))
 
     times-back : timesFine rec ≡ true
     unfolding timesFine
-    times-back =
-        rw (step-held p m w, step-lasted p m w)
-        (each-every _ (
-          le-leb _ _ (L .length-from),
-          (
-            le-leb _ _ (L .length-to),
-            (
-              le-leb _ _ (B .lasts-from),
-              (
-                le-leb _ _ (B .lasts-to),
-                tt,
-              ),
-            ),
-          ),
-        ))
+    times-back = each-every _ (omega (arith, le-leb, step-held p m w, step-lasted p m w))
 
     restorable-after : restorable p after rec ≡ true
     unfolding restorable worldAfter newOutflow

@@ -1,5 +1,4 @@
--- A record read back: each square has its own six places, so what was written of a square not closed is read again, and a step settled
--- by its record is the step.
+-- A written record is read back, for each square has its own six places; so a step settled by its record is the step.
 -- Assumes nothing.
 use mathlib.Core.Path.{_≡_, refl, ap, _∙_}
 use mathlib.Core.Bool.{Bool, true, false, _||_}

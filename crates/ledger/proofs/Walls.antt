@@ -1,5 +1,4 @@
--- The wall rule's consequences: what goes through a side comes to a square not closed or leaves from an exit, since the way back over a
--- side leads to where it came from; and no step or take-back alters a closed square, since it is skipped where a list is filled.
+-- The wall rule at work: a side leads there and back, so water comes to a square not closed or leaves from an exit; closed ones are skipped.
 -- Assumes nothing.
 use mathlib.Core.Path.{_≡_, refl, _∙_, sym}
 use mathlib.Core.Bool.{Bool, true, false}

@@ -1,5 +1,4 @@
--- The wall rule: what a rule of steps keeps to so that no water enters or leaves a closed square, where its water goes then, and what
--- it means that closed squares stay as they were.
+-- The wall rule: what amounts keep to so that no water enters a closed square, where they go, and what leaves one as it was.
 -- Assumes nothing.
 use mathlib.Core.Path.{_≡_}
 use mathlib.Core.Bool.{true, false}
