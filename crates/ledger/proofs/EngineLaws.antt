@@ -121,11 +121,11 @@ module _ (p : Plan) where
     covered : (i : ℕ) → i < squares (p .shape) → shut p i ≡ false → gone (m .leaves) i ≤ getD (v .depths) i 0
 
   module _ (m : Moves) (w : World) (L : Looks true (seenOf w)) (B : Bounded m (seenOf w)) (late : refusal (lateRows p m w) ≡ 0) where
-    abbrev after : World
-    after = worldAfter p m w
+    abbrev nextWorld : World
+    nextWorld = worldAfter p m w
 
-    abbrev rec : List ℕ
-    rec = stepRecord p m w
+    abbrev nextRecord : List ℕ
+    nextRecord = stepRecord p m w
 
     clock-fits : w .run .clock + m .lasts ≤ lastClock
     unfolding lateRows
@@ -142,32 +142,32 @@ module _ (p : Plan) where
 
     -- a square that is not closed
     module _ (i : ℕ) (inside : i < squares (p .shape)) (not-closed : shut p i ≡ false) where
-      depth-after : getD (after .depths) i 0 ≡ newDepth p m w i
+      depth-after : getD (nextWorld .depths) i 0 ≡ newDepth p m w i
       unfolding worldAfter
       depth-after = filled-in (squares (p .shape)) (shut p) (newDepth p m w) (w .depths) i (omega (arith, L .depths-long)) inside not-closed
 
-      last-after : getD (after .lasts) i 0 ≡ gone (m .leaves) i
+      last-after : getD (nextWorld .lasts) i 0 ≡ gone (m .leaves) i
       unfolding worldAfter
       last-after = filled-in (squares (p .shape)) (shut p) (gone (m .leaves)) (w .lasts) i (omega (arith, L .lasts-long)) inside not-closed
 
-      held-is : heldAndGone p after rec i ≡ newDepth p m w i + gone (m .leaves) i
+      held-is : heldAndGone p nextWorld nextRecord i ≡ newDepth p m w i + gone (m .leaves) i
       unfolding heldAndGone
       held-is = rw (depth-after, step-gone p m w i inside not-closed)
 
-      came-is : cameAndAdded p after rec i ≡ came p (m .leaves) i + m .added i
+      came-is : cameAndAdded p nextWorld nextRecord i ≡ came p (m .leaves) i + m .added i
       unfolding cameAndAdded
       came-is = rw (step-came p m w (L .marks-long) i, step-added p m w i inside not-closed)
 
-      came-fits : cameAndAdded p after rec i ≤ heldAndGone p after rec i
+      came-fits : cameAndAdded p nextWorld nextRecord i ≤ heldAndGone p nextWorld nextRecord i
       unfolding newDepth remains
       came-fits = omega (arith, held-is, came-is)
 
       -- what went is no more than what was there, so that adding it again gives what was there
-      depth-back : depthBefore p after rec i ≡ getD (w .depths) i 0
+      depth-back : depthBefore p nextWorld nextRecord i ≡ getD (w .depths) i 0
       unfolding depthBefore newDepth remains
       depth-back = omega (arith, held-is, came-is, B .covered i inside not-closed)
 
-    looks-after : Looks true (seenOf after)
+    looks-after : Looks true (seenOf nextWorld)
     unfolding worldAfter
     looks-after =
         record {
@@ -185,7 +185,7 @@ module _ (p : Plan) where
           outflow-to = outflow-fits;
         }
 
-    square-back : (i : ℕ) → i < squares (p .shape) → squareRestorable p after rec i ≡ true
+    square-back : (i : ℕ) → i < squares (p .shape) → squareRestorable p nextWorld nextRecord i ≡ true
     unfolding squareRestorable
     square-back i inside =
         or-of (shut p i) _
@@ -193,31 +193,31 @@ module _ (p : Plan) where
         let last-is = step-last p m w i inside e in
         each-every _ (omega (arith, le-leb, last-is, L .last-to i inside e, came-fits i inside e, depth-back i inside e, L .depth-to i inside e)))
 
-    times-back : timesFine rec ≡ true
+    times-back : timesFine nextRecord ≡ true
     unfolding timesFine
     times-back = each-every _ (omega (arith, le-leb, step-held p m w, step-lasted p m w))
 
-    restorable-after : restorable p after rec ≡ true
+    restorable-after : restorable p nextWorld nextRecord ≡ true
     unfolding restorable worldAfter newOutflow
     restorable-after =
-        let in-time : lastedIn rec ≤ w .run .clock + m .lasts = omega (arith, step-lasted p m w) in
-        let in-total : offGrid p (leavesIn rec) ≤ w .run .outflow + offGrid p (m .leaves) = omega (arith, step-off p m w) in
+        let in-time : lastedIn nextRecord ≤ w .run .clock + m .lasts = omega (arith, step-lasted p m w) in
+        let in-total : offGrid p (leavesIn nextRecord) ≤ w .run .outflow + offGrid p (m .leaves) = omega (arith, step-off p m w) in
         each-every _ (times-back, (le-leb _ _ in-time, (all-of (squares (p .shape)) _ square-back, (le-leb _ _ in-total, tt))))
 
-    before-after : seenOf (worldBefore p after rec) ≡ seenOf w
+    before-after : seenOf (worldBefore p nextWorld nextRecord) ≡ seenOf w
     unfolding worldBefore worldAfter newOutflow
     before-after = λ j. record { depths = depths j; lasts = lasts j; clock = clock j; length = step-held p m w j; outflow = outflow j }
       where
-        depths : filled (squares (p .shape)) (shut p) (depthBefore p after rec) (after .depths) ≡ w .depths
-        depths = refilled (squares (p .shape)) (shut p) (depthBefore p after rec) (newDepth p m w) (w .depths) (L .depths-long) depth-back
+        depths : filled (squares (p .shape)) (shut p) (depthBefore p nextWorld nextRecord) (nextWorld .depths) ≡ w .depths
+        depths = refilled (squares (p .shape)) (shut p) (depthBefore p nextWorld nextRecord) (newDepth p m w) (w .depths) (L .depths-long) depth-back
 
-        lasts : filled (squares (p .shape)) (shut p) (lastIn rec) (after .lasts) ≡ w .lasts
-        lasts = refilled (squares (p .shape)) (shut p) (lastIn rec) (gone (m .leaves)) (w .lasts) (L .lasts-long) (step-last p m w)
+        lasts : filled (squares (p .shape)) (shut p) (lastIn nextRecord) (nextWorld .lasts) ≡ w .lasts
+        lasts = refilled (squares (p .shape)) (shut p) (lastIn nextRecord) (gone (m .leaves)) (w .lasts) (L .lasts-long) (step-last p m w)
 
-        clock : w .run .clock + m .lasts - lastedIn rec ≡ w .run .clock
+        clock : w .run .clock + m .lasts - lastedIn nextRecord ≡ w .run .clock
         clock = omega (arith, step-lasted p m w)
 
-        outflow : w .run .outflow + offGrid p (m .leaves) - offGrid p (leavesIn rec) ≡ w .run .outflow
+        outflow : w .run .outflow + offGrid p (m .leaves) - offGrid p (leavesIn nextRecord) ≡ w .run .outflow
         outflow = omega (arith, step-off p m w)
 
   -- ---- what is seen needs no record room
@@ -234,8 +234,8 @@ module _ (p : Plan) where
   -- ---- the engine's laws
 
   module _ {Given : Type 0} (rule : StepRule Given) (o : Owed p rule) where
-    bounded : (ring : Bool) (g : Given) (v : Seen) → refusal (rule .checks ring g v) ≡ 0 → Bounded (rule .moves g v) v
-    bounded ring g v ok =
+    bounds-kept : (ring : Bool) (g : Given) (v : Seen) → refusal (rule .checks ring g v) ≡ 0 → Bounded (rule .moves g v) v
+    bounds-kept ring g v ok =
         record {
           lasts-from = o .lasts-from ring g v ok;
           lasts-to = o .lasts-to ring g v ok;
@@ -244,8 +244,8 @@ module _ (p : Plan) where
           covered = o .covered ring g v ok;
         }
 
-    looks : (ring : Bool) (g : Given) (v : Seen) → refusal (rule .checks ring g v) ≡ 0 → Looks true v
-    looks ring g v ok =
+    look-passed : (ring : Bool) (g : Given) (v : Seen) → refusal (rule .checks ring g v) ≡ 0 → Looks true v
+    look-passed ring g v ok =
         let L : Looks ring v = look-seen ring v (o .looks ring g v ok) in
         subst (λ (b : Bool). Looks b v) (L .ring-fine) L
 
@@ -254,7 +254,7 @@ module _ (p : Plan) where
         refusal (lateRows p (rule .moves g (seenOf w)) w) ≡ 0 → refusal (lookRows p true (seenOf (worldAfter p (rule .moves g (seenOf w)) w))) ≡ 0
     valid-after ring g w ok late =
         seen-look true (seenOf (worldAfter p (rule .moves g (seenOf w)) w))
-        (looks-after (rule .moves g (seenOf w)) w (looks ring g (seenOf w) ok) (bounded ring g (seenOf w) ok) late)
+        (looks-after (rule .moves g (seenOf w)) w (look-passed ring g (seenOf w) ok) (bounds-kept ring g (seenOf w) ok) late)
 
     -- What is known of a step that was made.
     record Made (ring : Bool) (g : Given) (v : Seen) (made : Seen × List ℕ) : Type 0 where
@@ -271,8 +271,8 @@ module _ (p : Plan) where
     unmakes : {g : Given} {v : Seen} {made : Seen × List ℕ} → Made true g v made → engine p rule .unmake (made .1) (made .0) ≡ done v
     unmakes {g} {v} M =
         let m : Moves = rule .moves g v in
-        let L : Looks true v = looks true g v (M .checked) in
-        let B : Bounded m v = bounded true g v (M .checked) in
+        let L : Looks true v = look-passed true g v (M .checked) in
+        let B : Bounded m v = bounds-kept true g v (M .checked) in
         let after : World = worldAfter p m (bare v) in
         let rec : List ℕ = stepRecord p m (bare v) in
         rw (M .is-it)
