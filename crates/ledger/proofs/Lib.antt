@@ -1,0 +1,4 @@
+pub mod Bridge
+pub mod EngineLaws
+pub mod ReadBack
+pub mod Walls
