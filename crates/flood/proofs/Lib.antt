@@ -1,2 +1,3 @@
+pub mod AddedLaws
 pub mod DropLaws
 pub mod LengthLaws

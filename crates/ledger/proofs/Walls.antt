@@ -29,7 +29,7 @@ module _ (p : Plan) (out : Leaves) (i side : ℕ) (inside : i < squares (p .shap
 
   -- the neighbour finds on the opposite side what was sent
   all-sent : within (p .shape) neighbour ≡ true → shut p i ≡ false → sent p out neighbour (opposite side) ≡ out i side
-  unfolding sent within
+  unfolding sent
   all-sent on e =
       rw (there-and-back (p .shape) inside side h (ltb-true neighbour (squares (p .shape)) on), opposite-opposite side h) (pick-false 0 (out i side) e)
 

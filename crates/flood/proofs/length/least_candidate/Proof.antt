@@ -42,12 +42,11 @@ loop-less : tie.Need-loop-less Inv-loop μ-loop
 loop-less c = omega arith
 
 loop-again : tie.Need-loop-again Inv-loop μ-loop
-loop-again c =
-    (
-      omega arith,
-      carried (c .before .before .before .before .before .before .before .before .before .args .shape) (c .before .before .before .loop .square) (c .before .before .before .loop .inv .1) (c .next-column .ensures),
-      least-more (plan (c .before .before .before .before .before .before .before .before .before .args .shape) (c .before .before .before .before .before .before .before .before .before .args .marks .now)) (ground (c .before .before .before .before .before .before .before .before .before .args .rules) (c .before .before .before .before .before .before .before .before .before .args .beds .now) (c .before .before .before .before .before .before .before .before .before .args .roughness .now)) (c .before .before .before .before .before .before .before .before .before .args .depths .now) (c .before .before .before .before .before .before .before .before .before .args .rules .longest) (c .before .before .before .loop .square) (c .before .before .before .loop .inv .2) (c .before .shorter-by .ensures),
-    )
+loop-again c = (
+  omega arith,
+  carried (c .before .before .before .before .before .before .before .before .before .args .shape) (c .before .before .before .loop .square) (c .before .before .before .loop .inv .1) (c .next-column .ensures),
+  least-more (plan (c .before .before .before .before .before .before .before .before .before .args .shape) (c .before .before .before .before .before .before .before .before .before .args .marks .now)) (ground (c .before .before .before .before .before .before .before .before .before .args .rules) (c .before .before .before .before .before .before .before .before .before .args .beds .now) (c .before .before .before .before .before .before .before .before .before .args .roughness .now)) (c .before .before .before .before .before .before .before .before .before .args .depths .now) (c .before .before .before .before .before .before .before .before .before .args .rules .longest) (c .before .before .before .loop .square) (c .before .before .before .loop .inv .2) (c .before .shorter-by .ensures),
+)
 
 returns : tie.Need-returns Inv-loop μ-loop
 returns c = least-all (plan (c .before .before .before .before .before .before .before .args .shape) (c .before .before .before .before .before .before .before .args .marks .now)) (ground (c .before .before .before .before .before .before .before .args .rules) (c .before .before .before .before .before .before .before .args .beds .now) (c .before .before .before .before .before .before .before .args .roughness .now)) (c .before .before .before .before .before .before .before .args .depths .now) (c .before .before .before .before .before .before .before .args .rules .longest) (c .before .loop .inv .2) (omega arith)
