@@ -1,0 +1,107 @@
+-- Laws of writing: a number's digits, one by one; a text put into a room piece by piece is the whole text put there.
+-- Assumes nothing.
+use mathlib.Core.Path.{_≡_, refl, sym, ap, _∙_}
+use mathlib.Core.Bool.{Bool}
+use mathlib.Core.List.{List, [], _∷_, _++_, append-assoc}
+use Prim.Native.Nat.{ℕ, zero, suc, _+_, _-_, _*_, _/_, _%_, _^_, _≤_, _<_}
+use native.Mathlib.Nat.{add-zero, add-suc, suc-add, not-suc-le-zero, pow-suc}
+use native.Mathlib.Numerals.{add-one}
+use native.Mathlib.Omega.{arith}
+use lib.Dec.{ltb}
+use lib.ListN.{length, getD, set, take, drop, length-append}
+use lib.Seq.{sets, sets-eq, length-sets, paste, drop-drop, drop-cons, take-length}
+use borrow.Author.Tests.{lt-ltb, le-ltb}
+use Rattle.reckon.specs.Lists.{placed}
+use Rattle.reckon.proofs.TestLaws.{pick-true, pick-false}
+use Rattle.reckon.proofs.ListLaws.{length-placed}
+use Rattle.text.specs.Writing.{decimalIn, decimal, fieldText, fieldsText, lineText, Wrote}
+use Rattle.text.proofs.ReadingLaws.{by-lt}
+
+-- ---- the digits of a number
+
+in-small : (f n : ℕ) → n < 10 → decimalIn (suc f) n ≡ (48 + n) ∷ []
+unfolding decimalIn
+in-small f n h = pick-true _ _ (lt-ltb n 10 h)
+
+in-large : (f n : ℕ) → 10 ≤ n → decimalIn (suc f) n ≡ decimalIn f (n / 10) ++ ((48 + n % 10) ∷ [])
+unfolding decimalIn
+in-large f n h = pick-false _ _ (le-ltb n 10 h)
+
+-- how many digits are allowed does not matter where they suffice
+in-any : (f g n : ℕ) → n < f → n < g → decimalIn f n ≡ decimalIn g n
+in-any zero g n h k = absurd (not-suc-le-zero h)
+in-any (suc f) zero n h k = absurd (not-suc-le-zero k)
+in-any (suc f) (suc g) n h k =
+    by-lt n 10 (λ l. in-small f n l ∙ sym (in-small g n l))
+    (λ l.
+      in-large f n l
+      ∙ (ap (λ (ds : List ℕ). ds ++ ((48 + n % 10) ∷ [])) (in-any f g (n / 10) (omega arith) (omega arith))
+      ∙ sym (in-large g n l)))
+
+-- a number below 10 is its digit; another is its tenth's digits and its last
+pub decimal-small : (n : ℕ) → n < 10 → decimal n ≡ (48 + n) ∷ []
+unfolding decimal
+decimal-small n h = in-small n n h
+
+pub decimal-large : (n : ℕ) → 10 ≤ n → decimal n ≡ decimal (n / 10) ++ ((48 + n % 10) ∷ [])
+unfolding decimal
+decimal-large n h =
+    in-large n n h
+    ∙ ap (λ (ds : List ℕ). ds ++ ((48 + n % 10) ∷ [])) (in-any n (suc (n / 10)) (n / 10) (omega arith) (omega arith))
+
+pub decimal-longer : (n : ℕ) → 10 ≤ n → length (decimal n) ≡ length (decimal (n / 10)) + 1
+decimal-longer n h = ap length (decimal-large n h) ∙ length-append (decimal (n / 10)) _
+
+-- a number below 10 ^ k has at most k digits
+pub decimal-short : (k n : ℕ) → n < 10 ^ suc k → length (decimal n) ≤ suc k
+decimal-short zero n h = omega (arith, ap length (decimal-small n h))
+decimal-short (suc k) n h =
+    by-lt n 10 (λ l. omega (arith, ap length (decimal-small n l)))
+    (λ l. omega (arith, decimal-longer n l, decimal-short k (n / 10) (omega (arith, pow-suc 10 (suc k)))))
+
+-- a number of 64 bits has at most 20
+pub decimal-twenty : (n : ℕ) → n < 2 ^ 64 → length (decimal n) ≤ 20
+decimal-twenty n h = decimal-short 19 n (omega arith)
+
+-- ---- a text put into a room
+
+sets-append : (v w l : List ℕ) (i : ℕ) → sets l i (v ++ w) ≡ sets (sets l i v) (i + length v) w
+sets-append [] w l i = rw add-zero
+sets-append (a ∷ v) w l i = sets-append v w (set l i a) (suc i) ∙ rw (add-suc, suc-add)
+
+placed-sets : (old : List ℕ) (a : ℕ) (t : List ℕ) → a + length t ≤ length old → placed old a t ≡ sets old a t
+unfolding placed
+placed-sets old a t h =
+    rw (drop-drop (length t) a old) (sym (append-assoc (take a old) t (drop (a + length t) old)) ∙ sym (sets-eq t old a h))
+
+-- one text after the other
+pub placed-both :
+    (old : List ℕ) (a : ℕ) (v w : List ℕ) → a + length v + length w ≤ length old →
+    placed (placed old a v) (a + length v) w ≡ placed old a (v ++ w)
+placed-both old a v w h =
+    let first : a + length v ≤ length old = omega arith in
+    let whole : a + length (v ++ w) ≤ length old = rw (length-append v w) (omega arith) in
+    let second : a + length v + length w ≤ length (placed old a v) = rw (length-placed old a v first) h in
+    placed-sets (placed old a v) (a + length v) w second
+    ∙ (rw (placed-sets old a v first) (sym (sets-append v w old a)) ∙ sym (placed-sets old a (v ++ w) whole))
+
+pub placed-byte : (old : List ℕ) (a b : ℕ) → a < length old → set old a b ≡ placed old a (b ∷ [])
+placed-byte old a b h = sym (placed-sets old a (b ∷ []) (omega arith))
+
+-- a copy of a whole word
+pub placed-paste : (old : List ℕ) (a : ℕ) (word : List ℕ) → paste old a word (length word) ≡ placed old a word
+unfolding placed
+placed-paste old a word = rw (take-length word, drop-drop (length word) a old, append-assoc)
+
+pub wrote-length :
+    {t old new : List ℕ} {at r : ℕ} → at + length t ≤ length old → Wrote t at old new r → length new ≡ length old
+wrote-length {t} {old} {new} {at} h w = ap length (w .room) ∙ length-placed old at t h
+
+pub wrote-both :
+    {v w old mid new : List ℕ} {at p r : ℕ} → at + length v + length w ≤ length old → Wrote v at old mid p → Wrote w p mid new r →
+    Wrote (v ++ w) at old new r
+wrote-both {v} {w} {old} {mid} {new} {at} {p} {r} h a b =
+    record {
+      next = rw (length-append v w) (omega (arith, a .next, b .next));
+      room = b .room ∙ (rw (a .room, a .next) (placed-both old at v w h));
+    }

@@ -1,0 +1,31 @@
+use borrow.Author.Needs.{needs}
+use Rattle.text.proofs.reading.field_at.Statement.{statement}
+use Rattle.text.proofs.reading.field_at.Tie as tie
+use Rattle.text.proofs.reading.field_at.Reads as reads
+use Rattle.text.proofs.reading.field_at.Lts as lts
+use Rattle.text.proofs.reading.byte_is.Reads as byte-is-reads
+use Rattle.text.proofs.reading.number_at.Reads as number-at-reads
+
+-- src/reading.rt:122:9
+byte-is-requires : tie.Need-byte-is-requires
+byte-is-requires c κs = search needs
+
+-- src/reading.rt:123:9
+returns : tie.Need-returns
+returns c = ?
+
+-- src/reading.rt:125:21
+add-number-at : tie.Need-add-number-at
+add-number-at c = ?
+
+-- src/reading.rt:125:5
+number-at-requires : tie.Need-number-at-requires
+number-at-requires c κs = search needs
+
+-- src/reading.rt:119:1
+returns-2 : tie.Need-returns-2
+returns-2 c = ?
+
+pub field-at-spec : {M : Type 1} → statement M
+field-at-spec =
+    tie.close (tie.spec byte-is-requires returns add-number-at number-at-requires returns-2)

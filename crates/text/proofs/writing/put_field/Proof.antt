@@ -1,0 +1,26 @@
+use borrow.Author.Needs.{needs}
+use Rattle.text.proofs.writing.put_field.Statement.{statement}
+use Rattle.text.proofs.writing.put_field.Tie as tie
+use Rattle.text.proofs.writing.put_field.Reads as reads
+use Rattle.text.proofs.writing.put_field.Lts as lts
+use Rattle.text.proofs.writing.put_byte.Reads as put-byte-reads
+use Rattle.text.proofs.writing.put_number.Reads as put-number-reads
+
+-- src/writing.rt:48:9
+put-byte-requires : tie.Need-put-byte-requires
+put-byte-requires c κs = ?
+
+-- src/writing.rt:49:5
+put-number-requires : tie.Need-put-number-requires
+put-number-requires c κs = ?
+
+-- src/writing.rt:44:1
+same-length : tie.Need-same-length
+same-length c = search needs
+
+-- src/writing.rt:44:1
+returns : tie.Need-returns
+returns c = ?
+
+pub put-field-spec : {M : Type 1} → statement M
+put-field-spec = tie.close (tie.spec put-byte-requires put-number-requires same-length returns)
