@@ -284,29 +284,45 @@ module _ {s : List ℕ} {at count : ℕ} {values : List ℕ} {p i : ℕ} (g : Go
 
 -- ---- a reading as it is handed back
 
-module _ (s : List ℕ) (p : ℕ) where
-  pub unfound : (r : Reading) → asFields p r .found ≡ false → r ≡ unread
+module _ {f : Fields} (p : ℕ) (r : Reading) (is : f ≡ asFields p r) where
+  pub unfound : f .found ≡ false → r ≡ unread
   unfolding asFields
-  unfound (read vs q) e = not-both refl e
-  unfound unread e = refl
+  unfound e = go r (ap (λ (g : Fields). g .found) (sym is) ∙ e)
+    where
+      go : (r : Reading) → asFields p r .found ≡ false → r ≡ unread
+      go (read vs q) e = not-both refl e
+      go unread e = refl
 
-  pub unended : (r : Reading) → isByte s (asFields p r .next) newline ≡ false → ended s r ≡ unread
+  -- what was found does not say from where on
+  pub found-anywhere : (q : ℕ) → f .found ≡ true → f ≡ asFields q r
+  unfolding asFields
+  found-anywhere q e = is ∙ go r (ap (λ (g : Fields). g .found) (sym is) ∙ e)
+    where
+      go : (r : Reading) → asFields p r .found ≡ true → asFields p r ≡ asFields q r
+      go (read vs n) e = refl
+      go unread e = not-both e refl
+
+  pub unended : (s : List ℕ) → isByte s (f .next) newline ≡ false → ended s r ≡ unread
   unfolding asFields ended
-  unended (read vs q) f = pick-false _ _ f
-  unended unread f = refl
+  unended s e = go r (ap (λ (g : Fields). isByte s (g .next) newline) (sym is) ∙ e)
+    where
+      go : (r : Reading) → isByte s (asFields p r .next) newline ≡ false → ended s r ≡ unread
+      go (read vs q) e = pick-false _ _ e
+      go unread e = refl
 
   pub ended-found :
-      (r : Reading) → asFields p r .found ≡ true → isByte s (asFields p r .next) newline ≡ true →
-      record { found = true; values = asFields p r .values; next = asFields p r .next + 1 } ≡ asFields p (ended s r)
+      (s : List ℕ) → f .found ≡ true → isByte s (f .next) newline ≡ true →
+      record { found = true; values = f .values; next = f .next + 1 } ≡ asFields p (ended s r)
   unfolding asFields ended
-  ended-found (read vs q) e f = rw (pick-true (read vs (q + 1)) unread f)
-  ended-found unread e f = not-both e refl
-
--- what was found does not say from where on
-pub found-anywhere : (p q : ℕ) (r : Reading) → asFields p r .found ≡ true → asFields p r ≡ asFields q r
-unfolding asFields
-found-anywhere p q (read vs e) f = refl
-found-anywhere p q unread f = not-both f refl
+  ended-found s e h =
+      ap (λ (g : Fields). record { found = true; values = g .values; next = g .next + 1 }) is
+      ∙ go r (ap (λ (g : Fields). g .found) (sym is) ∙ e) (ap (λ (g : Fields). isByte s (g .next) newline) (sym is) ∙ h)
+    where
+      go :
+          (r : Reading) → asFields p r .found ≡ true → isByte s (asFields p r .next) newline ≡ true →
+          record { found = true; values = asFields p r .values; next = asFields p r .next + 1 } ≡ asFields p (ended s r)
+      go (read vs q) e h = rw (pick-true (read vs (q + 1)) unread h)
+      go unread e h = not-both e refl
 
 -- ---- lines
 

@@ -8,12 +8,13 @@ use native.Mathlib.Nat.{add-zero, add-suc, suc-add, not-suc-le-zero, pow-suc}
 use native.Mathlib.Numerals.{add-one}
 use native.Mathlib.Omega.{arith}
 use lib.Dec.{ltb}
-use lib.ListN.{length, getD, set, take, drop, length-append}
+use lib.ListN.{length, getD, set, take, drop, length-append, take-append-drop, drop-of-length-le}
 use lib.Seq.{sets, sets-eq, length-sets, paste, drop-drop, drop-cons, take-length}
 use borrow.Author.Tests.{lt-ltb, le-ltb}
 use Rattle.reckon.specs.Lists.{placed}
 use Rattle.reckon.proofs.TestLaws.{pick-true, pick-false}
 use Rattle.reckon.proofs.ListLaws.{length-placed}
+use Rattle.text.specs.Reading.{newline}
 use Rattle.text.specs.Writing.{decimalIn, decimal, fieldText, fieldsText, lineText, Wrote}
 use Rattle.text.proofs.ReadingLaws.{by-lt}
 
@@ -88,6 +89,10 @@ placed-both old a v w h =
 pub placed-byte : (old : List ℕ) (a b : ℕ) → a < length old → set old a b ≡ placed old a (b ∷ [])
 placed-byte old a b h = sym (placed-sets old a (b ∷ []) (omega arith))
 
+pub placed-none : (old : List ℕ) (a : ℕ) → placed old a [] ≡ old
+unfolding placed
+placed-none old a = take-append-drop a old
+
 -- a copy of a whole word
 pub placed-paste : (old : List ℕ) (a : ℕ) (word : List ℕ) → paste old a word (length word) ≡ placed old a word
 unfolding placed
@@ -105,3 +110,62 @@ wrote-both {v} {w} {old} {mid} {new} {at} {p} {r} h a b =
       next = rw (length-append v w) (omega (arith, a .next, b .next));
       room = b .room ∙ (rw (a .room, a .next) (placed-both old at v w h));
     }
+
+-- ---- a text put piece by piece: what is left of it, from p on, makes the whole
+
+pub record Left (rest : List ℕ) (p : ℕ) (room total : List ℕ) (at : ℕ) (old : List ℕ) : Type 0 where
+  pub fits : at + length total ≤ length old
+  pub long : length room ≡ length old
+  pub ends : p + length rest ≡ at + length total
+  pub same : placed room p rest ≡ placed old at total
+
+pub left-all : (t : List ℕ) (at : ℕ) (old : List ℕ) → at + length t ≤ length old → Left t at old t at old
+left-all t at old h = record { fits = h; long = refl; ends = refl; same = refl }
+
+-- there is room for the next piece
+pub left-room :
+    (v rest : List ℕ) {room total old : List ℕ} {p at : ℕ} → Left (v ++ rest) p room total at old →
+    p + length v + length rest ≤ length room
+left-room v rest l = omega (arith, l .fits, l .long, l .ends, length-append v rest)
+
+pub left-step :
+    {v rest room new total old : List ℕ} {p q at : ℕ} → Left (v ++ rest) p room total at old → Wrote v p room new q →
+    Left rest q new total at old
+left-step {v} {rest} {room} {new} {total} {old} {p} {q} {at} l w =
+    let h : p + length v + length rest ≤ length room = left-room v rest l in
+    record {
+      fits = l .fits;
+      long = wrote-length (omega arith) w ∙ l .long;
+      ends = omega (arith, l .ends, w .next, length-append v rest);
+      same = rw (w .room, w .next) (placed-both room p v rest h) ∙ l .same;
+    }
+
+-- nothing is left
+pub left-none : {room total old : List ℕ} {p at : ℕ} → Left [] p room total at old → Wrote total at old room p
+left-none {room} {total} {old} {p} l =
+    record { next = omega (arith, l .ends); room = sym (placed-none room p) ∙ l .same }
+
+-- a field more
+pub fields-text-more :
+    (vs : List ℕ) (i : ℕ) → i < length vs → fieldsText (drop i vs) ≡ fieldText (getD vs i 0) ++ fieldsText (drop (i + 1) vs)
+unfolding fieldsText
+fields-text-more vs i h = rw (drop-cons vs i 0 h, add-one)
+
+pub fields-text-end : (vs : List ℕ) (i : ℕ) → length vs ≤ i → fieldsText (drop i vs) ≡ []
+unfolding fieldsText
+fields-text-end vs i h = rw (drop-of-length-le vs h)
+
+pub line-text-long : (word vs : List ℕ) → length (lineText word vs) ≡ length word + length (fieldsText vs) + 1
+unfolding lineText
+line-text-long word vs = simp length-append (omega arith)
+
+-- a line: its word, its fields and its newline
+pub wrote-line :
+    {word : List ℕ} (vs : List ℕ) {old first second new : List ℕ} {at p q r : ℕ} → at + length (lineText word vs) ≤ length old →
+    Wrote word at old first p → Wrote (fieldsText vs) p first second q → Wrote (newline ∷ []) q second new r →
+    Wrote (lineText word vs) at old new r
+unfolding lineText
+wrote-line {word} vs {old} {first} {second} {new} {at} {p} {q} {r} h a b c =
+    let l : at + length word + length (fieldsText vs) + 1 ≤ length old = omega (arith, line-text-long word vs) in
+    let k : length first ≡ length old = wrote-length (omega arith) a in
+    wrote-both (rw (length-append (fieldsText vs) (newline ∷ [])) (omega arith)) a (wrote-both (omega (arith, a .next)) b c)

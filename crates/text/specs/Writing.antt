@@ -54,5 +54,8 @@ PutNumber n at old new r = Wrote (decimal n) at old new r
 abbrev pub PutField : ℕ → ℕ → List ℕ → List ℕ → ℕ → Type 0
 PutField n at old new r = Wrote (fieldText n) at old new r
 
+abbrev pub PutFields : List ℕ → ℕ → List ℕ → List ℕ → ℕ → Type 0
+PutFields vs at old new r = Wrote (fieldsText vs) at old new r
+
 abbrev pub PutLine : List ℕ → List ℕ → ℕ → List ℕ → List ℕ → ℕ → Type 0
 PutLine word vs at old new r = Wrote (lineText word vs) at old new r

@@ -2,7 +2,7 @@
 ghost use mathlib.Core.Path.{_≡_};
 ghost use Prim.Native.Nat.{_+_, _<_, _≤_};
 ghost use lib.ListN.{length};
-ghost use Rattle.text.specs.Writing.{decimal, fieldText, lineText, PutByte, PutWord, PutNumber, PutField, PutLine};
+ghost use Rattle.text.specs.Writing.{decimal, fieldText, fieldsText, lineText, PutByte, PutWord, PutNumber, PutField, PutFields, PutLine};
 
 const TAB: u8 = 9;
 
@@ -49,16 +49,26 @@ pub fn put_field(room: &mut [u8], at: usize, n: u64) -> usize
     put_number(room, next, n)
 }
 
-// A line of a kind: its word, a field for each value, and the end of the line.
-pub fn put_line(room: &mut [u8], at: usize, word: &[u8], values: &[u64]) -> usize
-    requires { ⌜ at + length (lineText (now word) (now values)) ≤ length (now room) ⌝ }
-    ensures { λ r. ⌜ PutLine (now (word .entry)) (now (values .entry)) at (now (room .entry)) (now (room .exit)) r ⌝ }
+// A field for each value.
+pub fn put_fields(room: &mut [u8], at: usize, values: &[u64]) -> usize
+    requires { ⌜ at + length (fieldsText (now values)) ≤ length (now room) ⌝ }
+    ensures { λ r. ⌜ PutFields (now (values .entry)) at (now (room .entry)) (now (room .exit)) r ⌝ }
 {
-    let mut p = put_word(room, at, word);
+    let mut p = at;
     let mut i: usize = 0;
     while i < values.len() {
         p = put_field(room, p, values[i]);
         i += 1;
     }
-    put_byte(room, p, NEWLINE)
+    p
+}
+
+// A line of a kind: its word, a field for each value, and the end of the line.
+pub fn put_line(room: &mut [u8], at: usize, word: &[u8], values: &[u64]) -> usize
+    requires { ⌜ at + length (lineText (now word) (now values)) ≤ length (now room) ⌝ }
+    ensures { λ r. ⌜ PutLine (now (word .entry)) (now (values .entry)) at (now (room .entry)) (now (room .exit)) r ⌝ }
+{
+    let start = put_word(room, at, word);
+    let end = put_fields(room, start, values);
+    put_byte(room, end, NEWLINE)
 }

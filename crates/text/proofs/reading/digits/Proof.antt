@@ -52,12 +52,12 @@ returns c =
 -- src/reading.rt:100:9
 add-p : tie.Need-add-p Inv-loop μ-loop
 add-p c =
-    omega (arith, digit-within _ _ (sym (c .before .before .before .is-digit .ensures) ∙ c .before .before .if1 .taken))
+    omega (arith, digit-within (c .before .before .before .before .before .before .args .text .now) (c .before .before .before .before .loop .p) (sym (c .before .before .before .is-digit .ensures) ∙ c .before .before .if1 .taken))
 
 -- src/reading.rt:95:5
 loop-less : tie.Need-loop-less Inv-loop μ-loop
 loop-less c =
-    omega (arith, digit-within _ _ (sym (c .before .before .before .is-digit .ensures) ∙ c .before .before .if1 .taken))
+    omega (arith, digit-within (c .before .before .before .before .before .before .args .text .now) (c .before .before .before .before .loop .p) (sym (c .before .before .before .is-digit .ensures) ∙ c .before .before .if1 .taken))
 
 -- src/reading.rt:95:5
 loop-again : tie.Need-loop-again Inv-loop μ-loop

@@ -1,4 +1,11 @@
+-- `text::writing::put_number` meets its contract: the digits before the last are the tenth's, and the number falls at each call of itself.
+-- Assumes nothing.
 use Prim.Native.Nat.{ℕ, _<_}
+use native.Mathlib.Omega.{arith}
+use borrow.Author.Needs.{needs}
+use mathlib.Core.Path.{_≡_, refl, sym, ap, _∙_}
+use lib.ListN.{length, length-append}
+use Rattle.text.proofs.WritingLaws.{decimal-small, decimal-large, decimal-longer, wrote-both}
 use borrow.Fn.Kinds.{In}
 use borrow.Fn.PlainCycle.{Measures, is, falls, and}
 use Rattle.text.proofs.writing.put_number.Reads as put-number
@@ -9,7 +16,7 @@ use Rattle.text.proofs.writing.+put_number.{statement}
 use Rattle.text.proofs.writing.+put_number.Tie.{close}
 
 abbrev μ-put-number : Measures 1 put-number-kinds.ps ℕ
-μ-put-number κs a = ?
+μ-put-number κs a = a .1 .1 .0
 
 abbrev put-number-at : ℕ → In 1 put-number-kinds.ps
 put-number-at t =
@@ -19,104 +26,104 @@ abbrev put-number-below : ℕ → In 1 put-number-kinds.ps
 put-number-below t =
     and 1 put-number-kinds.ps (falls 1 put-number-kinds.ps _<_ μ-put-number t) put-number.Pre
 
--- src/writing.rt:37:36
 put-number-add-put-byte : (t : ℕ) → put-number-lts.Need-add-put-byte (
   put-byte-reads.Asked,
   put-byte-reads.Learnt,
   put-number-below t,
   put-number.Post,
 ) (put-number-at t) put-number.Post
-put-number-add-put-byte t c = ?
+put-number-add-put-byte t c = omega arith
 
--- src/writing.rt:37:35
 put-number-cast-put-byte : (t : ℕ) → put-number-lts.Need-cast-put-byte (
   put-byte-reads.Asked,
   put-byte-reads.Learnt,
   put-number-below t,
   put-number.Post,
 ) (put-number-at t) put-number.Post
-put-number-cast-put-byte t c = ?
+put-number-cast-put-byte t c = omega arith
 
--- src/writing.rt:37:9
 put-number-put-byte-requires : (t : ℕ) → put-number-lts.Need-put-byte-requires (
   put-byte-reads.Asked,
   put-byte-reads.Learnt,
   put-number-below t,
   put-number.Post,
 ) (put-number-at t) put-number.Post
-put-number-put-byte-requires t c κs = ?
+put-number-put-byte-requires t c κs =
+    omega (arith, ap length (decimal-small (c .before .before .before .args .n) (omega arith)))
 
--- src/writing.rt:37:9
 put-number-same-length : (t : ℕ) → put-number-lts.Need-same-length (
   put-byte-reads.Asked,
   put-byte-reads.Learnt,
   put-number-below t,
   put-number.Post,
 ) (put-number-at t) put-number.Post
-put-number-same-length t c = ?
+put-number-same-length t c =
+    c .before .before .put-byte .kept .0
 
--- src/writing.rt:37:9
 put-number-returns : (t : ℕ) → put-number-lts.Need-returns (
   put-byte-reads.Asked,
   put-byte-reads.Learnt,
   put-number-below t,
   put-number.Post,
 ) (put-number-at t) put-number.Post
-put-number-returns t c = ?
+put-number-returns t c =
+    let a = c .before .before .before .before .before .before .args in
+    rw (decimal-small (a .n) (omega arith)) (c .before .before .put-byte .ensures)
 
--- src/writing.rt:39:9
 put-number-put-number-requires : (t : ℕ) → put-number-lts.Need-put-number-requires (
   put-byte-reads.Asked,
   put-byte-reads.Learnt,
   put-number-below t,
   put-number.Post,
 ) (put-number-at t) put-number.Post
-put-number-put-number-requires t c κs = ?
+put-number-put-number-requires t c κs =
+    let a = c .before .before .before .args in
+    omega (arith, decimal-longer (a .n) (omega arith))
 
--- src/writing.rt:40:27
 put-number-add-put-byte-2 : (t : ℕ) → put-number-lts.Need-add-put-byte-2 (
   put-byte-reads.Asked,
   put-byte-reads.Learnt,
   put-number-below t,
   put-number.Post,
 ) (put-number-at t) put-number.Post
-put-number-add-put-byte-2 t c = ?
+put-number-add-put-byte-2 t c = omega arith
 
--- src/writing.rt:40:26
 put-number-cast-put-byte-2 : (t : ℕ) → put-number-lts.Need-cast-put-byte-2 (
   put-byte-reads.Asked,
   put-byte-reads.Learnt,
   put-number-below t,
   put-number.Post,
 ) (put-number-at t) put-number.Post
-put-number-cast-put-byte-2 t c = ?
+put-number-cast-put-byte-2 t c = omega arith
 
--- src/writing.rt:40:5
 put-number-put-byte-requires-2 : (t : ℕ) → put-number-lts.Need-put-byte-requires-2 (
   put-byte-reads.Asked,
   put-byte-reads.Learnt,
   put-number-below t,
   put-number.Post,
 ) (put-number-at t) put-number.Post
-put-number-put-byte-requires-2 t c κs = ?
+put-number-put-byte-requires-2 t c κs =
+    let a = c .before .before .before .before .before .before .before .args in
+    omega (arith, decimal-longer (a .n) (omega arith), c .before .before .before .put-number .ensures .next)
 
--- src/writing.rt:32:1
 put-number-same-length-2 : (t : ℕ) → put-number-lts.Need-same-length-2 (
   put-byte-reads.Asked,
   put-byte-reads.Learnt,
   put-number-below t,
   put-number.Post,
 ) (put-number-at t) put-number.Post
-put-number-same-length-2 t c = ?
+put-number-same-length-2 t c =
+    c .before .before .put-byte2 .kept .0 ∙ c .before .before .before .before .before .before .put-number .kept .0
 
--- src/writing.rt:32:1
 put-number-returns-2 : (t : ℕ) → put-number-lts.Need-returns-2 (
   put-byte-reads.Asked,
   put-byte-reads.Learnt,
   put-number-below t,
   put-number.Post,
 ) (put-number-at t) put-number.Post
-put-number-returns-2 t c = ?
+put-number-returns-2 t c =
+    let a = c .before .before .before .before .before .before .before .before .before .before .args in
+    rw (decimal-large (a .n) (omega arith)) (wrote-both (omega (arith, decimal-longer (a .n) (omega arith))) (c .before .before .before .before .before .before .put-number .ensures) (c .before .before .put-byte2 .ensures))
 
 pub +put-number-spec : {M : Type 1} → statement M
 +put-number-spec = close μ-put-number λ t. put-number-lts.spec (

@@ -1,3 +1,5 @@
+use mathlib.Core.Path.{_≡_, refl}
+use Rattle.text.proofs.WritingLaws.{placed-byte}
 use borrow.Author.Needs.{needs}
 use Rattle.text.proofs.writing.put_byte.Statement.{statement}
 use Rattle.text.proofs.writing.put_byte.Tie as tie
@@ -18,7 +20,8 @@ same-length c = search needs
 
 -- src/writing.rt:11:1
 returns : tie.Need-returns
-returns c = ?
+returns c =
+    record { next = refl; room = placed-byte _ _ _ (c .pre) }
 
 pub put-byte-spec : {M : Type 1} → statement M
 put-byte-spec = tie.close (tie.spec slice-write-room add-result same-length returns)
