@@ -1,2 +1,3 @@
 pub mod ReadingLaws
+pub mod RoundTrip
 pub mod WritingLaws

@@ -161,7 +161,7 @@ module _ {s : List ℕ} {at value p : ℕ} (k : Counted s at value p) where
 
 -- ---- a number: its first byte, and the one after a 0, decide whether it is well formed
 
-first-many : (d : ℕ) (ds : List ℕ) → 1 ≤ d → wellFormed (d ∷ ds) ≡ true
+pub first-many : (d : ℕ) (ds : List ℕ) → 1 ≤ d → wellFormed (d ∷ ds) ≡ true
 unfolding wellFormed
 first-many d [] h = refl
 first-many d (e ∷ ds) h = le-leb 1 d h

@@ -15,7 +15,7 @@ use Rattle.reckon.specs.Lists.{placed}
 use Rattle.reckon.proofs.TestLaws.{pick-true, pick-false}
 use Rattle.reckon.proofs.ListLaws.{length-placed}
 use Rattle.text.specs.Reading.{newline}
-use Rattle.text.specs.Writing.{decimalIn, decimal, fieldText, fieldsText, lineText, Wrote}
+use Rattle.text.specs.Writing.{decimalIn, decimal, fieldText, fieldsText, restText, lineText, Wrote}
 use Rattle.text.proofs.ReadingLaws.{by-lt}
 
 -- ---- the digits of a number
@@ -156,7 +156,7 @@ unfolding fieldsText
 fields-text-end vs i h = rw (drop-of-length-le vs h)
 
 pub line-text-long : (word vs : List ℕ) → length (lineText word vs) ≡ length word + length (fieldsText vs) + 1
-unfolding lineText
+unfolding lineText restText
 line-text-long word vs = simp length-append (omega arith)
 
 -- a line: its word, its fields and its newline
@@ -164,7 +164,7 @@ pub wrote-line :
     {word : List ℕ} (vs : List ℕ) {old first second new : List ℕ} {at p q r : ℕ} → at + length (lineText word vs) ≤ length old →
     Wrote word at old first p → Wrote (fieldsText vs) p first second q → Wrote (newline ∷ []) q second new r →
     Wrote (lineText word vs) at old new r
-unfolding lineText
+unfolding lineText restText
 wrote-line {word} vs {old} {first} {second} {new} {at} {p} {q} {r} h a b c =
     let l : at + length word + length (fieldsText vs) + 1 ≤ length old = omega (arith, line-text-long word vs) in
     let k : length first ≡ length old = wrote-length (omega arith) a in
