@@ -14,14 +14,14 @@ use lib.ListN.{length, getD, take, drop, length-append, length-take, length-drop
 use lib.Seq.{drop-cons, drop-drop, getD-drop, getD-take, take-append-seam, ext-getD, length-take-le, getD-append-add}
 use borrow.Author.Tests.{eq-eqb, ne-eqb, le-leb, leb-true, eqb-true, eqb-false}
 use Rattle.reckon.specs.Tests.{pick, allBelow}
-use Rattle.reckon.proofs.TestLaws.{not-both, pick-true, pick-false, all-at, all-of}
+use Rattle.reckon.proofs.TestLaws.{not-both, pick-true, pick-false, pick-both, all-at, all-of}
 use Rattle.text.specs.Reading.{tab, newline, mostNumber, mostFields, isByte, wordAt, isDigit, digitsOf, valueFrom, wellFormed, numberOf, numberAt, fieldAt, Reading, before, withNumber, readFields, ended, readRest, readLine, padded, asFields, lineLength, nextLine}
 use Rattle.text.specs.Reading.Reading.{read, unread}
-use Rattle.text.specs.Writing.{decimalIn, decimal, fieldText, fieldsText, restText, lineText, plain, Readable, Stands, StandAlone}
+use Rattle.text.specs.Writing.{decimalIn, decimal, fieldText, fieldsText, restText, lineText, plain, Readable, Stands, StandAlone, AsWritten}
 use Rattle.text.specs.declared.reading.Number.{Number}
 use Rattle.text.specs.declared.reading.Number.the-variants.{Is, Not}
 use Rattle.text.specs.declared.reading.Fields.{Fields}
-use Rattle.text.proofs.ReadingLaws.{by-test, by-lt, sameAt, byte-here, byte-within, byte-same, word-within, word-all, word-same, digit-is, digit-low, digit-high, digits-here, digits-end, first-many, length-padded, getD-padded, fields-more}
+use Rattle.text.proofs.ReadingLaws.{by-test, by-lt, sameAt, byte-here, byte-within, byte-same, word-within, word-all, word-same, digit-is, digit-under, digit-low, digit-high, digits-here, digits-end, first-many, length-padded, getD-padded, fields-more}
 use Rattle.text.proofs.WritingLaws.{decimal-small, decimal-large}
 
 -- ---- parts of a text
@@ -177,3 +177,190 @@ decimal-formed n =
     (λ o.
       let z : n < 10 = omega arith in
       rw (decimal-small n z, digits-cons n [] z, digits-none))
+
+-- ---- a number
+
+digits-front : (l : List ℕ) → isDigit (getD l 0 0) ≡ false → digitsOf l ≡ []
+unfolding digitsOf
+digits-front [] e = refl
+digits-front (b ∷ l) e = pick-false _ _ e
+
+front-after : (s : List ℕ) (q : ℕ) → getD (drop q s) 0 0 ≡ getD s q 0
+front-after s q = getD-drop q s 0 0 ∙ ap (λ (k : ℕ). getD s k 0) (add-zero q)
+
+-- a number that was written, with no digit after it, reads as itself
+pub number-back : {s : List ℕ} {p q : ℕ} (n : ℕ) → StandAlone s p (decimal n) (n ∷ []) q → numberAt s p ≡ Is n q
+unfolding numberAt numberOf
+number-back {s} {p} {q} n a =
+    let rest : digitsOf (drop q s) ≡ [] = digits-front (drop q s) (ap isDigit (front-after s q) ∙ a .alone) in
+    let ds : digitsOf (drop p s) ≡ digitsOf (decimal n) =
+        ap digitsOf (a .stands .text) ∙ (figures n .apart (drop q s) ∙ (rw rest (mathlib.Core.List.append-nil (digitsOf (decimal n))))) in
+    let e : p + length (digitsOf (decimal n)) ≡ q = rw (figures n .long) (sym (a .stands .after)) in
+    rw (ds, decimal-formed n, figures n .worth, e)
+    (pick-true _ _ refl ∙ pick-true _ _ (le-leb n mostNumber (a .readable .0)))
+
+-- what digits say, written after a number that is not 0, is that number's digits and theirs
+digits-text : (l : List ℕ) (v : ℕ) → 0 < v → decimal (valueFrom v (digitsOf l)) ++ drop (length (digitsOf l)) l ≡ decimal v ++ l
+unfolding digitsOf valueFrom
+digits-text [] v o = refl
+digits-text (b ∷ l) v o =
+    by-test (isDigit b)
+    (λ e.
+      let z : (v * 10 + (b - 48)) / 10 ≡ v = omega (arith, digit-low b e, digit-high b e) in
+      let y : 48 + (v * 10 + (b - 48)) % 10 ≡ b = omega (arith, digit-low b e, digit-high b e) in
+      rw (pick-true ((b - 48) ∷ digitsOf l) [] e)
+      (digits-text l (v * 10 + (b - 48)) (omega arith)
+      ∙ (rw (decimal-large (v * 10 + (b - 48)) (omega arith), z, y) (append-assoc (decimal v) (b ∷ []) l))))
+    (λ e. rw (pick-false ((b - 48) ∷ digitsOf l) [] e))
+
+-- the digits of a text end where no digit stands
+digits-stop : (l : List ℕ) → isDigit (getD l (length (digitsOf l)) 0) ≡ false
+unfolding digitsOf
+digits-stop [] = digit-under 0 (omega arith)
+digits-stop (b ∷ l) =
+    by-test (isDigit b) (λ e. rw (pick-true ((b - 48) ∷ digitsOf l) [] e) (digits-stop l))
+    (λ e. rw (pick-false ((b - 48) ∷ digitsOf l) [] e) e)
+
+digits-few : (l : List ℕ) → length (digitsOf l) ≤ length l
+unfolding digitsOf
+digits-few [] = omega arith
+digits-few (b ∷ l) =
+    pick-both (λ (ds : List ℕ). length ds ≤ suc (length l)) (isDigit b) (omega (arith, digits-few l)) (omega arith)
+
+-- digits that are well formed are the digits of their number
+formed-text : (l : List ℕ) → wellFormed (digitsOf l) ≡ true → decimal (valueFrom 0 (digitsOf l)) ++ drop (length (digitsOf l)) l ≡ l
+unfolding digitsOf valueFrom wellFormed
+formed-text [] w = not-both w refl
+formed-text (b ∷ l) w =
+    by-test (isDigit b)
+    (λ e.
+      let z : valueFrom 0 ((b - 48) ∷ digitsOf l) ≡ valueFrom (b - 48) (digitsOf l) = ap (λ (k : ℕ). valueFrom k (digitsOf l)) (omega arith) in
+      let y : 48 + (b - 48) ≡ b = omega (arith, digit-low b e) in
+      let v : wellFormed ((b - 48) ∷ digitsOf l) ≡ true = rw (pick-true ((b - 48) ∷ digitsOf l) [] e) at w in
+      rw (pick-true ((b - 48) ∷ digitsOf l) [] e, z)
+      (by-lt 0 (b - 48)
+      (λ o. digits-text l (b - 48) o ∙ rw (decimal-small (b - 48) (omega (arith, digit-high b e)), y))
+      (λ o. zero-text b l (digitsOf l) refl (omega (arith, digit-low b e)) v)))
+    (λ e. not-both (rw (pick-false ((b - 48) ∷ digitsOf l) [] e) at w) refl)
+  where
+    zero-text :
+        (b : ℕ) (l ds : List ℕ) → digitsOf l ≡ ds → b ≡ 48 → wellFormed ((b - 48) ∷ ds) ≡ true →
+        decimal (valueFrom (b - 48) (digitsOf l)) ++ drop (length (digitsOf l)) l ≡ b ∷ l
+    zero-text b l [] e z w = rw (e, z) (ap (λ (t : List ℕ). t ++ l) (decimal-small 0 (omega arith)))
+    zero-text b l (d ∷ ds) e z w = not-both w (rw z)
+
+-- a number that is read is what stands there, as it would be written, and no digit follows
+pub number-only : {s : List ℕ} {p n q : ℕ} → numberAt s p ≡ Is n q → StandAlone s p (decimal n) (n ∷ []) q
+unfolding numberAt numberOf
+number-only {s} {p} {n} {q} e =
+    by-test (wellFormed (digitsOf (drop p s)))
+    (λ w.
+      by-test (leb (valueFrom 0 (digitsOf (drop p s))) mostNumber)
+      (λ m. known w (leb-true _ _ m) (sym (pick-true _ _ w ∙ pick-true _ _ m) ∙ e))
+      (λ m. none (sym (pick-true _ _ w ∙ pick-false _ _ m) ∙ e)))
+    (λ w. none (sym (pick-false _ _ w) ∙ e))
+  where
+    none : {A : Type 0} → Not ≡ Is n q → A
+    none e = absurd (let z : _≡_ {A = ℕ} 0 1 = cc in omega arith)
+
+    known :
+        wellFormed (digitsOf (drop p s)) ≡ true → valueFrom 0 (digitsOf (drop p s)) ≤ mostNumber →
+        Is (valueFrom 0 (digitsOf (drop p s))) (p + length (digitsOf (drop p s))) ≡ Is n q → StandAlone s p (decimal n) (n ∷ []) q
+    known w m e =
+        let v : valueFrom 0 (digitsOf (drop p s)) ≡ n = cc in
+        let r : p + length (digitsOf (drop p s)) ≡ q = cc in
+        let t : decimal n ++ drop (length (digitsOf (drop p s))) (drop p s) ≡ drop p s =
+            rw v at (formed-text (drop p s) w) in
+        record {
+          stands = record {
+            after = omega (arith, ap length t, length-append (decimal n) (drop (length (digitsOf (drop p s))) (drop p s)), length-drop (length (digitsOf (drop p s))) (drop p s), digits-few (drop p s));
+            text = sym t ∙ ap (λ (l : List ℕ). decimal n ++ l) (drop-drop (length (digitsOf (drop p s))) p s ∙ ap (λ (k : ℕ). drop k s) r);
+          };
+          alone = ap (λ (k : ℕ). isDigit (getD s k 0)) (sym r) ∙ (ap isDigit (sym (getD-drop p s (length (digitsOf (drop p s))) 0)) ∙ digits-stop (drop p s));
+          readable = (omega arith, tt);
+        }
+
+-- ---- fields
+
+pub field-back : {s : List ℕ} {p q : ℕ} (n : ℕ) → StandAlone s p (fieldText n) (n ∷ []) q → fieldAt s p ≡ Is n q
+unfolding fieldAt fieldText
+field-back n a =
+    pick-true _ _ (byte-stands (a .stands) .1)
+    ∙ number-back n
+    (record { stands = stands-second (tab ∷ []) (decimal n) (a .stands); alone = a .alone; readable = a .readable })
+
+pub field-only : {s : List ℕ} {p n q : ℕ} → fieldAt s p ≡ Is n q → StandAlone s p (fieldText n) (n ∷ []) q
+unfolding fieldAt fieldText
+field-only {s} {p} {n} {q} e =
+    by-test (isByte s p tab)
+    (λ b.
+      let a = number-only {s = s} {p = p + 1} (sym (pick-true _ _ b) ∙ e) in
+      record { stands = stands-both (stands-byte s p tab b) (a .stands); alone = a .alone; readable = a .readable })
+    (λ b. let f : Not ≡ Is n q = sym (pick-false _ _ b) ∙ e in absurd (let z : _≡_ {A = ℕ} 0 1 = cc in omega arith))
+
+tab-alone : isDigit tab ≡ false
+tab-alone = digit-under tab (omega arith)
+
+newline-alone : isDigit newline ≡ false
+newline-alone = digit-under newline (omega arith)
+
+-- no digit stands where fields begin, if none stands after them
+alone-before :
+    {s : List ℕ} {p q : ℕ} (vs : List ℕ) → Stands s p (fieldsText vs) q → isDigit (getD s q 0) ≡ false → isDigit (getD s p 0) ≡ false
+unfolding fieldsText fieldText
+alone-before {s} {p} {q} [] a e = ap (λ (k : ℕ). isDigit (getD s k 0)) (omega (arith, a .after)) ∙ e
+alone-before (v ∷ vs) a e = ap isDigit (byte-stands a .0) ∙ tab-alone
+
+pub fields-back : {s : List ℕ} {p q : ℕ} (vs : List ℕ) → StandAlone s p (fieldsText vs) vs q → readFields s p (length vs) ≡ read vs q
+unfolding readFields fieldsText before
+fields-back {s} {p} {q} [] a = ap (read []) (omega (arith, a .stands .after))
+fields-back {s} {p} {q} (v ∷ vs) a =
+    let rest : Stands s (p + length (fieldText v)) (fieldsText vs) q = stands-second (fieldText v) (fieldsText vs) (a .stands) in
+    let here : fieldAt s p ≡ Is v (p + length (fieldText v)) =
+        field-back v
+        (record {
+          stands = stands-first (fieldText v) (fieldsText vs) (a .stands);
+          alone = alone-before vs rest (a .alone);
+          readable = (a .readable .0, tt);
+        }) in
+    let ih : readFields s (p + length (fieldText v)) (length vs) ≡ read vs q =
+        fields-back vs (record { stands = rest; alone = a .alone; readable = a .readable .1 }) in
+    fields-more s p (length vs) v (p + length (fieldText v)) here ∙ ap (before (v ∷ [])) ih
+
+not-read : {A : Type 0} {vs : List ℕ} {q : ℕ} → unread ≡ read vs q → A
+not-read {A} {vs} {q} e = absurd (let z : _≡_ {A = ℕ} 0 1 = cc in omega arith)
+
+pub fields-only :
+    (s : List ℕ) (p count : ℕ) {vs : List ℕ} {q : ℕ} → readFields s p count ≡ read vs q → AsWritten s p (fieldsText vs) vs count q
+unfolding readFields fieldsText before
+fields-only s p zero {vs} {q} e =
+    let f : [] ≡ vs = cc in
+    let g : p ≡ q = cc in
+    mathlib.Core.Path.subst (λ (us : List ℕ). AsWritten s p (fieldsText us) us 0 q) f
+    (mathlib.Core.Path.subst (λ (k : ℕ). AsWritten s p [] [] 0 k) g (record { stands = stands-none s p; many = refl; readable = tt }))
+fields-only s p (suc count) {vs} {q} e = go (fieldAt s p) refl e (λ r ws n f. fields-only s r count f)
+  where
+    more :
+        (v r : ℕ) → fieldAt s p ≡ Is v r → (y : Reading) → readFields s r count ≡ y → before (v ∷ []) y ≡ read vs q →
+        ((ws : List ℕ) (n : ℕ) → readFields s r count ≡ read ws n → AsWritten s r (fieldsText ws) ws count n) →
+        AsWritten s p (fieldsText vs) vs (suc count) q
+    more v r h unread f e ih = not-read e
+    more v r h (read ws n) f e ih =
+        let g : v ∷ ws ≡ vs = cc in
+        let k : n ≡ q = cc in
+        let a = field-only h in
+        let b = ih ws n f in
+        mathlib.Core.Path.subst (λ (us : List ℕ). AsWritten s p (fieldsText us) us (suc count) q) g
+        (mathlib.Core.Path.subst (λ (m : ℕ). AsWritten s p (fieldText v ++ fieldsText ws) (v ∷ ws) (suc count) m) k
+        (record {
+          stands = stands-both (a .stands) (b .stands);
+          many = ap suc (b .many);
+          readable = (a .readable .0, b .readable);
+        }))
+
+    go :
+        (x : Number) → fieldAt s p ≡ x → withNumber x unread (λ v r. before (v ∷ []) (readFields s r count)) ≡ read vs q →
+        ((r : ℕ) (ws : List ℕ) (n : ℕ) → readFields s r count ≡ read ws n → AsWritten s r (fieldsText ws) ws count n) →
+        AsWritten s p (fieldsText vs) vs (suc count) q
+    go Not h e ih = not-read e
+    go (Is v r) h e ih = more v r h (readFields s r count) refl e (ih r)

@@ -57,6 +57,12 @@ pub record StandAlone (s : List ℕ) (p : ℕ) (t vs : List ℕ) (q : ℕ) : Typ
   pub alone : isDigit (getD s q 0) ≡ false
   pub readable : Readable vs
 
+-- and of count fields that were read
+pub record AsWritten (s : List ℕ) (p : ℕ) (t vs : List ℕ) (count q : ℕ) : Type 0 where
+  pub stands : Stands s p t q
+  pub many : length vs ≡ count
+  pub readable : Readable vs
+
 -- the text t is put into a room at a position: r is the position after it, and all else in the room stays
 pub record Wrote (t : List ℕ) (at : ℕ) (old new : List ℕ) (r : ℕ) : Type 0 where
   pub next : r ≡ at + length t
