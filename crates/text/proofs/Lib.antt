@@ -1,3 +1,4 @@
+pub mod LineLaws
 pub mod ReadingLaws
 pub mod RoundTrip
 pub mod WritingLaws

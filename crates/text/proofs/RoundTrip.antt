@@ -1,7 +1,7 @@
 -- What is written reads back, and what is read is what would be written: for a number, for fields and for a line of a kind.
 -- A number's digits are read one by one as they are written, and a text's parts stand one after the other.
 -- Assumes nothing.
-use mathlib.Core.Path.{_≡_, refl, sym, ap, _∙_}
+use mathlib.Core.Path.{_≡_, refl, sym, ap, subst, _∙_}
 use mathlib.Core.Bool.{Bool, true, false}
 use mathlib.Core.List.{List, [], _∷_, _++_, append-assoc}
 use Prim.Native.Nat.{ℕ, zero, suc, _+_, _-_, _*_, _/_, _%_, _≤_, _<_}
@@ -165,7 +165,7 @@ decimal-figures (suc f) n h =
       λ o. rw (ih .0 .apart ((48 + n % 10) ∷ [])) (lead-append (digitsOf (decimal (n / 10))) _ (ih .1 (omega arith)))))
   where
     ap-figures : (t : List ℕ) {m k : ℕ} → m ≡ k → Figures t m → Figures t k
-    ap-figures t e f = mathlib.Core.Path.subst (λ (k : ℕ). Figures t k) e f
+    ap-figures t e f = subst (λ (k : ℕ). Figures t k) e f
 
 figures : (n : ℕ) → Figures (decimal n) n
 figures n = decimal-figures (suc n) n (omega arith) .0
@@ -250,9 +250,9 @@ formed-text (b ∷ l) w =
     zero-text b l (d ∷ ds) e z w = not-both w (rw z)
 
 -- a number that is read is what stands there, as it would be written, and no digit follows
-pub number-only : {s : List ℕ} {p n q : ℕ} → numberAt s p ≡ Is n q → StandAlone s p (decimal n) (n ∷ []) q
+pub number-only : (s : List ℕ) (p : ℕ) {n q : ℕ} → numberAt s p ≡ Is n q → StandAlone s p (decimal n) (n ∷ []) q
 unfolding numberAt numberOf
-number-only {s} {p} {n} {q} e =
+number-only s p {n} {q} e =
     by-test (wellFormed (digitsOf (drop p s)))
     (λ w.
       by-test (leb (valueFrom 0 (digitsOf (drop p s))) mostNumber)
@@ -289,12 +289,12 @@ field-back n a =
     ∙ number-back n
     (record { stands = stands-second (tab ∷ []) (decimal n) (a .stands); alone = a .alone; readable = a .readable })
 
-pub field-only : {s : List ℕ} {p n q : ℕ} → fieldAt s p ≡ Is n q → StandAlone s p (fieldText n) (n ∷ []) q
+pub field-only : (s : List ℕ) (p : ℕ) {n q : ℕ} → fieldAt s p ≡ Is n q → StandAlone s p (fieldText n) (n ∷ []) q
 unfolding fieldAt fieldText
-field-only {s} {p} {n} {q} e =
+field-only s p {n} {q} e =
     by-test (isByte s p tab)
     (λ b.
-      let a = number-only {s = s} {p = p + 1} (sym (pick-true _ _ b) ∙ e) in
+      let a = number-only s (p + 1) (sym (pick-true _ _ b) ∙ e) in
       record { stands = stands-both (stands-byte s p tab b) (a .stands); alone = a .alone; readable = a .readable })
     (λ b. let f : Not ≡ Is n q = sym (pick-false _ _ b) ∙ e in absurd (let z : _≡_ {A = ℕ} 0 1 = cc in omega arith))
 
@@ -336,8 +336,8 @@ unfolding readFields fieldsText before
 fields-only s p zero {vs} {q} e =
     let f : [] ≡ vs = cc in
     let g : p ≡ q = cc in
-    mathlib.Core.Path.subst (λ (us : List ℕ). AsWritten s p (fieldsText us) us 0 q) f
-    (mathlib.Core.Path.subst (λ (k : ℕ). AsWritten s p [] [] 0 k) g (record { stands = stands-none s p; many = refl; readable = tt }))
+    subst (λ (us : List ℕ). AsWritten s p (fieldsText us) us 0 q) f
+    (subst (λ (k : ℕ). AsWritten s p [] [] 0 k) g (record { stands = stands-none s p; many = refl; readable = tt }))
 fields-only s p (suc count) {vs} {q} e = go (fieldAt s p) refl e (λ r ws n f. fields-only s r count f)
   where
     more :
@@ -348,10 +348,10 @@ fields-only s p (suc count) {vs} {q} e = go (fieldAt s p) refl e (λ r ws n f. f
     more v r h (read ws n) f e ih =
         let g : v ∷ ws ≡ vs = cc in
         let k : n ≡ q = cc in
-        let a = field-only h in
+        let a = field-only s p h in
         let b = ih ws n f in
-        mathlib.Core.Path.subst (λ (us : List ℕ). AsWritten s p (fieldsText us) us (suc count) q) g
-        (mathlib.Core.Path.subst (λ (m : ℕ). AsWritten s p (fieldText v ++ fieldsText ws) (v ∷ ws) (suc count) m) k
+        subst (λ (us : List ℕ). AsWritten s p (fieldsText us) us (suc count) q) g
+        (subst (λ (m : ℕ). AsWritten s p (fieldText v ++ fieldsText ws) (v ∷ ws) (suc count) m) k
         (record {
           stands = stands-both (a .stands) (b .stands);
           many = ap suc (b .many);
@@ -364,3 +364,97 @@ fields-only s p (suc count) {vs} {q} e = go (fieldAt s p) refl e (λ r ws n f. f
         AsWritten s p (fieldsText vs) vs (suc count) q
     go Not h e ih = not-read e
     go (Is v r) h e ih = more v r h (readFields s r count) refl e (ih r)
+
+-- ---- a line
+
+pub rest-back : {s : List ℕ} {p q : ℕ} (vs : List ℕ) → Stands s p (restText vs) q → Readable vs → readRest s p (length vs) ≡ read vs q
+unfolding readRest ended restText
+rest-back {s} {p} {q} vs a h =
+    let end : Stands s (p + length (fieldsText vs)) (newline ∷ []) q = stands-second (fieldsText vs) (newline ∷ []) a in
+    let here : readFields s p (length vs) ≡ read vs (p + length (fieldsText vs)) =
+        fields-back vs
+        (record {
+          stands = stands-first (fieldsText vs) (newline ∷ []) a;
+          alone = ap isDigit (byte-stands end .0) ∙ newline-alone;
+          readable = h;
+        }) in
+    rw here (pick-true _ _ (byte-stands end .1) ∙ ap (read vs) (sym (end .after)))
+
+pub rest-only :
+    (s : List ℕ) (p count : ℕ) {vs : List ℕ} {q : ℕ} → readRest s p count ≡ read vs q → AsWritten s p (restText vs) vs count q
+unfolding readRest ended restText
+rest-only s p count {vs} {q} e = go (readFields s p count) refl e
+  where
+    go : (y : Reading) → readFields s p count ≡ y → ended s y ≡ read vs q → AsWritten s p (restText vs) vs count q
+    go unread f e = not-read e
+    go (read ws n) f e =
+        by-test (isByte s n newline)
+        (λ b.
+          let i : read ws (n + 1) ≡ read vs q = sym (pick-true _ _ b) ∙ e in
+          let g : ws ≡ vs = cc in
+          let k : n + 1 ≡ q = cc in
+          let a = fields-only s p count (f ∙ ap (λ (us : List ℕ). read us n) g) in
+          record {
+            stands = subst (λ (m : ℕ). Stands s p (restText vs) m) k (stands-both (a .stands) (stands-byte s n newline b));
+            many = a .many;
+            readable = a .readable;
+          })
+        (λ b. not-read (sym (pick-false _ _ b) ∙ e))
+
+rest-within : {s : List ℕ} {p q : ℕ} (vs : List ℕ) → Stands s p (restText vs) q → q ≤ length s
+unfolding restText
+rest-within vs a = stands-within (stands-second (fieldsText vs) (newline ∷ []) a)
+
+-- a line of a kind that was written from its word and values reads as those values
+pub line-back :
+    {s : List ℕ} {p q : ℕ} (word vs : List ℕ) → Stands s p (lineText word vs) q → Readable vs → readLine s p word (length vs) ≡ read vs q
+unfolding readLine lineText
+line-back {s} {p} {q} word vs a h =
+    let rest : Stands s (p + length word) (restText vs) q = stands-second word (restText vs) a in
+    let fits : p + length word ≤ length s = omega (arith, rest .after, rest-within vs rest) in
+    pick-true _ _ (word-stands fits (stands-first word (restText vs) a)) ∙ rest-back vs rest h
+-- a line that is read is what would be written from its word and the values read
+pub line-only :
+    (s : List ℕ) (p : ℕ) (word : List ℕ) (count : ℕ) {vs : List ℕ} {q : ℕ} → readLine s p word count ≡ read vs q →
+    AsWritten s p (lineText word vs) vs count q
+unfolding readLine lineText
+line-only s p word count {vs} {q} e =
+    by-test (wordAt s p word)
+    (λ w.
+      let a = rest-only s (p + length word) count (sym (pick-true _ _ w) ∙ e) in
+      record { stands = stands-both (stands-word s p word w) (a .stands); many = a .many; readable = a .readable })
+    (λ w. not-read (sym (pick-false _ _ w) ∙ e))
+
+-- ---- the same of the fields that a call hands back
+
+-- what was read, where it is said to be found
+pub record Found (f : Fields) (r : Reading) : Type 0 where
+  pub list : List ℕ
+  pub is : r ≡ read list (f .next)
+  pub values : f .values ≡ padded list
+
+pub found-read : {f : Fields} (p : ℕ) (r : Reading) → f ≡ asFields p r → f .found ≡ true → Found f r
+unfolding asFields
+found-read {f} p r e h = go r e
+  where
+    go : (r : Reading) → f ≡ asFields p r → Found f r
+    go (read vs q) e =
+        record { list = vs; is = ap (read vs) (sym (ap (λ (g : Fields). g .next) e)); values = ap (λ (g : Fields). g .values) e }
+    go unread e = not-both h (ap (λ (g : Fields). g .found) e)
+
+pub take-padded : (vs : List ℕ) → length vs ≤ mostFields → take (length vs) (padded vs) ≡ vs
+take-padded vs h =
+    let long : length (take (length vs) (padded vs)) ≡ length vs = length-take-le (length vs) (padded vs) (omega (arith, length-padded vs)) in
+    ext-getD 0 (take (length vs) (padded vs)) vs long
+    (λ i l. getD-take (length vs) (padded vs) i 0 (omega arith) ∙ getD-padded vs i (omega arith))
+
+-- a line that is found is what would be written from its word and the first count values handed back
+pub line-found :
+    {f : Fields} (s : List ℕ) (p : ℕ) (word : List ℕ) (count : ℕ) → f ≡ asFields p (readLine s p word count) → count ≤ mostFields → f .found ≡ true →
+    AsWritten s p (lineText word (take count (f .values))) (take count (f .values)) count (f .next)
+line-found {f} s p word count e h t =
+    let k = found-read p (readLine s p word count) e t in
+    let a = line-only s p word count (k .is) in
+    let g : k .list ≡ take count (f .values) =
+        sym (take-padded (k .list) (omega (arith, a .many))) ∙ (ap (λ (n : ℕ). take n (padded (k .list))) (a .many) ∙ ap (take count) (sym (k .values))) in
+    subst (λ (us : List ℕ). AsWritten s p (lineText word us) us count (f .next)) g a

@@ -1,0 +1,85 @@
+-- Laws of lines: a line that is read ends where the next one starts, so that carrying the position passes each byte once.
+-- Assumes nothing.
+use mathlib.Core.Path.{_≡_, refl, sym, ap, subst, _∙_}
+use mathlib.Core.Bool.{Bool, true, false}
+use mathlib.Core.List.{List, [], _∷_, _++_, append-assoc}
+use Prim.Native.Nat.{ℕ, zero, suc, _+_, _/_, _%_, _≤_, _<_}
+use native.Mathlib.Nat.{not-suc-le-zero}
+use native.Mathlib.Omega.{arith}
+use lib.Dec.{eqb}
+use lib.ListN.{length, drop, length-append}
+use borrow.Author.Tests.{ne-eqb}
+use Rattle.reckon.specs.Tests.{pick}
+use Rattle.reckon.proofs.TestLaws.{not-both, pick-true, pick-false}
+use Rattle.text.specs.Reading.{tab, newline, Reading, readLine, lineLength, nextLine}
+use Rattle.text.specs.Reading.Reading.{read}
+use Rattle.text.specs.Writing.{decimal, fieldText, fieldsText, restText, lineText, plain, Stands}
+use Rattle.text.proofs.ReadingLaws.{by-test, by-lt}
+use Rattle.text.proofs.WritingLaws.{decimal-small, decimal-large}
+use Rattle.text.proofs.RoundTrip.{line-only}
+
+-- ---- texts with no newline in them
+
+pub plain-cons : (b : ℕ) (t : List ℕ) → (b ≡ newline → ⊥) → plain t ≡ true → plain (b ∷ t) ≡ true
+unfolding plain
+plain-cons b t d e = pick-false _ _ (ne-eqb b newline d) ∙ e
+
+pub plain-both : (t u : List ℕ) → plain t ≡ true → plain u ≡ true → plain (t ++ u) ≡ true
+unfolding plain
+plain-both [] u e f = f
+plain-both (b ∷ t) u e f =
+    by-test (eqb b newline) (λ h. not-both e (pick-true _ _ h))
+    (λ h. pick-false _ _ h ∙ plain-both t u (sym (pick-false _ _ h) ∙ e) f)
+
+plain-none : plain [] ≡ true
+unfolding plain
+plain-none = refl
+
+plain-under : (f n : ℕ) → n < f → plain (decimal n) ≡ true
+plain-under zero n h = absurd (not-suc-le-zero h)
+plain-under (suc f) n h =
+    by-lt n 10 (λ l. rw (decimal-small n l) (plain-cons (48 + n) [] (λ z. omega arith) plain-none))
+    (λ l.
+      rw (decimal-large n l)
+      (plain-both (decimal (n / 10)) ((48 + n % 10) ∷ []) (plain-under f (n / 10) (omega arith))
+      (plain-cons (48 + n % 10) [] (λ z. omega arith) plain-none)))
+
+pub plain-decimal : (n : ℕ) → plain (decimal n) ≡ true
+plain-decimal n = plain-under (suc n) n (omega arith)
+
+pub plain-fields : (vs : List ℕ) → plain (fieldsText vs) ≡ true
+unfolding fieldsText fieldText
+plain-fields [] = plain-none
+plain-fields (v ∷ vs) =
+    plain-both (tab ∷ decimal v) (fieldsText vs) (plain-cons tab (decimal v) (λ z. omega arith) (plain-decimal v)) (plain-fields vs)
+
+-- ---- where a line ends
+
+plain-length : (t r : List ℕ) → plain t ≡ true → lineLength (t ++ r) ≡ length t + lineLength r
+unfolding plain lineLength
+plain-length [] r e = omega arith
+plain-length (b ∷ t) r e =
+    by-test (eqb b newline) (λ h. not-both e (pick-true _ _ h))
+    (λ h. pick-false _ _ h ∙ (ap suc (plain-length t r (sym (pick-false _ _ h) ∙ e)) ∙ omega arith))
+
+newline-length : (r : List ℕ) → lineLength (newline ∷ r) ≡ 1
+unfolding lineLength
+newline-length r = pick-true _ _ refl
+
+-- a text with no newline, and then one: the next line starts after it
+pub line-ends : {s : List ℕ} {p q : ℕ} (t : List ℕ) → plain t ≡ true → Stands s p (t ++ (newline ∷ [])) q → nextLine s p ≡ q
+unfolding nextLine
+line-ends {s} {p} {q} t e a =
+    let l : lineLength (drop p s) ≡ length t + 1 =
+        ap lineLength (a .text ∙ append-assoc t (newline ∷ []) (drop q s)) ∙ (plain-length t (newline ∷ drop q s) e ∙ ap (λ (k : ℕ). length t + k) (newline-length (drop q s))) in
+    omega (arith, a .after, length-append t (newline ∷ []))
+
+-- a line of a kind that is read ends where the next line starts
+pub line-read-next :
+    (s : List ℕ) (p : ℕ) (word : List ℕ) (count : ℕ) {vs : List ℕ} {q : ℕ} → plain word ≡ true →
+    readLine s p word count ≡ read vs q → nextLine s p ≡ q
+unfolding lineText restText
+line-read-next s p word count {vs} {q} w e =
+    line-ends (word ++ fieldsText vs) (plain-both word (fieldsText vs) w (plain-fields vs))
+    (subst (λ (t : List ℕ). Stands s p t q) (sym (append-assoc word (fieldsText vs) (newline ∷ [])))
+    (line-only s p word count e .stands))
