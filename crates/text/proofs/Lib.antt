@@ -1,4 +1,5 @@
 pub mod LineLaws
 pub mod ReadingLaws
 pub mod RoundTrip
+pub mod WorkedText
 pub mod WritingLaws

@@ -17,7 +17,7 @@ use Rattle.reckon.specs.Tests.{pick, allBelow}
 use Rattle.reckon.proofs.TestLaws.{not-both, pick-true, pick-false, pick-both, all-at, all-of}
 use Rattle.text.specs.Reading.{tab, newline, mostNumber, mostFields, isByte, wordAt, isDigit, digitsOf, valueFrom, wellFormed, numberOf, numberAt, fieldAt, Reading, before, withNumber, readFields, ended, readRest, readLine, padded, asFields, lineLength, nextLine}
 use Rattle.text.specs.Reading.Reading.{read, unread}
-use Rattle.text.specs.Writing.{decimalIn, decimal, fieldText, fieldsText, restText, lineText, plain, Readable, Stands, StandAlone, AsWritten}
+use Rattle.text.specs.Writing.{digitsIn, decimal, fieldText, fieldsText, restText, lineText, plain, Readable, Stands, StandAlone, AsWritten}
 use Rattle.text.specs.declared.reading.Number.{Number}
 use Rattle.text.specs.declared.reading.Number.the-variants.{Is, Not}
 use Rattle.text.specs.declared.reading.Fields.{Fields}

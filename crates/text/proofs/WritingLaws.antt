@@ -15,40 +15,47 @@ use Rattle.reckon.specs.Lists.{placed}
 use Rattle.reckon.proofs.TestLaws.{pick-true, pick-false}
 use Rattle.reckon.proofs.ListLaws.{length-placed}
 use Rattle.text.specs.Reading.{newline}
-use Rattle.text.specs.Writing.{decimalIn, decimal, fieldText, fieldsText, restText, lineText, Wrote}
+use Rattle.text.specs.Writing.{digitsIn, decimal, fieldText, fieldsText, restText, lineText, Wrote}
 use Rattle.text.proofs.ReadingLaws.{by-lt}
 
 -- ---- the digits of a number
 
-in-small : (f n : ℕ) → n < 10 → decimalIn (suc f) n ≡ (48 + n) ∷ []
-unfolding decimalIn
-in-small f n h = pick-true _ _ (lt-ltb n 10 h)
-
-in-large : (f n : ℕ) → 10 ≤ n → decimalIn (suc f) n ≡ decimalIn f (n / 10) ++ ((48 + n % 10) ∷ [])
-unfolding decimalIn
-in-large f n h = pick-false _ _ (le-ltb n 10 h)
+in-zero : (f : ℕ) → digitsIn f 0 ≡ []
+unfolding digitsIn
+in-zero zero = refl
+in-zero (suc f) = refl
 
 -- how many digits are allowed does not matter where they suffice
-in-any : (f g n : ℕ) → n < f → n < g → decimalIn f n ≡ decimalIn g n
-in-any zero g n h k = absurd (not-suc-le-zero h)
-in-any (suc f) zero n h k = absurd (not-suc-le-zero k)
-in-any (suc f) (suc g) n h k =
-    by-lt n 10 (λ l. in-small f n l ∙ sym (in-small g n l))
-    (λ l.
-      in-large f n l
-      ∙ (ap (λ (ds : List ℕ). ds ++ ((48 + n % 10) ∷ [])) (in-any f g (n / 10) (omega arith) (omega arith))
-      ∙ sym (in-large g n l)))
+in-any : (f g n : ℕ) → n ≤ f → n ≤ g → digitsIn f n ≡ digitsIn g n
+unfolding digitsIn
+in-any zero g n h k =
+    let z : n ≡ 0 = omega arith in
+    sym (ap (digitsIn g) z ∙ in-zero g)
+in-any (suc f) zero n h k =
+    let z : n ≡ 0 = omega arith in
+    ap (digitsIn (suc f)) z
+in-any (suc f) (suc g) zero h k = refl
+in-any (suc f) (suc g) (suc n) h k =
+    ap (λ (ds : List ℕ). ds ++ ((48 + suc n % 10) ∷ [])) (in-any f g (suc n / 10) (omega arith) (omega arith))
 
 -- a number below 10 is its digit; another is its tenth's digits and its last
 pub decimal-small : (n : ℕ) → n < 10 → decimal n ≡ (48 + n) ∷ []
-unfolding decimal
-decimal-small n h = in-small n n h
+unfolding decimal digitsIn
+decimal-small zero h = refl
+decimal-small (suc n) h =
+    let z : suc n / 10 ≡ 0 = omega arith in
+    let y : suc n % 10 ≡ suc n = omega arith in
+    rw (z, in-zero n, y)
 
 pub decimal-large : (n : ℕ) → 10 ≤ n → decimal n ≡ decimal (n / 10) ++ ((48 + n % 10) ∷ [])
-unfolding decimal
-decimal-large n h =
-    in-large n n h
-    ∙ ap (λ (ds : List ℕ). ds ++ ((48 + n % 10) ∷ [])) (in-any n (suc (n / 10)) (n / 10) (omega arith) (omega arith))
+unfolding decimal digitsIn
+decimal-large zero h = absurd (not-suc-le-zero h)
+decimal-large (suc n) h =
+    ap (λ (ds : List ℕ). ds ++ ((48 + suc n % 10) ∷ [])) (tenth (suc n / 10) (omega arith) (omega arith))
+  where
+    tenth : (m : ℕ) → 0 < m → m ≤ n → digitsIn n m ≡ decimal m
+    tenth zero o l = absurd (not-suc-le-zero o)
+    tenth (suc m) o l = in-any n (suc m) (suc m) l (omega arith)
 
 pub decimal-longer : (n : ℕ) → 10 ≤ n → length (decimal n) ≡ length (decimal (n / 10)) + 1
 decimal-longer n h = ap length (decimal-large n h) ∙ length-append (decimal (n / 10)) _

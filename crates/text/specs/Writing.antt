@@ -4,20 +4,22 @@ use mathlib.Core.Path.{_≡_}
 use mathlib.Core.Bool.{Bool, true, false}
 use mathlib.Core.List.{List, [], _∷_, _++_}
 use Prim.Native.Nat.{ℕ, zero, suc, _+_, _/_, _%_, _≤_}
-use lib.Dec.{eqb, ltb}
+use lib.Dec.{eqb}
 use lib.ListN.{length, getD, drop}
 use Rattle.reckon.specs.Tests.{pick}
 use Rattle.reckon.specs.Lists.{placed}
 use Rattle.text.specs.Reading.{tab, newline, mostNumber, isDigit}
 
--- the decimal digits of n, where it has at most so many
-unfoldable pub decimalIn : ℕ → ℕ → List ℕ
-decimalIn zero n = []
-decimalIn (suc most) n = pick (ltb n 10) ((48 + n) ∷ []) (decimalIn most (n / 10) ++ ((48 + n % 10) ∷ []))
+-- the decimal digits of n, none for 0, where it has at most so many
+unfoldable pub digitsIn : ℕ → ℕ → List ℕ
+digitsIn zero n = []
+digitsIn (suc most) zero = []
+digitsIn (suc most) (suc n) = digitsIn most (suc n / 10) ++ ((48 + suc n % 10) ∷ [])
 
 -- a number written: "decimal without sign or needless leading zeros" (`decimal-small`, `decimal-large` say it with no limit on its digits)
 unfoldable pub decimal : ℕ → List ℕ
-decimal n = decimalIn (suc n) n
+decimal zero = 48 ∷ []
+decimal (suc n) = digitsIn (suc n) (suc n)
 
 -- a field: a tab and a number; fields, one after the other
 unfoldable pub fieldText : ℕ → List ℕ
