@@ -274,12 +274,12 @@ module _ {s : List ℕ} {at count : ℕ} {values : List ℕ} {p i : ℕ} (g : Go
           many = length-append (g .done) (v ∷ []) ∙ omega (arith, g .many);
           within = omega arith;
           held =
-            ap₂ (λ (x : List ℕ) (k : ℕ). set x k v) (g .held) (sym (g .many))
-            ∙ padded-more (g .done) v (omega (arith, g .many));
+              ap₂ (λ (x : List ℕ) (k : ℕ). set x k v) (g .held) (sym (g .many))
+              ∙ padded-more (g .done) v (omega (arith, g .many));
           left =
-            g .left
-            ∙ (rw (one-left, fields-more s p (count - (i + 1)) v q e)
-            (before-both (g .done) (v ∷ []) (readFields s q (count - (i + 1)))));
+              g .left
+              ∙ (rw (one-left, fields-more s p (count - (i + 1)) v q e)
+              (before-both (g .done) (v ∷ []) (readFields s q (count - (i + 1)))));
         }
 
 -- ---- a reading as it is handed back
@@ -357,15 +357,6 @@ line-length-le (b ∷ l) =
 pub next-within : (s : List ℕ) (p : ℕ) → p ≤ length s → nextLine s p ≤ length s
 unfolding nextLine
 next-within s p h = omega (arith, line-length-le (drop p s), lib.ListN.length-drop p s)
-
--- The position carried is the start of the line: line k + 1 is found from line k alone.
-pub line-next : (s : List ℕ) (p k : ℕ) → lineFrom s p (k + 1) ≡ nextLine s (lineFrom s p k)
-unfolding lineFrom
-line-next s p k = rw add-one
-
-pub line-first : (s : List ℕ) (p : ℕ) → lineFrom s p 0 ≡ p
-unfolding lineFrom
-line-first s p = refl
 
 -- a newline counts as a line
 abbrev pub endsAt : List ℕ → ℕ → ℕ

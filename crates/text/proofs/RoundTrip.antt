@@ -1,5 +1,5 @@
 -- What is written reads back, and what is read is what would be written: for a number, for fields and for a line of a kind.
--- A number's digits are read one by one as they are written, and a text's parts stand one after the other.
+-- A number's digits are read one by one as they are written; fields and lines are parts that stand one after the other.
 -- Assumes nothing.
 use mathlib.Core.Path.{_≡_, refl, sym, ap, subst, _∙_}
 use mathlib.Core.Bool.{Bool, true, false}
@@ -22,74 +22,8 @@ use Rattle.text.specs.declared.reading.Number.{Number}
 use Rattle.text.specs.declared.reading.Number.the-variants.{Is, Not}
 use Rattle.text.specs.declared.reading.Fields.{Fields}
 use Rattle.text.proofs.ReadingLaws.{by-test, by-lt, sameAt, byte-here, byte-within, byte-same, word-within, word-all, word-same, digit-is, digit-under, digit-low, digit-high, digits-here, digits-end, first-many, length-padded, getD-padded, fields-more}
+use Rattle.text.proofs.StandLaws.{stands-none, stands-both, stands-first, stands-second, stands-within, stands-byte, byte-stands, stands-word, word-stands}
 use Rattle.text.proofs.WritingLaws.{decimal-small, decimal-large}
-
--- ---- parts of a text
-
-pub stands-none : (s : List ℕ) (p : ℕ) → Stands s p [] p
-stands-none s p = record { after = sym (add-zero p); text = refl }
-
-pub stands-both : {s t u : List ℕ} {p q r : ℕ} → Stands s p t q → Stands s q u r → Stands s p (t ++ u) r
-stands-both {s} {t} {u} {p} {q} {r} a b =
-    record {
-      after = omega (arith, a .after, b .after, length-append t u);
-      text = a .text ∙ (ap (λ (l : List ℕ). t ++ l) (b .text) ∙ sym (append-assoc t u (drop r s)));
-    }
-
--- a text that stands, cut after t
-module _ {s : List ℕ} {p r : ℕ} (t u : List ℕ) (a : Stands s p (t ++ u) r) where
-  after-first : drop (p + length t) s ≡ u ++ drop r s
-  after-first =
-      sym (drop-drop (length t) p s)
-      ∙ (ap (drop (length t)) (a .text ∙ append-assoc t u (drop r s)) ∙ lib.Seq.drop-append-seam t (u ++ drop r s))
-
-  pub stands-first : Stands s p t (p + length t)
-  stands-first =
-      record { after = refl; text = a .text ∙ (append-assoc t u (drop r s) ∙ ap (λ (l : List ℕ). t ++ l) (sym after-first)) }
-
-  pub stands-second : Stands s (p + length t) u r
-  stands-second = record { after = omega (arith, a .after, length-append t u); text = after-first }
-
--- a text with a byte in it ends within
-pub stands-within : {s : List ℕ} {p q b : ℕ} {t : List ℕ} → Stands s p (b ∷ t) q → q ≤ length s
-stands-within {s} {p} {q} {b} {t} a =
-    omega (arith, a .after, ap length (a .text), length-append (b ∷ t) (drop q s), length-drop p s, length-drop q s)
-
-pub stands-byte : (s : List ℕ) (p b : ℕ) → isByte s p b ≡ true → Stands s p (b ∷ []) (p + 1)
-stands-byte s p b e =
-    record { after = refl; text = drop-cons s p 0 (byte-within s p b e) ∙ rw (byte-same s p b e, add-one) }
-
-pub byte-stands : {s t : List ℕ} {p q b : ℕ} → Stands s p (b ∷ t) q → (getD s p 0 ≡ b) × (isByte s p b ≡ true)
-byte-stands {s} {t} {p} {q} {b} a =
-    let e : getD s p 0 ≡ b = ap (λ (k : ℕ). getD s k 0) (sym (add-zero p)) ∙ (sym (getD-drop p s 0 0) ∙ ap (λ (l : List ℕ). getD l 0 0) (a .text)) in
-    let h : p < length s = omega (arith, a .after, stands-within a) in
-    (e, byte-here s p b h ∙ eq-eqb _ _ e)
-
-pub stands-word : (s : List ℕ) (p : ℕ) (word : List ℕ) → wordAt s p word ≡ true → Stands s p word (p + length word)
-stands-word s p word e =
-    let h : p + length word ≤ length s = word-within s p word e in
-    let long : length (take (length word) (drop p s)) ≡ length word = length-take-le (length word) (drop p s) (rw (length-drop p s) (omega arith)) in
-    let same : take (length word) (drop p s) ≡ word =
-        ext-getD 0 (take (length word) (drop p s)) word long
-        (λ i l.
-          let m : i < length word = omega arith in
-          getD-take (length word) (drop p s) i 0 m
-          ∙ (getD-drop p s i 0 ∙ eqb-true _ _ (all-at (length word) (sameAt s p word) (word-all s p word e) i m))) in
-    record {
-      after = refl;
-      text =
-        sym (take-append-drop (length word) (drop p s))
-        ∙ (ap (λ (l : List ℕ). l ++ drop (length word) (drop p s)) same ∙ ap (λ (l : List ℕ). word ++ l) (drop-drop (length word) p s));
-    }
-
-pub word-stands : {s word : List ℕ} {p q : ℕ} → q ≤ length s → Stands s p word q → wordAt s p word ≡ true
-word-stands {s} {word} {p} {q} h a =
-    word-same s p word (omega (arith, a .after))
-    (all-of (length word) (sameAt s p word)
-    (λ i l.
-      eq-eqb _ _
-      (sym (getD-drop p s i 0)
-      ∙ (ap (λ (t : List ℕ). getD t i 0) (a .text) ∙ lib.ListN.List·getD-append word (drop q s) 0 i l))))
 
 -- ---- the digits of a number that is written
 
@@ -133,10 +67,10 @@ figures-more t n d h f =
     let all : digitsOf (t ++ ((48 + d) ∷ [])) ≡ digitsOf t ++ (d ∷ []) = f .apart ((48 + d) ∷ []) ∙ ap (λ (l : List ℕ). digitsOf t ++ l) one in
     record {
       apart = λ rest.
-        ap digitsOf (append-assoc t ((48 + d) ∷ []) rest)
-        ∙ (f .apart ((48 + d) ∷ rest)
-        ∙ (ap (λ (l : List ℕ). digitsOf t ++ l) (digits-cons d rest h)
-        ∙ sym (ap (λ (l : List ℕ). l ++ digitsOf rest) all ∙ append-assoc (digitsOf t) (d ∷ []) (digitsOf rest))));
+          ap digitsOf (append-assoc t ((48 + d) ∷ []) rest)
+          ∙ (f .apart ((48 + d) ∷ rest)
+          ∙ (ap (λ (l : List ℕ). digitsOf t ++ l) (digits-cons d rest h)
+          ∙ sym (ap (λ (l : List ℕ). l ++ digitsOf rest) all ∙ append-assoc (digitsOf t) (d ∷ []) (digitsOf rest))));
       long = ap length all ∙ (length-append (digitsOf t) (d ∷ []) ∙ (rw (f .long) (sym (length-append t ((48 + d) ∷ [])))));
       worth = ap (valueFrom 0) all ∙ (value-append (digitsOf t) (d ∷ []) 0 ∙ rw (f .worth) (value-one n d));
     }
@@ -155,14 +89,15 @@ decimal-figures zero n h = absurd (not-suc-le-zero h)
 decimal-figures (suc f) n h =
     by-lt n 10
     (λ l.
-      rw (decimal-small n l)
-      (figures-small n l, λ o. rw (digits-cons n [] l) o))
+    rw (decimal-small n l)
+    (figures-small n l, λ o. rw (digits-cons n [] l) o))
     (λ l.
-      let ih = decimal-figures f (n / 10) (omega arith) in
-      let z : n / 10 * 10 + n % 10 ≡ n = omega arith in
-      rw (decimal-large n l)
-      (ap-figures (decimal (n / 10) ++ ((48 + n % 10) ∷ [])) z (figures-more (decimal (n / 10)) (n / 10) (n % 10) (omega arith) (ih .0)),
-      λ o. rw (ih .0 .apart ((48 + n % 10) ∷ [])) (lead-append (digitsOf (decimal (n / 10))) _ (ih .1 (omega arith)))))
+    let ih = decimal-figures f (n / 10) (omega arith) in
+    let z : n / 10 * 10 + n % 10 ≡ n = omega arith in
+    rw (decimal-large n l) (
+      ap-figures (decimal (n / 10) ++ ((48 + n % 10) ∷ [])) z (figures-more (decimal (n / 10)) (n / 10) (n % 10) (omega arith) (ih .0)),
+      λ o. rw (ih .0 .apart ((48 + n % 10) ∷ [])) (lead-append (digitsOf (decimal (n / 10))) _ (ih .1 (omega arith))),
+    ))
   where
     ap-figures : (t : List ℕ) {m k : ℕ} → m ≡ k → Figures t m → Figures t k
     ap-figures t e f = subst (λ (k : ℕ). Figures t k) e f
@@ -175,8 +110,8 @@ unfolding wellFormed
 decimal-formed n =
     by-lt 0 n (λ o. lead-good (digitsOf (decimal n)) (decimal-figures (suc n) n (omega arith) .1 o))
     (λ o.
-      let z : n < 10 = omega arith in
-      rw (decimal-small n z, digits-cons n [] z, digits-none))
+    let z : n < 10 = omega arith in
+    rw (decimal-small n z, digits-cons n [] z, digits-none))
 
 -- ---- a number
 
@@ -194,7 +129,7 @@ unfolding numberAt numberOf
 number-back {s} {p} {q} n a =
     let rest : digitsOf (drop q s) ≡ [] = digits-front (drop q s) (ap isDigit (front-after s q) ∙ a .alone) in
     let ds : digitsOf (drop p s) ≡ digitsOf (decimal n) =
-        ap digitsOf (a .stands .text) ∙ (figures n .apart (drop q s) ∙ (rw rest (mathlib.Core.List.append-nil (digitsOf (decimal n))))) in
+    ap digitsOf (a .stands .text) ∙ (figures n .apart (drop q s) ∙ (rw rest (mathlib.Core.List.append-nil (digitsOf (decimal n))))) in
     let e : p + length (digitsOf (decimal n)) ≡ q = rw (figures n .long) (sym (a .stands .after)) in
     rw (ds, decimal-formed n, figures n .worth, e)
     (pick-true _ _ refl ∙ pick-true _ _ (le-leb n mostNumber (a .readable .0)))
@@ -206,11 +141,11 @@ digits-text [] v o = refl
 digits-text (b ∷ l) v o =
     by-test (isDigit b)
     (λ e.
-      let z : (v * 10 + (b - 48)) / 10 ≡ v = omega (arith, digit-low b e, digit-high b e) in
-      let y : 48 + (v * 10 + (b - 48)) % 10 ≡ b = omega (arith, digit-low b e, digit-high b e) in
-      rw (pick-true ((b - 48) ∷ digitsOf l) [] e)
-      (digits-text l (v * 10 + (b - 48)) (omega arith)
-      ∙ (rw (decimal-large (v * 10 + (b - 48)) (omega arith), z, y) (append-assoc (decimal v) (b ∷ []) l))))
+    let z : (v * 10 + (b - 48)) / 10 ≡ v = omega (arith, digit-low b e, digit-high b e) in
+    let y : 48 + (v * 10 + (b - 48)) % 10 ≡ b = omega (arith, digit-low b e, digit-high b e) in
+    rw (pick-true ((b - 48) ∷ digitsOf l) [] e)
+    (digits-text l (v * 10 + (b - 48)) (omega arith)
+    ∙ (rw (decimal-large (v * 10 + (b - 48)) (omega arith), z, y) (append-assoc (decimal v) (b ∷ []) l))))
     (λ e. rw (pick-false ((b - 48) ∷ digitsOf l) [] e))
 
 -- the digits of a text end where no digit stands
@@ -234,13 +169,13 @@ formed-text [] w = not-both w refl
 formed-text (b ∷ l) w =
     by-test (isDigit b)
     (λ e.
-      let z : valueFrom 0 ((b - 48) ∷ digitsOf l) ≡ valueFrom (b - 48) (digitsOf l) = ap (λ (k : ℕ). valueFrom k (digitsOf l)) (omega arith) in
-      let y : 48 + (b - 48) ≡ b = omega (arith, digit-low b e) in
-      let v : wellFormed ((b - 48) ∷ digitsOf l) ≡ true = rw (pick-true ((b - 48) ∷ digitsOf l) [] e) at w in
-      rw (pick-true ((b - 48) ∷ digitsOf l) [] e, z)
-      (by-lt 0 (b - 48)
-      (λ o. digits-text l (b - 48) o ∙ rw (decimal-small (b - 48) (omega (arith, digit-high b e)), y))
-      (λ o. zero-text b l (digitsOf l) refl (omega (arith, digit-low b e)) v)))
+    let z : valueFrom 0 ((b - 48) ∷ digitsOf l) ≡ valueFrom (b - 48) (digitsOf l) = ap (λ (k : ℕ). valueFrom k (digitsOf l)) (omega arith) in
+    let y : 48 + (b - 48) ≡ b = omega (arith, digit-low b e) in
+    let v : wellFormed ((b - 48) ∷ digitsOf l) ≡ true = rw (pick-true ((b - 48) ∷ digitsOf l) [] e) at w in
+    rw (pick-true ((b - 48) ∷ digitsOf l) [] e, z)
+    (by-lt 0 (b - 48)
+    (λ o. digits-text l (b - 48) o ∙ rw (decimal-small (b - 48) (omega (arith, digit-high b e)), y))
+    (λ o. zero-text b l (digitsOf l) refl (omega (arith, digit-low b e)) v)))
     (λ e. not-both (rw (pick-false ((b - 48) ∷ digitsOf l) [] e) at w) refl)
   where
     zero-text :
@@ -255,9 +190,9 @@ unfolding numberAt numberOf
 number-only s p {n} {q} e =
     by-test (wellFormed (digitsOf (drop p s)))
     (λ w.
-      by-test (leb (valueFrom 0 (digitsOf (drop p s))) mostNumber)
-      (λ m. known w (leb-true _ _ m) (sym (pick-true _ _ w ∙ pick-true _ _ m) ∙ e))
-      (λ m. none (sym (pick-true _ _ w ∙ pick-false _ _ m) ∙ e)))
+    by-test (leb (valueFrom 0 (digitsOf (drop p s))) mostNumber)
+    (λ m. known w (leb-true _ _ m) (sym (pick-true _ _ w ∙ pick-true _ _ m) ∙ e))
+    (λ m. none (sym (pick-true _ _ w ∙ pick-false _ _ m) ∙ e)))
     (λ w. none (sym (pick-false _ _ w) ∙ e))
   where
     none : {A : Type 0} → Not ≡ Is n q → A
@@ -270,7 +205,7 @@ number-only s p {n} {q} e =
         let v : valueFrom 0 (digitsOf (drop p s)) ≡ n = cc in
         let r : p + length (digitsOf (drop p s)) ≡ q = cc in
         let t : decimal n ++ drop (length (digitsOf (drop p s))) (drop p s) ≡ drop p s =
-            rw v at (formed-text (drop p s) w) in
+        rw v at (formed-text (drop p s) w) in
         record {
           stands = record {
             after = omega (arith, ap length t, length-append (decimal n) (drop (length (digitsOf (drop p s))) (drop p s)), length-drop (length (digitsOf (drop p s))) (drop p s), digits-few (drop p s));
@@ -294,8 +229,8 @@ unfolding fieldAt fieldText
 field-only s p {n} {q} e =
     by-test (isByte s p tab)
     (λ b.
-      let a = number-only s (p + 1) (sym (pick-true _ _ b) ∙ e) in
-      record { stands = stands-both (stands-byte s p tab b) (a .stands); alone = a .alone; readable = a .readable })
+    let a = number-only s (p + 1) (sym (pick-true _ _ b) ∙ e) in
+    record { stands = stands-both (stands-byte s p tab b) (a .stands); alone = a .alone; readable = a .readable })
     (λ b. let f : Not ≡ Is n q = sym (pick-false _ _ b) ∙ e in absurd (let z : _≡_ {A = ℕ} 0 1 = cc in omega arith))
 
 tab-alone : isDigit tab ≡ false
@@ -317,14 +252,14 @@ fields-back {s} {p} {q} [] a = ap (read []) (omega (arith, a .stands .after))
 fields-back {s} {p} {q} (v ∷ vs) a =
     let rest : Stands s (p + length (fieldText v)) (fieldsText vs) q = stands-second (fieldText v) (fieldsText vs) (a .stands) in
     let here : fieldAt s p ≡ Is v (p + length (fieldText v)) =
-        field-back v
-        (record {
-          stands = stands-first (fieldText v) (fieldsText vs) (a .stands);
-          alone = alone-before vs rest (a .alone);
-          readable = (a .readable .0, tt);
-        }) in
+    field-back v
+    (record {
+      stands = stands-first (fieldText v) (fieldsText vs) (a .stands);
+      alone = alone-before vs rest (a .alone);
+      readable = (a .readable .0, tt);
+    }) in
     let ih : readFields s (p + length (fieldText v)) (length vs) ≡ read vs q =
-        fields-back vs (record { stands = rest; alone = a .alone; readable = a .readable .1 }) in
+    fields-back vs (record { stands = rest; alone = a .alone; readable = a .readable .1 }) in
     fields-more s p (length vs) v (p + length (fieldText v)) here ∙ ap (before (v ∷ [])) ih
 
 not-read : {A : Type 0} {vs : List ℕ} {q : ℕ} → unread ≡ read vs q → A
@@ -372,12 +307,12 @@ unfolding readRest ended restText
 rest-back {s} {p} {q} vs a h =
     let end : Stands s (p + length (fieldsText vs)) (newline ∷ []) q = stands-second (fieldsText vs) (newline ∷ []) a in
     let here : readFields s p (length vs) ≡ read vs (p + length (fieldsText vs)) =
-        fields-back vs
-        (record {
-          stands = stands-first (fieldsText vs) (newline ∷ []) a;
-          alone = ap isDigit (byte-stands end .0) ∙ newline-alone;
-          readable = h;
-        }) in
+    fields-back vs
+    (record {
+      stands = stands-first (fieldsText vs) (newline ∷ []) a;
+      alone = ap isDigit (byte-stands end .0) ∙ newline-alone;
+      readable = h;
+    }) in
     rw here (pick-true _ _ (byte-stands end .1) ∙ ap (read vs) (sym (end .after)))
 
 pub rest-only :
@@ -390,15 +325,15 @@ rest-only s p count {vs} {q} e = go (readFields s p count) refl e
     go (read ws n) f e =
         by-test (isByte s n newline)
         (λ b.
-          let i : read ws (n + 1) ≡ read vs q = sym (pick-true _ _ b) ∙ e in
-          let g : ws ≡ vs = cc in
-          let k : n + 1 ≡ q = cc in
-          let a = fields-only s p count (f ∙ ap (λ (us : List ℕ). read us n) g) in
-          record {
-            stands = subst (λ (m : ℕ). Stands s p (restText vs) m) k (stands-both (a .stands) (stands-byte s n newline b));
-            many = a .many;
-            readable = a .readable;
-          })
+        let i : read ws (n + 1) ≡ read vs q = sym (pick-true _ _ b) ∙ e in
+        let g : ws ≡ vs = cc in
+        let k : n + 1 ≡ q = cc in
+        let a = fields-only s p count (f ∙ ap (λ (us : List ℕ). read us n) g) in
+        record {
+          stands = subst (λ (m : ℕ). Stands s p (restText vs) m) k (stands-both (a .stands) (stands-byte s n newline b));
+          many = a .many;
+          readable = a .readable;
+        })
         (λ b. not-read (sym (pick-false _ _ b) ∙ e))
 
 rest-within : {s : List ℕ} {p q : ℕ} (vs : List ℕ) → Stands s p (restText vs) q → q ≤ length s
@@ -413,6 +348,7 @@ line-back {s} {p} {q} word vs a h =
     let rest : Stands s (p + length word) (restText vs) q = stands-second word (restText vs) a in
     let fits : p + length word ≤ length s = omega (arith, rest .after, rest-within vs rest) in
     pick-true _ _ (word-stands fits (stands-first word (restText vs) a)) ∙ rest-back vs rest h
+
 -- a line that is read is what would be written from its word and the values read
 pub line-only :
     (s : List ℕ) (p : ℕ) (word : List ℕ) (count : ℕ) {vs : List ℕ} {q : ℕ} → readLine s p word count ≡ read vs q →
@@ -421,8 +357,8 @@ unfolding readLine lineText
 line-only s p word count {vs} {q} e =
     by-test (wordAt s p word)
     (λ w.
-      let a = rest-only s (p + length word) count (sym (pick-true _ _ w) ∙ e) in
-      record { stands = stands-both (stands-word s p word w) (a .stands); many = a .many; readable = a .readable })
+    let a = rest-only s (p + length word) count (sym (pick-true _ _ w) ∙ e) in
+    record { stands = stands-both (stands-word s p word w) (a .stands); many = a .many; readable = a .readable })
     (λ w. not-read (sym (pick-false _ _ w) ∙ e))
 
 -- ---- the same of the fields that a call hands back
@@ -456,5 +392,5 @@ line-found {f} s p word count e h t =
     let k = found-read p (readLine s p word count) e t in
     let a = line-only s p word count (k .is) in
     let g : k .list ≡ take count (f .values) =
-        sym (take-padded (k .list) (omega (arith, a .many))) ∙ (ap (λ (n : ℕ). take n (padded (k .list))) (a .many) ∙ ap (take count) (sym (k .values))) in
+    sym (take-padded (k .list) (omega (arith, a .many))) ∙ (ap (λ (n : ℕ). take n (padded (k .list))) (a .many) ∙ ap (take count) (sym (k .values))) in
     subst (λ (us : List ℕ). AsWritten s p (lineText word us) us count (f .next)) g a

@@ -20,9 +20,9 @@ pub struct Fields {
     pub next: usize,
 }
 
-const TAB: u8 = 9;
+pub const TAB: u8 = 9;
 
-const NEWLINE: u8 = 10;
+pub const NEWLINE: u8 = 10;
 
 const MOST_NUMBER: u64 = 4_294_967_295;
 

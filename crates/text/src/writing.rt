@@ -1,12 +1,13 @@
 // Text put into a lent room at a position. Each answers the position after it, and leaves all else in the room as it was.
+use crate::reading::NEWLINE;
+use crate::reading::TAB;
 ghost use mathlib.Core.Path.{_≡_};
 ghost use Prim.Native.Nat.{_+_, _<_, _≤_};
 ghost use lib.ListN.{length};
 ghost use Rattle.text.specs.Writing.{decimal, fieldText, fieldsText, lineText, PutByte, PutWord, PutNumber, PutField, PutFields, PutLine};
 
-const TAB: u8 = 9;
-
-const NEWLINE: u8 = 10;
+// The byte of the digit 0.
+const ZERO: u64 = 48;
 
 pub fn put_byte(room: &mut [u8], at: usize, byte: u8) -> usize
     requires { ⌜ at < length (now room) ⌝ }
@@ -34,10 +35,10 @@ pub fn put_number(room: &mut [u8], at: usize, n: u64) -> usize
     ensures { λ r. ⌜ PutNumber n at (now (room .entry)) (now (room .exit)) r ⌝ }
 {
     if n < 10 {
-        return put_byte(room, at, (48 + n) as u8);
+        return put_byte(room, at, (ZERO + n) as u8);
     }
     let last = put_number(room, at, n / 10);
-    put_byte(room, last, (48 + n % 10) as u8)
+    put_byte(room, last, (ZERO + n % 10) as u8)
 }
 
 // A tab and a number.

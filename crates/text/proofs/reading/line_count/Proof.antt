@@ -48,12 +48,11 @@ loop-less c =
 
 -- src/reading.rt:228:5
 loop-again : tie.Need-loop-again Inv-loop μ-loop
-loop-again c =
-    (
-      omega arith,
-      omega (arith, c .newline-at .ensures, ends-few (c .before .before .before .before .args .text .now) (c .before .before .loop .i)),
-      omega (arith, c .newline-at .ensures, c .before .before .loop .inv .2, sum-more (c .before .before .loop .i) (endsAt (c .before .before .before .before .args .text .now))),
-    )
+loop-again c = (
+  omega arith,
+  omega (arith, c .newline-at .ensures, ends-few (c .before .before .before .before .args .text .now) (c .before .before .loop .i)),
+  omega (arith, c .newline-at .ensures, c .before .before .loop .inv .2, sum-more (c .before .before .loop .i) (endsAt (c .before .before .before .before .args .text .now))),
+)
 
 -- src/reading.rt:223:1
 returns : tie.Need-returns Inv-loop μ-loop

@@ -51,11 +51,10 @@ loop-less c =
 
 -- src/writing.rt:59:5
 loop-again : tie.Need-loop-again Inv-loop μ-loop
-loop-again c =
-    (
-      omega arith,
-      left-step (rw (fields-text-more (c .before .before .before .before .before .before .before .before .before .args .values .now) (c .before .before .before .before .before .before .loop .i) (omega arith)) at (c .before .before .before .before .before .before .loop .inv .1)) (c .before .before .put-field .ensures),
-    )
+loop-again c = (
+  omega arith,
+  left-step (rw (fields-text-more (c .before .before .before .before .before .before .before .before .before .args .values .now) (c .before .before .before .before .before .before .loop .i) (omega arith)) at (c .before .before .before .before .before .before .loop .inv .1)) (c .before .before .put-field .ensures),
+)
 
 -- src/writing.rt:53:1
 same-length : tie.Need-same-length Inv-loop μ-loop

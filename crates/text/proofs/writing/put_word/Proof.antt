@@ -50,14 +50,13 @@ loop-less c =
 
 -- src/writing.rt:24:5
 loop-again : tie.Need-loop-again Inv-loop μ-loop
-loop-again c =
-    (
-      omega arith,
-      ap (λ l. lib.ListN.set l (c .before .before .before .args .at + c .before .before .loop .i) (lib.ListN.getD (c .before .before .before .args .word .now) (c .before .before .loop .i) 0)) (c .before .before .loop .inv .1)
+loop-again c = (
+  omega arith,
+  ap (λ l. lib.ListN.set l (c .before .before .before .args .at + c .before .before .loop .i) (lib.ListN.getD (c .before .before .before .args .word .now) (c .before .before .loop .i) 0)) (c .before .before .loop .inv .1)
       ∙ (paste-suc (c .before .before .before .args .room .now) (c .before .before .before .args .at) (c .before .before .before .args .word .now) (c .before .before .loop .i) 0 (omega arith) (omega arith)
       ∙ ap (paste (c .before .before .before .args .room .now) (c .before .before .before .args .at) (c .before .before .before .args .word .now)) (sym (add-one (c .before .before .loop .i)))),
-      c .before .before .loop .inv .2,
-    )
+  c .before .before .loop .inv .2,
+)
 
 -- src/writing.rt:28:5
 add-result : tie.Need-add-result Inv-loop μ-loop
@@ -76,8 +75,8 @@ returns c =
     record {
       next = ap (λ k. c .before .before .args .at + k) e;
       room =
-        c .before .loop .inv .1
-        ∙ (ap (paste (c .before .before .args .room .now) (c .before .before .args .at) (c .before .before .args .word .now)) e ∙ placed-paste (c .before .before .args .room .now) (c .before .before .args .at) (c .before .before .args .word .now));
+          c .before .loop .inv .1
+          ∙ (ap (paste (c .before .before .args .room .now) (c .before .before .args .at) (c .before .before .args .word .now)) e ∙ placed-paste (c .before .before .args .room .now) (c .before .before .args .at) (c .before .before .args .word .now));
     }
 
 pub put-word-spec : {M : Type 1} → statement M

@@ -1,0 +1,90 @@
+-- Laws of a text that stands in another: its parts stand one after the other, and a byte or a word is read exactly where it stands.
+-- Assumes nothing.
+use mathlib.Core.Path.{_≡_, refl, sym, ap, subst, _∙_}
+use mathlib.Core.Bool.{Bool, true, false}
+use mathlib.Core.List.{List, [], _∷_, _++_, append-assoc}
+use Prim.Native.Nat.{ℕ, zero, suc, _+_, _-_, _*_, _/_, _%_, _≤_, _<_}
+use native.Mathlib.Nat.{not-suc-le-zero, add-zero, add-assoc}
+use native.Mathlib.Numerals.{add-one}
+use native.Mathlib.Decide.{ℕ-discrete}
+use native.Mathlib.Omega.{arith}
+use lib.Dec.{eqb, leb}
+use lib.ListN.{length, getD, take, drop, length-append, length-take, length-drop, take-append-drop, drop-of-length-le, List·getD-eq-default}
+use lib.Seq.{drop-cons, drop-drop, getD-drop, getD-take, take-append-seam, ext-getD, length-take-le, getD-append-add}
+use borrow.Author.Tests.{eq-eqb, ne-eqb, le-leb, leb-true, eqb-true, eqb-false}
+use Rattle.reckon.specs.Tests.{pick, allBelow}
+use Rattle.reckon.proofs.TestLaws.{not-both, pick-true, pick-false, pick-both, all-at, all-of}
+use Rattle.text.specs.Reading.{tab, newline, mostNumber, mostFields, isByte, wordAt, isDigit, digitsOf, valueFrom, wellFormed, numberOf, numberAt, fieldAt, Reading, before, withNumber, readFields, ended, readRest, readLine, padded, asFields, lineLength, nextLine}
+use Rattle.text.specs.Reading.Reading.{read, unread}
+use Rattle.text.specs.Writing.{digitsIn, decimal, fieldText, fieldsText, restText, lineText, plain, Readable, Stands, StandAlone, AsWritten}
+use Rattle.text.specs.declared.reading.Number.{Number}
+use Rattle.text.specs.declared.reading.Number.the-variants.{Is, Not}
+use Rattle.text.specs.declared.reading.Fields.{Fields}
+use Rattle.text.proofs.ReadingLaws.{by-test, by-lt, sameAt, byte-here, byte-within, byte-same, word-within, word-all, word-same, digit-is, digit-under, digit-low, digit-high, digits-here, digits-end, first-many, length-padded, getD-padded, fields-more}
+use Rattle.text.proofs.WritingLaws.{decimal-small, decimal-large}
+
+pub stands-none : (s : List ℕ) (p : ℕ) → Stands s p [] p
+stands-none s p = record { after = sym (add-zero p); text = refl }
+
+pub stands-both : {s t u : List ℕ} {p q r : ℕ} → Stands s p t q → Stands s q u r → Stands s p (t ++ u) r
+stands-both {s} {t} {u} {p} {q} {r} a b =
+    record {
+      after = omega (arith, a .after, b .after, length-append t u);
+      text = a .text ∙ (ap (λ (l : List ℕ). t ++ l) (b .text) ∙ sym (append-assoc t u (drop r s)));
+    }
+
+-- a text that stands, cut after t
+module _ {s : List ℕ} {p r : ℕ} (t u : List ℕ) (a : Stands s p (t ++ u) r) where
+  after-first : drop (p + length t) s ≡ u ++ drop r s
+  after-first =
+      sym (drop-drop (length t) p s)
+      ∙ (ap (drop (length t)) (a .text ∙ append-assoc t u (drop r s)) ∙ lib.Seq.drop-append-seam t (u ++ drop r s))
+
+  pub stands-first : Stands s p t (p + length t)
+  stands-first =
+      record { after = refl; text = a .text ∙ (append-assoc t u (drop r s) ∙ ap (λ (l : List ℕ). t ++ l) (sym after-first)) }
+
+  pub stands-second : Stands s (p + length t) u r
+  stands-second = record { after = omega (arith, a .after, length-append t u); text = after-first }
+
+-- a text with a byte in it ends within
+pub stands-within : {s : List ℕ} {p q b : ℕ} {t : List ℕ} → Stands s p (b ∷ t) q → q ≤ length s
+stands-within {s} {p} {q} {b} {t} a =
+    omega (arith, a .after, ap length (a .text), length-append (b ∷ t) (drop q s), length-drop p s, length-drop q s)
+
+pub stands-byte : (s : List ℕ) (p b : ℕ) → isByte s p b ≡ true → Stands s p (b ∷ []) (p + 1)
+stands-byte s p b e =
+    record { after = refl; text = drop-cons s p 0 (byte-within s p b e) ∙ rw (byte-same s p b e, add-one) }
+
+pub byte-stands : {s t : List ℕ} {p q b : ℕ} → Stands s p (b ∷ t) q → (getD s p 0 ≡ b) × (isByte s p b ≡ true)
+byte-stands {s} {t} {p} {q} {b} a =
+    let e : getD s p 0 ≡ b = ap (λ (k : ℕ). getD s k 0) (sym (add-zero p)) ∙ (sym (getD-drop p s 0 0) ∙ ap (λ (l : List ℕ). getD l 0 0) (a .text)) in
+    let h : p < length s = omega (arith, a .after, stands-within a) in
+    (e, byte-here s p b h ∙ eq-eqb _ _ e)
+
+pub stands-word : (s : List ℕ) (p : ℕ) (word : List ℕ) → wordAt s p word ≡ true → Stands s p word (p + length word)
+stands-word s p word e =
+    let h : p + length word ≤ length s = word-within s p word e in
+    let long : length (take (length word) (drop p s)) ≡ length word = length-take-le (length word) (drop p s) (rw (length-drop p s) (omega arith)) in
+    let same : take (length word) (drop p s) ≡ word =
+    ext-getD 0 (take (length word) (drop p s)) word long
+    (λ i l.
+    let m : i < length word = omega arith in
+    getD-take (length word) (drop p s) i 0 m
+    ∙ (getD-drop p s i 0 ∙ eqb-true _ _ (all-at (length word) (sameAt s p word) (word-all s p word e) i m))) in
+    record {
+      after = refl;
+      text =
+          sym (take-append-drop (length word) (drop p s))
+          ∙ (ap (λ (l : List ℕ). l ++ drop (length word) (drop p s)) same ∙ ap (λ (l : List ℕ). word ++ l) (drop-drop (length word) p s));
+    }
+
+pub word-stands : {s word : List ℕ} {p q : ℕ} → q ≤ length s → Stands s p word q → wordAt s p word ≡ true
+word-stands {s} {word} {p} {q} h a =
+    word-same s p word (omega (arith, a .after))
+    (all-of (length word) (sameAt s p word)
+    (λ i l.
+    eq-eqb _ _
+    (sym (getD-drop p s i 0)
+    ∙ (ap (λ (t : List ℕ). getD t i 0) (a .text) ∙ lib.ListN.List·getD-append word (drop q s) 0 i l))))
+
