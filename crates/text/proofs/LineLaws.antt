@@ -2,7 +2,7 @@
 -- so that carrying the position passes each byte once.
 -- Assumes nothing.
 use mathlib.Core.Path.{_≡_, refl, sym, ap, subst, _∙_}
-use mathlib.Core.Bool.{Bool, true, false}
+use mathlib.Core.Bool.{true}
 use mathlib.Core.Logic.{_⊎_, inl, inr, ⊎-elim}
 use mathlib.Core.List.{List, [], _∷_, _++_, append-assoc}
 use Prim.Native.Nat.{ℕ, zero, suc, _+_, _/_, _%_, _≤_, _<_}
@@ -13,7 +13,6 @@ use native.Mathlib.Omega.{arith}
 use lib.Dec.{eqb}
 use lib.ListN.{length, getD, drop, length-append}
 use borrow.Author.Tests.{eq-eqb, ne-eqb}
-use Rattle.reckon.specs.Tests.{pick}
 use Rattle.reckon.specs.Lists.{sumBelow}
 use Rattle.reckon.proofs.ListLaws.{sum-none, sum-more}
 use Rattle.reckon.proofs.TestLaws.{not-both, pick-true, pick-false}
@@ -127,7 +126,7 @@ next-passes (suc f) s p h g =
         inl (rw (next-here s p l e) (sum-more p (endsAt s) ∙ ap (λ (k : ℕ). sumBelow p (endsAt s) + k) (pick-true 1 0 (eq-eqb _ _ e))))
     go l (no e) ih =
         let z : sumBelow (p + 1) (endsAt s) ≡ sumBelow p (endsAt s) =
-            sum-more p (endsAt s) ∙ (ap (λ (k : ℕ). sumBelow p (endsAt s) + k) (pick-false 1 0 (ne-eqb _ _ e)) ∙ omega arith) in
+        sum-more p (endsAt s) ∙ (ap (λ (k : ℕ). sumBelow p (endsAt s) + k) (pick-false 1 0 (ne-eqb _ _ e)) ∙ omega arith) in
         ⊎-elim
         (λ a. inl (ap (λ (k : ℕ). sumBelow k (endsAt s)) (next-later s p l e) ∙ (a ∙ ap (λ (k : ℕ). k + 1) z)))
         (λ a. inr (sym z ∙ a)) ih

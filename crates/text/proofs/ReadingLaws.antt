@@ -1,24 +1,22 @@
 -- Laws of reading at a position, for the loops and returns of the readers: each says what one byte more tells.
 -- Assumes nothing.
-use mathlib.Core.Path.{_≡_, refl, sym, ap, ap₂, _∙_, subst}
+use mathlib.Core.Path.{_≡_, refl, sym, ap, ap₂, _∙_}
 use mathlib.Core.Bool.{Bool, true, false, _&&_}
 use mathlib.Core.List.{List, [], _∷_, _++_, append-assoc}
-use Prim.Native.Nat.{ℕ, zero, suc, _+_, _-_, _*_, _≤_, _<_}
+use Prim.Native.Nat.{ℕ, suc, _+_, _-_, _*_, _≤_, _<_}
 use native.Mathlib.Nat.{sub-zero, add-zero, add-suc, suc-add}
 use native.Mathlib.Numerals.{add-one}
-use native.Mathlib.Decide.{ℕ-discrete, decLt}
+use native.Mathlib.Decide.{ℕ-discrete}
 use native.Mathlib.Omega.{arith}
 use lib.Dec.{eqb, ltb, leb}
 use lib.ListN.{length, getD, set, drop, length-set, length-append, drop-of-length-le, List·getD-eq-default, List·getD-append}
 use lib.Seq.{drop-cons, getD-set-same, getD-set-other, getD-append-seam}
 use borrow.Author.Tests.{lt-ltb, le-ltb, le-leb, lt-leb, eq-eqb, ne-eqb, ltb-true, ltb-false, leb-true, eqb-true}
 use Rattle.reckon.specs.Tests.{pick, allBelow}
-use Rattle.reckon.specs.Lists.{tabulate, sumBelow}
-use Rattle.reckon.proofs.TestLaws.{not-both, pick-true, pick-false, pick-both, pick-same, and-left, and-right, and-both, and-false, all-fails}
-use Rattle.reckon.proofs.ListLaws.{length-tabulate, getD-tabulate, is-tabulate, sum-le, sum-more}
-use Rattle.text.specs.Reading.{newline, mostNumber, mostFields, isByte, wordAt, isDigit, digitsOf, valueFrom, wellFormed, numberOf, numberAt, fieldAt, Reading, before, withNumber, readFields, ended, padded, asFields, lineLength, nextLine, lineFrom, lineCount}
+use Rattle.reckon.proofs.TestLaws.{not-both, pick-true, pick-false, pick-both, and-left, and-right, and-both, and-false, all-fails}
+use Rattle.reckon.proofs.ListLaws.{length-tabulate, getD-tabulate, is-tabulate}
+use Rattle.text.specs.Reading.{newline, mostNumber, mostFields, isByte, wordAt, isDigit, digitsOf, valueFrom, wellFormed, numberOf, numberAt, fieldAt, Reading, before, readFields, ended, padded, asFields, lineLength, nextLine}
 use Rattle.text.specs.Reading.Reading.{read, unread}
-use Rattle.text.specs.declared.reading.Number.{Number}
 use Rattle.text.specs.declared.reading.Number.the-variants.{Is, Not}
 use Rattle.text.specs.declared.reading.Fields.{Fields}
 

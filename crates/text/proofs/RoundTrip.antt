@@ -2,26 +2,23 @@
 -- A number's digits are read one by one as they are written; fields and lines are parts that stand one after the other.
 -- Assumes nothing.
 use mathlib.Core.Path.{_≡_, refl, sym, ap, subst, _∙_}
-use mathlib.Core.Bool.{Bool, true, false}
+use mathlib.Core.Bool.{true, false}
 use mathlib.Core.List.{List, [], _∷_, _++_, append-assoc}
 use Prim.Native.Nat.{ℕ, zero, suc, _+_, _-_, _*_, _/_, _%_, _≤_, _<_}
-use native.Mathlib.Nat.{not-suc-le-zero, add-zero, add-assoc}
-use native.Mathlib.Numerals.{add-one}
-use native.Mathlib.Decide.{ℕ-discrete}
+use native.Mathlib.Nat.{not-suc-le-zero, add-zero}
 use native.Mathlib.Omega.{arith}
-use lib.Dec.{eqb, leb}
-use lib.ListN.{length, getD, take, drop, length-append, length-take, length-drop, take-append-drop, drop-of-length-le, List·getD-eq-default}
-use lib.Seq.{drop-cons, drop-drop, getD-drop, getD-take, take-append-seam, ext-getD, length-take-le, getD-append-add}
-use borrow.Author.Tests.{eq-eqb, ne-eqb, le-leb, leb-true, eqb-true, eqb-false}
-use Rattle.reckon.specs.Tests.{pick, allBelow}
-use Rattle.reckon.proofs.TestLaws.{not-both, pick-true, pick-false, pick-both, all-at, all-of}
-use Rattle.text.specs.Reading.{tab, newline, mostNumber, mostFields, isByte, wordAt, isDigit, digitsOf, valueFrom, wellFormed, numberOf, numberAt, fieldAt, Reading, before, withNumber, readFields, ended, readRest, readLine, padded, asFields, lineLength, nextLine}
+use lib.Dec.{leb}
+use lib.ListN.{length, getD, take, drop, length-append, length-drop}
+use lib.Seq.{drop-drop, getD-drop, getD-take, ext-getD, length-take-le}
+use borrow.Author.Tests.{le-leb, leb-true}
+use Rattle.reckon.proofs.TestLaws.{not-both, pick-true, pick-false, pick-both}
+use Rattle.text.specs.Reading.{tab, newline, mostNumber, mostFields, isByte, wordAt, isDigit, digitsOf, valueFrom, wellFormed, numberOf, numberAt, fieldAt, Reading, before, withNumber, readFields, ended, readRest, readLine, padded, asFields}
 use Rattle.text.specs.Reading.Reading.{read, unread}
-use Rattle.text.specs.Writing.{digitsIn, decimal, fieldText, fieldsText, restText, lineText, plain, Readable, Stands, StandAlone, AsWritten}
+use Rattle.text.specs.Writing.{decimal, fieldText, fieldsText, restText, lineText, Readable, Stands, StandAlone, AsWritten}
 use Rattle.text.specs.declared.reading.Number.{Number}
 use Rattle.text.specs.declared.reading.Number.the-variants.{Is, Not}
 use Rattle.text.specs.declared.reading.Fields.{Fields}
-use Rattle.text.proofs.ReadingLaws.{by-test, by-lt, sameAt, byte-here, byte-within, byte-same, word-within, word-all, word-same, digit-is, digit-under, digit-low, digit-high, digits-here, digits-end, first-many, length-padded, getD-padded, fields-more}
+use Rattle.text.proofs.ReadingLaws.{by-test, by-lt, digit-is, digit-under, digit-low, digit-high, first-many, length-padded, getD-padded, fields-more}
 use Rattle.text.proofs.StandLaws.{stands-none, stands-both, stands-first, stands-second, stands-within, stands-byte, byte-stands, stands-word, word-stands}
 use Rattle.text.proofs.WritingLaws.{decimal-small, decimal-large}
 

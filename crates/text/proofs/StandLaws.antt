@@ -1,27 +1,19 @@
 -- Laws of a text that stands in another: its parts stand one after the other, and a byte or a word is read exactly where it stands.
 -- Assumes nothing.
-use mathlib.Core.Path.{_≡_, refl, sym, ap, subst, _∙_}
-use mathlib.Core.Bool.{Bool, true, false}
+use mathlib.Core.Path.{_≡_, refl, sym, ap, _∙_}
+use mathlib.Core.Bool.{true}
 use mathlib.Core.List.{List, [], _∷_, _++_, append-assoc}
-use Prim.Native.Nat.{ℕ, zero, suc, _+_, _-_, _*_, _/_, _%_, _≤_, _<_}
-use native.Mathlib.Nat.{not-suc-le-zero, add-zero, add-assoc}
+use Prim.Native.Nat.{ℕ, _+_, _-_, _≤_, _<_}
+use native.Mathlib.Nat.{add-zero}
 use native.Mathlib.Numerals.{add-one}
-use native.Mathlib.Decide.{ℕ-discrete}
 use native.Mathlib.Omega.{arith}
-use lib.Dec.{eqb, leb}
-use lib.ListN.{length, getD, take, drop, length-append, length-take, length-drop, take-append-drop, drop-of-length-le, List·getD-eq-default}
-use lib.Seq.{drop-cons, drop-drop, getD-drop, getD-take, take-append-seam, ext-getD, length-take-le, getD-append-add}
-use borrow.Author.Tests.{eq-eqb, ne-eqb, le-leb, leb-true, eqb-true, eqb-false}
-use Rattle.reckon.specs.Tests.{pick, allBelow}
-use Rattle.reckon.proofs.TestLaws.{not-both, pick-true, pick-false, pick-both, all-at, all-of}
-use Rattle.text.specs.Reading.{tab, newline, mostNumber, mostFields, isByte, wordAt, isDigit, digitsOf, valueFrom, wellFormed, numberOf, numberAt, fieldAt, Reading, before, withNumber, readFields, ended, readRest, readLine, padded, asFields, lineLength, nextLine}
-use Rattle.text.specs.Reading.Reading.{read, unread}
-use Rattle.text.specs.Writing.{digitsIn, decimal, fieldText, fieldsText, restText, lineText, plain, Readable, Stands, StandAlone, AsWritten}
-use Rattle.text.specs.declared.reading.Number.{Number}
-use Rattle.text.specs.declared.reading.Number.the-variants.{Is, Not}
-use Rattle.text.specs.declared.reading.Fields.{Fields}
-use Rattle.text.proofs.ReadingLaws.{by-test, by-lt, sameAt, byte-here, byte-within, byte-same, word-within, word-all, word-same, digit-is, digit-under, digit-low, digit-high, digits-here, digits-end, first-many, length-padded, getD-padded, fields-more}
-use Rattle.text.proofs.WritingLaws.{decimal-small, decimal-large}
+use lib.ListN.{length, getD, take, drop, length-append, length-drop, take-append-drop}
+use lib.Seq.{drop-cons, drop-drop, getD-drop, getD-take, ext-getD, length-take-le}
+use borrow.Author.Tests.{eq-eqb, eqb-true}
+use Rattle.reckon.proofs.TestLaws.{all-at, all-of}
+use Rattle.text.specs.Reading.{isByte, wordAt}
+use Rattle.text.specs.Writing.{Stands}
+use Rattle.text.proofs.ReadingLaws.{sameAt, byte-here, byte-within, byte-same, word-within, word-all, word-same}
 
 pub stands-none : (s : List ℕ) (p : ℕ) → Stands s p [] p
 stands-none s p = record { after = sym (add-zero p); text = refl }
@@ -87,4 +79,3 @@ word-stands {s} {word} {p} {q} h a =
     eq-eqb _ _
     (sym (getD-drop p s i 0)
     ∙ (ap (λ (t : List ℕ). getD t i 0) (a .text) ∙ lib.ListN.List·getD-append word (drop q s) 0 i l))))
-

@@ -1,18 +1,14 @@
 -- Laws of writing: a number's digits, one by one; a text put into a room piece by piece is the whole text put there.
 -- Assumes nothing.
 use mathlib.Core.Path.{_≡_, refl, sym, ap, _∙_}
-use mathlib.Core.Bool.{Bool}
 use mathlib.Core.List.{List, [], _∷_, _++_, append-assoc}
-use Prim.Native.Nat.{ℕ, zero, suc, _+_, _-_, _*_, _/_, _%_, _^_, _≤_, _<_}
+use Prim.Native.Nat.{ℕ, zero, suc, _+_, _-_, _/_, _%_, _^_, _≤_, _<_}
 use native.Mathlib.Nat.{add-zero, add-suc, suc-add, not-suc-le-zero, pow-suc}
 use native.Mathlib.Numerals.{add-one}
 use native.Mathlib.Omega.{arith}
-use lib.Dec.{ltb}
 use lib.ListN.{length, getD, set, take, drop, length-append, take-append-drop, drop-of-length-le}
-use lib.Seq.{sets, sets-eq, length-sets, paste, drop-drop, drop-cons, take-length}
-use borrow.Author.Tests.{lt-ltb, le-ltb}
+use lib.Seq.{sets, sets-eq, paste, drop-drop, drop-cons, take-length}
 use Rattle.reckon.specs.Lists.{placed}
-use Rattle.reckon.proofs.TestLaws.{pick-true, pick-false}
 use Rattle.reckon.proofs.ListLaws.{length-placed}
 use Rattle.text.specs.Reading.{newline}
 use Rattle.text.specs.Writing.{digitsIn, decimal, fieldText, fieldsText, restText, lineText, Wrote}

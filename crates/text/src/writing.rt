@@ -1,7 +1,6 @@
 // Text put into a lent room at a position. Each answers the position after it, and leaves all else in the room as it was.
 use crate::reading::NEWLINE;
 use crate::reading::TAB;
-ghost use mathlib.Core.Path.{_≡_};
 ghost use Prim.Native.Nat.{_+_, _<_, _≤_};
 ghost use lib.ListN.{length};
 ghost use Rattle.text.specs.Writing.{decimal, fieldText, fieldsText, lineText, PutByte, PutWord, PutNumber, PutField, PutFields, PutLine};

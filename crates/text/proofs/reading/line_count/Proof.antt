@@ -1,5 +1,7 @@
+-- `text::reading::line_count` meets its contract: the newlines among the bytes passed are counted.
+-- Assumes nothing.
 use Prim.Native.Nat.{_-_, _≤_}
-use mathlib.Core.Path.{_≡_, sym, ap, _∙_}
+use mathlib.Core.Path.{_≡_, sym}
 use native.Mathlib.Omega.{arith}
 use lib.ListN.{length}
 use borrow.Author.Needs.{needs}
@@ -9,56 +11,43 @@ use Rattle.text.specs.Reading.{lineCount}
 use Rattle.text.proofs.ReadingLaws.{endsAt, ends-few}
 use Rattle.text.proofs.reading.line_count.Statement.{statement}
 use Rattle.text.proofs.reading.line_count.Tie as tie
-use Rattle.text.proofs.reading.line_count.Reads as reads
-use Rattle.text.proofs.reading.line_count.Lts as lts
-use Rattle.text.proofs.reading.newline_at.Reads as newline-at-reads
 
 abbrev Inv-loop : tie.InvT-loop
-Inv-loop text count₀ i₀ count i =
-    (i ≤ length text) × (count ≤ i) × (count ≡ sumBelow i (endsAt text))
+Inv-loop text count₀ i₀ count i = (i ≤ length text) × (count ≤ i) × (count ≡ sumBelow i (endsAt text))
 
 abbrev μ-loop : tie.MeasureT-loop
-μ-loop text count₀ i₀ count i =
-    length text - i
+μ-loop text count₀ i₀ count i = length text - i
 
--- src/reading.rt:228:5
 loop-holds : tie.Need-loop-holds Inv-loop μ-loop
-loop-holds c =
-    (omega arith, omega arith, sym (sum-none _))
+loop-holds c = (omega arith, omega arith, sym (sum-none _))
 
--- src/reading.rt:229:18
 newline-at-requires : tie.Need-newline-at-requires Inv-loop μ-loop
-newline-at-requires c κs =
-    search needs
+newline-at-requires c κs = search needs
 
--- src/reading.rt:229:9
 add-count : tie.Need-add-count Inv-loop μ-loop
 add-count c =
-    omega (arith, c .newline-at .ensures, ends-few (c .before .before .before .before .args .text .now) (c .before .before .loop .i))
+    let a = c .before .before .before .before .args in
+    let l = c .before .before .loop in
+    omega (arith, c .newline-at .ensures, ends-few (a .text .now) (l .i))
 
--- src/reading.rt:230:9
 add-i : tie.Need-add-i Inv-loop μ-loop
-add-i c =
-    omega arith
+add-i c = omega arith
 
--- src/reading.rt:228:5
 loop-less : tie.Need-loop-less Inv-loop μ-loop
-loop-less c =
-    omega arith
+loop-less c = omega arith
 
--- src/reading.rt:228:5
 loop-again : tie.Need-loop-again Inv-loop μ-loop
-loop-again c = (
-  omega arith,
-  omega (arith, c .newline-at .ensures, ends-few (c .before .before .before .before .args .text .now) (c .before .before .loop .i)),
-  omega (arith, c .newline-at .ensures, c .before .before .loop .inv .2, sum-more (c .before .before .loop .i) (endsAt (c .before .before .before .before .args .text .now))),
-)
+loop-again c =
+    let a = c .before .before .before .before .args in
+    let l = c .before .before .loop in (
+      omega arith,
+      omega (arith, c .newline-at .ensures, ends-few (a .text .now) (l .i)),
+      omega (arith, c .newline-at .ensures, l .inv .2, sum-more (l .i) (endsAt (a .text .now))),
+    )
 
--- src/reading.rt:223:1
 returns : tie.Need-returns Inv-loop μ-loop
 unfolding lineCount
-returns c =
-    sum-whole _ (c .before .loop .inv .2) (omega arith)
+returns c = sum-whole _ (c .before .loop .inv .2) (omega arith)
 
 pub line-count-spec : {M : Type 1} → statement M
 line-count-spec =

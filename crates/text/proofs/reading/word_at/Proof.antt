@@ -1,6 +1,8 @@
+-- `text::reading::word_at` meets its contract: each byte passed is the word's.
+-- Assumes nothing.
 use Prim.Native.Nat.{_+_, _-_, _≤_}
-use mathlib.Core.Path.{_≡_, sym}
 use mathlib.Core.Bool.{true}
+use mathlib.Core.Path.{_≡_, sym}
 use native.Mathlib.Omega.{arith}
 use lib.ListN.{length}
 use borrow.Author.Tests.{eq-eqb}
@@ -9,77 +11,60 @@ use Rattle.reckon.proofs.TestLaws.{all-none, all-more, all-whole}
 use Rattle.text.proofs.ReadingLaws.{sameAt, word-past, word-differs, word-same}
 use Rattle.text.proofs.reading.word_at.Statement.{statement}
 use Rattle.text.proofs.reading.word_at.Tie as tie
-use Rattle.text.proofs.reading.word_at.Reads as reads
-use Rattle.text.proofs.reading.word_at.Lts as lts
 
 abbrev Inv-loop : tie.InvT-loop
 Inv-loop text at word i₀ i =
     (i ≤ length word) × (at + length word ≤ length text) × (allBelow i (sameAt text at word) ≡ true)
 
 abbrev μ-loop : tie.MeasureT-loop
-μ-loop text at word i₀ i =
-    length word - i
+μ-loop text at word i₀ i = length word - i
 
--- src/reading.rt:44:9
 returns : tie.Need-returns Inv-loop μ-loop
 returns c =
     sym (word-past (c .before .args .text .now) (c .before .args .at) (c .before .args .word .now) (omega arith))
 
--- src/reading.rt:46:8
 sub-if2 : tie.Need-sub-if2 Inv-loop μ-loop
-sub-if2 c =
-    omega arith
+sub-if2 c = omega arith
 
--- src/reading.rt:47:9
 returns-2 : tie.Need-returns-2 Inv-loop μ-loop
 returns-2 c =
-    sym (word-past (c .before .before .args .text .now) (c .before .before .args .at) (c .before .before .args .word .now) (omega arith))
+    let a = c .before .before .args in
+    sym (word-past (a .text .now) (a .at) (a .word .now) (omega arith))
 
--- src/reading.rt:50:5
 loop-holds : tie.Need-loop-holds Inv-loop μ-loop
-loop-holds c =
-    (omega arith, omega arith, all-none _)
+loop-holds c = (omega arith, omega arith, all-none _)
 
--- src/reading.rt:51:17
 add-if3 : tie.Need-add-if3 Inv-loop μ-loop
-add-if3 c =
-    omega arith
+add-if3 c = omega arith
 
--- src/reading.rt:51:12
 shared-slice-read-if3 : tie.Need-shared-slice-read-if3 Inv-loop μ-loop
-shared-slice-read-if3 c =
-    omega arith
+shared-slice-read-if3 c = omega arith
 
--- src/reading.rt:51:28
 shared-slice-read-if3-2 : tie.Need-shared-slice-read-if3-2 Inv-loop μ-loop
-shared-slice-read-if3-2 c =
-    omega arith
+shared-slice-read-if3-2 c = omega arith
 
--- src/reading.rt:52:13
 returns-3 : tie.Need-returns-3 Inv-loop μ-loop
 returns-3 c =
-    sym (word-differs (c .before .before .before .before .before .before .before .args .text .now) (c .before .before .before .before .before .before .before .args .at) (c .before .before .before .before .before .before .before .args .word .now) (c .before .before .before .before .loop .i) (omega arith) (c .if3 .taken))
+    let a = c .before .before .before .before .before .before .before .args in
+    let l = c .before .before .before .before .loop in
+    sym (word-differs (a .text .now) (a .at) (a .word .now) (l .i) (omega arith) (c .if3 .taken))
 
--- src/reading.rt:54:9
 add-i : tie.Need-add-i Inv-loop μ-loop
-add-i c =
-    omega arith
+add-i c = omega arith
 
--- src/reading.rt:50:5
 loop-less : tie.Need-loop-less Inv-loop μ-loop
-loop-less c =
-    omega arith
+loop-less c = omega arith
 
--- src/reading.rt:50:5
 loop-again : tie.Need-loop-again Inv-loop μ-loop
 loop-again c =
     (omega arith, omega arith, all-more _ _ (c .before .before .before .before .loop .inv .2) (eq-eqb _ _ (c .if3 .left)))
 
--- src/reading.rt:40:1
 returns-4 : tie.Need-returns-4 Inv-loop μ-loop
 returns-4 c =
+    let a = c .before .before .before .before .args in
+    let l = c .before .loop in
     sym
-    (word-same (c .before .before .before .before .args .text .now) (c .before .before .before .before .args .at) (c .before .before .before .before .args .word .now) (c .before .loop .inv .1) (all-whole _ (c .before .loop .inv .2) (omega arith)))
+    (word-same (a .text .now) (a .at) (a .word .now) (l .inv .1) (all-whole _ (l .inv .2) (omega arith)))
 
 pub word-at-spec : {M : Type 1} → statement M
 word-at-spec =

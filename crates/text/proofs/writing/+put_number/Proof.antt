@@ -1,30 +1,27 @@
 -- `text::writing::put_number` meets its contract: the digits before the last are the tenth's, and the number falls at each call of itself.
 -- Assumes nothing.
 use Prim.Native.Nat.{ℕ, _<_}
+use mathlib.Core.Path.{ap, _∙_}
 use native.Mathlib.Omega.{arith}
-use borrow.Author.Needs.{needs}
-use mathlib.Core.Path.{_≡_, refl, sym, ap, _∙_}
-use lib.ListN.{length, length-append}
-use Rattle.text.proofs.WritingLaws.{decimal-small, decimal-large, decimal-longer, wrote-both}
+use lib.ListN.{length}
 use borrow.Fn.Kinds.{In}
 use borrow.Fn.PlainCycle.{Measures, is, falls, and}
-use Rattle.text.proofs.writing.put_number.Reads as put-number
-use Rattle.text.proofs.writing.put_number.Kinds as put-number-kinds
+use Rattle.text.proofs.WritingLaws.{decimal-small, decimal-large, decimal-longer, wrote-both}
 use Rattle.text.proofs.writing.+put_number.Lts-put_number as put-number-lts
-use Rattle.text.proofs.writing.put_byte.Reads as put-byte-reads
-use Rattle.text.proofs.writing.+put_number.{statement}
 use Rattle.text.proofs.writing.+put_number.Tie.{close}
+use Rattle.text.proofs.writing.+put_number.{statement}
+use Rattle.text.proofs.writing.put_byte.Reads as put-byte-reads
+use Rattle.text.proofs.writing.put_number.Kinds as put-number-kinds
+use Rattle.text.proofs.writing.put_number.Reads as put-number
 
 abbrev μ-put-number : Measures 1 put-number-kinds.ps ℕ
 μ-put-number κs a = a .1 .1 .0
 
 abbrev put-number-at : ℕ → In 1 put-number-kinds.ps
-put-number-at t =
-    and 1 put-number-kinds.ps (is 1 put-number-kinds.ps μ-put-number t) put-number.Pre
+put-number-at t = and 1 put-number-kinds.ps (is 1 put-number-kinds.ps μ-put-number t) put-number.Pre
 
 abbrev put-number-below : ℕ → In 1 put-number-kinds.ps
-put-number-below t =
-    and 1 put-number-kinds.ps (falls 1 put-number-kinds.ps _<_ μ-put-number t) put-number.Pre
+put-number-below t = and 1 put-number-kinds.ps (falls 1 put-number-kinds.ps _<_ μ-put-number t) put-number.Pre
 
 put-number-add-put-byte : (t : ℕ) → put-number-lts.Need-add-put-byte (
   put-byte-reads.Asked,
@@ -57,8 +54,7 @@ put-number-same-length : (t : ℕ) → put-number-lts.Need-same-length (
   put-number-below t,
   put-number.Post,
 ) (put-number-at t) put-number.Post
-put-number-same-length t c =
-    c .before .before .put-byte .kept .0
+put-number-same-length t c = c .before .before .put-byte .kept .0
 
 put-number-returns : (t : ℕ) → put-number-lts.Need-returns (
   put-byte-reads.Asked,
