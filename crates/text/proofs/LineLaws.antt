@@ -56,7 +56,8 @@ pub plain-fields : (vs : List ℕ) → plain (fieldsText vs) ≡ true
 unfolding fieldsText fieldText
 plain-fields [] = plain-none
 plain-fields (v ∷ vs) =
-    plain-both (tab ∷ decimal v) (fieldsText vs) (plain-cons tab (decimal v) (λ z. omega arith) (plain-decimal v)) (plain-fields vs)
+    plain-both (tab ∷ decimal v) (fieldsText vs) (plain-cons tab (decimal v) (λ z. omega arith) (plain-decimal v))
+    (plain-fields vs)
 
 -- ---- where a line ends
 
@@ -76,7 +77,8 @@ pub line-ends : {s : List ℕ} {p q : ℕ} (t : List ℕ) → plain t ≡ true �
 unfolding nextLine
 line-ends {s} {p} {q} t e a =
     let l : lineLength (drop p s) ≡ length t + 1 =
-    ap lineLength (a .text ∙ append-assoc t (newline ∷ []) (drop q s)) ∙ (plain-length t (newline ∷ drop q s) e ∙ ap (λ (k : ℕ). length t + k) (newline-length (drop q s))) in
+    ap lineLength (a .text ∙ append-assoc t (newline ∷ []) (drop q s))
+    ∙ (plain-length t (newline ∷ drop q s) e ∙ ap (λ (k : ℕ). length t + k) (newline-length (drop q s))) in
     omega (arith, a .after, length-append t (newline ∷ []))
 
 -- a line of a kind that is read ends where the next line starts
@@ -120,10 +122,12 @@ next-passes (suc f) s p h g =
   where
     go :
         p < length s → Dec (getD s p 0 ≡ newline) →
-        (sumBelow (nextLine s (p + 1)) (endsAt s) ≡ sumBelow (p + 1) (endsAt s) + 1) ⊎ (sumBelow (p + 1) (endsAt s) ≡ lineCount s) →
+        (sumBelow (nextLine s (p + 1)) (endsAt s) ≡ sumBelow (p + 1) (endsAt s) + 1) ⊎
+        (sumBelow (p + 1) (endsAt s) ≡ lineCount s) →
         (sumBelow (nextLine s p) (endsAt s) ≡ sumBelow p (endsAt s) + 1) ⊎ (sumBelow p (endsAt s) ≡ lineCount s)
     go l (yes e) ih =
-        inl (rw (next-here s p l e) (sum-more p (endsAt s) ∙ ap (λ (k : ℕ). sumBelow p (endsAt s) + k) (pick-true 1 0 (eq-eqb _ _ e))))
+        inl (rw (next-here s p l e)
+        (sum-more p (endsAt s) ∙ ap (λ (k : ℕ). sumBelow p (endsAt s) + k) (pick-true 1 0 (eq-eqb _ _ e))))
     go l (no e) ih =
         let z : sumBelow (p + 1) (endsAt s) ≡ sumBelow p (endsAt s) =
         sum-more p (endsAt s) ∙ (ap (λ (k : ℕ). sumBelow p (endsAt s) + k) (pick-false 1 0 (ne-eqb _ _ e)) ∙ omega arith) in

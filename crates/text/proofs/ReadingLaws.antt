@@ -2,14 +2,14 @@
 -- Assumes nothing.
 use mathlib.Core.Path.{_≡_, refl, sym, ap, ap₂, _∙_}
 use mathlib.Core.Bool.{Bool, true, false, _&&_}
-use mathlib.Core.List.{List, [], _∷_, _++_, append-assoc}
+use mathlib.Core.List.{List, [], _∷_, _++_, append-assoc, append-nil}
 use Prim.Native.Nat.{ℕ, suc, _+_, _-_, _*_, _≤_, _<_}
 use native.Mathlib.Nat.{sub-zero, add-zero, add-suc, suc-add}
 use native.Mathlib.Numerals.{add-one}
 use native.Mathlib.Decide.{ℕ-discrete}
 use native.Mathlib.Omega.{arith}
 use lib.Dec.{eqb, ltb, leb}
-use lib.ListN.{length, getD, set, drop, length-set, length-append, drop-of-length-le, List·getD-eq-default, List·getD-append}
+use lib.ListN.{length, getD, set, drop, length-set, length-append, length-drop, drop-of-length-le, List·getD-eq-default, List·getD-append}
 use lib.Seq.{drop-cons, getD-set-same, getD-set-other, getD-append-seam}
 use borrow.Author.Tests.{lt-ltb, le-ltb, le-leb, lt-leb, eq-eqb, ne-eqb, ltb-true, ltb-false, leb-true, eqb-true}
 use Rattle.reckon.specs.Tests.{pick, allBelow}
@@ -177,7 +177,8 @@ module _ (s : List ℕ) (p : ℕ) where
         let g : isDigit (getD s (p + 1) 0) ≡ true = and-right (eqb (getD s p 0) 48) _ f in
         pick-false _ _ (rw (digits-here s p e, digits-here s (p + 1) g, z))
 
-    pub number-good : (eqb (getD s p 0) 48 && isDigit (getD s (p + 1) 0)) ≡ false → numberAt s p ≡ numberOf (digitsOf (drop p s)) p
+    pub number-good :
+        (eqb (getD s p 0) 48 && isDigit (getD s (p + 1) 0)) ≡ false → numberAt s p ≡ numberOf (digitsOf (drop p s)) p
     unfolding numberAt wellFormed
     number-good f = pick-true _ _ (rw (digits-here s p e) (good (ℕ-discrete (getD s p 0) 48)))
       where
@@ -236,7 +237,8 @@ padded-more vs v h =
         getD-set-other (padded vs) (length vs) i v 0 z
         ∙ (getD-padded vs i l
         ∙ by-lt i (length vs) (λ m. sym (List·getD-append vs (v ∷ []) 0 i m))
-        (λ m. List·getD-eq-default vs 0 m ∙ sym (List·getD-eq-default (vs ++ (v ∷ [])) 0 (omega (arith, length-append vs (v ∷ []), z)))))
+        (λ m. List·getD-eq-default vs 0 m
+        ∙ sym (List·getD-eq-default (vs ++ (v ∷ [])) 0 (omega (arith, length-append vs (v ∷ []), z)))))
 
 -- i of count fields were read from `at` up to p, and stand in values
 pub record Got (s : List ℕ) (at count : ℕ) (values : List ℕ) (p i : ℕ) : Type 0 where
@@ -248,7 +250,13 @@ pub record Got (s : List ℕ) (at count : ℕ) (values : List ℕ) (p i : ℕ) :
 
 pub got-none : (s : List ℕ) (at count : ℕ) (values : List ℕ) → values ≡ padded [] → Got s at count values at 0
 got-none s at count values e =
-    record { done = []; many = refl; within = omega arith; held = e; left = sym (before-none (readFields s at (count - 0)) ∙ rw sub-zero) }
+    record {
+      done = [];
+      many = refl;
+      within = omega arith;
+      held = e;
+      left = sym (before-none (readFields s at (count - 0)) ∙ rw sub-zero);
+    }
 
 module _ {s : List ℕ} {at count : ℕ} {values : List ℕ} {p i : ℕ} (g : Got s at count values p i) where
   pub got-all : count ≤ i → record { found = true; values = values; next = p } ≡ asFields at (readFields s at count)
@@ -256,7 +264,7 @@ module _ {s : List ℕ} {at count : ℕ} {values : List ℕ} {p i : ℕ} (g : Go
   got-all h =
       let z : count - i ≡ 0 = omega (arith, g .within) in
       let e : readFields s at count ≡ before (g .done) (read [] p) = g .left ∙ rw (z, fields-none s p) in
-      rw (e, g .held, mathlib.Core.List.append-nil)
+      rw (e, g .held, append-nil)
 
   module _ (h : i < count) where
     one-left : count - i ≡ suc (count - (i + 1))
@@ -343,8 +351,11 @@ module _ (s : List ℕ) (p : ℕ) where
   unfolding nextLine lineLength
   next-further h =
       rw (drop-cons s p 0 h)
-      (omega
-      (arith, pick-both (λ (k : ℕ). 0 < k) (eqb (getD s p 0) newline) {x = 1} {y = suc (lineLength (drop (suc p) s))} (omega arith) (omega arith)))
+      (omega (
+        arith,
+        pick-both (λ (k : ℕ). 0 < k) (eqb (getD s p 0) newline) {x = 1} {y = suc (lineLength (drop (suc p) s))}
+            (omega arith) (omega arith),
+      ))
 
 line-length-le : (l : List ℕ) → lineLength l ≤ length l
 unfolding lineLength
@@ -354,7 +365,7 @@ line-length-le (b ∷ l) =
 
 pub next-within : (s : List ℕ) (p : ℕ) → p ≤ length s → nextLine s p ≤ length s
 unfolding nextLine
-next-within s p h = omega (arith, line-length-le (drop p s), lib.ListN.length-drop p s)
+next-within s p h = omega (arith, line-length-le (drop p s), length-drop p s)
 
 -- a newline counts as a line
 abbrev pub endsAt : List ℕ → ℕ → ℕ

@@ -3,7 +3,7 @@
 -- Assumes nothing.
 use mathlib.Core.Path.{_≡_, refl, sym, ap, subst, _∙_}
 use mathlib.Core.Bool.{true, false}
-use mathlib.Core.List.{List, [], _∷_, _++_, append-assoc}
+use mathlib.Core.List.{List, [], _∷_, _++_, append-assoc, append-nil}
 use Prim.Native.Nat.{ℕ, zero, suc, _+_, _-_, _*_, _/_, _%_, _≤_, _<_}
 use native.Mathlib.Nat.{not-suc-le-zero, add-zero}
 use native.Mathlib.Omega.{arith}
@@ -61,7 +61,8 @@ figures-small n h =
 figures-more : (t : List ℕ) (n d : ℕ) → d < 10 → Figures t n → Figures (t ++ ((48 + d) ∷ [])) (n * 10 + d)
 figures-more t n d h f =
     let one : digitsOf ((48 + d) ∷ []) ≡ d ∷ [] = digits-cons d [] h ∙ rw digits-none in
-    let all : digitsOf (t ++ ((48 + d) ∷ [])) ≡ digitsOf t ++ (d ∷ []) = f .apart ((48 + d) ∷ []) ∙ ap (λ (l : List ℕ). digitsOf t ++ l) one in
+    let all : digitsOf (t ++ ((48 + d) ∷ [])) ≡ digitsOf t ++ (d ∷ []) =
+    f .apart ((48 + d) ∷ []) ∙ ap (λ (l : List ℕ). digitsOf t ++ l) one in
     record {
       apart = λ rest.
           ap digitsOf (append-assoc t ((48 + d) ∷ []) rest)
@@ -92,7 +93,8 @@ decimal-figures (suc f) n h =
     let ih = decimal-figures f (n / 10) (omega arith) in
     let z : n / 10 * 10 + n % 10 ≡ n = omega arith in
     rw (decimal-large n l) (
-      ap-figures (decimal (n / 10) ++ ((48 + n % 10) ∷ [])) z (figures-more (decimal (n / 10)) (n / 10) (n % 10) (omega arith) (ih .0)),
+      ap-figures (decimal (n / 10) ++ ((48 + n % 10) ∷ [])) z
+          (figures-more (decimal (n / 10)) (n / 10) (n % 10) (omega arith) (ih .0)),
       λ o. rw (ih .0 .apart ((48 + n % 10) ∷ [])) (lead-append (digitsOf (decimal (n / 10))) _ (ih .1 (omega arith))),
     ))
   where
@@ -126,7 +128,8 @@ unfolding numberAt numberOf
 number-back {s} {p} {q} n a =
     let rest : digitsOf (drop q s) ≡ [] = digits-front (drop q s) (ap isDigit (front-after s q) ∙ a .alone) in
     let ds : digitsOf (drop p s) ≡ digitsOf (decimal n) =
-    ap digitsOf (a .stands .text) ∙ (figures n .apart (drop q s) ∙ (rw rest (mathlib.Core.List.append-nil (digitsOf (decimal n))))) in
+    ap digitsOf (a .stands .text)
+    ∙ (figures n .apart (drop q s) ∙ (rw rest (append-nil (digitsOf (decimal n))))) in
     let e : p + length (digitsOf (decimal n)) ≡ q = rw (figures n .long) (sym (a .stands .after)) in
     rw (ds, decimal-formed n, figures n .worth, e)
     (pick-true _ _ refl ∙ pick-true _ _ (le-leb n mostNumber (a .readable .0)))
@@ -160,13 +163,15 @@ digits-few (b ∷ l) =
     pick-both (λ (ds : List ℕ). length ds ≤ suc (length l)) (isDigit b) (omega (arith, digits-few l)) (omega arith)
 
 -- digits that are well formed are the digits of their number
-formed-text : (l : List ℕ) → wellFormed (digitsOf l) ≡ true → decimal (valueFrom 0 (digitsOf l)) ++ drop (length (digitsOf l)) l ≡ l
+formed-text :
+    (l : List ℕ) → wellFormed (digitsOf l) ≡ true → decimal (valueFrom 0 (digitsOf l)) ++ drop (length (digitsOf l)) l ≡ l
 unfolding digitsOf valueFrom wellFormed
 formed-text [] w = not-both w refl
 formed-text (b ∷ l) w =
     by-test (isDigit b)
     (λ e.
-    let z : valueFrom 0 ((b - 48) ∷ digitsOf l) ≡ valueFrom (b - 48) (digitsOf l) = ap (λ (k : ℕ). valueFrom k (digitsOf l)) (omega arith) in
+    let z : valueFrom 0 ((b - 48) ∷ digitsOf l) ≡ valueFrom (b - 48) (digitsOf l) =
+    ap (λ (k : ℕ). valueFrom k (digitsOf l)) (omega arith) in
     let y : 48 + (b - 48) ≡ b = omega (arith, digit-low b e) in
     let v : wellFormed ((b - 48) ∷ digitsOf l) ≡ true = rw (pick-true ((b - 48) ∷ digitsOf l) [] e) at w in
     rw (pick-true ((b - 48) ∷ digitsOf l) [] e, z)
@@ -197,7 +202,8 @@ number-only s p {n} {q} e =
 
     known :
         wellFormed (digitsOf (drop p s)) ≡ true → valueFrom 0 (digitsOf (drop p s)) ≤ mostNumber →
-        Is (valueFrom 0 (digitsOf (drop p s))) (p + length (digitsOf (drop p s))) ≡ Is n q → StandAlone s p (decimal n) (n ∷ []) q
+        Is (valueFrom 0 (digitsOf (drop p s))) (p + length (digitsOf (drop p s))) ≡ Is n q →
+        StandAlone s p (decimal n) (n ∷ []) q
     known w m e =
         let v : valueFrom 0 (digitsOf (drop p s)) ≡ n = cc in
         let r : p + length (digitsOf (drop p s)) ≡ q = cc in
@@ -205,10 +211,21 @@ number-only s p {n} {q} e =
         rw v at (formed-text (drop p s) w) in
         record {
           stands = record {
-            after = omega (arith, ap length t, length-append (decimal n) (drop (length (digitsOf (drop p s))) (drop p s)), length-drop (length (digitsOf (drop p s))) (drop p s), digits-few (drop p s));
-            text = sym t ∙ ap (λ (l : List ℕ). decimal n ++ l) (drop-drop (length (digitsOf (drop p s))) p s ∙ ap (λ (k : ℕ). drop k s) r);
+            after =
+                omega (
+                  arith,
+                  ap length t,
+                  length-append (decimal n) (drop (length (digitsOf (drop p s))) (drop p s)),
+                  length-drop (length (digitsOf (drop p s))) (drop p s),
+                  digits-few (drop p s),
+                );
+            text =
+                sym t ∙ ap (λ (l : List ℕ). decimal n ++ l)
+                (drop-drop (length (digitsOf (drop p s))) p s ∙ ap (λ (k : ℕ). drop k s) r);
           };
-          alone = ap (λ (k : ℕ). isDigit (getD s k 0)) (sym r) ∙ (ap isDigit (sym (getD-drop p s (length (digitsOf (drop p s))) 0)) ∙ digits-stop (drop p s));
+          alone =
+              ap (λ (k : ℕ). isDigit (getD s k 0)) (sym r)
+              ∙ (ap isDigit (sym (getD-drop p s (length (digitsOf (drop p s))) 0)) ∙ digits-stop (drop p s));
           readable = (omega arith, tt);
         }
 
@@ -238,16 +255,19 @@ newline-alone = digit-under newline (omega arith)
 
 -- no digit stands where fields begin, if none stands after them
 alone-before :
-    {s : List ℕ} {p q : ℕ} (vs : List ℕ) → Stands s p (fieldsText vs) q → isDigit (getD s q 0) ≡ false → isDigit (getD s p 0) ≡ false
+    {s : List ℕ} {p q : ℕ} (vs : List ℕ) → Stands s p (fieldsText vs) q → isDigit (getD s q 0) ≡ false →
+    isDigit (getD s p 0) ≡ false
 unfolding fieldsText fieldText
 alone-before {s} {p} {q} [] a e = ap (λ (k : ℕ). isDigit (getD s k 0)) (omega (arith, a .after)) ∙ e
 alone-before (v ∷ vs) a e = ap isDigit (byte-stands a .0) ∙ tab-alone
 
-pub fields-back : {s : List ℕ} {p q : ℕ} (vs : List ℕ) → StandAlone s p (fieldsText vs) vs q → readFields s p (length vs) ≡ read vs q
+pub fields-back :
+    {s : List ℕ} {p q : ℕ} (vs : List ℕ) → StandAlone s p (fieldsText vs) vs q → readFields s p (length vs) ≡ read vs q
 unfolding readFields fieldsText before
 fields-back {s} {p} {q} [] a = ap (read []) (omega (arith, a .stands .after))
 fields-back {s} {p} {q} (v ∷ vs) a =
-    let rest : Stands s (p + length (fieldText v)) (fieldsText vs) q = stands-second (fieldText v) (fieldsText vs) (a .stands) in
+    let rest : Stands s (p + length (fieldText v)) (fieldsText vs) q =
+    stands-second (fieldText v) (fieldsText vs) (a .stands) in
     let here : fieldAt s p ≡ Is v (p + length (fieldText v)) =
     field-back v
     (record {
@@ -263,7 +283,8 @@ not-read : {A : Type 0} {vs : List ℕ} {q : ℕ} → unread ≡ read vs q → A
 not-read {A} {vs} {q} e = absurd (let z : _≡_ {A = ℕ} 0 1 = cc in omega arith)
 
 pub fields-only :
-    (s : List ℕ) (p count : ℕ) {vs : List ℕ} {q : ℕ} → readFields s p count ≡ read vs q → AsWritten s p (fieldsText vs) vs count q
+    (s : List ℕ) (p count : ℕ) {vs : List ℕ} {q : ℕ} → readFields s p count ≡ read vs q →
+    AsWritten s p (fieldsText vs) vs count q
 unfolding readFields fieldsText before
 fields-only s p zero {vs} {q} e =
     let f : [] ≡ vs = cc in
@@ -299,7 +320,8 @@ fields-only s p (suc count) {vs} {q} e = go (fieldAt s p) refl e (λ r ws n f. f
 
 -- ---- a line
 
-pub rest-back : {s : List ℕ} {p q : ℕ} (vs : List ℕ) → Stands s p (restText vs) q → Readable vs → readRest s p (length vs) ≡ read vs q
+pub rest-back :
+    {s : List ℕ} {p q : ℕ} (vs : List ℕ) → Stands s p (restText vs) q → Readable vs → readRest s p (length vs) ≡ read vs q
 unfolding readRest ended restText
 rest-back {s} {p} {q} vs a h =
     let end : Stands s (p + length (fieldsText vs)) (newline ∷ []) q = stands-second (fieldsText vs) (newline ∷ []) a in
@@ -339,7 +361,8 @@ rest-within vs a = stands-within (stands-second (fieldsText vs) (newline ∷ [])
 
 -- a line of a kind that was written from its word and values reads as those values
 pub line-back :
-    {s : List ℕ} {p q : ℕ} (word vs : List ℕ) → Stands s p (lineText word vs) q → Readable vs → readLine s p word (length vs) ≡ read vs q
+    {s : List ℕ} {p q : ℕ} (word vs : List ℕ) → Stands s p (lineText word vs) q → Readable vs →
+    readLine s p word (length vs) ≡ read vs q
 unfolding readLine lineText
 line-back {s} {p} {q} word vs a h =
     let rest : Stands s (p + length word) (restText vs) q = stands-second word (restText vs) a in
@@ -372,22 +395,29 @@ found-read {f} p r e h = go r e
   where
     go : (r : Reading) → f ≡ asFields p r → Found f r
     go (read vs q) e =
-        record { list = vs; is = ap (read vs) (sym (ap (λ (g : Fields). g .next) e)); values = ap (λ (g : Fields). g .values) e }
+        record {
+          list = vs;
+          is = ap (read vs) (sym (ap (λ (g : Fields). g .next) e));
+          values = ap (λ (g : Fields). g .values) e;
+        }
     go unread e = not-both h (ap (λ (g : Fields). g .found) e)
 
 pub take-padded : (vs : List ℕ) → length vs ≤ mostFields → take (length vs) (padded vs) ≡ vs
 take-padded vs h =
-    let long : length (take (length vs) (padded vs)) ≡ length vs = length-take-le (length vs) (padded vs) (omega (arith, length-padded vs)) in
+    let long : length (take (length vs) (padded vs)) ≡ length vs =
+    length-take-le (length vs) (padded vs) (omega (arith, length-padded vs)) in
     ext-getD 0 (take (length vs) (padded vs)) vs long
     (λ i l. getD-take (length vs) (padded vs) i 0 (omega arith) ∙ getD-padded vs i (omega arith))
 
 -- a line that is found is what would be written from its word and the first count values handed back
 pub line-found :
-    {f : Fields} (s : List ℕ) (p : ℕ) (word : List ℕ) (count : ℕ) → f ≡ asFields p (readLine s p word count) → count ≤ mostFields → f .found ≡ true →
+    {f : Fields} (s : List ℕ) (p : ℕ) (word : List ℕ) (count : ℕ) → f ≡ asFields p (readLine s p word count) →
+    count ≤ mostFields → f .found ≡ true →
     AsWritten s p (lineText word (take count (f .values))) (take count (f .values)) count (f .next)
 line-found {f} s p word count e h t =
     let k = found-read p (readLine s p word count) e t in
     let a = line-only s p word count (k .is) in
     let g : k .list ≡ take count (f .values) =
-    sym (take-padded (k .list) (omega (arith, a .many))) ∙ (ap (λ (n : ℕ). take n (padded (k .list))) (a .many) ∙ ap (take count) (sym (k .values))) in
+    sym (take-padded (k .list) (omega (arith, a .many)))
+    ∙ (ap (λ (n : ℕ). take n (padded (k .list))) (a .many) ∙ ap (take count) (sym (k .values))) in
     subst (λ (us : List ℕ). AsWritten s p (lineText word us) us count (f .next)) g a

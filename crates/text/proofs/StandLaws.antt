@@ -7,8 +7,8 @@ use Prim.Native.Nat.{ℕ, _+_, _-_, _≤_, _<_}
 use native.Mathlib.Nat.{add-zero}
 use native.Mathlib.Numerals.{add-one}
 use native.Mathlib.Omega.{arith}
-use lib.ListN.{length, getD, take, drop, length-append, length-drop, take-append-drop}
-use lib.Seq.{drop-cons, drop-drop, getD-drop, getD-take, ext-getD, length-take-le}
+use lib.ListN.{length, getD, take, drop, length-append, length-drop, take-append-drop, List·getD-append}
+use lib.Seq.{drop-cons, drop-drop, drop-append-seam, getD-drop, getD-take, ext-getD, length-take-le}
 use borrow.Author.Tests.{eq-eqb, eqb-true}
 use Rattle.reckon.proofs.TestLaws.{all-at, all-of}
 use Rattle.text.specs.Reading.{isByte, wordAt}
@@ -30,7 +30,7 @@ module _ {s : List ℕ} {p r : ℕ} (t u : List ℕ) (a : Stands s p (t ++ u) r)
   after-first : drop (p + length t) s ≡ u ++ drop r s
   after-first =
       sym (drop-drop (length t) p s)
-      ∙ (ap (drop (length t)) (a .text ∙ append-assoc t u (drop r s)) ∙ lib.Seq.drop-append-seam t (u ++ drop r s))
+      ∙ (ap (drop (length t)) (a .text ∙ append-assoc t u (drop r s)) ∙ drop-append-seam t (u ++ drop r s))
 
   pub stands-first : Stands s p t (p + length t)
   stands-first =
@@ -50,14 +50,16 @@ stands-byte s p b e =
 
 pub byte-stands : {s t : List ℕ} {p q b : ℕ} → Stands s p (b ∷ t) q → (getD s p 0 ≡ b) × (isByte s p b ≡ true)
 byte-stands {s} {t} {p} {q} {b} a =
-    let e : getD s p 0 ≡ b = ap (λ (k : ℕ). getD s k 0) (sym (add-zero p)) ∙ (sym (getD-drop p s 0 0) ∙ ap (λ (l : List ℕ). getD l 0 0) (a .text)) in
+    let e : getD s p 0 ≡ b =
+    ap (λ (k : ℕ). getD s k 0) (sym (add-zero p)) ∙ (sym (getD-drop p s 0 0) ∙ ap (λ (l : List ℕ). getD l 0 0) (a .text)) in
     let h : p < length s = omega (arith, a .after, stands-within a) in
     (e, byte-here s p b h ∙ eq-eqb _ _ e)
 
 pub stands-word : (s : List ℕ) (p : ℕ) (word : List ℕ) → wordAt s p word ≡ true → Stands s p word (p + length word)
 stands-word s p word e =
     let h : p + length word ≤ length s = word-within s p word e in
-    let long : length (take (length word) (drop p s)) ≡ length word = length-take-le (length word) (drop p s) (rw (length-drop p s) (omega arith)) in
+    let long : length (take (length word) (drop p s)) ≡ length word =
+    length-take-le (length word) (drop p s) (rw (length-drop p s) (omega arith)) in
     let same : take (length word) (drop p s) ≡ word =
     ext-getD 0 (take (length word) (drop p s)) word long
     (λ i l.
@@ -68,7 +70,8 @@ stands-word s p word e =
       after = refl;
       text =
           sym (take-append-drop (length word) (drop p s))
-          ∙ (ap (λ (l : List ℕ). l ++ drop (length word) (drop p s)) same ∙ ap (λ (l : List ℕ). word ++ l) (drop-drop (length word) p s));
+          ∙ (ap (λ (l : List ℕ). l ++ drop (length word) (drop p s)) same
+          ∙ ap (λ (l : List ℕ). word ++ l) (drop-drop (length word) p s));
     }
 
 pub word-stands : {s word : List ℕ} {p q : ℕ} → q ≤ length s → Stands s p word q → wordAt s p word ≡ true
@@ -78,4 +81,4 @@ word-stands {s} {word} {p} {q} h a =
     (λ i l.
     eq-eqb _ _
     (sym (getD-drop p s i 0)
-    ∙ (ap (λ (t : List ℕ). getD t i 0) (a .text) ∙ lib.ListN.List·getD-append word (drop q s) 0 i l))))
+    ∙ (ap (λ (t : List ℕ). getD t i 0) (a .text) ∙ List·getD-append word (drop q s) 0 i l))))

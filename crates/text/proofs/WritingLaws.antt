@@ -7,7 +7,7 @@ use native.Mathlib.Nat.{add-zero, add-suc, suc-add, not-suc-le-zero, pow-suc}
 use native.Mathlib.Numerals.{add-one}
 use native.Mathlib.Omega.{arith}
 use lib.ListN.{length, getD, set, take, drop, length-append, take-append-drop, drop-of-length-le}
-use lib.Seq.{sets, sets-eq, paste, drop-drop, drop-cons, take-length}
+use lib.Seq.{sets, sets-eq, paste, paste-suc, drop-drop, drop-cons, take-length}
 use Rattle.reckon.specs.Lists.{placed}
 use Rattle.reckon.proofs.ListLaws.{length-placed}
 use Rattle.text.specs.Reading.{newline}
@@ -101,12 +101,21 @@ pub placed-paste : (old : List ℕ) (a : ℕ) (word : List ℕ) → paste old a 
 unfolding placed
 placed-paste old a word = rw (take-length word, drop-drop (length word) a old, append-assoc)
 
+-- a turn of the loop that copies
+pub paste-more :
+    {room : List ℕ} (old : List ℕ) (a : ℕ) (word : List ℕ) (i : ℕ) → room ≡ paste old a word i → a + i < length old → i < length word →
+    set room (a + i) (getD word i 0) ≡ paste old a word (i + 1)
+paste-more old a word i e h l =
+    ap (λ (r : List ℕ). set r (a + i) (getD word i 0)) e
+    ∙ (paste-suc old a word i 0 h l ∙ ap (paste old a word) (sym (add-one i)))
+
 pub wrote-length :
     {t old new : List ℕ} {at r : ℕ} → at + length t ≤ length old → Wrote t at old new r → length new ≡ length old
 wrote-length {t} {old} {new} {at} h w = ap length (w .room) ∙ length-placed old at t h
 
 pub wrote-both :
-    {v w old mid new : List ℕ} {at p r : ℕ} → at + length v + length w ≤ length old → Wrote v at old mid p → Wrote w p mid new r →
+    {v w old mid new : List ℕ} {at p r : ℕ} → at + length v + length w ≤ length old → Wrote v at old mid p →
+    Wrote w p mid new r →
     Wrote (v ++ w) at old new r
 wrote-both {v} {w} {old} {mid} {new} {at} {p} {r} h a b =
     record {

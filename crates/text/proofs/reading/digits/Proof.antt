@@ -30,29 +30,45 @@ digit-requires c κs = sym (c .before .is-digit .ensures) ∙ c .if1 .taken
 add-value : tie.Need-add-value Inv-loop μ-loop
 add-value c =
     let l = c .before .before .before .loop in
-    omega (arith, l .inv .small, c .digit .ensures, digit-high _ (sym (c .before .before .is-digit .ensures) ∙ c .before .if1 .taken))
+    omega (
+      arith,
+      l .inv .small,
+      c .digit .ensures,
+      digit-high _
+          (sym (c .before .before .is-digit .ensures) ∙ c .before .if1 .taken),
+    )
 
 returns : tie.Need-returns Inv-loop μ-loop
 returns c =
     let l = c .before .before .before .before .loop in
-    sym (counted-over (l .inv) _ (sym (c .before .before .before .is-digit .ensures) ∙ c .before .before .if1 .taken) (c .before .digit .ensures) (c .if2 .taken))
+    sym (counted-over (l .inv) _ (sym (c .before .before .before .is-digit .ensures) ∙ c .before .before .if1 .taken)
+    (c .before .digit .ensures) (c .if2 .taken))
 
 add-p : tie.Need-add-p Inv-loop μ-loop
 add-p c =
     let a = c .before .before .before .before .before .before .args in
     let l = c .before .before .before .before .loop in
-    omega (arith, digit-within (a .text .now) (l .p) (sym (c .before .before .before .is-digit .ensures) ∙ c .before .before .if1 .taken))
+    omega (
+      arith,
+      digit-within (a .text .now) (l .p)
+          (sym (c .before .before .before .is-digit .ensures) ∙ c .before .before .if1 .taken),
+    )
 
 loop-less : tie.Need-loop-less Inv-loop μ-loop
 loop-less c =
     let a = c .before .before .before .before .before .before .args in
     let l = c .before .before .before .before .loop in
-    omega (arith, digit-within (a .text .now) (l .p) (sym (c .before .before .before .is-digit .ensures) ∙ c .before .before .if1 .taken))
+    omega (
+      arith,
+      digit-within (a .text .now) (l .p)
+          (sym (c .before .before .before .is-digit .ensures) ∙ c .before .before .if1 .taken),
+    )
 
 loop-again : tie.Need-loop-again Inv-loop μ-loop
 loop-again c =
     let l = c .before .before .before .before .loop in
-    counted-more (l .inv) _ (sym (c .before .before .before .is-digit .ensures) ∙ c .before .before .if1 .taken) (c .before .digit .ensures) (c .if2 .left)
+    counted-more (l .inv) _ (sym (c .before .before .before .is-digit .ensures) ∙ c .before .before .if1 .taken)
+    (c .before .digit .ensures) (c .if2 .left)
 
 cast-t9 : tie.Need-cast-t9 Inv-loop μ-loop
 cast-t9 c = omega (arith, c .before .before .loop .inv .small)

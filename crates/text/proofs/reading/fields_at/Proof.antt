@@ -36,7 +36,9 @@ returns : tie.Need-returns Inv-loop μ-loop
 returns c =
     let a = c .before .before .before .before .before .before .before .args in
     let l = c .before .before .before .before .before .loop in
-    c .nothing .ensures ∙ ap (asFields (a .at)) (sym (got-stop (l .inv .1) (omega arith) (sym (c .before .before .before .field-at .ensures) ∙ c .before .enum-told .given .1)))
+    c .nothing .ensures ∙ ap (asFields (a .at))
+    (sym (got-stop (l .inv .1) (omega arith)
+    (sym (c .before .before .before .field-at .ensures) ∙ c .before .enum-told .given .1)))
 
 mul-values : tie.Need-mul-values Inv-loop μ-loop
 mul-values c = omega arith
@@ -52,8 +54,11 @@ loop-less c = omega arith
 
 loop-again : tie.Need-loop-again Inv-loop μ-loop
 loop-again c =
-    let l = c .before .before .before .before .before .loop in
-    (omega arith, got-more (l .inv .1) (omega arith) _ _ (omega arith) (sym (c .before .before .before .field-at .ensures) ∙ c .before .value .given .1))
+    let l = c .before .before .before .before .before .loop in (
+      omega arith,
+      got-more (l .inv .1) (omega arith) _ _ (omega arith)
+          (sym (c .before .before .before .field-at .ensures) ∙ c .before .value .given .1),
+    )
 
 returns-2 : tie.Need-returns-2 Inv-loop μ-loop
 returns-2 c = got-all (c .before .loop .inv .1) (omega arith)

@@ -20,7 +20,8 @@ returns : tie.Need-returns
 unfolding readLine
 returns c =
     let a = c .before .before .before .before .before .args in
-    c .nothing .ensures ∙ ap (asFields (a .at)) (sym (pick-false _ _ (sym (c .before .before .word-at .ensures) ∙ not-true _ (c .before .if1 .taken))))
+    c .nothing .ensures ∙ ap (asFields (a .at))
+    (sym (pick-false _ _ (sym (c .before .before .word-at .ensures) ∙ not-true _ (c .before .if1 .taken))))
 
 add-rest-of-line : tie.Need-add-rest-of-line
 add-rest-of-line c =
@@ -41,7 +42,9 @@ returns-2 c =
     c .nothing2 .ensures
     ∙ ap (asFields (a .at))
     (sym
-    (pick-true _ _ (sym (c .before .before .before .before .before .word-at .ensures) ∙ not-false _ (c .before .before .before .before .if1 .left))
+    (pick-true _ _
+    (sym (c .before .before .before .before .before .word-at .ensures) ∙ not-false _
+    (c .before .before .before .before .if1 .left))
     ∙ unfound _ _ (c .before .before .before .rest-of-line .ensures) (not-true _ (c .before .if2 .taken))))
 
 returns-3 : tie.Need-returns-3
@@ -49,7 +52,9 @@ unfolding readLine
 returns-3 c =
     let a = c .before .before .before .before .before .before .before .args in
     found-anywhere _ _ (c .before .before .rest-of-line .ensures) (a .at) (not-false _ (c .if2 .left))
-    ∙ ap (asFields (a .at)) (sym (pick-true _ _ (sym (c .before .before .before .before .word-at .ensures) ∙ not-false _ (c .before .before .before .if1 .left))))
+    ∙ ap (asFields (a .at))
+    (sym (pick-true _ _
+    (sym (c .before .before .before .before .word-at .ensures) ∙ not-false _ (c .before .before .before .if1 .left))))
 
 pub line-of-spec : {M : Type 1} → statement M
 line-of-spec =

@@ -22,7 +22,8 @@ returns-2 : tie.Need-returns-2
 returns-2 c =
     let a = c .before .before .before .before .before .args in
     sym
-    (number-zero (a .text .now) (a .at) (sym (c .before .before .before .is-digit .ensures) ∙ not-false _ (c .before .before .if1 .left))
+    (number-zero (a .text .now) (a .at)
+    (sym (c .before .before .before .is-digit .ensures) ∙ not-false _ (c .before .before .if1 .left))
     (sym (c .before .needless-zero .ensures) ∙ c .if2 .taken))
 
 digits-requires : tie.Need-digits-requires
@@ -33,7 +34,8 @@ returns-3 c =
     let a = c .before .before .before .before .before .before .args in
     c .digits .ensures
     ∙ sym
-    (number-good (a .text .now) (a .at) (sym (c .before .before .before .before .is-digit .ensures) ∙ not-false _ (c .before .before .before .if1 .left))
+    (number-good (a .text .now) (a .at)
+    (sym (c .before .before .before .before .is-digit .ensures) ∙ not-false _ (c .before .before .before .if1 .left))
     (sym (c .before .before .needless-zero .ensures) ∙ c .before .if2 .left))
 
 pub number-at-spec : {M : Type 1} → statement M

@@ -35,18 +35,24 @@ returns-2 c =
     let a = c .before .before .before .before .before .before .before .args in
     c .nothing2 .ensures
     ∙ ap (asFields (a .at))
-    (sym (unended _ _ (c .before .before .before .before .before .fields-at .ensures) (a .text .now) (sym (c .before .before .byte-is .ensures) ∙ not-true _ (c .before .if2 .taken))))
+    (sym (unended _ _ (c .before .before .before .before .before .fields-at .ensures) (a .text .now)
+    (sym (c .before .before .byte-is .ensures) ∙ not-true _ (c .before .if2 .taken))))
 
 add-t9 : tie.Need-add-t9
 add-t9 c =
     let a = c .before .before .before .before .before .before .before .args in
-    omega (arith, byte-within (a .text .now) (c .before .before .before .before .before .fields-at .result .next) newline (sym (c .before .before .byte-is .ensures) ∙ not-false _ (c .before .if2 .left)))
+    omega (
+      arith,
+      byte-within (a .text .now) (c .before .before .before .before .before .fields-at .result .next) newline
+          (sym (c .before .before .byte-is .ensures) ∙ not-false _ (c .before .if2 .left)),
+    )
 
 returns-3 : tie.Need-returns-3
 unfolding readRest
 returns-3 c =
     let a = c .before .before .before .before .before .before .before .args in
-    ended-found _ _ (c .before .before .before .before .before .fields-at .ensures) (a .text .now) (not-false _ (c .before .before .before .if1 .left))
+    ended-found _ _ (c .before .before .before .before .before .fields-at .ensures) (a .text .now)
+    (not-false _ (c .before .before .before .if1 .left))
     (sym (c .before .before .byte-is .ensures) ∙ not-false _ (c .before .if2 .left))
 
 pub rest-of-line-spec : {M : Type 1} → statement M

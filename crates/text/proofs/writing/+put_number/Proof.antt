@@ -119,7 +119,9 @@ put-number-returns-2 : (t : ℕ) → put-number-lts.Need-returns-2 (
 ) (put-number-at t) put-number.Post
 put-number-returns-2 t c =
     let a = c .before .before .before .before .before .before .before .before .before .before .args in
-    rw (decimal-large (a .n) (omega arith)) (wrote-both (omega (arith, decimal-longer (a .n) (omega arith))) (c .before .before .before .before .before .before .put-number .ensures) (c .before .before .put-byte2 .ensures))
+    rw (decimal-large (a .n) (omega arith))
+    (wrote-both (omega (arith, decimal-longer (a .n) (omega arith)))
+    (c .before .before .before .before .before .before .put-number .ensures) (c .before .before .put-byte2 .ensures))
 
 pub +put-number-spec : {M : Type 1} → statement M
 +put-number-spec = close μ-put-number λ t. put-number-lts.spec (

@@ -14,7 +14,12 @@ put-byte-requires c κs = omega (arith, c .before .before .pre)
 put-number-requires : tie.Need-put-number-requires
 unfolding fieldText
 put-number-requires c κs =
-    omega (arith, c .before .before .before .before .before .before .pre, c .before .before .before .put-byte .ensures .next, c .before .before .before .put-byte .kept .0)
+    omega (
+      arith,
+      c .before .before .before .before .before .before .pre,
+      c .before .before .before .put-byte .ensures .next,
+      c .before .before .before .put-byte .kept .0,
+    )
 
 same-length : tie.Need-same-length
 same-length c = search needs
@@ -22,7 +27,8 @@ same-length c = search needs
 returns : tie.Need-returns
 unfolding fieldText
 returns c =
-    wrote-both (omega (arith, c .before .before .before .before .before .before .before .before .before .pre)) (c .before .before .before .before .before .before .put-byte .ensures) (c .before .before .put-number .ensures)
+    wrote-both (omega (arith, c .before .before .before .before .before .before .before .before .before .pre))
+    (c .before .before .before .before .before .before .put-byte .ensures) (c .before .before .put-number .ensures)
 
 pub put-field-spec : {M : Type 1} → statement M
 put-field-spec = tie.close (tie.spec put-byte-requires put-number-requires same-length returns)

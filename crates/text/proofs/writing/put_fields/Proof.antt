@@ -28,7 +28,11 @@ put-field-requires : tie.Need-put-field-requires Inv-loop μ-loop
 put-field-requires c κs =
     let a = c .before .before .before .before .before .before .args in
     let l = c .before .before .before .loop in
-    omega (arith, left-room (fieldText (getD (a .values .now) (l .i) 0)) (fieldsText (drop (l .i + 1) (a .values .now))) (rw (fields-text-more (a .values .now) (l .i) (omega arith)) at (l .inv .1)))
+    omega (
+      arith,
+      left-room (fieldText (getD (a .values .now) (l .i) 0)) (fieldsText (drop (l .i + 1) (a .values .now)))
+          (rw (fields-text-more (a .values .now) (l .i) (omega arith)) at (l .inv .1)),
+    )
 
 add-i : tie.Need-add-i Inv-loop μ-loop
 add-i c = omega arith
@@ -41,7 +45,8 @@ loop-again c =
     let a = c .before .before .before .before .before .before .before .before .before .args in
     let l = c .before .before .before .before .before .before .loop in (
       omega arith,
-      left-step (rw (fields-text-more (a .values .now) (l .i) (omega arith)) at (l .inv .1)) (c .before .before .put-field .ensures),
+      left-step (rw (fields-text-more (a .values .now) (l .i) (omega arith)) at (l .inv .1))
+          (c .before .before .put-field .ensures),
     )
 
 same-length : tie.Need-same-length Inv-loop μ-loop

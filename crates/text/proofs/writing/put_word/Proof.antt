@@ -1,12 +1,11 @@
 -- `text::writing::put_word` meets its contract: the bytes passed are stored, one more a turn.
 -- Assumes nothing.
 use Prim.Native.Nat.{_+_, _-_, _≤_}
-use mathlib.Core.Path.{_≡_, sym, ap, _∙_}
-use native.Mathlib.Numerals.{add-one}
+use mathlib.Core.Path.{_≡_, ap, _∙_}
 use native.Mathlib.Omega.{arith}
 use lib.ListN.{length}
-use lib.Seq.{paste, paste-zero, paste-suc, length-paste}
-use Rattle.text.proofs.WritingLaws.{placed-paste}
+use lib.Seq.{paste, paste-zero, length-paste}
+use Rattle.text.proofs.WritingLaws.{paste-more, placed-paste}
 use Rattle.text.proofs.writing.put_word.Statement.{statement}
 use Rattle.text.proofs.writing.put_word.Tie as tie
 
@@ -40,13 +39,9 @@ loop-less c = omega arith
 
 loop-again : tie.Need-loop-again Inv-loop μ-loop
 loop-again c =
-    let a = c .before .before .before .args in (
-      omega arith,
-      ap (λ l. lib.ListN.set l (a .at + c .before .before .loop .i) (lib.ListN.getD (a .word .now) (c .before .before .loop .i) 0)) (c .before .before .loop .inv .1)
-          ∙ (paste-suc (a .room .now) (a .at) (a .word .now) (c .before .before .loop .i) 0 (omega arith) (omega arith)
-          ∙ ap (paste (a .room .now) (a .at) (a .word .now)) (sym (add-one (c .before .before .loop .i)))),
-      c .before .before .loop .inv .2,
-    )
+    let a = c .before .before .before .args in
+    let l = c .before .before .loop in
+    (omega arith, paste-more (a .room .now) (a .at) (a .word .now) (l .i) (l .inv .1) (omega arith) (omega arith), l .inv .2)
 
 add-result : tie.Need-add-result Inv-loop μ-loop
 add-result c = omega arith
