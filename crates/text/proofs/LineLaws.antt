@@ -16,12 +16,13 @@ use borrow.Author.Tests.{eq-eqb, ne-eqb}
 use Rattle.reckon.specs.Lists.{sumBelow}
 use Rattle.reckon.proofs.ListLaws.{sum-none, sum-more}
 use Rattle.reckon.proofs.TestLaws.{not-both, pick-true, pick-false}
-use Rattle.text.specs.Reading.{tab, newline, readLine, lineLength, nextLine, lineFrom, lineCount}
+use Rattle.text.specs.Reading.{tab, newline, readLine, lineLength, nextLine, lineFrom, lineCount, LineOf}
 use Rattle.text.specs.Reading.Reading.{read}
 use Rattle.text.specs.Writing.{decimal, fieldText, fieldsText, restText, lineText, plain, Stands}
+use Rattle.text.specs.declared.reading.Fields.{Fields}
 use Rattle.text.proofs.ReadingLaws.{by-test, by-lt, next-here, next-later, next-within, endsAt}
 use Rattle.text.proofs.WritingLaws.{decimal-small, decimal-large}
-use Rattle.text.proofs.RoundTrip.{line-only}
+use Rattle.text.proofs.RoundTrip.{line-only, found-read}
 
 -- ---- texts with no newline in them
 
@@ -90,6 +91,12 @@ line-read-next s p word count {vs} {q} w e =
     line-ends (word ++ fieldsText vs) (plain-both word (fieldsText vs) w (plain-fields vs))
     (subst (λ (t : List ℕ). Stands s p t q) (sym (append-assoc word (fieldsText vs) (newline ∷ [])))
     (line-only s p word count e .stands))
+
+pub line-found-next :
+    {f : Fields} (s : List ℕ) (p : ℕ) (word : List ℕ) (count : ℕ) → plain word ≡ true → LineOf s p word count f →
+    f .found ≡ true →
+    nextLine s p ≡ f .next
+line-found-next s p word count w e t = line-read-next s p word count w (found-read p (readLine s p word count) e t .is)
 
 -- ---- lines one after the other
 

@@ -12,14 +12,14 @@ use lib.ListN.{length, getD, take, drop, length-append, length-drop}
 use lib.Seq.{drop-drop, getD-drop, getD-take, ext-getD, length-take-le}
 use borrow.Author.Tests.{le-leb, leb-true}
 use Rattle.reckon.proofs.TestLaws.{not-both, pick-true, pick-false, pick-both}
-use Rattle.text.specs.Reading.{tab, newline, mostNumber, mostFields, isByte, wordAt, isDigit, digitsOf, valueFrom, wellFormed, numberOf, numberAt, fieldAt, Reading, before, withNumber, readFields, ended, readRest, readLine, padded, asFields}
+use Rattle.text.specs.Reading.{tab, newline, mostNumber, mostFields, isByte, wordAt, isDigit, digitsOf, valueFrom, wellFormed, numberOf, numberAt, fieldAt, Reading, before, withNumber, readFields, ended, readRest, readLine, padded, asFields, FieldsAt, RestOfLine, LineOf}
 use Rattle.text.specs.Reading.Reading.{read, unread}
-use Rattle.text.specs.Writing.{decimal, fieldText, fieldsText, restText, lineText, Readable, Stands, StandAlone, AsWritten}
+use Rattle.text.specs.Writing.{decimal, fieldText, fieldsText, restText, lineText, Readable, Stands, StandAlone, AsWritten, PutNumber, PutLine}
 use Rattle.text.specs.declared.reading.Number.{Number}
 use Rattle.text.specs.declared.reading.Number.the-variants.{Is, Not}
 use Rattle.text.specs.declared.reading.Fields.{Fields}
 use Rattle.text.proofs.ReadingLaws.{by-test, by-lt, digit-is, digit-under, digit-low, digit-high, first-many, length-padded, getD-padded, fields-more}
-use Rattle.text.proofs.StandLaws.{stands-none, stands-both, stands-first, stands-second, stands-within, stands-byte, byte-stands, stands-word, word-stands}
+use Rattle.text.proofs.StandLaws.{stands-none, stands-both, stands-first, stands-second, stands-within, stands-byte, byte-stands, stands-word, word-stands, wrote-stands, wrote-after}
 use Rattle.text.proofs.WritingLaws.{decimal-small, decimal-large}
 
 -- ---- the digits of a number that is written
@@ -409,15 +409,48 @@ take-padded vs h =
     ext-getD 0 (take (length vs) (padded vs)) vs long
     (λ i l. getD-take (length vs) (padded vs) i 0 (omega arith) ∙ getD-padded vs i (omega arith))
 
--- a line that is found is what would be written from its word and the first count values handed back
-pub line-found :
-    {f : Fields} (s : List ℕ) (p : ℕ) (word : List ℕ) (count : ℕ) → f ≡ asFields p (readLine s p word count) →
-    count ≤ mostFields → f .found ≡ true →
-    AsWritten s p (lineText word (take count (f .values))) (take count (f .values)) count (f .next)
-line-found {f} s p word count e h t =
-    let k = found-read p (readLine s p word count) e t in
-    let a = line-only s p word count (k .is) in
-    let g : k .list ≡ take count (f .values) =
-    sym (take-padded (k .list) (omega (arith, a .many)))
-    ∙ (ap (λ (n : ℕ). take n (padded (k .list))) (a .many) ∙ ap (take count) (sym (k .values))) in
-    subst (λ (us : List ℕ). AsWritten s p (lineText word us) us count (f .next)) g a
+-- what is found is what would be written from the first count values handed back
+module _ {f : Fields} (s : List ℕ) (p count : ℕ) (few : count ≤ mostFields) (found : f .found ≡ true) where
+  as-found :
+      (text : List ℕ → List ℕ) (r : Reading) → f ≡ asFields p r →
+      ((vs : List ℕ) (q : ℕ) → r ≡ read vs q → AsWritten s p (text vs) vs count q) →
+      AsWritten s p (text (take count (f .values))) (take count (f .values)) count (f .next)
+  as-found text r e only =
+      let k = found-read p r e found in
+      let a = only (k .list) (f .next) (k .is) in
+      let g : k .list ≡ take count (f .values) =
+          sym (take-padded (k .list) (omega (arith, a .many)))
+          ∙ (ap (λ (n : ℕ). take n (padded (k .list))) (a .many) ∙ ap (take count) (sym (k .values))) in
+      subst (λ (us : List ℕ). AsWritten s p (text us) us count (f .next)) g a
+
+  pub fields-found : FieldsAt s p count f →
+  AsWritten s p (fieldsText (take count (f .values))) (take count (f .values)) count (f .next)
+  fields-found e = as-found fieldsText (readFields s p count) e (λ vs q. fields-only s p count)
+
+  pub rest-found : RestOfLine s p count f →
+  AsWritten s p (restText (take count (f .values))) (take count (f .values)) count (f .next)
+  rest-found e = as-found restText (readRest s p count) e (λ vs q. rest-only s p count)
+
+  pub line-found :
+      (word : List ℕ) → LineOf s p word count f →
+      AsWritten s p (lineText word (take count (f .values))) (take count (f .values)) count (f .next)
+  line-found word e = as-found (lineText word) (readLine s p word count) e (λ vs q. line-only s p word count)
+
+-- ---- what was put into a room is read there
+
+pub number-put :
+    {old new : List ℕ} {at r : ℕ} (n : ℕ) → at + length (decimal n) ≤ length old → PutNumber n at old new r →
+    isDigit (getD old r 0) ≡ false → n ≤ mostNumber → numberAt new at ≡ Is n r
+number-put {old} {new} {at} {r} n fits put none small =
+    number-back n
+    (record {
+      stands = wrote-stands fits put;
+      alone = ap isDigit (wrote-after fits put) ∙ none;
+      readable = (small, tt);
+    })
+
+pub line-put :
+    {old new : List ℕ} {at r : ℕ} (word vs : List ℕ) → at + length (lineText word vs) ≤ length old →
+    PutLine word vs at old new r →
+    Readable vs → readLine new at word (length vs) ≡ read vs r
+line-put word vs fits put h = line-back word vs (wrote-stands fits put) h

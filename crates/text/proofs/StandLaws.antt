@@ -8,11 +8,13 @@ use native.Mathlib.Nat.{add-zero}
 use native.Mathlib.Numerals.{add-one}
 use native.Mathlib.Omega.{arith}
 use lib.ListN.{length, getD, take, drop, length-append, length-drop, take-append-drop, List·getD-append}
-use lib.Seq.{drop-cons, drop-drop, drop-append-seam, getD-drop, getD-take, ext-getD, length-take-le}
+use lib.Seq.{drop-cons, drop-drop, drop-append-seam, drop-at, getD-drop, getD-take, ext-getD, length-take-le}
 use borrow.Author.Tests.{eq-eqb, eqb-true}
 use Rattle.reckon.proofs.TestLaws.{all-at, all-of}
 use Rattle.text.specs.Reading.{isByte, wordAt}
-use Rattle.text.specs.Writing.{Stands}
+use Rattle.text.specs.Writing.{Stands, Wrote}
+use Rattle.reckon.specs.Lists.{placed}
+use Rattle.reckon.proofs.ListLaws.{placed-after}
 use Rattle.text.proofs.ReadingLaws.{sameAt, byte-here, byte-within, byte-same, word-within, word-all, word-same}
 
 pub stands-none : (s : List ℕ) (p : ℕ) → Stands s p [] p
@@ -82,3 +84,22 @@ word-stands {s} {word} {p} {q} h a =
     eq-eqb _ _
     (sym (getD-drop p s i 0)
     ∙ (ap (λ (t : List ℕ). getD t i 0) (a .text) ∙ List·getD-append word (drop q s) 0 i l))))
+
+-- what was put into a room stands there, and what follows it in the room is as it was
+module _ {t old new : List ℕ} {at r : ℕ} (fits : at + length t ≤ length old) (put : Wrote t at old new r) where
+  pub wrote-stands : Stands new at t r
+  unfolding placed
+  wrote-stands =
+      let e : drop at new ≡ t ++ drop (length t) (drop at old) =
+      ap (drop at) (put .room)
+      ∙ drop-at (take at old) (t ++ drop (length t) (drop at old)) at (length-take-le at old (omega arith)) in
+      let rest : drop (length t) (drop at old) ≡ drop r new =
+      sym
+      (ap (λ (k : ℕ). drop k new) (put .next)
+      ∙ (sym (drop-drop (length t) at new)
+      ∙ (ap (drop (length t)) e ∙ drop-append-seam t (drop (length t) (drop at old))))) in
+      record { after = put .next; text = e ∙ ap (λ (l : List ℕ). t ++ l) rest }
+
+  pub wrote-after : getD new r 0 ≡ getD old r 0
+  wrote-after =
+      ap (λ (l : List ℕ). getD l r 0) (put .room) ∙ placed-after old at t fits r (omega (arith, put .next))

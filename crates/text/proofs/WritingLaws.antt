@@ -2,8 +2,8 @@
 -- Assumes nothing.
 use mathlib.Core.Path.{_≡_, refl, sym, ap, _∙_}
 use mathlib.Core.List.{List, [], _∷_, _++_, append-assoc}
-use Prim.Native.Nat.{ℕ, zero, suc, _+_, _-_, _/_, _%_, _^_, _≤_, _<_}
-use native.Mathlib.Nat.{add-zero, add-suc, suc-add, not-suc-le-zero, pow-suc}
+use Prim.Native.Nat.{ℕ, zero, suc, _+_, _*_, _-_, _/_, _%_, _^_, _≤_, _<_}
+use native.Mathlib.Nat.{mul-suc, add-zero, add-suc, suc-add, not-suc-le-zero, pow-suc}
 use native.Mathlib.Numerals.{add-one}
 use native.Mathlib.Omega.{arith}
 use lib.ListN.{length, getD, set, take, drop, length-append, take-append-drop, drop-of-length-le}
@@ -67,6 +67,20 @@ decimal-short (suc k) n h =
 pub decimal-twenty : (n : ℕ) → n < 2 ^ 64 → length (decimal n) ≤ 20
 decimal-twenty n h = decimal-short 19 n (omega arith)
 
+-- fields of numbers below 10 ^ k have at most k + 1 bytes each
+pub fields-text-short :
+    (k : ℕ) (vs : List ℕ) → ((i : ℕ) → i < length vs → getD vs i 0 < 10 ^ suc k) → length (fieldsText vs) ≤ (k + 2) * length vs
+unfolding fieldsText fieldText
+fields-text-short k [] h = omega arith
+fields-text-short k (v ∷ vs) h =
+    omega (
+      arith,
+      mul-suc (k + 2) (length vs),
+      length-append (fieldText v) (fieldsText vs),
+      decimal-short k v (h 0 (omega arith)),
+      fields-text-short k vs (λ i l. h (suc i) (omega arith)),
+    )
+
 -- ---- a text put into a room
 
 sets-append : (v w l : List ℕ) (i : ℕ) → sets l i (v ++ w) ≡ sets (sets l i v) (i + length v) w
@@ -103,7 +117,8 @@ placed-paste old a word = rw (take-length word, drop-drop (length word) a old, a
 
 -- a turn of the loop that copies
 pub paste-more :
-    {room : List ℕ} (old : List ℕ) (a : ℕ) (word : List ℕ) (i : ℕ) → room ≡ paste old a word i → a + i < length old → i < length word →
+    {room : List ℕ} (old : List ℕ) (a : ℕ) (word : List ℕ) (i : ℕ) → room ≡ paste old a word i → a + i < length old →
+    i < length word →
     set room (a + i) (getD word i 0) ≡ paste old a word (i + 1)
 paste-more old a word i e h l =
     ap (λ (r : List ℕ). set r (a + i) (getD word i 0)) e

@@ -114,6 +114,15 @@ unfoldable pub asFields : ℕ → Reading → Fields
 asFields p (read vs q) = record { found = true; values = padded vs; next = q }
 asFields p unread = record { found = false; values = padded []; next = p }
 
+abbrev pub fieldsAt : List ℕ → ℕ → ℕ → Fields
+fieldsAt s p count = asFields p (readFields s p count)
+
+abbrev pub restOfLine : List ℕ → ℕ → ℕ → Fields
+restOfLine s p count = asFields p (readRest s p count)
+
+abbrev pub lineOf : List ℕ → ℕ → List ℕ → ℕ → Fields
+lineOf s p word count = asFields p (readLine s p word count)
+
 -- ---- lines
 
 -- how long the first line of a text is, with its newline; the rest of the text where it has none
@@ -148,13 +157,13 @@ abbrev pub FieldAt : List ℕ → ℕ → Number → Type 0
 FieldAt s p r = r ≡ fieldAt s p
 
 abbrev pub FieldsAt : List ℕ → ℕ → ℕ → Fields → Type 0
-FieldsAt s p count r = r ≡ asFields p (readFields s p count)
+FieldsAt s p count r = r ≡ fieldsAt s p count
 
 abbrev pub RestOfLine : List ℕ → ℕ → ℕ → Fields → Type 0
-RestOfLine s p count r = r ≡ asFields p (readRest s p count)
+RestOfLine s p count r = r ≡ restOfLine s p count
 
 abbrev pub LineOf : List ℕ → ℕ → List ℕ → ℕ → Fields → Type 0
-LineOf s p word count r = r ≡ asFields p (readLine s p word count)
+LineOf s p word count r = r ≡ lineOf s p word count
 
 abbrev pub NextLine : List ℕ → ℕ → ℕ → Type 0
 NextLine s p r = r ≡ nextLine s p

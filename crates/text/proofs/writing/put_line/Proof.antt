@@ -42,7 +42,8 @@ same-length c = search needs
 returns : tie.Need-returns
 returns c =
     let start = c .before .before .before .before .before .before .before .before .before .before .before .before .before .before .before in
-    wrote-line (start .args .values .now) (start .pre) (c .before .before .before .before .before .before .before .before .before .before .put-word .ensures)
+    wrote-line (start .args .values .now) (start .pre)
+    (c .before .before .before .before .before .before .before .before .before .before .put-word .ensures)
     (c .before .before .before .before .before .before .put-fields .ensures) (c .before .before .put-byte .ensures)
 
 pub put-line-spec : {M : Type 1} → statement M
