@@ -419,16 +419,16 @@ module _ {f : Fields} (s : List ℕ) (p count : ℕ) (few : count ≤ mostFields
       let k = found-read p r e found in
       let a = only (k .list) (f .next) (k .is) in
       let g : k .list ≡ take count (f .values) =
-          sym (take-padded (k .list) (omega (arith, a .many)))
-          ∙ (ap (λ (n : ℕ). take n (padded (k .list))) (a .many) ∙ ap (take count) (sym (k .values))) in
+      sym (take-padded (k .list) (omega (arith, a .many)))
+      ∙ (ap (λ (n : ℕ). take n (padded (k .list))) (a .many) ∙ ap (take count) (sym (k .values))) in
       subst (λ (us : List ℕ). AsWritten s p (text us) us count (f .next)) g a
 
-  pub fields-found : FieldsAt s p count f →
-  AsWritten s p (fieldsText (take count (f .values))) (take count (f .values)) count (f .next)
+  pub fields-found :
+      FieldsAt s p count f → AsWritten s p (fieldsText (take count (f .values))) (take count (f .values)) count (f .next)
   fields-found e = as-found fieldsText (readFields s p count) e (λ vs q. fields-only s p count)
 
-  pub rest-found : RestOfLine s p count f →
-  AsWritten s p (restText (take count (f .values))) (take count (f .values)) count (f .next)
+  pub rest-found :
+      RestOfLine s p count f → AsWritten s p (restText (take count (f .values))) (take count (f .values)) count (f .next)
   rest-found e = as-found restText (readRest s p count) e (λ vs q. rest-only s p count)
 
   pub line-found :

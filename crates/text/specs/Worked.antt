@@ -31,7 +31,8 @@ rainWord = 114 ∷ 97 ∷ 105 ∷ 110 ∷ []
 -- "run 100 1000 1000 1000 1000", "tabs shown as spaces"
 abbrev pub runLine : List ℕ
 runLine =
-    114 ∷ 117 ∷ 110 ∷ 9 ∷ 49 ∷ 48 ∷ 48 ∷ 9 ∷ 49 ∷ 48 ∷ 48 ∷ 48 ∷ 9 ∷ 49 ∷ 48 ∷ 48 ∷ 48 ∷ 9 ∷ 49 ∷ 48 ∷ 48 ∷ 48 ∷ 9 ∷ 49 ∷ 48 ∷ 48 ∷ 48 ∷ 10 ∷ []
+    114 ∷ 117 ∷ 110 ∷ 9 ∷ 49 ∷ 48 ∷ 48 ∷ 9 ∷ 49 ∷ 48 ∷ 48 ∷ 48 ∷ 9 ∷ 49 ∷ 48 ∷ 48 ∷ 48 ∷ 9 ∷ 49 ∷ 48 ∷ 48 ∷ 48 ∷ 9
+    ∷ 49 ∷ 48 ∷ 48 ∷ 48 ∷ 10 ∷ []
 
 -- that line, read and written; a rain line, then with a carriage return, without its newline, with a field too many
 abbrev pub lineCases : List Case

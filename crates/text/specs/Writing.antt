@@ -10,13 +10,13 @@ use Rattle.reckon.specs.Tests.{pick}
 use Rattle.reckon.specs.Lists.{placed}
 use Rattle.text.specs.Reading.{tab, newline, mostNumber, isDigit}
 
--- the decimal digits of n, none for 0, where it has at most so many
+-- the decimal digits of a number, none for 0; enough are allowed for
 unfoldable pub digitsIn : ℕ → ℕ → List ℕ
 digitsIn zero n = []
 digitsIn (suc most) zero = []
 digitsIn (suc most) (suc n) = digitsIn most (suc n / 10) ++ ((48 + suc n % 10) ∷ [])
 
--- a number written: "decimal without sign or needless leading zeros" (`decimal-small`, `decimal-large` say it with no limit on its digits)
+-- a number written: "decimal without sign or needless leading zeros" (`decimal-small` and `decimal-large` say it with no limit)
 unfoldable pub decimal : ℕ → List ℕ
 decimal zero = 48 ∷ []
 decimal (suc n) = digitsIn (suc n) (suc n)
