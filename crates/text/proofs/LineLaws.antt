@@ -16,11 +16,11 @@ use borrow.Author.Tests.{eq-eqb, ne-eqb}
 use Rattle.reckon.specs.Lists.{sumBelow}
 use Rattle.reckon.proofs.ListLaws.{sum-none, sum-more}
 use Rattle.reckon.proofs.TestLaws.{not-both, pick-true, pick-false}
-use Rattle.text.specs.Reading.{tab, newline, readLine, lineLength, nextLine, lineFrom, lineCount, LineOf}
+use Rattle.text.specs.Reading.{tab, newline, readLine, lineLength, nextLine, lineFrom, endsAt, lineCount, LineOf}
 use Rattle.text.specs.Reading.Reading.{read}
 use Rattle.text.specs.Writing.{decimal, fieldText, fieldsText, restText, lineText, plain, Stands}
 use Rattle.text.specs.declared.reading.Fields.{Fields}
-use Rattle.text.proofs.ReadingLaws.{by-test, by-lt, next-here, next-later, next-within, endsAt}
+use Rattle.text.proofs.ReadingLaws.{by-test, by-lt, next-here, next-later, next-within}
 use Rattle.text.proofs.WritingLaws.{decimal-small, decimal-large}
 use Rattle.text.proofs.RoundTrip.{line-only, found-read}
 

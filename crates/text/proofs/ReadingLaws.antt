@@ -12,10 +12,10 @@ use lib.Dec.{eqb, ltb, leb}
 use lib.ListN.{length, getD, set, drop, length-set, length-append, length-drop, drop-of-length-le, List·getD-eq-default, List·getD-append}
 use lib.Seq.{drop-cons, getD-set-same, getD-set-other, getD-append-seam}
 use borrow.Author.Tests.{lt-ltb, le-ltb, le-leb, lt-leb, eq-eqb, ne-eqb, ltb-true, ltb-false, leb-true, eqb-true}
-use Rattle.reckon.specs.Tests.{pick, allBelow}
+use Rattle.reckon.specs.Tests.{allBelow}
 use Rattle.reckon.proofs.TestLaws.{not-both, pick-true, pick-false, pick-both, and-left, and-right, and-both, and-false, all-fails}
 use Rattle.reckon.proofs.ListLaws.{length-tabulate, getD-tabulate, is-tabulate}
-use Rattle.text.specs.Reading.{newline, mostNumber, mostFields, isByte, wordAt, isDigit, digitsOf, valueFrom, wellFormed, numberOf, numberAt, fieldAt, Reading, before, readFields, ended, padded, asFields, lineLength, nextLine}
+use Rattle.text.specs.Reading.{newline, mostNumber, mostFields, isByte, sameAt, wordAt, isDigit, digitsOf, valueFrom, wellFormed, numberOf, numberAt, fieldAt, Reading, before, readFields, ended, padded, asFields, lineLength, nextLine, endsAt}
 use Rattle.text.specs.Reading.Reading.{read, unread}
 use Rattle.text.specs.declared.reading.Number.the-variants.{Is, Not}
 use Rattle.text.specs.declared.reading.Fields.{Fields}
@@ -47,10 +47,6 @@ module _ (s : List ℕ) (p b : ℕ) where
   pub byte-same : isByte s p b ≡ true → getD s p 0 ≡ b
   unfolding isByte
   byte-same e = eqb-true (getD s p 0) b (and-right (ltb p (length s)) _ e)
-
--- byte i of a word stands at its place
-abbrev pub sameAt : List ℕ → ℕ → List ℕ → ℕ → Bool
-sameAt s p word i = eqb (getD s (p + i) 0) (getD word i 0)
 
 module _ (s : List ℕ) (p : ℕ) (word : List ℕ) where
   pub word-past : length s < p + length word → wordAt s p word ≡ false
@@ -366,10 +362,6 @@ line-length-le (b ∷ l) =
 pub next-within : (s : List ℕ) (p : ℕ) → p ≤ length s → nextLine s p ≤ length s
 unfolding nextLine
 next-within s p h = omega (arith, line-length-le (drop p s), length-drop p s)
-
--- a newline counts as a line
-abbrev pub endsAt : List ℕ → ℕ → ℕ
-endsAt s i = pick (eqb (getD s i 0) newline) 1 0
 
 pub ends-few : (s : List ℕ) (i : ℕ) → endsAt s i ≤ 1
 ends-few s i = pick-both (λ (k : ℕ). k ≤ 1) (eqb (getD s i 0) newline) (omega arith) (omega arith)

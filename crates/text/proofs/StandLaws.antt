@@ -11,11 +11,11 @@ use lib.ListN.{length, getD, take, drop, length-append, length-drop, take-append
 use lib.Seq.{drop-cons, drop-drop, drop-append-seam, drop-at, getD-drop, getD-take, ext-getD, length-take-le}
 use borrow.Author.Tests.{eq-eqb, eqb-true}
 use Rattle.reckon.proofs.TestLaws.{all-at, all-of}
-use Rattle.text.specs.Reading.{isByte, wordAt}
+use Rattle.text.specs.Reading.{isByte, wordAt, sameAt}
 use Rattle.text.specs.Writing.{Stands, Wrote}
 use Rattle.reckon.specs.Lists.{placed}
 use Rattle.reckon.proofs.ListLaws.{placed-after}
-use Rattle.text.proofs.ReadingLaws.{sameAt, byte-here, byte-within, byte-same, word-within, word-all, word-same}
+use Rattle.text.proofs.ReadingLaws.{byte-here, byte-within, byte-same, word-within, word-all, word-same}
 
 pub stands-none : (s : List ℕ) (p : ℕ) → Stands s p [] p
 stands-none s p = record { after = sym (add-zero p); text = refl }

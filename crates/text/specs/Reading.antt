@@ -33,9 +33,12 @@ mostFields = 8
 unfoldable pub isByte : List ℕ → ℕ → ℕ → Bool
 isByte s p b = ltb p (length s) && eqb (getD s p 0) b
 
--- a word stands at p
+-- byte i of a word stands where it should for a word at p; the whole word stands there
+abbrev pub sameAt : List ℕ → ℕ → List ℕ → ℕ → Bool
+sameAt s p word i = eqb (getD s (p + i) 0) (getD word i 0)
+
 unfoldable pub wordAt : List ℕ → ℕ → List ℕ → Bool
-wordAt s p word = leb (p + length word) (length s) && allBelow (length word) (λ i. eqb (getD s (p + i) 0) (getD word i 0))
+wordAt s p word = leb (p + length word) (length s) && allBelow (length word) (sameAt s p word)
 
 -- ---- "numbers decimal without sign or needless leading zeros, at most 4,294,967,295"
 
@@ -138,9 +141,12 @@ unfoldable pub lineFrom : List ℕ → ℕ → ℕ → ℕ
 lineFrom s p zero = p
 lineFrom s p (suc k) = nextLine s (lineFrom s p k)
 
--- how many lines a text has: "each line ended by a newline"
+-- how many lines end at a byte, and how many a text has: "each line ended by a newline"
+abbrev pub endsAt : List ℕ → ℕ → ℕ
+endsAt s i = pick (eqb (getD s i 0) newline) 1 0
+
 unfoldable pub lineCount : List ℕ → ℕ
-lineCount s = sumBelow (length s) (λ i. pick (eqb (getD s i 0) newline) 1 0)
+lineCount s = sumBelow (length s) (endsAt s)
 
 -- ---- what the public functions give
 

@@ -4,8 +4,7 @@ ghost use mathlib.Core.Bool.{true, _&&_};
 ghost use Prim.Native.Nat.{_+_, _<_, _≤_};
 ghost use lib.Dec.{eqb};
 ghost use lib.ListN.{length, getD, drop};
-ghost use Rattle.reckon.specs.Tests.{pick};
-ghost use Rattle.text.specs.Reading.{newline, mostFields, isDigit, digitsOf, numberOf, ByteIs, WordAt, NumberAt, FieldAt, FieldsAt, RestOfLine, LineOf, NextLine, LineCount, asFields, Reading};
+ghost use Rattle.text.specs.Reading.{endsAt, mostFields, isDigit, digitsOf, numberOf, ByteIs, WordAt, NumberAt, FieldAt, FieldsAt, RestOfLine, LineOf, NextLine, LineCount, asFields, Reading};
 
 // What stands at a position as a number: its value and the position after it, or none.
 pub enum Number {
@@ -211,7 +210,7 @@ pub fn next_line(text: &[u8], at: usize) -> usize
 
 fn newline_at(text: &[u8], at: usize) -> usize
     requires { ⌜ at < length (now text) ⌝ }
-    ensures { λ r. ⌜ r ≡ pick (eqb (getD (now (text .entry)) at 0) newline) 1 0 ⌝ }
+    ensures { λ r. ⌜ r ≡ endsAt (now (text .entry)) at ⌝ }
 {
     if text[at] == NEWLINE {
         return 1;

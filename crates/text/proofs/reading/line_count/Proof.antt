@@ -7,8 +7,8 @@ use lib.ListN.{length}
 use borrow.Author.Needs.{needs}
 use Rattle.reckon.specs.Lists.{sumBelow}
 use Rattle.reckon.proofs.ListLaws.{sum-none, sum-more, sum-whole}
-use Rattle.text.specs.Reading.{lineCount}
-use Rattle.text.proofs.ReadingLaws.{endsAt, ends-few}
+use Rattle.text.specs.Reading.{endsAt, lineCount}
+use Rattle.text.proofs.ReadingLaws.{ends-few}
 use Rattle.text.proofs.reading.line_count.Statement.{statement}
 use Rattle.text.proofs.reading.line_count.Tie as tie
 

@@ -8,7 +8,8 @@ use lib.ListN.{length}
 use borrow.Author.Tests.{eq-eqb}
 use Rattle.reckon.specs.Tests.{allBelow}
 use Rattle.reckon.proofs.TestLaws.{all-none, all-more, all-whole}
-use Rattle.text.proofs.ReadingLaws.{sameAt, word-past, word-differs, word-same}
+use Rattle.text.specs.Reading.{sameAt}
+use Rattle.text.proofs.ReadingLaws.{word-past, word-differs, word-same}
 use Rattle.text.proofs.reading.word_at.Statement.{statement}
 use Rattle.text.proofs.reading.word_at.Tie as tie
 
