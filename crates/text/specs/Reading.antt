@@ -81,7 +81,7 @@ pub data Reading : Type 0 where
   read : List ℕ → ℕ → Reading
   unread : Reading
 
--- values read before others
+-- values read before those of another reading
 unfoldable pub before : List ℕ → Reading → Reading
 before vs (read ws q) = read (vs ++ ws) q
 before vs unread = unread
@@ -96,11 +96,12 @@ unfoldable pub readFields : List ℕ → ℕ → ℕ → Reading
 readFields s p zero = read [] p
 readFields s p (suc count) = withNumber (fieldAt s p) unread (λ v q. before (v ∷ []) (readFields s q count))
 
--- and then the end of the line
+-- a reading, and then the end of the line
 unfoldable pub ended : List ℕ → Reading → Reading
 ended s (read vs q) = pick (isByte s q newline) (read vs (q + 1)) unread
 ended s unread = unread
 
+-- exactly count fields, and then the end of the line
 unfoldable pub readRest : List ℕ → ℕ → ℕ → Reading
 readRest s p count = ended s (readFields s p count)
 
@@ -117,6 +118,7 @@ unfoldable pub asFields : ℕ → Reading → Fields
 asFields p (read vs q) = record { found = true; values = padded vs; next = q }
 asFields p unread = record { found = false; values = padded []; next = p }
 
+-- fields, the rest of a line and a line of a kind, as they are handed back
 abbrev pub fieldsAt : List ℕ → ℕ → ℕ → Fields
 fieldsAt s p count = asFields p (readFields s p count)
 

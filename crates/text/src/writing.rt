@@ -8,6 +8,7 @@ ghost use Rattle.text.specs.Writing.{decimal, fieldText, fieldsText, lin
 // The byte of the digit 0.
 const ZERO: u64 = 48;
 
+// A byte.
 pub fn put_byte(room: &mut [u8], at: usize, byte: u8) -> usize
     requires { ⌜ at < length (now room) ⌝ }
     ensures { λ r. ⌜ PutByte byte at (now (room .entry)) (now (room .exit)) r ⌝ }
@@ -16,6 +17,7 @@ pub fn put_byte(room: &mut [u8], at: usize, byte: u8) -> usize
     at + 1
 }
 
+// A word, byte for byte.
 pub fn put_word(room: &mut [u8], at: usize, word: &[u8]) -> usize
     requires { ⌜ at + length (now word) ≤ length (now room) ⌝ }
     ensures { λ r. ⌜ PutWord (now (word .entry)) at (now (room .entry)) (now (room .exit)) r ⌝ }
