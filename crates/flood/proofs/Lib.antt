@@ -1,2 +1,4 @@
+pub mod CheckLaws
 pub mod DropLaws
+pub mod FreshLaws
 pub mod LengthLaws
