@@ -109,11 +109,12 @@ module _ (s : Shape) (r : Rules) (inflow : List ℕ) (start end rain : ℕ) wher
       ext-getD 0 _ _
       (length-set (filled (squares s) (left j) amount old) at v ∙ (length-filled (squares s) (left j) amount old ∙ sym (length-filled (squares s) (left (j + 1)) amount old)))
       (λ i l.
-        let h : i < length old = omega (arith, length-set (filled (squares s) (left j) amount old) at v, length-filled (squares s) (left j) amount old, l) in
-        go i h (ℕ-discrete i at))
+      let h : i < length old = omega (arith, length-set (filled (squares s) (left j) amount old) at v, length-filled (squares s) (left j) amount old, l) in
+      go i h (ℕ-discrete i at))
     where
       inside : at < squares s
       inside = subst (λ (x : ℕ). x < squares s) (sym q) (square-within s hr hc)
+
       same :
           (i : ℕ) → i < length old → (b : Bool) → left j i ≡ b → left (j + 1) i ≡ left j i →
           getD (filled (squares s) (left j) amount old) i 0 ≡ getD (filled (squares s) (left (j + 1)) amount old) i 0
@@ -121,8 +122,10 @@ module _ (s : Shape) (r : Rules) (inflow : List ℕ) (start end rain : ℕ) wher
       same i h false b z =
           let l : i < squares s = omega arith in
           filled-in (squares s) (left j) amount old i h l b ∙ sym (filled-in (squares s) (left (j + 1)) amount old i h l (z ∙ b))
+
       other : (i : ℕ) → (i ≡ at → ⊥) → onSquare inflow (i / s .columns) (i % s .columns) j ≡ false
       other i d = no-more (onSquare inflow (i / s .columns) (i % s .columns) j) (λ t. d (sym (q ∙ row-for s inflow j i t)))
+
       go : (i : ℕ) → i < length old → Dec (i ≡ at) → getD (set (filled (squares s) (left j) amount old) at v) i 0 ≡ getD (filled (squares s) (left (j + 1)) amount old) i 0
       go i h (yes z) =
           rw z
@@ -151,7 +154,7 @@ module _ (s : Shape) (r : Rules) (inflow : List ℕ) (start end rain : ℕ) wher
   unfolding amountAt
   dry-of-rows i e =
       let n : (t : ℕ) → inflowBy inflow (i / s .columns) (i % s .columns) (r .«square_side») t ≡ 0
-          = λ t. inflow-none inflow (i / s .columns) (i % s .columns) (r .«square_side») t (left-at (length inflow / 5) i e) in
+      = λ t. inflow-none inflow (i / s .columns) (i % s .columns) (r .«square_side») t (left-at (length inflow / 5) i e) in
       rw (n end, n start) (add-zero rain)
 
 -- ---- rain and inflow together
@@ -214,22 +217,22 @@ module _ (p : Plan) (r : Rules) (rain inflow : List ℕ) (start end : ℕ) (b : 
 
   -- too much rain is too much for a square
   pub rain-too-much :
-      {fell : ℕ} {old new : List ℕ} → fell ≡ fallen → RainedAll (p .marks) fell old false new → Wetted p g start end old false new
-  rain-too-much {fell} e a =
-      let n : addedFits p g start end ≡ true → ⊥ = λ t. not-both {A = ⊥} (fits t) (sym (a .fits-is)) in
+      {fell : ℕ} {old new : List ℕ} {t : Bool} → fell ≡ fallen → t ≡ false → RainedAll (p .marks) fell old t new → Wetted p g start end old false new
+  rain-too-much {fell} e f a =
+      let n : addedFits p g start end ≡ true → ⊥ = λ t. not-both {A = ⊥} (fits t) (sym (a .fits-is) ∙ f) in
       record { fits-is = sym (no-more _ n); stored = λ t. not-both t refl; long = a .long }
     where
       fits : addedFits p g start end ≡ true → allBelow (length (p .marks)) (λ i. closed (p .marks) i || leb fell mostDepth) ≡ true
       fits t =
           all-of _ _
           (λ i l. or-of (closed (p .marks) i) _
-            (λ c. le-leb fell mostDepth (omega (arith, fits-at t i (omega (arith, b .waters .marks-long)) c, rain-under i))))
+          (λ c. le-leb fell mostDepth (omega (arith, fits-at t i (omega (arith, b .waters .marks-long)) c, rain-under i))))
 
-  module _ {fell : ℕ} {old mid new : List ℕ} {done : Bool} (e : fell ≡ fallen) (o : length old ≡ squares s)
-      (a : RainedAll (p .marks) fell old true mid) (q : PouredAll s r inflow start end fell mid done new) where
+  module _ {fell : ℕ} {old mid new : List ℕ} {fits done : Bool} (e : fell ≡ fallen) (o : length old ≡ squares s) (all-fit : fits ≡ true)
+      (a : RainedAll (p .marks) fell old fits mid) (q : PouredAll s r inflow start end fell mid done new) where
     rain-ok : (i : ℕ) → i < squares s → shut p i ≡ false → fell ≤ mostDepth
     rain-ok i h c =
-        leb-true _ _ (or-right (closed (p .marks) i) _ (all-at (length (p .marks)) _ (sym (a .fits-is)) i (omega (arith, b .waters .marks-long))) c)
+        leb-true _ _ (or-right (closed (p .marks) i) _ (all-at (length (p .marks)) _ (sym (a .fits-is) ∙ all-fit) i (omega (arith, b .waters .marks-long))) c)
 
     amount-is : (i : ℕ) → amountAt s r inflow start end fell i ≡ added i
     amount-is i = ap (λ (x : ℕ). amountAt s r inflow start end x i) e ∙ is-amount i
@@ -240,9 +243,9 @@ module _ (p : Plan) (r : Rules) (rain inflow : List ℕ) (start end : ℕ) (b : 
     closed-unreached i c =
         all-of rows _
         (λ j h.
-          ap not
-          (no-more (onSquare inflow (i / s .columns) (i % s .columns) j)
-            (λ t. not-both {A = ⊥} (ap (shut p) (row-for s inflow j i t) ∙ c) (row-fine j h .2))))
+        ap not
+        (no-more (onSquare inflow (i / s .columns) (i % s .columns) j)
+        (λ t. not-both {A = ⊥} (ap (shut p) (row-for s inflow j i t) ∙ c) (row-fine j h .2))))
 
     -- a square is reached by a row, or by none
     reached-by :
@@ -272,26 +275,28 @@ module _ (p : Plan) (r : Rules) (rain inflow : List ℕ) (start end : ℕ) (b : 
     fits-both true t = sym (all-of (squares s) _ (λ i h. or-of (shut p i) _ (λ c. le-leb _ _ (all-ok t i h c))))
     fits-both false t =
         sym (no-more _ (λ u.
-          not-both {A = ⊥}
-          (all-of rows _
-            (λ j h.
-              let f = row-fine j h in
-              le-leb _ _
-              (subst (λ (x : ℕ). x ≤ mostDepth) (sym (amount-is (rowSquare s r inflow start end fell j)))
-                (fits-at u (rowSquare s r inflow start end fell j) (square-within s (f .0) (f .1)) (f .2)))))
-          (sym (q .fits-is) ∙ t)))
+        not-both {A = ⊥}
+        (all-of rows _
+        (λ j h.
+        let f = row-fine j h in
+        le-leb _ _
+        (subst (λ (x : ℕ). x ≤ mostDepth) (sym (amount-is (rowSquare s r inflow start end fell j)))
+        (fits-at u (rowSquare s r inflow start end fell j) (square-within s (f .0) (f .1)) (f .2)))))
+        (sym (q .fits-is) ∙ t)))
 
     stands : done ≡ true → new ≡ filled (squares s) (shut p) added old
     stands t =
         q .stored t
         ∙ is-filled (squares s) (shut p) added old _
-          (length-filled (squares s) (unreached s r inflow start end fell rows) (amountAt s r inflow start end fell) mid ∙ a .long)
-          (λ i h. at i h (omega arith) (shut p i) refl)
+        (length-filled (squares s) (unreached s r inflow start end fell rows) (amountAt s r inflow start end fell) mid ∙ a .long)
+        (λ i h. at i h (omega arith) (shut p i) refl)
       where
         marks-all : length (p .marks) ≡ squares s
         marks-all = b .waters .marks-long
+
         mid-is : mid ≡ filled (length (p .marks)) (closed (p .marks)) (λ k. fell) old
-        mid-is = a .stored refl
+        mid-is = a .stored all-fit
+
         at :
             (i : ℕ) → i < length old → i < squares s → (c : Bool) → shut p i ≡ c →
             getD (filled (squares s) (unreached s r inflow start end fell rows) (amountAt s r inflow start end fell) mid) i 0

@@ -5,3 +5,4 @@ pub mod drops;
 pub mod fresh;
 pub mod length;
 pub mod run;
+pub mod step;

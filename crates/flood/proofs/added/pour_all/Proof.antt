@@ -54,8 +54,7 @@ loop-less c = omega arith
 loop-again : tie.Need-loop-again Inv-loop μ-loop
 loop-again c =
     let t = not-false _ (c .if1 .left) in
-    let j = c .before .before .before .before .before .before .loop .j in
-    (
+    let j = c .before .before .before .before .before .before .loop .j in (
       omega arith,
       c .before .before .before .pour-row .ensures .long ∙ c .before .before .before .before .before .before .loop .inv .1,
       poured-turn (c .before .before .before .before .before .before .before .before .before .args .shape) (c .before .before .before .before .before .before .before .before .before .args .rules) (c .before .before .before .before .before .before .before .before .before .args .inflow .now) (c .before .before .before .before .before .before .before .before .before .args .start) (c .before .before .before .before .before .before .before .before .before .args .end) (c .before .before .before .before .before .before .before .before .before .args .rain) (c .before .before .before .before .before .before .before .before .before .args .room .now) j (c .before .before .before .before .before .before .before .before .before .pre .1) (c .before .before .before .before .before .before .before .before .before .pre .0 .row-in j (omega arith)) (c .before .before .before .before .before .before .before .before .before .pre .0 .column-in j (omega arith)) (c .before .before .before .before .before .before .loop .inv .2) (c .before .before .before .pour-row .ensures) t,

@@ -29,6 +29,7 @@ within c =
       c .square-at .ensures,
       square-within (c .before .before .before .before .before .before .before .args .shape) {row = c .before .before .before .before .number .result} {column = c .before .before .before .number2 .result} (omega (arith, a .row-in j (c .before .before .before .before .before .before .before .pre .2))) (omega (arith, a .column-in j (c .before .before .before .before .before .before .before .pre .2))),
     )
+
 -- >>
 
 mul-number : tie.Need-mul-number

@@ -53,8 +53,7 @@ loop-less c = omega arith
 
 loop-again : tie.Need-loop-again Inv-loop μ-loop
 loop-again c =
-    let t = not-false _ (c .if1 .left) in
-    (
+    let t = not-false _ (c .if1 .left) in (
       omega arith,
       c .before .before .before .rain-square .ensures .long ∙ c .before .before .before .before .before .before .loop .inv .1,
       rained-turn (c .before .before .before .before .before .before .before .before .before .args .marks .now) (c .before .before .before .before .before .before .before .before .before .args .room .now) (c .before .before .before .before .before .before .before .before .before .args .rain) (c .before .before .before .before .before .before .loop .square) (omega arith) (c .before .before .before .before .before .before .loop .inv .2) (c .before .before .before .rain-square .ensures) t,

@@ -1,0 +1,2 @@
+-- x
+-- Assumes nothing.
