@@ -1,5 +1,4 @@
--- Laws of refusals 1 to 6: where none applies every test holds, so that the inner functions may go ahead and a take-back would look no
--- further; a run's checks are a step's and its end's; and a world that was valid stays so while its numbers stay in range.
+-- Laws of refusals 1 to 6: what holds where none applies, a run's checks beside a step's, and that a valid world stays valid.
 -- Assumes nothing.
 use mathlib.Core.Path.{_≡_, refl, sym, ap, _∙_}
 use mathlib.Core.Bool.{Bool, true, false, _||_, not}
@@ -53,7 +52,7 @@ every-decided bs k false e f = sym (every-fails bs k e)
 -- ---- each test by its name
 
 -- of what steps leave as it is, but for the rules
-record Given-fine (p : Plan) (g : Given) : Type 0 where
+record GivenFine (p : Plan) (g : Given) : Type 0 where
   shape-fine : shapeFine (p .shape) ≡ true
   side-fine : sideFine (g .lie .rules) ≡ true
   marks-each : oneEach p (p .marks) ≡ true
@@ -66,7 +65,7 @@ record Given-fine (p : Plan) (g : Given) : Type 0 where
   inflow-squares-fine : inflowSquaresFine (p .shape) (p .marks) (g .inflow) ≡ true
 
 -- of what steps change, but for the ring
-record Seen-fine (p : Plan) (v : Seen) : Type 0 where
+record SeenFine (p : Plan) (v : Seen) : Type 0 where
   depths-each : oneEach p (v .depths) ≡ true
   lasts-each : oneEach p (v .lasts) ≡ true
   waters-fine : watersFine p (v .depths) (v .lasts) ≡ true
@@ -76,8 +75,8 @@ record Seen-fine (p : Plan) (v : Seen) : Type 0 where
   outflow-to : leb (v .outflow) mostOutflow ≡ true
 
 record Tested (p : Plan) (g : Given) (five ring : Bool) (v : Seen) : Type 0 where
-  given-fine : Given-fine p g
-  seen-fine : Seen-fine p v
+  given-fine : GivenFine p g
+  seen-fine : SeenFine p v
   five-fine : five ≡ true
   ring-fine : ring ≡ true
 
