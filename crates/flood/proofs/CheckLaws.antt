@@ -1,7 +1,6 @@
--- Laws of refusals 1 to 6: where none applies every test holds, so that the inner functions may go ahead and a take-back would look no
--- further; a run's checks are a step's and its end's; and a world that was valid stays so while its numbers stay in range.
+-- Laws of refusals 1 to 6: what holds where none applies, a run's checks beside a step's, and that a valid world stays valid.
 -- Assumes nothing.
-use mathlib.Core.Path.{_≡_, refl, sym, _∙_}
+use mathlib.Core.Path.{_≡_, refl, sym, ap, _∙_}
 use mathlib.Core.Bool.{Bool, true, false, _||_, not}
 use mathlib.Core.List.{List, [], _∷_}
 use Prim.Native.Nat.{ℕ, _%_, _≤_, _<_}
@@ -12,16 +11,18 @@ use Rattle.reckon.specs.Tests.{every, numbered, refusal}
 use Rattle.reckon.specs.Ranges.{mostDepth, mostLength, lastClock, mostOutflow, waterFine}
 use Rattle.reckon.specs.Tables.{rainKind, inflowKind, tableFine}
 use Rattle.reckon.proofs.TestLaws.{Each, or-right, or-of, every-each, each-every, every-fails, all-at, all-of, refusal-passed, passed-refusal}
+use Rattle.grid.specs.declared.squares.Shape.{Shape}
 use Rattle.grid.specs.Squares.{FineShape, squares, shapeFine}
 use Rattle.grid.specs.Marks.{Marked, marksFine, inflowSquaresFine}
 use Rattle.grid.proofs.SquareLaws.{ranges-of-fine}
 use Rattle.rule.specs.Rules.{sideFine, rulesFine}
 use Rattle.rule.specs.declared.rules.Rules.{Rules}
 use Rattle.rule.proofs.RuleLaws.{rules-are, ground-is}
-use Rattle.ledger.specs.Runs.{Plan, World}
+use Rattle.ledger.specs.Runs.{Plan, World, plan, runFine}
 use Rattle.ledger.specs.Flows.{shut}
 use Rattle.ledger.specs.TakeBack.{Watered, oneEach, watersFine}
 use Rattle.ledger.specs.Engine.{Seen, seenOf, lookRows}
+use Rattle.ledger.specs.declared.runs.Run.{Run}
 use Rattle.flood.specs.Drops.{Given}
 use Rattle.flood.specs.Ready.{Ready}
 use Rattle.flood.specs.Refusals.{groundsFine, endFine, checkRows, stepChecks, ringOf, runChecks}
@@ -51,7 +52,7 @@ every-decided bs k false e f = sym (every-fails bs k e)
 -- ---- each test by its name
 
 -- of what steps leave as it is, but for the rules
-record Given-fine (p : Plan) (g : Given) : Type 0 where
+record GivenFine (p : Plan) (g : Given) : Type 0 where
   shape-fine : shapeFine (p .shape) ≡ true
   side-fine : sideFine (g .lie .rules) ≡ true
   marks-each : oneEach p (p .marks) ≡ true
@@ -64,7 +65,7 @@ record Given-fine (p : Plan) (g : Given) : Type 0 where
   inflow-squares-fine : inflowSquaresFine (p .shape) (p .marks) (g .inflow) ≡ true
 
 -- of what steps change, but for the ring
-record Seen-fine (p : Plan) (v : Seen) : Type 0 where
+record SeenFine (p : Plan) (v : Seen) : Type 0 where
   depths-each : oneEach p (v .depths) ≡ true
   lasts-each : oneEach p (v .lasts) ≡ true
   waters-fine : watersFine p (v .depths) (v .lasts) ≡ true
@@ -74,8 +75,8 @@ record Seen-fine (p : Plan) (v : Seen) : Type 0 where
   outflow-to : leb (v .outflow) mostOutflow ≡ true
 
 record Tested (p : Plan) (g : Given) (five ring : Bool) (v : Seen) : Type 0 where
-  given-fine : Given-fine p g
-  seen-fine : Seen-fine p v
+  given-fine : GivenFine p g
+  seen-fine : SeenFine p v
   five-fine : five ≡ true
   ring-fine : ring ≡ true
 
@@ -183,39 +184,43 @@ module _ (p : Plan) where
         all-of _ _ (λ i h. or-of (shut p i) _ (λ s. each-every _ (le-leb _ _ (d i h s), (le-leb _ _ (l i h s), tt))))
 
 -- row 1, for the calls that are lent everything
-module _ (p : Plan) (r : Rules) (beds roughness depths lasts : List ℕ) where
+module _ (s : Shape) (marks : List ℕ) (r : Rules) (beds roughness depths lasts : List ℕ) where
   abbrev pub lentTests : List Bool
   lentTests =
-      shapeFine (p .shape)
+      shapeFine s
       ∷ sideFine r
-      ∷ oneEach p (p .marks)
-      ∷ oneEach p beds
-      ∷ oneEach p roughness
-      ∷ oneEach p depths
-      ∷ oneEach p lasts
+      ∷ oneEach (plan s marks) marks
+      ∷ oneEach (plan s marks) beds
+      ∷ oneEach (plan s marks) roughness
+      ∷ oneEach (plan s marks) depths
+      ∷ oneEach (plan s marks) lasts
       ∷ []
 
   module _ (e : every lentTests ≡ true) where
-    pub lent-fine : FineShape (p .shape)
-    lent-fine = ranges-of-fine (p .shape) (every-each _ e .0)
+    pub lent-fine : FineShape s
+    lent-fine = ranges-of-fine s (every-each _ e .0)
 
-    pub lent-marked : Marked (p .shape) (p .marks)
-    lent-marked = record { fine = lent-fine; whole = each-long p _ (every-each _ e .1 .1 .0) }
+    pub lent-marked : Marked s marks
+    lent-marked = record { fine = lent-fine; whole = each-long (plan s marks) _ (every-each _ e .1 .1 .0) }
 
-    pub lent-ground : (Marked (p .shape) (p .marks)) × (length beds ≡ squares (p .shape)) × (length roughness ≡ squares (p .shape))
+    pub lent-ground : (Marked s marks) × (length beds ≡ squares s) × (length roughness ≡ squares s)
     lent-ground =
         let t = every-each _ e in
-        (lent-marked, each-long p _ (t .1 .1 .1 .0), each-long p _ (t .1 .1 .1 .1 .0))
+        (lent-marked, each-long (plan s marks) _ (t .1 .1 .1 .0), each-long (plan s marks) _ (t .1 .1 .1 .1 .0))
 
-    pub lent-water : Watered p depths lasts
+    pub lent-water : Watered (plan s marks) depths lasts
     lent-water =
         let t = every-each _ e in
         record {
           fine = lent-fine;
           marks-long = lent-marked .whole;
-          depths-long = each-long p _ (t .1 .1 .1 .1 .1 .0);
-          lasts-long = each-long p _ (t .1 .1 .1 .1 .1 .1 .0);
+          depths-long = each-long (plan s marks) _ (t .1 .1 .1 .1 .1 .0);
+          lasts-long = each-long (plan s marks) _ (t .1 .1 .1 .1 .1 .1 .0);
         }
+
+-- row 6, where K is known by another name
+pub run-fine-by : {r : Bool} {a b : ℕ} (u : Run) → r ≡ runFine a u → a ≡ b → r ≡ runFine b u
+run-fine-by u e q = e ∙ ap (λ (k : ℕ). runFine k u) q
 
 pub update-is : (r : Rules) → rulesFine r ≡ true → 0 < r .update
 unfolding rulesFine

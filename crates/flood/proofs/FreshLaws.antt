@@ -11,12 +11,13 @@ use Rattle.reckon.specs.Tests.{every, numbered, pick}
 use Rattle.reckon.specs.Lists.{filled}
 use Rattle.reckon.proofs.TestLaws.{not-both, pick-true, pick-false, every-each, refusal-passed}
 use Rattle.reckon.proofs.ListLaws.{length-filled, filled-store, filled-keep}
+use Rattle.grid.specs.declared.squares.Shape.{Shape}
 use Rattle.grid.specs.Squares.{squares, shapeFine}
 use Rattle.grid.specs.Marks.{Marked, closed}
 use Rattle.grid.proofs.SquareLaws.{ranges-of-fine}
 use Rattle.rule.specs.Rules.{sideFine}
 use Rattle.rule.specs.declared.rules.Rules.{Rules}
-use Rattle.ledger.specs.Runs.{Plan, answered}
+use Rattle.ledger.specs.Runs.{Plan, answered, plan}
 use Rattle.ledger.specs.Flows.{shut}
 use Rattle.ledger.specs.Record.{roomSlots}
 use Rattle.ledger.specs.TakeBack.{oneEach}
@@ -28,18 +29,18 @@ use Rattle.flood.proofs.CheckLaws.{each-long}
 -- ---- the checks
 
 -- row 1
-module _ (p : Plan) (r : Rules) (lasts : List ℕ) where
+module _ (s : Shape) (marks : List ℕ) (r : Rules) (lasts : List ℕ) where
   abbrev pub sizeTests : List Bool
-  sizeTests = shapeFine (p .shape) ∷ sideFine r ∷ oneEach p (p .marks) ∷ oneEach p lasts ∷ []
+  sizeTests = shapeFine s ∷ sideFine r ∷ oneEach (plan s marks) marks ∷ oneEach (plan s marks) lasts ∷ []
 
   module _ (e : every sizeTests ≡ true) where
-    pub sizes-marked : Marked (p .shape) (p .marks)
+    pub sizes-marked : Marked s marks
     sizes-marked =
         let t = every-each _ e in
-        record { fine = ranges-of-fine (p .shape) (t .0); whole = each-long p _ (t .1 .1 .0) }
+        record { fine = ranges-of-fine s (t .0); whole = each-long (plan s marks) _ (t .1 .1 .0) }
 
-    pub sizes-lasts : length lasts ≡ squares (p .shape)
-    sizes-lasts = each-long p _ (every-each _ e .1 .1 .1 .0)
+    pub sizes-lent : (Marked s marks) × (length lasts ≡ squares s)
+    sizes-lent = (sizes-marked, each-long (plan s marks) _ (every-each _ e .1 .1 .1 .0))
 
 module _ (p : Plan) (r : Rules) (lasts records : List ℕ) where
   rows-named : T (numbered (freshRows p r lasts records))
@@ -47,7 +48,7 @@ module _ (p : Plan) (r : Rules) (lasts records : List ℕ) where
   rows-named = tt
 
   module _ (e : freshNumber p r lasts records ≡ 0) where
-    pub fresh-sizes : every (sizeTests p r lasts) ≡ true
+    pub fresh-sizes : every (sizeTests (p .shape) (p .marks) r lasts) ≡ true
     unfolding freshNumber freshRows
     fresh-sizes = refusal-passed _ rows-named e .0
 
@@ -72,6 +73,11 @@ clear-more marks old i h {l} {new} e q = go (closed marks i) refl
         q
         ∙ (pick-false _ _ s
         ∙ (ap (λ (x : List ℕ). set x i 0) e ∙ filled-store (closed marks) (λ k. 0) old i h s refl))
+
+pub clear-whole :
+    (marks old : List ℕ) {i n : ℕ} {l : List ℕ} → l ≡ filled i (closed marks) (λ k. 0) old → i ≡ n →
+    l ≡ filled n (closed marks) (λ k. 0) old
+clear-whole marks old e q = e ∙ ap (λ (n : ℕ). filled n (closed marks) (λ k. 0) old) q
 
 -- ---- the answers
 

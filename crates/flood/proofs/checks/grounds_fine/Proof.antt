@@ -33,11 +33,7 @@ ground-ok-requires c κs = search needs
 
 returns : tie.Need-returns Inv-loop μ-loop
 unfolding groundsFine
-returns c =
-    λ rules.
-    sym
-    (all-fails _ _ (c .before .before .before .loop .square) (omega (arith, c .before .before .before .before .squares-of .ensures))
-    (fails-by (c .before .ground-ok .ensures) (c .if1 .taken)))
+returns c = λ rules. sym (all-fails _ _ (c .before .before .before .loop .square) (omega arith) (fails-by (c .before .ground-ok .ensures) (c .if1 .taken)))
 
 add-square : tie.Need-add-square Inv-loop μ-loop
 add-square c = search needs
@@ -50,7 +46,7 @@ loop-again c = (omega arith, all-more _ _ (c .before .before .before .loop .inv 
 
 returns-2 : tie.Need-returns-2 Inv-loop μ-loop
 unfolding groundsFine
-returns-2 c = λ rules. sym (all-whole _ (c .before .loop .inv .1) (omega (arith, c .before .before .squares-of .ensures)))
+returns-2 c = λ rules. sym (all-whole _ (c .before .loop .inv .1) (omega arith))
 
 pub grounds-fine-spec : {M : Type 1} → statement M
 grounds-fine-spec =

@@ -3,9 +3,8 @@
 use mathlib.Core.Path.{_≡_, sym, _∙_}
 use native.Mathlib.Omega.{arith}
 use borrow.Author.Needs.{needs}
-use Rattle.ledger.specs.Runs.{plan}
 use Rattle.ledger.specs.Record.{roomSlots}
-use Rattle.flood.proofs.FreshLaws.{sizes-marked, sizes-lasts, fresh-sizes, fresh-slots, fresh-refused, fresh-done}
+use Rattle.flood.proofs.FreshLaws.{sizes-marked, sizes-lent, fresh-sizes, fresh-slots, fresh-refused, fresh-done}
 use Rattle.flood.proofs.fresh.fresh.Statement.{statement}
 use Rattle.flood.proofs.fresh.fresh.Tie as tie
 
@@ -16,19 +15,19 @@ same-length : tie.Need-same-length
 same-length c = search needs
 
 returns : tie.Need-returns
-returns c = fresh-refused (plan (c .before .before .before .before .before .before .args .shape) (c .before .before .before .before .before .before .args .marks .now)) (c .before .before .before .before .before .before .args .rules) (c .before .before .before .before .before .before .args .records .now) (c .before .before .before .before .before .before .args .lasts .now) (c .before .fresh-number .ensures) (c .if1 .taken)
+returns c = fresh-refused _ _ _ _ (c .before .fresh-number .ensures) (c .if1 .taken)
 
 clear-lasts-requires : tie.Need-clear-lasts-requires
-clear-lasts-requires c κs = (sizes-marked (plan (c .before .before .before .before .before .before .before .args .shape) (c .before .before .before .before .before .before .before .args .marks .now)) (c .before .before .before .before .before .before .before .args .rules) (c .before .before .before .before .before .before .before .args .lasts .now) (fresh-sizes (plan (c .before .before .before .before .before .before .before .args .shape) (c .before .before .before .before .before .before .before .args .marks .now)) (c .before .before .before .before .before .before .before .args .rules) (c .before .before .before .before .before .before .before .args .lasts .now) (c .before .before .before .before .before .before .before .args .records .now) (sym (c .before .before .fresh-number .ensures) ∙ c .before .if1 .left)), sizes-lasts (plan (c .before .before .before .before .before .before .before .args .shape) (c .before .before .before .before .before .before .before .args .marks .now)) (c .before .before .before .before .before .before .before .args .rules) (c .before .before .before .before .before .before .before .args .lasts .now) (fresh-sizes (plan (c .before .before .before .before .before .before .before .args .shape) (c .before .before .before .before .before .before .before .args .marks .now)) (c .before .before .before .before .before .before .before .args .rules) (c .before .before .before .before .before .before .before .args .lasts .now) (c .before .before .before .before .before .before .before .args .records .now) (sym (c .before .before .fresh-number .ensures) ∙ c .before .if1 .left)))
+clear-lasts-requires c κs = sizes-lent _ _ _ _ (fresh-sizes _ _ _ _ (sym (c .before .before .fresh-number .ensures) ∙ c .before .if1 .left))
 
 slots-of-requires : tie.Need-slots-of-requires
-slots-of-requires c κs = sizes-marked (plan (c .before .before .before .before .before .before .before .before .before .before .args .shape) (c .before .before .before .before .before .before .before .before .before .before .args .marks .now)) (c .before .before .before .before .before .before .before .before .before .before .args .rules) (c .before .before .before .before .before .before .before .before .before .before .args .lasts .now) (fresh-sizes (plan (c .before .before .before .before .before .before .before .before .before .before .args .shape) (c .before .before .before .before .before .before .before .before .before .before .args .marks .now)) (c .before .before .before .before .before .before .before .before .before .before .args .rules) (c .before .before .before .before .before .before .before .before .before .before .args .lasts .now) (c .before .before .before .before .before .before .before .before .before .before .args .records .now) (sym (c .before .before .before .before .before .fresh-number .ensures) ∙ c .before .before .before .before .if1 .left)) .fine
+slots-of-requires c κs = sizes-marked _ _ _ _ (fresh-sizes _ _ _ _ (sym (c .before .before .before .before .before .fresh-number .ensures) ∙ c .before .before .before .before .if1 .left)) .fine
 
 sub-t14 : tie.Need-sub-t14
 unfolding roomSlots
 sub-t14 c =
     let some : (c .slots-of .result ≡ 0 → ⊥) =
-    λ z. fresh-slots (plan (c .before .before .before .before .before .before .before .before .before .before .before .args .shape) (c .before .before .before .before .before .before .before .before .before .before .before .args .marks .now)) (c .before .before .before .before .before .before .before .before .before .before .before .args .rules) (c .before .before .before .before .before .before .before .before .before .before .before .args .lasts .now) (c .before .before .before .before .before .before .before .before .before .before .before .args .records .now) (sym (c .before .before .before .before .before .before .fresh-number .ensures) ∙ c .before .before .before .before .before .if1 .left) (sym (c .slots-of .ensures) ∙ z) in
+    λ z. fresh-slots _ _ _ _ (sym (c .before .before .before .before .before .before .fresh-number .ensures) ∙ c .before .before .before .before .before .if1 .left) (sym (c .slots-of .ensures) ∙ z) in
     omega arith
 
 same-length-2 : tie.Need-same-length-2
@@ -36,7 +35,7 @@ same-length-2 c = search needs
 
 returns-2 : tie.Need-returns-2
 unfolding roomSlots
-returns-2 c = fresh-done (plan (c .before .before .before .before .before .before .before .before .before .before .before .args .shape) (c .before .before .before .before .before .before .before .before .before .before .before .args .marks .now)) (c .before .before .before .before .before .before .before .before .before .before .before .args .rules) (c .before .before .before .before .before .before .before .before .before .before .before .args .records .now) (c .before .before .before .before .before .before .before .before .before .before .before .args .lasts .now) (c .before .before .before .before .before .before .fresh-number .ensures) (c .before .before .before .before .before .if1 .left) (c .before .before .before .clear-lasts .ensures) (c .slots-of .ensures)
+returns-2 c = fresh-done _ _ _ _ (c .before .before .before .before .before .before .fresh-number .ensures) (c .before .before .before .before .before .if1 .left) (c .before .before .before .clear-lasts .ensures) (c .slots-of .ensures)
 
 pub fresh-spec : {M : Type 1} → statement M
 fresh-spec =

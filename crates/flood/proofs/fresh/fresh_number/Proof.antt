@@ -5,7 +5,6 @@ use mathlib.Core.Bool.{not}
 use borrow.Author.Tests.{eq-eqb, ne-eqb}
 use borrow.Author.Needs.{needs}
 use Rattle.reckon.proofs.TestLaws.{refusal-here, refusal-later, passed-refusal}
-use Rattle.ledger.specs.Runs.{plan}
 use Rattle.ledger.specs.Record.{roomSlots}
 use Rattle.flood.specs.Run.{freshNumber, freshRows}
 use Rattle.flood.proofs.CheckLaws.{fails-by, holds-by}
@@ -21,7 +20,7 @@ unfolding freshNumber freshRows
 returns c = sym (refusal-here 1 _ (fails-by (c .before .sizes-fine .ensures) (c .if1 .taken)))
 
 marks-fine-requires : tie.Need-marks-fine-requires
-marks-fine-requires c κs = sizes-marked (plan (c .before .before .before .before .before .args .shape) (c .before .before .before .before .before .args .marks .now)) (c .before .before .before .before .before .args .rules) (c .before .before .before .before .before .args .lasts .now) (holds-by (c .before .sizes-fine .ensures) (c .if1 .left))
+marks-fine-requires c κs = sizes-marked _ _ _ _ (holds-by (c .before .sizes-fine .ensures) (c .if1 .left))
 
 returns-2 : tie.Need-returns-2
 unfolding freshNumber freshRows
@@ -38,7 +37,7 @@ returns-3 c =
     ∙ (refusal-later 2 _ (holds-by (c .before .before .before .marks-fine .ensures) (c .before .before .if2 .left)) ∙ refusal-here 5 _ (fails-by (c .before .rules-fine .ensures) (c .if3 .taken))))
 
 slots-of-requires : tie.Need-slots-of-requires
-slots-of-requires c κs = sizes-marked (plan (c .before .before .before .before .before .before .before .before .before .args .shape) (c .before .before .before .before .before .before .before .before .before .args .marks .now)) (c .before .before .before .before .before .before .before .before .before .args .rules) (c .before .before .before .before .before .before .before .before .before .args .lasts .now) (holds-by (c .before .before .before .before .before .sizes-fine .ensures) (c .before .before .before .before .if1 .left)) .fine
+slots-of-requires c κs = sizes-marked _ _ _ _ (holds-by (c .before .before .before .before .before .sizes-fine .ensures) (c .before .before .before .before .if1 .left)) .fine
 
 returns-4 : tie.Need-returns-4
 unfolding freshNumber freshRows roomSlots
