@@ -3,7 +3,7 @@
 use mathlib.Core.Path.{_≡_, refl, sym, ap, _∙_}
 use mathlib.Core.Bool.{Bool, true, false, _||_, not}
 use mathlib.Core.List.{List, [], _∷_}
-use Prim.Native.Nat.{ℕ, _+_, _-_, _≤_, _<_}
+use Prim.Native.Nat.{ℕ, zero, suc, _+_, _-_, _≤_, _<_}
 use native.Mathlib.Omega.{arith}
 use lib.Dec.{leb, eqb}
 use lib.ListN.{length, getD, take, drop}
@@ -12,7 +12,7 @@ use Rattle.reckon.specs.Tests.{pick, every, allBelow, _unless_, refusal}
 use Rattle.reckon.specs.Lists.{filled}
 use Rattle.reckon.specs.Ranges.{mostDepth, mostLength, waterFine}
 use Rattle.reckon.proofs.TestLaws.{not-both, pick-true, pick-false, or-right, Each, every-each, each-every, every-fails, refusal-here, refusal-later, passed-refusal}
-use Rattle.trials.specs.Ring.{slotStart, slotBefore}
+use Rattle.trials.specs.Ring.{slotsIn, slotStart}
 use Rattle.trials.specs.Room.{recordIn}
 use Rattle.grid.specs.Squares.{squares, shapeFine}
 use Rattle.grid.specs.Marks.{marksFine}
@@ -20,11 +20,12 @@ use Rattle.grid.proofs.SquareLaws.{ranges-of-fine, fine-of-ranges}
 use Rattle.ledger.specs.Runs.{Plan, World, world, ofDepths, runFine, answered}
 use Rattle.ledger.specs.Flows.{shut, gone, came, offGrid}
 use Rattle.ledger.specs.Record.{recordSize, heldIn, lastedIn, leavesIn, lastIn, addedIn, roomSlots, newestRecord, Recorded, Walked}
-use Rattle.ledger.specs.TakeBack.{oneEach, watersFine, timesFine, heldAndGone, cameAndAdded, depthBefore, squareRestorable, restorable, worldBefore, backRows, backNumber, takenBack, Watered, TakesBack, Kept, Looked, Restores}
+use Rattle.ledger.specs.TakeBack.{oneEach, watersFine, timesFine, heldAndGone, cameAndAdded, depthBefore, squareRestorable, restorable, worldBefore, backRows, backNumber, takenBack, Watered, TakesBack, Kept, Looked, runBefore, Led, Restores}
 use Rattle.ledger.specs.declared.runs.Run.{Run}
 use Rattle.ledger.specs.declared.runs.Answer.the-variants.{Done, Refused}
 use Rattle.ledger.specs.declared.record.Found.{Found}
-use Rattle.ledger.proofs.RunLaws.{every-decides, answered-done, answered-refused}
+use Rattle.ledger.proofs.RunLaws.{every-decides, run-ring, answered-done, answered-refused}
+use Rattle.ledger.proofs.RecordLaws.{part-long, slots-of, slot-fits}
 use Rattle.ledger.proofs.WalkLaws.{walked-unfit}
 
 -- ---- 11: the times
@@ -102,9 +103,26 @@ module _ (p : Plan) (w : World) (rec : List ℕ) where
   unfolding restorable
   record-fit f o h = record { fits-is = f ∙ sym (each-every tests h); off-is = λ z. o }
 
-  pub restorable-each : restorable p w rec ≡ true → Each tests
-  unfolding restorable
-  restorable-each e = every-each tests e
+-- what a record that passed may rely on, and that it passes by depths and run alone
+module _ (p : Plan) (w : World) (rec : List ℕ) where
+  alone : restorable p (world (w .depths) [] [] (w .run)) rec ≡ restorable p w rec
+  unfolding restorable squareRestorable depthBefore heldAndGone cameAndAdded
+  alone = refl
+
+  module _ (e : restorable p (world (w .depths) [] [] (w .run)) rec ≡ true) where
+    each : Each (tests p w rec)
+    unfolding restorable
+    each = every-each (tests p w rec) (sym alone ∙ e)
+
+    pub clock-covers : lastedIn rec ≤ w .run .clock
+    clock-covers = leb-true _ _ (each .1 .0)
+
+    pub squares-restorable : allBelow (squares (p .shape)) (squareRestorable p (ofDepths (w .depths)) rec) ≡ true
+    unfolding squareRestorable depthBefore heldAndGone cameAndAdded
+    squares-restorable = each .1 .1 .0
+
+    pub outflow-covers : offGrid p (leavesIn rec) ≤ w .run .outflow
+    outflow-covers = leb-true _ _ (each .1 .1 .1 .0)
 
 -- ---- refusals before 11
 
@@ -167,9 +185,10 @@ module _ (p : Plan) (w : World) where
   unfolding backNumber backRows oneEach
   late k =
       refusal-later 1 _
-      (each-every _
-      (fine-of-ranges (p .shape) (k .watered .fine)
-      , (eq-eqb _ _ (k .watered .marks-long), (eq-eqb _ _ (k .watered .depths-long), (eq-eqb _ _ (k .watered .lasts-long), tt)))))
+      (each-every _ (
+        fine-of-ranges (p .shape) (k .watered .fine),
+        (eq-eqb _ _ (k .watered .marks-long), (eq-eqb _ _ (k .watered .depths-long), (eq-eqb _ _ (k .watered .lasts-long), tt))),
+      ))
       ∙ (refusal-later 2 _ (k .marks-fine)
       ∙ (refusal-later 3 _ (k .waters-fine)
       ∙ (refusal-later 6 _ (k .run-fine) ∙ refusal-later 10 _ (ap not (ne-eqb (w .run .kept) 0 (k .some-kept))))))
@@ -187,19 +206,56 @@ module _ (p : Plan) (w : World) where
   pub takes-refused : {n : ℕ} → (n ≡ 0 → ⊥) → Looked p w n → TakesBack p w (Refused n) (w .depths) (w .lasts)
   takes-refused d l = as-it-was d (l .refused d)
 
-  module _ (k : Kept p w) where
-    pub takes-unfit : restorable p w (newestRecord p w) ≡ false → TakesBack p w (Refused 11) (w .depths) (w .lasts)
-    takes-unfit e = as-it-was (λ z. omega arith) (sym (late k ∙ refusal-here 11 [] e))
+  module _ (k : Kept p w) {rec : List ℕ} (q : rec ≡ newestRecord p w) where
+    pub takes-unfit : restorable p (world (w .depths) [] [] (w .run)) rec ≡ false → TakesBack p w (Refused 11) (w .depths) (w .lasts)
+    takes-unfit e =
+        as-it-was (λ z. omega arith) (sym (late k ∙ refusal-here 11 [] (ap (restorable p w) (sym q) ∙ (sym (alone p w rec) ∙ e))))
 
     pub takes-back :
-        restorable p w (newestRecord p w) ≡ true → {u : Run} {d l : List ℕ} → u ≡ worldBefore p w (newestRecord p w) .run →
-        d ≡ worldBefore p w (newestRecord p w) .depths → l ≡ worldBefore p w (newestRecord p w) .lasts → TakesBack p w (Done u) d l
-    unfolding takenBack
-    takes-back e {u} q r s =
-        let z : backNumber p w ≡ 0 = late k ∙ passed-refusal _ (e, tt) in
-        let back : takenBack p w ≡ worldBefore p w (newestRecord p w) = pick-true _ _ (eq-eqb (backNumber p w) 0 z) in
+        restorable p (world (w .depths) [] [] (w .run)) rec ≡ true → {u : Run} {d l : List ℕ} {slots off : ℕ} →
+        slots ≡ roomSlots p (w .records) → off ≡ offGrid p (leavesIn rec) → u ≡ runBefore slots (w .run) rec off →
+        d ≡ filled (squares (p .shape)) (shut p) (depthBefore p (ofDepths (w .depths)) rec) (w .depths) →
+        l ≡ filled (squares (p .shape)) (shut p) (lastIn rec) (w .lasts) → TakesBack p w (Done u) d l
+    unfolding takenBack worldBefore depthBefore heldAndGone cameAndAdded
+    takes-back e {u} {d} {l} {slots} {off} s o r g h =
+        let z : backNumber p w ≡ 0 = late k ∙ passed-refusal _ (ap (restorable p w) (sym q) ∙ (sym (alone p w rec) ∙ e), tt) in
+        let back : takenBack p w ≡ worldBefore p w rec = pick-true _ _ (eq-eqb (backNumber p w) 0 z) ∙ ap (worldBefore p w) (sym q) in
+        let run-is : u ≡ worldBefore p w rec .run = rw (r, s, o) in
         record {
-          answer = ap Done (q ∙ ap (λ (v : World). v .run) (sym back)) ∙ answered-done (takenBack p w .run) z;
-          depths-are = r ∙ ap (λ (v : World). v .depths) (sym back);
-          lasts-are = s ∙ ap (λ (v : World). v .lasts) (sym back);
+          answer = ap Done (run-is ∙ ap (λ (v : World). v .run) (sym back)) ∙ answered-done (takenBack p w .run) z;
+          depths-are = g ∙ ap (λ (v : World). v .depths) (sym back);
+          lasts-are = h ∙ ap (λ (v : World). v .lasts) (sym back);
+        }
+
+-- ---- the newest record in its room
+
+positive : (n : ℕ) → (n ≡ 0 → ⊥) → 1 ≤ n
+positive zero d = absurd (d refl)
+positive (suc n) d = omega arith
+
+module _ (p : Plan) (w : World) (k : Kept p w) {size slots : ℕ} (e : size ≡ recordSize p) (s : slots ≡ slotsIn size (length (w .records))) where
+  pub newest-below : w .run .newest < slots
+  newest-below = rw (slots-of p (w .records) e s) (run-ring (roomSlots p (w .records)) (w .run) (k .run-fine) .newest-below)
+
+  pub kept-some : 1 ≤ w .run .kept
+  kept-some = positive (w .run .kept) (k .some-kept)
+
+  pub newest-fits : slotStart size (w .run .newest) + size ≤ length (w .records)
+  newest-fits = slot-fits p (w .records) e s newest-below
+
+  module _ {at : ℕ} (a : at ≡ slotStart size (w .run .newest)) where
+    pub newest-is : take (at + size - at) (drop at (w .records)) ≡ newestRecord p w
+    unfolding newestRecord recordIn
+    newest-is =
+        let c : at + size - at ≡ size = omega arith in
+        rw (c, a, e)
+
+    pub newest-long : length (take (at + size - at) (drop at (w .records))) ≡ recordSize p
+    newest-long = part-long at size (w .records) (omega (arith, newest-fits)) ∙ e
+
+    pub newest-led : {depths : List ℕ} → length depths ≡ squares (p .shape) → Led p (take (at + size - at) (drop at (w .records))) depths
+    newest-led l =
+        record {
+          recorded = record { fine = k .watered .fine; marks-long = k .watered .marks-long; record-long = newest-long };
+          depths-long = l;
         }

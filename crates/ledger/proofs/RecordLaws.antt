@@ -1,20 +1,23 @@
 -- Laws of a record that is written: words stored one after the other are placed, and squares written from the first on make a record.
 -- Assumes nothing.
-use mathlib.Core.Path.{_≡_, refl, sym, ap, _∙_}
+use mathlib.Core.Path.{_≡_, refl, sym, ap, _∙_, subst}
 use mathlib.Core.Bool.{Bool, true, false}
 use mathlib.Core.List.{List, [], _∷_, _++_, append-assoc}
-use Prim.Native.Nat.{ℕ, suc, _+_, _≤_, _<_}
+use Prim.Native.Nat.{ℕ, suc, _+_, _-_, _≤_, _<_}
 use native.Mathlib.Omega.{arith}
-use lib.ListN.{length, getD, set, take, drop, length-append}
+use lib.ListN.{length, getD, set, take, drop, length-append, length-drop}
 use lib.Seq.{sets, sets-eq, drop-drop, take-at, take-all, length-take-le}
+use borrow.Rule.Slice.PartMut.{putMid}
 use Rattle.reckon.specs.Tests.{pick}
 use Rattle.reckon.specs.Lists.{joined, placed}
 use Rattle.reckon.proofs.TestLaws.{pick-true, pick-false, pick-both}
 use Rattle.reckon.proofs.ListLaws.{joined-none, joined-more, length-placed}
+use Rattle.trials.specs.Ring.{slotsIn, slotStart}
+use Rattle.trials.proofs.RingLaws.{slot-within}
 use Rattle.grid.specs.Squares.{north, east, south, west, sides, squares}
 use Rattle.ledger.specs.Runs.{Plan}
 use Rattle.ledger.specs.Flows.{Leaves, shut}
-use Rattle.ledger.specs.Record.{squareWords, recordSize, wordPlace, squareRecord, recordOf, HeadPut, SquarePut, ClosedPut}
+use Rattle.ledger.specs.Record.{squareWords, recordSize, wordPlace, squareRecord, recordOf, roomSlots, HeadPut, SquarePut, ClosedPut}
 
 -- ---- words stored
 
@@ -26,20 +29,28 @@ stored-placed l a v h =
 
 -- six stores, as the code makes them
 pub six-placed :
-    (l : List ℕ) (a : ℕ) (v : List ℕ) → a + squareWords ≤ length l →
-    set (set (set (set (set (set l a (getD v 0 0)) (a + 1) (getD v 1 0)) (a + 2) (getD v 2 0)) (a + 3) (getD v 3 0)) (a + 4) (getD v 4 0)) (a + 5) (getD v 5 0)
-    ≡ placed l a (getD v 0 0 ∷ getD v 1 0 ∷ getD v 2 0 ∷ getD v 3 0 ∷ getD v 4 0 ∷ getD v 5 0 ∷ [])
-six-placed l a v h =
+    (l : List ℕ) (a n e s w p d : ℕ) → a + squareWords ≤ length l →
+    set (set (set (set (set (set l a n) (a + 1) e) (a + 2) s) (a + 3) w) (a + 4) p) (a + 5) d ≡ placed l a (n ∷ e ∷ s ∷ w ∷ p ∷ d ∷ [])
+six-placed l a n e s w p d h =
     let e1 : a + 1 ≡ suc a = omega arith in
     let e2 : a + 2 ≡ suc (suc a) = omega arith in
     let e3 : a + 3 ≡ suc (suc (suc a)) = omega arith in
     let e4 : a + 4 ≡ suc (suc (suc (suc a))) = omega arith in
     let e5 : a + 5 ≡ suc (suc (suc (suc (suc a)))) = omega arith in
-    rw (e1, e2, e3, e4, e5)
-    (stored-placed l a (getD v 0 0 ∷ getD v 1 0 ∷ getD v 2 0 ∷ getD v 3 0 ∷ getD v 4 0 ∷ getD v 5 0 ∷ []) h)
+    rw (e1, e2, e3, e4, e5) (stored-placed l a (n ∷ e ∷ s ∷ w ∷ p ∷ d ∷ []) h)
 
 pub placed-at : (l : List ℕ) {a b : ℕ} (v : List ℕ) → a ≡ b → placed l a v ≡ placed l b v
 placed-at l v e = ap (λ (k : ℕ). placed l k v) e
+
+-- a part that was lent and has come back
+pub placed-back : (a k : ℕ) (l : List ℕ) {ys new : List ℕ} → ys ≡ new → length new ≡ k → putMid a k l ys ≡ placed l a new
+unfolding placed
+placed-back a k l e h = rw (e, ← h)
+
+pub part-long : (a k : ℕ) (l : List ℕ) → a + k ≤ length l → length (take (a + k - a) (drop a l)) ≡ k
+part-long a k l h =
+    let e : a + k - a ≡ k = omega arith in
+    rw e (length-take-le k (drop a l) (omega (arith, length-drop a l)))
 
 -- what stands up to the end of what was placed
 take-placed : (l : List ℕ) (a : ℕ) (v : List ℕ) → a + length v ≤ length l → take (a + length v) (placed l a v) ≡ take a l ++ v
@@ -104,3 +115,15 @@ module _ {p : Plan} {held lasted : ℕ} {out : Leaves} {last added : ℕ → ℕ
   begun-whole {i} {rec} e b =
       sym (take-all (wordPlace i north) rec (omega (arith, b .long)))
       ∙ (b .so-far ∙ ap (λ (k : ℕ). held ∷ lasted ∷ joined k (squareRecord p out last added)) e)
+
+-- ---- the slots of a room
+
+pub slots-of : (p : Plan) (records : List ℕ) {size slots : ℕ} → size ≡ recordSize p → slots ≡ slotsIn size (length records) → slots ≡ roomSlots p records
+unfolding roomSlots
+slots-of p records e s = s ∙ ap (λ (k : ℕ). slotsIn k (length records)) e
+
+pub slot-fits :
+    (p : Plan) (records : List ℕ) {size slots slot : ℕ} → size ≡ recordSize p → slots ≡ slotsIn size (length records) → slot < slots →
+    slotStart size slot + size ≤ length records
+slot-fits p records {size} {slots} {slot} e s h =
+    slot-within size (omega arith) (subst (λ (k : ℕ). slot < k) s h)

@@ -8,8 +8,9 @@ use lib.Dec.{leb}
 use borrow.Author.Tests.{le-leb}
 use Rattle.reckon.specs.Tests.{every}
 use Rattle.reckon.specs.Ranges.{mostLength, lastClock, mostOutflow}
-use Rattle.reckon.proofs.TestLaws.{Each, and-true}
+use Rattle.reckon.proofs.TestLaws.{Each, every-each, and-true}
 use Rattle.trials.specs.Ring.{ringFine}
+use Rattle.trials.proofs.RingLaws.{Ring, fine-ring}
 use Rattle.ledger.specs.Runs.{runFine, answered}
 use Rattle.ledger.specs.declared.runs.Run.{Run}
 use Rattle.ledger.specs.declared.runs.Answer.the-variants.{Done, Refused}
@@ -26,6 +27,10 @@ unfolding runFine
 outflow-decides K u r a b c =
     every-decides (ringFine K (u .kept) (u .newest) ∷ leb (u .clock) lastClock ∷ leb 1 (u .length) ∷ leb (u .length) mostLength ∷ [])
     (leb (u .outflow) mostOutflow) (r, (le-leb _ _ a, (le-leb _ _ b, (le-leb _ _ c, tt))))
+
+pub run-ring : (K : ℕ) (u : Run) → runFine K u ≡ true → Ring K (u .kept) (u .newest)
+unfolding runFine
+run-ring K u e = fine-ring K (u .kept) (u .newest) (every-each _ e .0)
 
 -- ---- answers
 

@@ -14,12 +14,14 @@ use Rattle.reckon.specs.Ranges.{mostDepth, mostOutflow}
 use Rattle.reckon.proofs.TestLaws.{not-both, pick-true, pick-false, all-fails, all-whole, refusal-here, refusal-later, passed-refusal}
 use Rattle.reckon.proofs.ListLaws.{filled-in, filled-skipped, length-filled}
 use Rattle.trials.specs.Ring.{slotsIn, slotStart, slotAfter, keptAfter}
+use Rattle.trials.proofs.RingLaws.{after-below}
 use Rattle.grid.specs.Squares.{squares}
 use Rattle.ledger.specs.Runs.{Plan, World, world, ofDepths}
 use Rattle.ledger.specs.Flows.{shut, gone, offSquare, offGrid}
 use Rattle.ledger.specs.Record.{recordSize, lastedIn, leavesIn, roomSlots, Recorded}
 use Rattle.ledger.specs.After.{remains, newDepth, depthsFit, newOutflow}
 use Rattle.ledger.specs.Settle.{movesIn, settleRows, settleNumber, written, settled, Settles, SettlesTo, depthBy, depthsBy, Gathers, GatheredOne, GatheredAll, SmallLeaving}
+use Rattle.ledger.proofs.RecordLaws.{slots-of, slot-fits}
 use Rattle.ledger.proofs.WalkLaws.{nothing, copied, walked-unfit, walked-fit}
 
 -- ---- one square gathered
@@ -111,7 +113,7 @@ module _ (p : Plan) (rec : List ℕ) (held : ℕ) (w : World) where
     unfolding settleNumber settleRows settled
     settles-written h q =
         let z : settleNumber p rec held w ≡ 0 =
-                passed-refusal (settleRows p rec held w) (fit-is ∙ e, (le-leb (newOutflow p (movesIn rec held) w) mostOutflow (omega arith), tt)) in
+        passed-refusal (settleRows p rec held w) (fit-is ∙ e, (le-leb (newOutflow p (movesIn rec held) w) mostOutflow (omega arith), tt)) in
         record { number = sym z; world-is = q ∙ sym (pick-true _ _ (eq-eqb _ 0 z)) }
 
   pub outflow-by : {off : ℕ} → off ≡ offGrid p (leavesIn rec) → w .run .outflow + off ≡ newOutflow p (movesIn rec held) w
@@ -128,6 +130,9 @@ module _ (p : Plan) (rec : List ℕ) (held : ℕ) (w : World) where
   unfolding written newDepth remains
   written-is s t d l a r c o k = rw (d, l, r, a, c, o, k, t, s)
 
-pub slots-of : (p : Plan) (records : List ℕ) {size slots : ℕ} → size ≡ recordSize p → slots ≡ slotsIn size (length records) → slots ≡ roomSlots p records
-unfolding roomSlots
-slots-of p records e s = s ∙ ap (λ (k : ℕ). slotsIn k (length records)) e
+-- the slot that is written lies in the room
+pub next-fits :
+    (p : Plan) (records : List ℕ) {size slots slot newest : ℕ} → size ≡ recordSize p → slots ≡ slotsIn size (length records) →
+    newest < roomSlots p records → slot ≡ slotAfter slots newest → slotStart size slot + size ≤ length records
+next-fits p records {size} {slots} {slot} {newest} e s h q =
+    slot-fits p records e s (rw q (after-below slots newest (omega (arith, slots-of p records e s))))

@@ -7,6 +7,7 @@ use Rattle.ledger.specs.Record.{addedIn}
 use borrow.Author.Needs.{needs}
 use Rattle.ledger.proofs.record.added_by.Statement.{statement}
 use Rattle.ledger.proofs.record.added_by.Tie as tie
+
 word-place-requires : tie.Need-word-place-requires
 word-place-requires c κs = search needs
 

@@ -9,6 +9,7 @@ use Rattle.ledger.proofs.FlowLaws.{four-sides, sent-small}
 use borrow.Author.Needs.{needs}
 use Rattle.ledger.proofs.record.came_to.Statement.{statement}
 use Rattle.ledger.proofs.record.came_to.Tie as tie
+
 sent-to-requires : tie.Need-sent-to-requires
 sent-to-requires c κs = search needs
 

@@ -8,6 +8,7 @@ use Rattle.ledger.proofs.FlowLaws.{four-sides, leaving-small}
 use borrow.Author.Needs.{needs}
 use Rattle.ledger.proofs.record.gone_from.Statement.{statement}
 use Rattle.ledger.proofs.record.gone_from.Tie as tie
+
 leaving-requires : tie.Need-leaving-requires
 leaving-requires c κs = search needs
 

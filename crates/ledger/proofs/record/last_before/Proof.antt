@@ -7,6 +7,7 @@ use Rattle.ledger.specs.Record.{lastIn}
 use borrow.Author.Needs.{needs}
 use Rattle.ledger.proofs.record.last_before.Statement.{statement}
 use Rattle.ledger.proofs.record.last_before.Tie as tie
+
 word-place-requires : tie.Need-word-place-requires
 word-place-requires c κs = search needs
 

@@ -11,6 +11,7 @@ use Rattle.ledger.proofs.FlowLaws.{four-sides, off-side-small}
 use borrow.Author.Needs.{needs}
 use Rattle.ledger.proofs.record.off_from.Statement.{statement}
 use Rattle.ledger.proofs.record.off_from.Tie as tie
+
 is-closed-requires : tie.Need-is-closed-requires
 is-closed-requires c κs = search needs
 

@@ -8,6 +8,7 @@ use Rattle.ledger.proofs.FlowLaws.{off-inside, off-beyond}
 use borrow.Author.Needs.{needs}
 use Rattle.ledger.proofs.record.off_side.Statement.{statement}
 use Rattle.ledger.proofs.record.off_side.Tie as tie
+
 beside-on-requires : tie.Need-beside-on-requires
 beside-on-requires c κs = search needs
 

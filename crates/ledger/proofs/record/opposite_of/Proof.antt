@@ -4,6 +4,7 @@ use Rattle.ledger.proofs.FlowLaws.{opposite-low, opposite-high}
 use borrow.Author.Needs.{needs}
 use Rattle.ledger.proofs.record.opposite_of.Statement.{statement}
 use Rattle.ledger.proofs.record.opposite_of.Tie as tie
+
 add-result : tie.Need-add-result
 add-result c = search needs
 

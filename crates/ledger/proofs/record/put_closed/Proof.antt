@@ -5,6 +5,7 @@ use Rattle.ledger.proofs.RecordLaws.{placed-at}
 use borrow.Author.Needs.{needs}
 use Rattle.ledger.proofs.record.put_closed.Statement.{statement}
 use Rattle.ledger.proofs.record.put_closed.Tie as tie
+
 word-place-requires : tie.Need-word-place-requires
 word-place-requires c κs = search needs
 

@@ -6,6 +6,7 @@ use Rattle.ledger.proofs.RecordLaws.{stored-placed}
 use borrow.Author.Needs.{needs}
 use Rattle.ledger.proofs.record.put_head.Statement.{statement}
 use Rattle.ledger.proofs.record.put_head.Tie as tie
+
 cast-rec : tie.Need-cast-rec
 cast-rec c = search needs
 

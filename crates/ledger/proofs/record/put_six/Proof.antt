@@ -6,6 +6,7 @@ use Rattle.ledger.proofs.RecordLaws.{six-placed}
 use borrow.Author.Needs.{needs}
 use Rattle.ledger.proofs.record.put_six.Statement.{statement}
 use Rattle.ledger.proofs.record.put_six.Tie as tie
+
 array-read-rec : tie.Need-array-read-rec
 array-read-rec c = search needs
 
@@ -86,7 +87,7 @@ same-length c =
 
 returns : tie.Need-returns
 returns c =
-    six-placed _ _ _ (c .pre)
+    six-placed _ _ _ _ _ _ _ _ (c .pre)
 
 pub put-six-spec : {M : Type 1} → statement M
 put-six-spec =

@@ -6,6 +6,7 @@ use Rattle.ledger.proofs.RecordLaws.{placed-at}
 use borrow.Author.Needs.{needs}
 use Rattle.ledger.proofs.record.put_square.Statement.{statement}
 use Rattle.ledger.proofs.record.put_square.Tie as tie
+
 array-read-t10 : tie.Need-array-read-t10
 array-read-t10 c = search needs
 

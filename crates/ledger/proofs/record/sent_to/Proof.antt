@@ -9,6 +9,7 @@ use Rattle.ledger.proofs.FlowLaws.{sent-none, sent-closed, sent-open}
 use borrow.Author.Needs.{needs}
 use Rattle.ledger.proofs.record.sent_to.Statement.{statement}
 use Rattle.ledger.proofs.record.sent_to.Tie as tie
+
 beside-on-requires : tie.Need-beside-on-requires
 beside-on-requires c κs = search needs
 

@@ -9,6 +9,7 @@ use Rattle.ledger.proofs.RunLaws.{outflow-decides}
 use borrow.Author.Needs.{needs}
 use Rattle.ledger.proofs.runs.run_fine.Statement.{statement}
 use Rattle.ledger.proofs.runs.run_fine.Tie as tie
+
 ring-fine-requires : tie.Need-ring-fine-requires
 ring-fine-requires c κs = search needs
 

@@ -9,6 +9,7 @@ use Rattle.reckon.proofs.ListLaws.{filled-none}
 use Rattle.ledger.proofs.WalkLaws.{nothing, filled-long, filled-put, copied}
 use Rattle.ledger.proofs.settle.copy.Statement.{statement}
 use Rattle.ledger.proofs.settle.copy.Tie as tie
+
 abbrev Inv-loop : tie.InvT-loop
 Inv-loop from to₀ count i₀ to i =
     (i ≤ count) × (count ≡ length from) × (to ≡ filled i nothing (λ k. getD from k 0) to₀)

@@ -20,6 +20,7 @@ use Rattle.ledger.proofs.WalkLaws.{Walk, walk-none, walk-stands, walk-c
 use Rattle.ledger.proofs.SettleLaws.{fits, gathered-at, gathered-unfit, gathered-fit}
 use Rattle.ledger.proofs.settle.gather.Statement.{statement}
 use Rattle.ledger.proofs.settle.gather.Tie as tie
+
 abbrev Inv-loop : tie.InvT-loop
 Inv-loop shape marks rec depths fresh₀ squares off₀ square₀ column₀ fresh off square column =
     (Walk shape squares square column)
@@ -45,7 +46,7 @@ gather-square-requires c κs =
 
 same-length : tie.Need-same-length Inv-loop μ-loop
 same-length c =
-    c .before .before .before .gather-square .kept .0 ∙ filled-long _ _ _ _ (c .before .before .before .before .before .before .loop .inv .3)
+    c .before .before .before .gather-square .kept .1 .1 .1 .1 .1 .1 .0 ∙ filled-long _ _ _ _ (c .before .before .before .before .before .before .loop .inv .3)
 
 returns : tie.Need-returns Inv-loop μ-loop
 returns c =

@@ -8,6 +8,7 @@ use Rattle.ledger.proofs.SettleLaws.{gathered-closed, gathered-deep, ga
 use borrow.Author.Needs.{needs}
 use Rattle.ledger.proofs.settle.gather_square.Statement.{statement}
 use Rattle.ledger.proofs.settle.gather_square.Tie as tie
+
 is-closed-requires : tie.Need-is-closed-requires
 is-closed-requires c κs =
     omega (arith, c .before .before .before .before .pre .0 .recorded .marks-long, c .before .before .before .before .pre .1 .0 .inside)

@@ -8,6 +8,7 @@ use Rattle.ledger.proofs.FlowLaws.{came-small, added-small}
 use borrow.Author.Needs.{needs}
 use Rattle.ledger.proofs.settle.new_depth.Statement.{statement}
 use Rattle.ledger.proofs.settle.new_depth.Tie as tie
+
 number-requires : tie.Need-number-requires
 number-requires c κs =
     omega (arith, c .before .before .before .pre .0 .depths-long, c .before .before .before .pre .1 .0 .inside)

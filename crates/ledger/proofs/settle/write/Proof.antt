@@ -1,92 +1,99 @@
+-- `ledger::settle::write` meets its contract: each part is written by its own function, and they make the world.
+-- Assumes nothing.
+use mathlib.Core.Path.{_≡_, sym, ap, _∙_}
+use Prim.Native.Nat.{ℕ, _+_, _-_, _≤_}
+use native.Mathlib.Omega.{arith}
+use lib.ListN.{length}
+use Rattle.reckon.proofs.ListLaws.{length-filled}
+use Rattle.trials.specs.Ring.{slotStart}
+use Rattle.ledger.specs.Runs.{plan, world}
+use Rattle.ledger.proofs.RecordLaws.{placed-back, slots-of}
+use Rattle.ledger.proofs.SettleLaws.{settles-small, written-is, next-fits}
 use borrow.Author.Needs.{needs}
 use Rattle.ledger.proofs.settle.write.Statement.{statement}
 use Rattle.ledger.proofs.settle.write.Tie as tie
-use Rattle.ledger.proofs.settle.write.Reads as reads
-use Rattle.ledger.proofs.settle.write.Lts as lts
-use Rattle.ledger.proofs.record.lasted.Reads as lasted-reads
-use Rattle.ledger.proofs.record.record_size.Reads as record-size-reads
-use Rattle.ledger.proofs.settle.copy.Reads as copy-reads
-use Rattle.ledger.proofs.settle.write_lasts.Reads as write-lasts-reads
-use Rattle.trials.proofs.kept_after.Reads as kept-after-reads
-use Rattle.trials.proofs.slot_after.Reads as slot-after-reads
-use Rattle.trials.proofs.slot_start.Reads as slot-start-reads
-use Rattle.trials.proofs.slots_in.Reads as slots-in-reads
 
--- src/settle.rt:164:9
 record-size-requires : tie.Need-record-size-requires
 record-size-requires c κs = search needs
 
--- src/settle.rt:165:9
 slots-in-requires : tie.Need-slots-in-requires
 slots-in-requires c κs = search needs
 
--- src/settle.rt:166:9
 slot-after-requires : tie.Need-slot-after-requires
-slot-after-requires c κs = ?
+slot-after-requires c κs =
+    omega (arith, slots-of (plan (c .before .before .before .before .before .before .before .before .args .shape) (c .before .before .before .before .before .before .before .before .args .marks .now)) (c .before .before .before .before .before .before .before .before .args .records .now) (c .before .record-size .ensures) (c .slots-in .ensures), c .before .before .before .before .before .before .before .before .pre .0 .newest-in)
 
--- src/settle.rt:167:9
 slot-start-requires : tie.Need-slot-start-requires
-slot-start-requires c κs = ?
+slot-start-requires c κs =
+    omega (arith, next-fits (plan (c .before .before .before .before .before .before .before .before .before .args .shape) (c .before .before .before .before .before .before .before .before .before .args .marks .now)) (c .before .before .before .before .before .before .before .before .before .args .records .now) (c .before .before .record-size .ensures) (c .before .slots-in .ensures) (c .before .before .before .before .before .before .before .before .before .pre .0 .newest-in) (c .slot-after .ensures))
 
--- src/settle.rt:168:15
 add-end : tie.Need-add-end
-add-end c = ?
+add-end c =
+    let fits : slotStart (c .before .before .before .record-size .result) (c .before .slot-after .result) + c .before .before .before .record-size .result ≤ length (c .before .before .before .before .before .before .before .before .before .before .args .records .now) =
+    next-fits (plan (c .before .before .before .before .before .before .before .before .before .before .args .shape) (c .before .before .before .before .before .before .before .before .before .before .args .marks .now)) (c .before .before .before .before .before .before .before .before .before .before .args .records .now) (c .before .before .before .record-size .ensures) (c .before .before .slots-in .ensures) (c .before .before .before .before .before .before .before .before .before .before .pre .0 .newest-in) (c .before .slot-after .ensures) in
+    search needs
 
--- src/settle.rt:169:15
 mul-copy : tie.Need-mul-copy
-mul-copy c = ?
+mul-copy c =
+    let fits : slotStart (c .before .before .before .record-size .result) (c .before .slot-after .result) + c .before .before .before .record-size .result ≤ length (c .before .before .before .before .before .before .before .before .before .before .args .records .now) =
+    next-fits (plan (c .before .before .before .before .before .before .before .before .before .before .args .shape) (c .before .before .before .before .before .before .before .before .before .before .args .marks .now)) (c .before .before .before .before .before .before .before .before .before .before .args .records .now) (c .before .before .before .record-size .ensures) (c .before .before .slots-in .ensures) (c .before .before .before .before .before .before .before .before .before .before .pre .0 .newest-in) (c .before .slot-after .ensures) in
+    search needs
 
--- src/settle.rt:169:15
 sub-copy : tie.Need-sub-copy
 sub-copy c = search needs
 
--- src/settle.rt:169:15
 part-copy-start : tie.Need-part-copy-start
 part-copy-start c = search needs
 
--- src/settle.rt:169:15
 part-copy-end : tie.Need-part-copy-end
-part-copy-end c = ?
+part-copy-end c =
+    let fits : slotStart (c .before .before .before .record-size .result) (c .before .slot-after .result) + c .before .before .before .record-size .result ≤ length (c .before .before .before .before .before .before .before .before .before .before .args .records .now) =
+    next-fits (plan (c .before .before .before .before .before .before .before .before .before .before .args .shape) (c .before .before .before .before .before .before .before .before .before .before .args .marks .now)) (c .before .before .before .before .before .before .before .before .before .before .args .records .now) (c .before .before .before .record-size .ensures) (c .before .before .slots-in .ensures) (c .before .before .before .before .before .before .before .before .before .before .pre .0 .newest-in) (c .before .slot-after .ensures) in
+    search needs
 
--- src/settle.rt:169:5
 copy-requires : tie.Need-copy-requires
 copy-requires c κs = search needs
 
--- src/settle.rt:170:5
 copy-requires-2 : tie.Need-copy-requires-2
-copy-requires-2 c κs = ?
+copy-requires-2 c κs =
+    c .before .before .before .before .before .before .before .before .before .before .before .before .before .before .before .pre .0 .depths-long ∙ sym (ap length (c .before .before .before .before .before .before .before .before .before .before .before .before .before .before .before .pre .1 .0) ∙ (length-filled _ _ _ _ ∙ c .before .before .before .before .before .before .before .before .before .before .before .before .before .before .before .pre .0 .depths-long))
 
--- src/settle.rt:171:5
 write-lasts-requires : tie.Need-write-lasts-requires
-write-lasts-requires c κs = ?
+write-lasts-requires c κs =
+    (settles-small (c .before .before .before .before .before .before .before .before .before .before .before .before .before .before .before .before .before .before .before .pre .0), c .before .before .before .before .before .before .before .before .before .before .before .before .before .before .before .before .before .before .before .pre .0 .lasts-long)
 
--- src/settle.rt:173:28
 lasted-requires : tie.Need-lasted-requires
 lasted-requires c κs = search needs
 
--- src/settle.rt:173:16
 add-t27 : tie.Need-add-t27
 add-t27 c = search needs
 
--- src/settle.rt:176:15
 kept-after-requires : tie.Need-kept-after-requires
 kept-after-requires c κs = search needs
 
--- src/settle.rt:147:1
 same-length : tie.Need-same-length
 same-length c = search needs
 
--- src/settle.rt:147:1
 same-length-2 : tie.Need-same-length-2
 same-length-2 c = search needs
 
--- src/settle.rt:147:1
 same-length-3 : tie.Need-same-length-3
 same-length-3 c = search needs
 
--- src/settle.rt:147:1
 returns : tie.Need-returns
-returns c = ?
+returns c =
+    let w = world (c .before .before .before .before .before .before .before .before .before .before .before .before .before .before .before .before .before .before .before .before .before .before .before .before .before .args .depths .now) (c .before .before .before .before .before .before .before .before .before .before .before .before .before .before .before .before .before .before .before .before .before .before .before .before .before .args .lasts .now) (c .before .before .before .before .before .before .before .before .before .before .before .before .before .before .before .before .before .before .before .before .before .before .before .before .before .args .records .now) (c .before .before .before .before .before .before .before .before .before .before .before .before .before .before .before .before .before .before .before .before .before .before .before .before .before .args .run) in
+    let long : length (c .before .before .before .before .before .before .before .before .before .before .before .before .before .before .before .before .before .before .before .before .before .before .before .before .before .args .rec .now) ≡ c .before .before .before .before .before .before .before .before .before .before .before .before .before .before .before .slot-start .result + c .before .before .before .before .before .before .before .before .before .before .before .before .before .before .before .before .before .before .record-size .result - c .before .before .before .before .before .before .before .before .before .before .before .before .before .before .before .slot-start .result = omega (arith, c .before .before .before .before .before .before .before .before .before .before .before .before .before .before .before .before .before .before .before .before .before .before .before .before .before .pre .0 .record-long, c .before .before .before .before .before .before .before .before .before .before .before .before .before .before .before .before .before .before .record-size .ensures) in
+    written-is (plan (c .before .before .before .before .before .before .before .before .before .before .before .before .before .before .before .before .before .before .before .before .before .before .before .before .before .args .shape) (c .before .before .before .before .before .before .before .before .before .before .before .before .before .before .before .before .before .before .before .before .before .before .before .before .before .args .marks .now)) (c .before .before .before .before .before .before .before .before .before .before .before .before .before .before .before .before .before .before .before .before .before .before .before .before .before .args .rec .now) (c .before .before .before .before .before .before .before .before .before .before .before .before .before .before .before .before .before .before .before .before .before .before .before .before .before .args .held) w
+    (slots-of (plan (c .before .before .before .before .before .before .before .before .before .before .before .before .before .before .before .before .before .before .before .before .before .before .before .before .before .args .shape) (c .before .before .before .before .before .before .before .before .before .before .before .before .before .before .before .before .before .before .before .before .before .before .before .before .before .args .marks .now)) (c .before .before .before .before .before .before .before .before .before .before .before .before .before .before .before .before .before .before .before .before .before .before .before .before .before .args .records .now) (c .before .before .before .before .before .before .before .before .before .before .before .before .before .before .before .before .before .before .record-size .ensures) (c .before .before .before .before .before .before .before .before .before .before .before .before .before .before .before .before .before .slots-in .ensures))
+    (c .before .before .before .before .before .before .before .before .before .before .before .before .before .before .before .before .slot-after .ensures)
+    (c .before .before .before .before .before .before .before .before .before .copy2 .ensures ∙ c .before .before .before .before .before .before .before .before .before .before .before .before .before .before .before .before .before .before .before .before .before .before .before .before .before .pre .1 .0)
+    (c .before .before .before .before .before .write-lasts .ensures)
+    (c .before .before .before .before .before .before .before .before .before .before .before .before .before .before .before .slot-start .ensures ∙ ap (λ (k : ℕ). slotStart k (c .before .before .before .before .before .before .before .before .before .before .before .before .before .before .before .before .slot-after .result)) (c .before .before .before .before .before .before .before .before .before .before .before .before .before .before .before .before .before .before .record-size .ensures))
+    (placed-back _ _ _ (c .before .before .before .before .before .before .before .before .before .before .before .before .before .copy .ensures) long)
+    (ap (λ (k : ℕ). c .before .before .before .before .before .before .before .before .before .before .before .before .before .before .before .before .before .before .before .before .before .before .before .before .before .args .run .clock + k) (c .before .before .lasted .ensures))
+    (c .before .before .before .before .before .before .before .before .before .before .before .before .before .before .before .before .before .before .before .before .before .before .before .before .before .pre .1 .1)
+    (c .kept-after .ensures)
 
 pub write-spec : {M : Type 1} → statement M
 write-spec =

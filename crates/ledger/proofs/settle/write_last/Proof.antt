@@ -7,6 +7,7 @@ use Rattle.reckon.proofs.TestLaws.{pick-true, pick-false}
 use borrow.Author.Needs.{needs}
 use Rattle.ledger.proofs.settle.write_last.Statement.{statement}
 use Rattle.ledger.proofs.settle.write_last.Tie as tie
+
 is-closed-requires : tie.Need-is-closed-requires
 is-closed-requires c κs = search needs
 

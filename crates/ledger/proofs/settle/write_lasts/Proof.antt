@@ -1,16 +1,18 @@
 -- `ledger::settle::write_lasts` meets its contract: after i turns the first i squares that are not closed are written.
 -- Assumes nothing.
-use mathlib.Core.Path.{_≡_, refl, ap, _∙_}
-use Prim.Native.Nat.{_≤_, _-_}
+use mathlib.Core.Path.{_≡_, refl}
+use Prim.Native.Nat.{_≤_, _<_, _-_}
 use native.Mathlib.Omega.{arith}
 use Rattle.reckon.specs.Lists.{filled}
 use Rattle.reckon.proofs.ListLaws.{filled-none}
+use Rattle.grid.specs.Squares.{squares}
 use Rattle.grid.specs.Marks.{closed}
 use Rattle.ledger.specs.Flows.{gone}
 use Rattle.ledger.specs.Record.{leavesIn}
 use Rattle.ledger.proofs.WalkLaws.{filled-long, filled-turn, filled-whole}
 use Rattle.ledger.proofs.settle.write_lasts.Statement.{statement}
 use Rattle.ledger.proofs.settle.write_lasts.Tie as tie
+
 abbrev Inv-loop : tie.InvT-loop
 Inv-loop marks rec lasts₀ squares square₀ lasts square =
     (square ≤ squares) × (lasts ≡ filled square (closed marks) (gone (leavesIn rec)) lasts₀)
@@ -29,7 +31,7 @@ loop-holds c =
 
 write-last-requires : tie.Need-write-last-requires Inv-loop μ-loop
 write-last-requires c κs =
-    let inside = omega (arith, c .before .before .before .squares-of .ensures, c .before .loop-test .taken) in
+    let inside : c .before .before .loop .square < squares (c .before .before .before .before .before .before .before .args .shape) = omega (arith, c .before .before .before .squares-of .ensures, c .before .loop-test .taken) in
     ((omega (arith, c .before .before .before .before .before .before .before .pre .0 .recorded .marks-long, c .before .before .before .squares-of .ensures, c .before .loop-test .taken), omega (arith, c .before .before .before .before .before .before .before .pre .0 .recorded .record-long, c .before .before .before .squares-of .ensures, c .before .loop-test .taken), omega (arith, filled-long _ _ _ _ (c .before .before .loop .inv .1), c .before .before .before .before .before .before .before .pre .1, c .before .before .before .squares-of .ensures, c .before .loop-test .taken)), c .before .before .before .before .before .before .before .pre .0 .small (c .before .before .loop .square) inside)
 
 add-square : tie.Need-add-square Inv-loop μ-loop

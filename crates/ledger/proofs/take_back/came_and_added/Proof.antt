@@ -8,6 +8,7 @@ use Rattle.ledger.proofs.FlowLaws.{came-small, added-small}
 use borrow.Author.Needs.{needs}
 use Rattle.ledger.proofs.take_back.came_and_added.Statement.{statement}
 use Rattle.ledger.proofs.take_back.came_and_added.Tie as tie
+
 came-to-requires : tie.Need-came-to-requires
 came-to-requires c κs = search needs
 

@@ -7,6 +7,7 @@ use Rattle.ledger.proofs.FlowLaws.{gone-small}
 use borrow.Author.Needs.{needs}
 use Rattle.ledger.proofs.take_back.held_and_gone.Statement.{statement}
 use Rattle.ledger.proofs.take_back.held_and_gone.Tie as tie
+
 number-requires : tie.Need-number-requires
 number-requires c κs = search needs
 

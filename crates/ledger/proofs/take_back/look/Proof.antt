@@ -1,62 +1,66 @@
+-- `ledger::take_back::look` meets its contract: the tests in the table's order, each after those before it passed.
+-- Assumes nothing.
+use mathlib.Core.Path.{_≡_, sym, ap, _∙_}
+use Prim.Native.Nat.{ℕ}
+use borrow.Author.Tests.{not-true, not-false}
+use Rattle.ledger.specs.Runs.{plan, world, runFine}
+use Rattle.ledger.proofs.RecordLaws.{slots-of}
+use Rattle.ledger.proofs.BackLaws.{watered-of, looked-1, looked-2, looked-3, looked-6, looked-10, looked-none}
 use borrow.Author.Needs.{needs}
 use Rattle.ledger.proofs.take_back.look.Statement.{statement}
 use Rattle.ledger.proofs.take_back.look.Tie as tie
-use Rattle.ledger.proofs.take_back.look.Reads as reads
-use Rattle.ledger.proofs.take_back.look.Lts as lts
-use Rattle.grid.proofs.marks.marks_fine.Reads as marks-fine-reads
-use Rattle.ledger.proofs.record.record_size.Reads as record-size-reads
-use Rattle.ledger.proofs.runs.run_fine.Reads as run-fine-reads
-use Rattle.ledger.proofs.take_back.sizes_fine.Reads as sizes-fine-reads
-use Rattle.ledger.proofs.take_back.waters_fine.Reads as waters-fine-reads
-use Rattle.trials.proofs.slots_in.Reads as slots-in-reads
 
--- src/take_back.rt:96:9
 sizes-fine-requires : tie.Need-sizes-fine-requires
 sizes-fine-requires c κs = search needs
 
--- src/take_back.rt:97:9
 returns : tie.Need-returns
-returns c = ?
+returns c =
+    looked-1 (plan (c .before .before .before .before .before .before .args .shape) (c .before .before .before .before .before .before .args .marks .now)) (world (c .before .before .before .before .before .before .args .depths .now) (c .before .before .before .before .before .before .args .lasts .now) (c .before .before .before .before .before .before .args .records .now) (c .before .before .before .before .before .before .args .run)) (sym (c .before .sizes-fine .ensures) ∙ not-true _ (c .if1 .taken))
 
--- src/take_back.rt:99:9
 marks-fine-requires : tie.Need-marks-fine-requires
-marks-fine-requires c κs = ?
+marks-fine-requires c κs =
+    let h = watered-of (plan (c .before .before .before .before .before .before .args .shape) (c .before .before .before .before .before .before .args .marks .now)) (world (c .before .before .before .before .before .before .args .depths .now) (c .before .before .before .before .before .before .args .lasts .now) (c .before .before .before .before .before .before .args .records .now) (c .before .before .before .before .before .before .args .run)) (sym (c .before .sizes-fine .ensures) ∙ not-false _ (c .if1 .left)) in
+    record { fine = h .fine; whole = h .marks-long }
 
--- src/take_back.rt:100:9
 returns-2 : tie.Need-returns-2
-returns-2 c = ?
+returns-2 c =
+    looked-2 (plan (c .before .before .before .before .before .before .before .before .args .shape) (c .before .before .before .before .before .before .before .before .args .marks .now)) (world (c .before .before .before .before .before .before .before .before .args .depths .now) (c .before .before .before .before .before .before .before .before .args .lasts .now) (c .before .before .before .before .before .before .before .before .args .records .now) (c .before .before .before .before .before .before .before .before .args .run)) (sym (c .before .before .before .sizes-fine .ensures) ∙ not-false _ (c .before .before .if1 .left)) (sym (c .before .marks-fine .ensures) ∙ not-true _ (c .if2 .taken))
 
--- src/take_back.rt:102:9
 waters-fine-requires : tie.Need-waters-fine-requires
-waters-fine-requires c κs = ?
+waters-fine-requires c κs =
+    watered-of (plan (c .before .before .before .before .before .before .before .before .args .shape) (c .before .before .before .before .before .before .before .before .args .marks .now)) (world (c .before .before .before .before .before .before .before .before .args .depths .now) (c .before .before .before .before .before .before .before .before .args .lasts .now) (c .before .before .before .before .before .before .before .before .args .records .now) (c .before .before .before .before .before .before .before .before .args .run)) (sym (c .before .before .before .sizes-fine .ensures) ∙ not-false _ (c .before .before .if1 .left))
 
--- src/take_back.rt:103:9
 returns-3 : tie.Need-returns-3
-returns-3 c = ?
+returns-3 c =
+    looked-3 (plan (c .before .before .before .before .before .before .before .before .before .before .args .shape) (c .before .before .before .before .before .before .before .before .before .before .args .marks .now)) (world (c .before .before .before .before .before .before .before .before .before .before .args .depths .now) (c .before .before .before .before .before .before .before .before .before .before .args .lasts .now) (c .before .before .before .before .before .before .before .before .before .before .args .records .now) (c .before .before .before .before .before .before .before .before .before .before .args .run)) (sym (c .before .before .before .before .before .sizes-fine .ensures) ∙ not-false _ (c .before .before .before .before .if1 .left)) (sym (c .before .before .before .marks-fine .ensures) ∙ not-false _ (c .before .before .if2 .left)) (sym (c .before .waters-fine .ensures) ∙ not-true _ (c .if3 .taken))
 
--- src/take_back.rt:105:35
 record-size-requires : tie.Need-record-size-requires
-record-size-requires c κs = ?
+record-size-requires c κs =
+    watered-of (plan (c .before .before .before .before .before .before .before .before .before .before .args .shape) (c .before .before .before .before .before .before .before .before .before .before .args .marks .now)) (world (c .before .before .before .before .before .before .before .before .before .before .args .depths .now) (c .before .before .before .before .before .before .before .before .before .before .args .lasts .now) (c .before .before .before .before .before .before .before .before .before .before .args .records .now) (c .before .before .before .before .before .before .before .before .before .before .args .run)) (sym (c .before .before .before .before .before .sizes-fine .ensures) ∙ not-false _ (c .before .before .before .before .if1 .left)) .fine
 
--- src/take_back.rt:105:18
 slots-in-requires : tie.Need-slots-in-requires
 slots-in-requires c κs = search needs
 
--- src/take_back.rt:105:9
 run-fine-requires : tie.Need-run-fine-requires
 run-fine-requires c κs = search needs
 
--- src/take_back.rt:106:9
 returns-4 : tie.Need-returns-4
-returns-4 c = ?
+returns-4 c =
+    let p = plan (c .before .before .before .before .before .before .before .before .before .before .before .before .before .before .args .shape) (c .before .before .before .before .before .before .before .before .before .before .before .before .before .before .args .marks .now) in
+    let slots = slots-of p (c .before .before .before .before .before .before .before .before .before .before .before .before .before .before .args .records .now) (c .before .before .before .record-size .ensures) (c .before .before .slots-in .ensures) in
+    looked-6 p (world (c .before .before .before .before .before .before .before .before .before .before .before .before .before .before .args .depths .now) (c .before .before .before .before .before .before .before .before .before .before .before .before .before .before .args .lasts .now) (c .before .before .before .before .before .before .before .before .before .before .before .before .before .before .args .records .now) (c .before .before .before .before .before .before .before .before .before .before .before .before .before .before .args .run)) (sym (c .before .before .before .before .before .before .before .before .before .sizes-fine .ensures) ∙ not-false _ (c .before .before .before .before .before .before .before .before .if1 .left)) (sym (c .before .before .before .before .before .before .before .marks-fine .ensures) ∙ not-false _ (c .before .before .before .before .before .before .if2 .left)) (sym (c .before .before .before .before .before .waters-fine .ensures) ∙ not-false _ (c .before .before .before .before .if3 .left)) (ap (λ (k : ℕ). runFine k (c .before .before .before .before .before .before .before .before .before .before .before .before .before .before .args .run)) (sym slots) ∙ (sym (c .before .run-fine .ensures) ∙ not-true _ (c .if4 .taken)))
 
--- src/take_back.rt:109:9
 returns-5 : tie.Need-returns-5
-returns-5 c = ?
+returns-5 c =
+    let p = plan (c .before .before .before .before .before .before .before .before .before .before .before .before .before .before .before .before .args .shape) (c .before .before .before .before .before .before .before .before .before .before .before .before .before .before .before .before .args .marks .now) in
+    let slots = slots-of p (c .before .before .before .before .before .before .before .before .before .before .before .before .before .before .before .before .args .records .now) (c .before .before .before .before .before .record-size .ensures) (c .before .before .before .before .slots-in .ensures) in
+    looked-10 p (world (c .before .before .before .before .before .before .before .before .before .before .before .before .before .before .before .before .args .depths .now) (c .before .before .before .before .before .before .before .before .before .before .before .before .before .before .before .before .args .lasts .now) (c .before .before .before .before .before .before .before .before .before .before .before .before .before .before .before .before .args .records .now) (c .before .before .before .before .before .before .before .before .before .before .before .before .before .before .before .before .args .run)) (sym (c .before .before .before .before .before .before .before .before .before .before .before .sizes-fine .ensures) ∙ not-false _ (c .before .before .before .before .before .before .before .before .before .before .if1 .left)) (sym (c .before .before .before .before .before .before .before .before .before .marks-fine .ensures) ∙ not-false _ (c .before .before .before .before .before .before .before .before .if2 .left)) (sym (c .before .before .before .before .before .before .before .waters-fine .ensures) ∙ not-false _ (c .before .before .before .before .before .before .if3 .left)) (ap (λ (k : ℕ). runFine k (c .before .before .before .before .before .before .before .before .before .before .before .before .before .before .before .before .args .run)) (sym slots) ∙ (sym (c .before .before .before .run-fine .ensures) ∙ not-false _ (c .before .before .if4 .left))) (c .if5 .taken)
 
--- src/take_back.rt:93:1
 returns-6 : tie.Need-returns-6
-returns-6 c = ?
+returns-6 c =
+    let p = plan (c .before .before .before .before .before .before .before .before .before .before .before .before .before .before .before .before .args .shape) (c .before .before .before .before .before .before .before .before .before .before .before .before .before .before .before .before .args .marks .now) in
+    let slots = slots-of p (c .before .before .before .before .before .before .before .before .before .before .before .before .before .before .before .before .args .records .now) (c .before .before .before .before .before .record-size .ensures) (c .before .before .before .before .slots-in .ensures) in
+    looked-none p (world (c .before .before .before .before .before .before .before .before .before .before .before .before .before .before .before .before .args .depths .now) (c .before .before .before .before .before .before .before .before .before .before .before .before .before .before .before .before .args .lasts .now) (c .before .before .before .before .before .before .before .before .before .before .before .before .before .before .before .before .args .records .now) (c .before .before .before .before .before .before .before .before .before .before .before .before .before .before .before .before .args .run)) (sym (c .before .before .before .before .before .before .before .before .before .before .before .sizes-fine .ensures) ∙ not-false _ (c .before .before .before .before .before .before .before .before .before .before .if1 .left)) (sym (c .before .before .before .before .before .before .before .before .before .marks-fine .ensures) ∙ not-false _ (c .before .before .before .before .before .before .before .before .if2 .left)) (sym (c .before .before .before .before .before .before .before .waters-fine .ensures) ∙ not-false _ (c .before .before .before .before .before .before .if3 .left)) (ap (λ (k : ℕ). runFine k (c .before .before .before .before .before .before .before .before .before .before .before .before .before .before .before .before .args .run)) (sym slots) ∙ (sym (c .before .before .before .run-fine .ensures) ∙ not-false _ (c .before .before .if4 .left))) (c .if5 .left)
 
 pub look-spec : {M : Type 1} → statement M
 look-spec =

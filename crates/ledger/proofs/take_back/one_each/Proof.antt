@@ -6,6 +6,7 @@ use lib.Dec.{eqb}
 use borrow.Author.Needs.{needs}
 use Rattle.ledger.proofs.take_back.one_each.Statement.{statement}
 use Rattle.ledger.proofs.take_back.one_each.Tie as tie
+
 squares-of-requires : tie.Need-squares-of-requires
 squares-of-requires c κs = search needs
 

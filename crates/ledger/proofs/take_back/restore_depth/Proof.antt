@@ -8,6 +8,7 @@ use Rattle.reckon.proofs.TestLaws.{pick-true, pick-false}
 use Rattle.ledger.specs.TakeBack.{depthBefore, heldAndGone, cameAndAdded}
 use Rattle.ledger.proofs.take_back.restore_depth.Statement.{statement}
 use Rattle.ledger.proofs.take_back.restore_depth.Tie as tie
+
 is-closed-requires : tie.Need-is-closed-requires
 is-closed-requires c κs =
     omega (arith, c .before .before .before .pre .0 .recorded .marks-long, c .before .before .before .pre .1 .0 .inside)

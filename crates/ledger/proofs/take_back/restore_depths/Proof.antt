@@ -3,9 +3,9 @@
 -- Assumes nothing.
 use mathlib.Core.Path.{_≡_, sym, ap, _∙_}
 use mathlib.Core.List.{List}
-use Prim.Native.Nat.{ℕ, _≤_, _-_}
+use Prim.Native.Nat.{ℕ, _<_, _-_}
 use native.Mathlib.Omega.{arith}
-use lib.ListN.{getD}
+use lib.ListN.{length, getD}
 use Rattle.reckon.specs.Lists.{filled}
 use Rattle.reckon.proofs.TestLaws.{all-at}
 use Rattle.reckon.proofs.ListLaws.{filled-none, filled-ahead}
@@ -16,6 +16,7 @@ use Rattle.ledger.proofs.WalkLaws.{Walk, walk-none, walk-stands, walk-c
 use Rattle.ledger.proofs.BackLaws.{restores-of, restores-own, before-own}
 use Rattle.ledger.proofs.take_back.restore_depths.Statement.{statement}
 use Rattle.ledger.proofs.take_back.restore_depths.Tie as tie
+
 abbrev Inv-loop : tie.InvT-loop
 Inv-loop shape marks rec depths₀ squares square₀ column₀ depths square column =
     (Walk shape squares square column) × (depths ≡ filled square (closed marks) (depthBefore (plan shape marks) (ofDepths depths₀) rec) depths₀)
@@ -56,7 +57,7 @@ loop-again : tie.Need-loop-again Inv-loop μ-loop
 loop-again c =
     let p = plan (c .before .before .before .before .before .before .before .before .before .before .before .args .shape) (c .before .before .before .before .before .before .before .before .before .before .before .args .marks .now) in
     let i = c .before .before .before .before .before .before .loop .square in
-    let l = omega (arith, c .before .before .before .before .before .before .before .before .before .before .before .pre .0 .depths-long, c .before .before .before .before .before .before .before .squares-of .ensures, c .before .before .before .before .before .loop-test .taken) in
+    let l : i < length (c .before .before .before .before .before .before .before .before .before .before .before .args .depths .now) = omega (arith, c .before .before .before .before .before .before .before .before .before .before .before .pre .0 .depths-long, c .before .before .before .before .before .before .before .squares-of .ensures, c .before .before .before .before .before .loop-test .taken) in
     let same : getD (c .before .before .before .before .before .before .loop .depths) i 0 ≡ getD (c .before .before .before .before .before .before .before .before .before .before .before .args .depths .now) i 0 = ap (λ (l : List ℕ). getD l i 0) (c .before .before .before .before .before .before .loop .inv .1) ∙ filled-ahead (closed (c .before .before .before .before .before .before .before .before .before .before .before .args .marks .now)) (depthBefore p (ofDepths (c .before .before .before .before .before .before .before .before .before .before .before .args .depths .now)) (c .before .before .before .before .before .before .before .before .before .before .before .args .rec .now)) (c .before .before .before .before .before .before .before .before .before .before .before .args .depths .now) i l in
     (walk-next _ (c .before .before .before .before .before .before .loop .inv .0) (c .before .before .before .before .before .loop-test .taken) (c .next-column .ensures), filled-turn (closed (c .before .before .before .before .before .before .before .before .before .before .before .args .marks .now)) (depthBefore p (ofDepths (c .before .before .before .before .before .before .before .before .before .before .before .args .depths .now)) (c .before .before .before .before .before .before .before .before .before .before .before .args .rec .now)) (c .before .before .before .before .before .before .before .before .before .before .before .args .depths .now) l (c .before .before .before .before .before .before .loop .inv .1) (λ z. before-own p (c .before .before .before .before .before .before .before .before .before .before .before .args .rec .now) _ _ i same) (c .before .before .before .restore-depth .ensures))
 

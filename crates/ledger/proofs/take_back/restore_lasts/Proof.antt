@@ -10,6 +10,7 @@ use Rattle.ledger.specs.Record.{lastIn}
 use Rattle.ledger.proofs.WalkLaws.{filled-long, filled-turn, filled-whole}
 use Rattle.ledger.proofs.take_back.restore_lasts.Statement.{statement}
 use Rattle.ledger.proofs.take_back.restore_lasts.Tie as tie
+
 abbrev Inv-loop : tie.InvT-loop
 Inv-loop marks rec lasts₀ squares square₀ lasts square =
     (square ≤ squares) × (lasts ≡ filled square (closed marks) (lastIn rec) lasts₀)

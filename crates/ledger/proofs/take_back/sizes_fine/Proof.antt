@@ -12,6 +12,7 @@ use Rattle.ledger.proofs.RunLaws.{every-decides}
 use borrow.Author.Needs.{needs}
 use Rattle.ledger.proofs.take_back.sizes_fine.Statement.{statement}
 use Rattle.ledger.proofs.take_back.sizes_fine.Tie as tie
+
 shape-fine-requires : tie.Need-shape-fine-requires
 shape-fine-requires c κs = search needs
 

@@ -7,6 +7,7 @@ use Rattle.ledger.proofs.BackLaws.{restorable-closed, restorable-last, 
 use borrow.Author.Needs.{needs}
 use Rattle.ledger.proofs.take_back.square_restorable.Statement.{statement}
 use Rattle.ledger.proofs.take_back.square_restorable.Tie as tie
+
 is-closed-requires : tie.Need-is-closed-requires
 is-closed-requires c κs =
     omega (arith, c .before .before .before .pre .0 .recorded .marks-long, c .before .before .before .pre .1 .inside)

@@ -1,126 +1,118 @@
+-- `ledger::take_back::take_back` meets its contract: refused by what comes before 11, by the newest record, or restored.
+-- Assumes nothing.
+use mathlib.Core.Path.{_≡_, refl, sym, _∙_}
+use Prim.Native.Nat.{_+_, _≤_}
+use native.Mathlib.Omega.{arith}
+use lib.ListN.{length}
+use borrow.Author.Tests.{not-true, not-false}
+use Rattle.trials.specs.Ring.{slotStart}
+use Rattle.ledger.specs.Runs.{plan, world}
+use Rattle.ledger.proofs.RecordLaws.{slots-of}
+use Rattle.ledger.proofs.BackLaws.{takes-refused, takes-unfit, takes-back, clock-covers, squares-restorable, outflow-covers, newest-below, kept-some, newest-fits, newest-is, newest-long, newest-led}
 use borrow.Author.Needs.{needs}
 use Rattle.ledger.proofs.take_back.take_back.Statement.{statement}
 use Rattle.ledger.proofs.take_back.take_back.Tie as tie
-use Rattle.ledger.proofs.take_back.take_back.Reads as reads
-use Rattle.ledger.proofs.take_back.take_back.Lts as lts
-use Rattle.ledger.proofs.record.held_before.Reads as held-before-reads
-use Rattle.ledger.proofs.record.lasted.Reads as lasted-reads
-use Rattle.ledger.proofs.record.record_size.Reads as record-size-reads
-use Rattle.ledger.proofs.take_back.look.Reads as look-reads
-use Rattle.ledger.proofs.take_back.restore_depths.Reads as restore-depths-reads
-use Rattle.ledger.proofs.take_back.restore_lasts.Reads as restore-lasts-reads
-use Rattle.ledger.proofs.take_back.try_record.Reads as try-record-reads
-use Rattle.trials.proofs.slot_before.Reads as slot-before-reads
-use Rattle.trials.proofs.slot_start.Reads as slot-start-reads
-use Rattle.trials.proofs.slots_in.Reads as slots-in-reads
 
--- src/take_back.rt:293:9
 look-requires : tie.Need-look-requires
 look-requires c κs = search needs
 
--- src/take_back.rt:295:9
 same-length : tie.Need-same-length
 same-length c = search needs
 
--- src/take_back.rt:295:9
 same-length-2 : tie.Need-same-length-2
 same-length-2 c = search needs
 
--- src/take_back.rt:295:9
 returns : tie.Need-returns
-returns c = ?
+returns c =
+    takes-refused (plan (c .before .before .before .before .before .before .before .before .args .shape) (c .before .before .before .before .before .before .before .before .args .marks .now)) (world (c .before .before .before .before .before .before .before .before .args .depths .now) (c .before .before .before .before .before .before .before .before .args .lasts .now) (c .before .before .before .before .before .before .before .before .args .records .now) (c .before .before .before .before .before .before .before .before .args .run)) (c .if1 .taken) (c .before .look .ensures)
 
--- src/take_back.rt:297:9
 record-size-requires : tie.Need-record-size-requires
-record-size-requires c κs = ?
+record-size-requires c κs =
+    c .before .look .ensures .passed (c .if1 .left) .watered .fine
 
--- src/take_back.rt:298:9
 slots-in-requires : tie.Need-slots-in-requires
 slots-in-requires c κs = search needs
 
--- src/take_back.rt:299:9
 slot-start-requires : tie.Need-slot-start-requires
-slot-start-requires c κs = ?
+slot-start-requires c κs =
+    omega (arith, newest-fits (plan (c .before .before .before .before .before .before .before .before .before .before .args .shape) (c .before .before .before .before .before .before .before .before .before .before .args .marks .now)) (world (c .before .before .before .before .before .before .before .before .before .before .args .depths .now) (c .before .before .before .before .before .before .before .before .before .before .args .lasts .now) (c .before .before .before .before .before .before .before .before .before .before .args .records .now) (c .before .before .before .before .before .before .before .before .before .before .args .run)) (c .before .before .before .look .ensures .passed (c .before .before .if1 .left)) (c .before .record-size .ensures) (c .slots-in .ensures))
 
--- src/take_back.rt:300:15
 add-end : tie.Need-add-end
-add-end c = ?
+add-end c =
+    let fits : slotStart (c .before .before .record-size .result) (c .before .before .before .before .before .before .before .before .before .before .before .args .run .newest) + c .before .before .record-size .result ≤ length (c .before .before .before .before .before .before .before .before .before .before .before .args .records .now) =
+    newest-fits (plan (c .before .before .before .before .before .before .before .before .before .before .before .args .shape) (c .before .before .before .before .before .before .before .before .before .before .before .args .marks .now)) (world (c .before .before .before .before .before .before .before .before .before .before .before .args .depths .now) (c .before .before .before .before .before .before .before .before .before .before .before .args .lasts .now) (c .before .before .before .before .before .before .before .before .before .before .before .args .records .now) (c .before .before .before .before .before .before .before .before .before .before .before .args .run)) (c .before .before .before .before .look .ensures .passed (c .before .before .before .if1 .left)) (c .before .before .record-size .ensures) (c .before .slots-in .ensures) in
+    search needs
 
--- src/take_back.rt:301:15
 mul-rec : tie.Need-mul-rec
-mul-rec c = ?
+mul-rec c =
+    let fits : slotStart (c .before .before .record-size .result) (c .before .before .before .before .before .before .before .before .before .before .before .args .run .newest) + c .before .before .record-size .result ≤ length (c .before .before .before .before .before .before .before .before .before .before .before .args .records .now) =
+    newest-fits (plan (c .before .before .before .before .before .before .before .before .before .before .before .args .shape) (c .before .before .before .before .before .before .before .before .before .before .before .args .marks .now)) (world (c .before .before .before .before .before .before .before .before .before .before .before .args .depths .now) (c .before .before .before .before .before .before .before .before .before .before .before .args .lasts .now) (c .before .before .before .before .before .before .before .before .before .before .before .args .records .now) (c .before .before .before .before .before .before .before .before .before .before .before .args .run)) (c .before .before .before .before .look .ensures .passed (c .before .before .before .if1 .left)) (c .before .before .record-size .ensures) (c .before .slots-in .ensures) in
+    search needs
 
--- src/take_back.rt:301:15
 sub-rec : tie.Need-sub-rec
 sub-rec c = search needs
 
--- src/take_back.rt:301:15
 part-rec-start : tie.Need-part-rec-start
 part-rec-start c = search needs
 
--- src/take_back.rt:301:15
 part-rec-end : tie.Need-part-rec-end
-part-rec-end c = ?
+part-rec-end c =
+    let fits : slotStart (c .before .before .record-size .result) (c .before .before .before .before .before .before .before .before .before .before .before .args .run .newest) + c .before .before .record-size .result ≤ length (c .before .before .before .before .before .before .before .before .before .before .before .args .records .now) =
+    newest-fits (plan (c .before .before .before .before .before .before .before .before .before .before .before .args .shape) (c .before .before .before .before .before .before .before .before .before .before .before .args .marks .now)) (world (c .before .before .before .before .before .before .before .before .before .before .before .args .depths .now) (c .before .before .before .before .before .before .before .before .before .before .before .args .lasts .now) (c .before .before .before .before .before .before .before .before .before .before .before .args .records .now) (c .before .before .before .before .before .before .before .before .before .before .before .args .run)) (c .before .before .before .before .look .ensures .passed (c .before .before .before .if1 .left)) (c .before .before .record-size .ensures) (c .before .slots-in .ensures) in
+    search needs
 
--- src/take_back.rt:302:9
 try-record-requires : tie.Need-try-record-requires
-try-record-requires c κs = ?
+try-record-requires c κs =
+    let kept = c .before .before .before .before .before .before .look .ensures .passed (c .before .before .before .before .before .if1 .left) in
+    newest-led (plan (c .before .before .before .before .before .before .before .before .before .before .before .before .before .args .shape) (c .before .before .before .before .before .before .before .before .before .before .before .before .before .args .marks .now)) (world (c .before .before .before .before .before .before .before .before .before .before .before .before .before .args .depths .now) (c .before .before .before .before .before .before .before .before .before .before .before .before .before .args .lasts .now) (c .before .before .before .before .before .before .before .before .before .before .before .before .before .args .records .now) (c .before .before .before .before .before .before .before .before .before .before .before .before .before .args .run)) kept (c .before .before .before .before .record-size .ensures) (c .before .before .before .slots-in .ensures) (c .before .before .slot-start .ensures) (kept .watered .depths-long)
 
--- src/take_back.rt:304:9
 same-length-3 : tie.Need-same-length-3
 same-length-3 c = search needs
 
--- src/take_back.rt:304:9
 same-length-4 : tie.Need-same-length-4
 same-length-4 c = search needs
 
--- src/take_back.rt:304:9
 returns-2 : tie.Need-returns-2
-returns-2 c = ?
+returns-2 c =
+    let p = plan (c .before .before .before .before .before .before .before .before .before .before .before .before .before .before .before .before .args .shape) (c .before .before .before .before .before .before .before .before .before .before .before .before .before .before .before .before .args .marks .now) in
+    let w = world (c .before .before .before .before .before .before .before .before .before .before .before .before .before .before .before .before .args .depths .now) (c .before .before .before .before .before .before .before .before .before .before .before .before .before .before .before .before .args .lasts .now) (c .before .before .before .before .before .before .before .before .before .before .before .before .before .before .before .before .args .records .now) (c .before .before .before .before .before .before .before .before .before .before .before .before .before .before .before .before .args .run) in
+    let kept = c .before .before .before .before .before .before .before .before .before .look .ensures .passed (c .before .before .before .before .before .before .before .before .if1 .left) in
+    takes-unfit p w kept (newest-is p w kept (c .before .before .before .before .before .before .before .record-size .ensures) (c .before .before .before .before .before .before .slots-in .ensures) (c .before .before .before .before .before .slot-start .ensures)) (sym (c .before .before .try-record .ensures .fits-is) ∙ not-true _ (c .if2 .taken))
 
--- src/take_back.rt:306:5
 restore-depths-requires : tie.Need-restore-depths-requires
-restore-depths-requires c κs = ?
+restore-depths-requires c κs =
+    let p = plan (c .before .before .before .before .before .before .before .before .before .before .before .before .before .before .before .before .before .args .shape) (c .before .before .before .before .before .before .before .before .before .before .before .before .before .before .before .before .before .args .marks .now) in
+    let w = world (c .before .before .before .before .before .before .before .before .before .before .before .before .before .before .before .before .before .args .depths .now) (c .before .before .before .before .before .before .before .before .before .before .before .before .before .before .before .before .before .args .lasts .now) (c .before .before .before .before .before .before .before .before .before .before .before .before .before .before .before .before .before .args .records .now) (c .before .before .before .before .before .before .before .before .before .before .before .before .before .before .before .before .before .args .run) in
+    let kept = c .before .before .before .before .before .before .before .before .before .before .look .ensures .passed (c .before .before .before .before .before .before .before .before .before .if1 .left) in
+    (newest-led p w kept (c .before .before .before .before .before .before .before .before .record-size .ensures) (c .before .before .before .before .before .before .before .slots-in .ensures) (c .before .before .before .before .before .before .slot-start .ensures) (kept .watered .depths-long), squares-restorable p w _ (sym (c .before .before .before .try-record .ensures .fits-is) ∙ not-false _ (c .before .if2 .left)))
 
--- src/take_back.rt:307:5
 restore-lasts-requires : tie.Need-restore-lasts-requires
-restore-lasts-requires c κs = ?
+restore-lasts-requires c κs =
+    let kept = c .before .before .before .before .before .before .before .before .before .before .before .before .before .before .look .ensures .passed (c .before .before .before .before .before .before .before .before .before .before .before .before .before .if1 .left) in
+    newest-led (plan (c .before .before .before .before .before .before .before .before .before .before .before .before .before .before .before .before .before .before .before .before .before .args .shape) (c .before .before .before .before .before .before .before .before .before .before .before .before .before .before .before .before .before .before .before .before .before .args .marks .now)) (world (c .before .before .before .before .before .before .before .before .before .before .before .before .before .before .before .before .before .before .before .before .before .args .depths .now) (c .before .before .before .before .before .before .before .before .before .before .before .before .before .before .before .before .before .before .before .before .before .args .lasts .now) (c .before .before .before .before .before .before .before .before .before .before .before .before .before .before .before .before .before .before .before .before .before .args .records .now) (c .before .before .before .before .before .before .before .before .before .before .before .before .before .before .before .before .before .before .before .before .before .args .run)) kept (c .before .before .before .before .before .before .before .before .before .before .before .before .record-size .ensures) (c .before .before .before .before .before .before .before .before .before .before .before .slots-in .ensures) (c .before .before .before .before .before .before .before .before .before .before .slot-start .ensures) (kept .watered .lasts-long)
 
--- src/take_back.rt:309:28
-lasted-requires : tie.Need-lasted-requires
-lasted-requires c κs = search needs
+run-before-requires : tie.Need-run-before-requires
+run-before-requires c κs =
+    let p = plan (c .before .before .before .before .before .before .before .before .before .before .before .before .before .before .before .before .before .before .before .before .before .before .before .before .args .shape) (c .before .before .before .before .before .before .before .before .before .before .before .before .before .before .before .before .before .before .before .before .before .before .before .before .args .marks .now) in
+    let w = world (c .before .before .before .before .before .before .before .before .before .before .before .before .before .before .before .before .before .before .before .before .before .before .before .before .args .depths .now) (c .before .before .before .before .before .before .before .before .before .before .before .before .before .before .before .before .before .before .before .before .before .before .before .before .args .lasts .now) (c .before .before .before .before .before .before .before .before .before .before .before .before .before .before .before .before .before .before .before .before .before .before .before .before .args .records .now) (c .before .before .before .before .before .before .before .before .before .before .before .before .before .before .before .before .before .before .before .before .before .before .before .before .args .run) in
+    let kept = c .before .before .before .before .before .before .before .before .before .before .before .before .before .before .before .before .before .look .ensures .passed (c .before .before .before .before .before .before .before .before .before .before .before .before .before .before .before .before .if1 .left) in
+    let fit = not-false _ (c .before .before .before .before .before .before .before .before .if2 .left) in
+    let passed = sym (c .before .before .before .before .before .before .before .before .before .before .try-record .ensures .fits-is) ∙ fit in
+    ((omega (arith, newest-long p w kept (c .before .before .before .before .before .before .before .before .before .before .before .before .before .before .before .record-size .ensures) (c .before .before .before .before .before .before .before .before .before .before .before .before .before .before .slots-in .ensures) (c .before .before .before .before .before .before .before .before .before .before .before .before .before .slot-start .ensures)), newest-below p w kept (c .before .before .before .before .before .before .before .before .before .before .before .before .before .before .before .record-size .ensures) (c .before .before .before .before .before .before .before .before .before .before .before .before .before .before .slots-in .ensures), kept-some p w kept (c .before .before .before .before .before .before .before .before .before .before .before .before .before .before .before .record-size .ensures) (c .before .before .before .before .before .before .before .before .before .before .before .before .before .before .slots-in .ensures)), (clock-covers p w _ passed, omega (arith, c .before .before .before .before .before .before .before .before .before .before .try-record .ensures .off-is fit, outflow-covers p w _ passed)))
 
--- src/take_back.rt:309:16
-sub-t31 : tie.Need-sub-t31
-sub-t31 c = ?
-
--- src/take_back.rt:310:17
-held-before-requires : tie.Need-held-before-requires
-held-before-requires c κs = search needs
-
--- src/take_back.rt:311:18
-sub-t33 : tie.Need-sub-t33
-sub-t33 c = ?
-
--- src/take_back.rt:312:15
-sub-t21 : tie.Need-sub-t21
-sub-t21 c = ?
-
--- src/take_back.rt:313:17
-slot-before-requires : tie.Need-slot-before-requires
-slot-before-requires c κs = ?
-
--- src/take_back.rt:283:1
 same-length-5 : tie.Need-same-length-5
 same-length-5 c = search needs
 
--- src/take_back.rt:283:1
 same-length-6 : tie.Need-same-length-6
 same-length-6 c = search needs
 
--- src/take_back.rt:283:1
 returns-3 : tie.Need-returns-3
-returns-3 c = ?
+returns-3 c =
+    let p = plan (c .before .before .before .before .before .before .before .before .before .before .before .before .before .before .before .before .before .before .before .before .before .before .before .before .before .args .shape) (c .before .before .before .before .before .before .before .before .before .before .before .before .before .before .before .before .before .before .before .before .before .before .before .before .before .args .marks .now) in
+    let w = world (c .before .before .before .before .before .before .before .before .before .before .before .before .before .before .before .before .before .before .before .before .before .before .before .before .before .args .depths .now) (c .before .before .before .before .before .before .before .before .before .before .before .before .before .before .before .before .before .before .before .before .before .before .before .before .before .args .lasts .now) (c .before .before .before .before .before .before .before .before .before .before .before .before .before .before .before .before .before .before .before .before .before .before .before .before .before .args .records .now) (c .before .before .before .before .before .before .before .before .before .before .before .before .before .before .before .before .before .before .before .before .before .before .before .before .before .args .run) in
+    let kept = c .before .before .before .before .before .before .before .before .before .before .before .before .before .before .before .before .before .before .look .ensures .passed (c .before .before .before .before .before .before .before .before .before .before .before .before .before .before .before .before .before .if1 .left) in
+    let fit = not-false _ (c .before .before .before .before .before .before .before .before .before .if2 .left) in
+    takes-back p w kept (newest-is p w kept (c .before .before .before .before .before .before .before .before .before .before .before .before .before .before .before .before .record-size .ensures) (c .before .before .before .before .before .before .before .before .before .before .before .before .before .before .before .slots-in .ensures) (c .before .before .before .before .before .before .before .before .before .before .before .before .before .before .slot-start .ensures)) (sym (c .before .before .before .before .before .before .before .before .before .before .before .try-record .ensures .fits-is) ∙ fit) (slots-of p (c .before .before .before .before .before .before .before .before .before .before .before .before .before .before .before .before .before .before .before .before .before .before .before .before .before .args .records .now) (c .before .before .before .before .before .before .before .before .before .before .before .before .before .before .before .before .record-size .ensures) (c .before .before .before .before .before .before .before .before .before .before .before .before .before .before .before .slots-in .ensures)) (c .before .before .before .before .before .before .before .before .before .before .before .try-record .ensures .off-is fit) (c .run-before .ensures) (c .before .before .before .before .before .before .before .restore-depths .ensures) (c .before .before .before .restore-lasts .ensures)
 
 pub take-back-spec : {M : Type 1} → statement M
 take-back-spec =
@@ -144,12 +136,7 @@ take-back-spec =
     returns-2
     restore-depths-requires
     restore-lasts-requires
-    lasted-requires
-    sub-t31
-    held-before-requires
-    sub-t33
-    sub-t21
-    slot-before-requires
+    run-before-requires
     same-length-5
     same-length-6
     returns-3)

@@ -11,6 +11,7 @@ use Rattle.ledger.proofs.BackLaws.{times-fail, lasted-decides}
 use borrow.Author.Needs.{needs}
 use Rattle.ledger.proofs.take_back.times_fine.Statement.{statement}
 use Rattle.ledger.proofs.take_back.times_fine.Tie as tie
+
 held-before-requires : tie.Need-held-before-requires
 held-before-requires c κs = search needs
 

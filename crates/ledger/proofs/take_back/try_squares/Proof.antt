@@ -17,6 +17,7 @@ use Rattle.ledger.proofs.FlowLaws.{off-small, off-sum-small}
 use Rattle.ledger.proofs.WalkLaws.{Walk, walk-none, walk-stands, walk-column, walk-next, walk-end, walked-unfit, walked-fit}
 use Rattle.ledger.proofs.take_back.try_squares.Statement.{statement}
 use Rattle.ledger.proofs.take_back.try_squares.Tie as tie
+
 abbrev Inv-loop : tie.InvT-loop
 Inv-loop shape marks rec depths squares off₀ square₀ column₀ off square column =
     (Walk shape squares square column)

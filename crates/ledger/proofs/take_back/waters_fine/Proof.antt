@@ -13,6 +13,7 @@ use Rattle.grid.specs.Marks.{closed}
 use Rattle.ledger.specs.TakeBack.{watersFine}
 use Rattle.ledger.proofs.take_back.waters_fine.Statement.{statement}
 use Rattle.ledger.proofs.take_back.waters_fine.Tie as tie
+
 abbrev Inv-loop : tie.InvT-loop
 Inv-loop marks depths lasts squares square₀ square =
     (square ≤ squares) × (allBelow square (λ i. closed marks i || waterFine (getD depths i 0) (getD lasts i 0)) ≡ true)
