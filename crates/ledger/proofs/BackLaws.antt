@@ -1,17 +1,17 @@
 -- Laws of the take-back: the first refusal before 11 by the tests in their order; a square's tests; and what then is restored.
 -- Assumes nothing.
 use mathlib.Core.Path.{_≡_, refl, sym, ap, _∙_}
-use mathlib.Core.Bool.{Bool, true, false, _||_, not}
+use mathlib.Core.Bool.{Bool, true, false, not}
 use mathlib.Core.List.{List, [], _∷_}
 use Prim.Native.Nat.{ℕ, zero, suc, _+_, _-_, _≤_, _<_}
 use native.Mathlib.Omega.{arith}
-use lib.Dec.{leb, eqb}
+use lib.Dec.{leb}
 use lib.ListN.{length, getD, take, drop}
 use borrow.Author.Tests.{leb-true, le-leb, lt-leb, eqb-true, eq-eqb, ne-eqb}
-use Rattle.reckon.specs.Tests.{pick, every, allBelow, _unless_, refusal}
+use Rattle.reckon.specs.Tests.{every, allBelow, _unless_, refusal}
 use Rattle.reckon.specs.Lists.{filled}
-use Rattle.reckon.specs.Ranges.{mostDepth, mostLength, waterFine}
-use Rattle.reckon.proofs.TestLaws.{not-both, pick-true, pick-false, or-right, Each, every-each, each-every, every-fails, refusal-here, refusal-later, passed-refusal}
+use Rattle.reckon.specs.Ranges.{mostDepth, mostLength}
+use Rattle.reckon.proofs.TestLaws.{pick-true, pick-false, or-right, Each, every-each, each-every, every-fails, refusal-here, refusal-later, passed-refusal}
 use Rattle.trials.specs.Ring.{slotsIn, slotStart}
 use Rattle.trials.specs.Room.{recordIn}
 use Rattle.grid.specs.Squares.{squares, shapeFine}
@@ -19,7 +19,7 @@ use Rattle.grid.specs.Marks.{marksFine}
 use Rattle.grid.proofs.SquareLaws.{ranges-of-fine, fine-of-ranges}
 use Rattle.ledger.specs.Runs.{Plan, World, world, ofDepths, runFine, answered}
 use Rattle.ledger.specs.Flows.{shut, gone, came, offGrid}
-use Rattle.ledger.specs.Record.{recordSize, heldIn, lastedIn, leavesIn, lastIn, addedIn, roomSlots, newestRecord, Recorded, Walked}
+use Rattle.ledger.specs.Record.{recordSize, heldIn, lastedIn, leavesIn, lastIn, addedIn, roomSlots, newestRecord, Walked}
 use Rattle.ledger.specs.TakeBack.{oneEach, watersFine, timesFine, heldAndGone, cameAndAdded, depthBefore, squareRestorable, restorable, worldBefore, backRows, backNumber, takenBack, Watered, TakesBack, Kept, Looked, runBefore, Led, Restores}
 use Rattle.ledger.specs.declared.runs.Run.{Run}
 use Rattle.ledger.specs.declared.runs.Answer.the-variants.{Done, Refused}

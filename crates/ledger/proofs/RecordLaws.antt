@@ -1,16 +1,15 @@
 -- Laws of a record that is written: words stored one after the other are placed, and squares written from the first on make a record.
 -- Assumes nothing.
 use mathlib.Core.Path.{_≡_, refl, sym, ap, _∙_, subst}
-use mathlib.Core.Bool.{Bool, true, false}
+use mathlib.Core.Bool.{true, false}
 use mathlib.Core.List.{List, [], _∷_, _++_, append-assoc}
 use Prim.Native.Nat.{ℕ, suc, _+_, _-_, _≤_, _<_}
 use native.Mathlib.Omega.{arith}
 use lib.ListN.{length, getD, set, take, drop, length-append, length-drop}
 use lib.Seq.{sets, sets-eq, drop-drop, take-at, take-all, length-take-le}
 use borrow.Rule.Slice.PartMut.{putMid}
-use Rattle.reckon.specs.Tests.{pick}
 use Rattle.reckon.specs.Lists.{joined, placed}
-use Rattle.reckon.proofs.TestLaws.{pick-true, pick-false, pick-both}
+use Rattle.reckon.proofs.TestLaws.{pick-true, pick-false}
 use Rattle.reckon.proofs.ListLaws.{joined-none, joined-more, length-placed}
 use Rattle.trials.specs.Ring.{slotsIn, slotStart}
 use Rattle.trials.proofs.RingLaws.{slot-within}

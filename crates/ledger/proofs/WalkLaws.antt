@@ -18,7 +18,6 @@ use Rattle.grid.proofs.SquareLaws.{carried, column-within}
 use Rattle.ledger.specs.Runs.{Plan}
 use Rattle.ledger.specs.Flows.{offSquare, offGrid}
 use Rattle.ledger.specs.Record.{leavesIn, Walked}
-use Rattle.ledger.specs.declared.record.Found.{Found}
 
 -- ---- where a walk stands
 

@@ -15,7 +15,7 @@ use Rattle.trials.specs.Room.{storedIn}
 use Rattle.grid.specs.Squares.{squares, FineShape}
 use Rattle.ledger.specs.Runs.{Plan, World, ofDepths}
 use Rattle.ledger.specs.Flows.{shut, gone}
-use Rattle.ledger.specs.Record.{recordSize, heldIn, lastedIn, leavesIn, addedIn, roomSlots, Recorded, Walked}
+use Rattle.ledger.specs.Record.{recordSize, lastedIn, leavesIn, addedIn, roomSlots, Recorded, Walked}
 use Rattle.ledger.specs.After.{Moves, newDepth, depthsFit, newOutflow}
 use Rattle.ledger.specs.declared.record.Found.{Found}
 

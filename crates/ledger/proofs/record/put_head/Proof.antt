@@ -1,6 +1,5 @@
 -- `ledger::record::put_head` meets its contract: two stores in a row are two words placed.
 -- Assumes nothing.
-use native.Mathlib.Omega.{arith}
 use mathlib.Core.List.{[], _∷_}
 use Rattle.ledger.proofs.RecordLaws.{stored-placed}
 use borrow.Author.Needs.{needs}

@@ -1,7 +1,6 @@
 -- `ledger::record::put_square` meets its contract: its six words are placed.
 -- Assumes nothing.
 use mathlib.Core.Path.{_∙_}
-use native.Mathlib.Omega.{arith}
 use Rattle.ledger.proofs.RecordLaws.{placed-at}
 use borrow.Author.Needs.{needs}
 use Rattle.ledger.proofs.record.put_square.Statement.{statement}

@@ -1,7 +1,6 @@
 -- `ledger::runs::run_fine` meets its contract: each early return is a test that fails, and the outflow decides at last.
 -- Assumes nothing.
 use mathlib.Core.Path.{sym, _∙_}
-use native.Mathlib.Omega.{arith}
 use borrow.Author.Tests.{lt-leb, not-true, not-false}
 use Rattle.reckon.proofs.TestLaws.{every-fails}
 use Rattle.ledger.specs.Runs.{runFine}

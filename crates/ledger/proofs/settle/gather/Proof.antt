@@ -1,11 +1,10 @@
 -- `ledger::settle::gather` meets its contract: every square so far fits and is stored, and what it sent off the grid is summed.
 -- Assumes nothing.
-use mathlib.Core.Path.{_≡_, refl, sym, ap, ap₂, _∙_}
+use mathlib.Core.Path.{_≡_, refl, sym, ap₂, _∙_}
 use mathlib.Core.Bool.{true}
-use Prim.Native.Nat.{ℕ, _≤_, _-_, _+_}
-use native.Mathlib.Nat.{mul-le-mul-right}
+use Prim.Native.Nat.{_-_, _+_}
 use native.Mathlib.Omega.{arith}
-use lib.ListN.{length, getD}
+use lib.ListN.{getD}
 use borrow.Author.Tests.{not-true, not-false}
 use Rattle.reckon.specs.Tests.{allBelow}
 use Rattle.reckon.specs.Lists.{filled, sumBelow}
@@ -15,7 +14,7 @@ use Rattle.ledger.specs.Runs.{plan}
 use Rattle.ledger.specs.Flows.{offSquare}
 use Rattle.ledger.specs.Record.{leavesIn}
 use Rattle.ledger.specs.Settle.{depthsBy}
-use Rattle.ledger.proofs.FlowLaws.{fourWords, off-small, off-sum-small}
+use Rattle.ledger.proofs.FlowLaws.{off-small, off-sum-small}
 use Rattle.ledger.proofs.WalkLaws.{Walk, walk-none, walk-stands, walk-column, walk-next, walk-end, nothing, filled-long, filled-put}
 use Rattle.ledger.proofs.SettleLaws.{fits, gathered-at, gathered-unfit, gathered-fit}
 use Rattle.ledger.proofs.settle.gather.Statement.{statement}

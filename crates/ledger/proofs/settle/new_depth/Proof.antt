@@ -1,6 +1,5 @@
 -- `ledger::settle::new_depth` meets its contract: what remains, what came and what is added; the last two are few words.
 -- Assumes nothing.
-use mathlib.Core.Path.{_≡_}
 use native.Mathlib.Omega.{arith}
 use Rattle.ledger.specs.Runs.{plan}
 use Rattle.ledger.specs.After.{remains, newDepth}

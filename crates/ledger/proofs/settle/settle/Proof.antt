@@ -1,7 +1,6 @@
 -- `ledger::settle::settle` meets its contract: 8 where a square is too deep, then 9 where the outflow is too much, else all is written.
 -- Assumes nothing.
-use mathlib.Core.Path.{_≡_, sym, _∙_}
-use mathlib.Core.Bool.{true}
+use mathlib.Core.Path.{sym, _∙_}
 use native.Mathlib.Omega.{arith}
 use borrow.Author.Tests.{not-true, not-false}
 use Rattle.ledger.specs.Runs.{plan, world}

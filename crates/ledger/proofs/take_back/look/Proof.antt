@@ -1,6 +1,6 @@
 -- `ledger::take_back::look` meets its contract: the tests in the table's order, each after those before it passed.
 -- Assumes nothing.
-use mathlib.Core.Path.{_≡_, sym, ap, _∙_}
+use mathlib.Core.Path.{sym, ap, _∙_}
 use Prim.Native.Nat.{ℕ}
 use borrow.Author.Tests.{not-true, not-false}
 use Rattle.ledger.specs.Runs.{plan, world, runFine}

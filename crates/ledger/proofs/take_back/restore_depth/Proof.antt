@@ -1,6 +1,6 @@
 -- `ledger::take_back::restore_depth` meets its contract: nothing is stored where the square is closed.
 -- Assumes nothing.
-use mathlib.Core.Path.{_≡_, sym, ap, ap₂, _∙_}
+use mathlib.Core.Path.{sym, ap, ap₂, _∙_}
 use Prim.Native.Nat.{_-_}
 use native.Mathlib.Omega.{arith}
 use lib.ListN.{set, length-set}

@@ -1,7 +1,7 @@
 -- `ledger::take_back::restore_depths` meets its contract: after i turns the first i squares that are not closed are restored; a square's
 -- depth is not changed before its turn.
 -- Assumes nothing.
-use mathlib.Core.Path.{_≡_, sym, ap, _∙_}
+use mathlib.Core.Path.{_≡_, ap, _∙_}
 use mathlib.Core.List.{List}
 use Prim.Native.Nat.{ℕ, _<_, _-_}
 use native.Mathlib.Omega.{arith}

@@ -1,6 +1,5 @@
 -- `ledger::take_back::run_before` meets its contract: each field goes back by its own number.
 -- Assumes nothing.
-use mathlib.Core.Path.{_≡_}
 use borrow.Author.Needs.{needs}
 use Rattle.ledger.proofs.take_back.run_before.Statement.{statement}
 use Rattle.ledger.proofs.take_back.run_before.Tie as tie

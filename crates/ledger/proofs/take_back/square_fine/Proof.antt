@@ -1,7 +1,6 @@
 -- `ledger::take_back::square_fine` meets its contract: a closed square passes, another is judged by its water.
 -- Assumes nothing.
 use mathlib.Core.Path.{sym, _∙_}
-use Rattle.reckon.proofs.TestLaws.{pick-true, pick-false}
 use borrow.Author.Needs.{needs}
 use Rattle.ledger.proofs.take_back.square_fine.Statement.{statement}
 use Rattle.ledger.proofs.take_back.square_fine.Tie as tie

@@ -1,6 +1,6 @@
 -- `ledger::take_back::take_back` meets its contract: refused by what comes before 11, by the newest record, or restored.
 -- Assumes nothing.
-use mathlib.Core.Path.{_≡_, refl, sym, _∙_}
+use mathlib.Core.Path.{sym, _∙_}
 use Prim.Native.Nat.{_+_, _≤_}
 use native.Mathlib.Omega.{arith}
 use lib.ListN.{length}

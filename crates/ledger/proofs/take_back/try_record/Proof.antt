@@ -1,6 +1,6 @@
 -- `ledger::take_back::try_record` meets its contract: each return is a test of refusal 11 that fails, or all pass.
 -- Assumes nothing.
-use mathlib.Core.Path.{_≡_, sym, _∙_}
+use mathlib.Core.Path.{sym, _∙_}
 use mathlib.Core.List.{[]}
 use native.Mathlib.Omega.{arith}
 use borrow.Author.Tests.{le-leb, lt-leb, not-true, not-false}
