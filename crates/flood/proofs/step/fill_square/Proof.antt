@@ -1,106 +1,116 @@
+-- `flood::step::fill_square` meets its contract: a closed square is written as zeros, a dry one sends nothing, any other what the weighing gives.
+-- Assumes nothing.
+use mathlib.Core.Path.{_≡_, refl, sym, _∙_}
+use native.Mathlib.Omega.{arith}
+use lib.ListN.{getD}
 use borrow.Author.Needs.{needs}
+use Rattle.reckon.proofs.TestLaws.{not-both}
+use Rattle.ledger.specs.Runs.{plan}
+use Rattle.flood.specs.Drops.{ground, dropsOf}
+use Rattle.flood.proofs.DropLaws.{weighable}
+use Rattle.flood.proofs.FillLaws.{put-dry, put-wet, words-fit}
 use Rattle.flood.proofs.step.fill_square.Statement.{statement}
 use Rattle.flood.proofs.step.fill_square.Tie as tie
-use Rattle.flood.proofs.step.fill_square.Reads as reads
-use Rattle.flood.proofs.step.fill_square.Lts as lts
-use Rattle.flood.proofs.drops.drops_of.Reads as drops-of-reads
-use Rattle.grid.proofs.marks.is_closed.Reads as is-closed-reads
-use Rattle.ledger.proofs.record.put_closed.Reads as put-closed-reads
-use Rattle.ledger.proofs.record.put_square.Reads as put-square-reads
-use Rattle.reckon.proofs.numbers.number.Reads as number-reads
-use Rattle.rule.proofs.weighing.weigh.Reads as weigh-reads
 
--- src/step.rt:60:8
 is-closed-requires : tie.Need-is-closed-requires
 is-closed-requires c κs = search needs
 
--- src/step.rt:61:9
 put-closed-requires : tie.Need-put-closed-requires
 put-closed-requires c κs = search needs
 
--- src/step.rt:62:9
 same-length : tie.Need-same-length
 same-length c = search needs
 
--- src/step.rt:62:9
 returns : tie.Need-returns
-returns c = ?
+returns c =
+    let c′ = sym (c .before .before .before .before .before .is-closed .ensures) ∙ c .before .before .before .before .if1 .taken in
+    record { closed-put = λ e. c .before .before .put-closed .ensures; open-put = λ e. not-both c′ e }
 
--- src/step.rt:64:9
 number-requires : tie.Need-number-requires
 number-requires c κs = search needs
 
--- src/step.rt:66:47
 mul-put-square : tie.Need-mul-put-square
 mul-put-square c = search needs
 
--- src/step.rt:66:47
 shared-slice-read-put-square : tie.Need-shared-slice-read-put-square
 shared-slice-read-put-square c = search needs
 
--- src/step.rt:66:62
 mul-put-square-2 : tie.Need-mul-put-square-2
 mul-put-square-2 c = search needs
 
--- src/step.rt:66:62
 shared-slice-read-put-square-2 : tie.Need-shared-slice-read-put-square-2
 shared-slice-read-put-square-2 c = search needs
 
--- src/step.rt:66:9
 put-square-requires : tie.Need-put-square-requires
 put-square-requires c κs = search needs
 
--- src/step.rt:67:9
 same-length-2 : tie.Need-same-length-2
 same-length-2 c = search needs
 
--- src/step.rt:67:9
 returns-2 : tie.Need-returns-2
-returns-2 c = ?
+returns-2 c =
+    let a = (c .before .before .before .before .before .before .before .before .before .before .before .before .before .before .before .before .before .args) in
+    let c′ = sym (c .before .before .before .before .before .before .before .before .before .is-closed .ensures) ∙ c .before .before .before .before .before .before .before .before .if1 .left in
+    record {
+      closed-put = λ e. not-both e c′;
+      open-put = λ e. put-dry (a .rules) _ _ (a .lasting) _ (a .rec .now) (a .square) _ _ (sym (c .before .before .before .before .before .before .before .number .ensures) ∙ c .before .before .before .before .before .before .if2 .taken) (c .before .before .put-square .ensures);
+    }
 
--- src/step.rt:69:9
 drops-of-requires : tie.Need-drops-of-requires
 drops-of-requires c κs = search needs
 
--- src/step.rt:73:9
 number-requires-2 : tie.Need-number-requires-2
 number-requires-2 c κs = search needs
 
--- src/step.rt:74:9
 number-requires-3 : tie.Need-number-requires-3
 number-requires-3 c κs = search needs
 
--- src/step.rt:70:9
 weigh-requires : tie.Need-weigh-requires
-weigh-requires c κs = ?
+weigh-requires c κs =
+    let a = (c .before .before .before .before .before .before .before .before .before .before .before .before .before .before .args) in
+    let f = c .before .before .before .before .before .before .before .before .before .before .before .before .before .before .pre .0 .flows in
+    let c′ = sym (c .before .before .before .before .before .before .is-closed .ensures) ∙ c .before .before .before .before .before .if1 .left in
+    let inside = c .before .before .before .before .before .before .before .before .before .before .before .before .before .before .pre .1 .inside in
+    weighable (plan (a .shape) (a .marks .now)) (ground (a .rules) (a .beds .now) (a .roughness .now)) (a .depths .now) (f .lies) (a .square) inside c′
+    (a .lasts .now) (f .lasts-to (a .square) inside c′) (c .before .before .before .before .before .before .before .before .before .before .before .before .before .before .pre .0 .lasts-for) (c .before .before .before .before .number .ensures) (c .before .number2 .ensures) (c .number3 .ensures) (c .before .before .drops-of .ensures)
 
--- src/step.rt:78:37
 mul-put-square-3 : tie.Need-mul-put-square-3
 mul-put-square-3 c = search needs
 
--- src/step.rt:78:37
 shared-slice-read-put-square-3 : tie.Need-shared-slice-read-put-square-3
 shared-slice-read-put-square-3 c = search needs
 
--- src/step.rt:78:52
 mul-put-square-4 : tie.Need-mul-put-square-4
 mul-put-square-4 c = search needs
 
--- src/step.rt:78:52
 shared-slice-read-put-square-4 : tie.Need-shared-slice-read-put-square-4
 shared-slice-read-put-square-4 c = search needs
 
--- src/step.rt:78:5
 put-square-requires-2 : tie.Need-put-square-requires-2
-put-square-requires-2 c κs = ?
+put-square-requires-2 c κs =
+    let a = (c .before .before .before .before .before .before .before .before .before .before .before .before .before .before .before .before .before .before .args) in
+    let c′ = sym (c .before .before .before .before .before .before .before .before .before .before .is-closed .ensures) ∙ c .before .before .before .before .before .before .before .before .before .if1 .left in
+    let d = c .before .before .before .before .before .before .before .before .before .before .before .before .before .before .before .before .before .before .pre .0 .flows .lies .depths-to (a .square) (c .before .before .before .before .before .before .before .before .before .before .before .before .before .before .before .before .before .before .pre .1 .inside) c′ in
+    (
+      omega (arith, c .before .before .before .before .before .before .before .before .before .before .before .before .before .before .before .before .before .before .pre .0 .record-long, c .before .before .before .before .before .before .before .before .before .before .before .before .before .before .before .before .before .before .pre .1 .inside),
+      words-fit (a .rules) (c .before .before .before .before .before .number2 .result) (c .before .before .before .before .number3 .result) (a .lasting) (c .before .before .before .before .before .before .drops-of .result) {d = c .before .before .before .before .before .before .before .before .number .result} (omega (arith, c .before .before .before .before .before .before .before .before .number .ensures)) (c .before .before .before .weigh .ensures),
+    )
 
--- src/step.rt:42:1
 same-length-3 : tie.Need-same-length-3
 same-length-3 c = search needs
 
--- src/step.rt:42:1
 returns-3 : tie.Need-returns-3
-returns-3 c = ?
+returns-3 c =
+    let a = (c .before .before .before .before .before .before .before .before .before .before .before .before .before .before .before .before .before .before .before .before .before .args) in
+    let c′ = sym (c .before .before .before .before .before .before .before .before .before .before .before .before .before .is-closed .ensures) ∙ c .before .before .before .before .before .before .before .before .before .before .before .before .if1 .left in
+    record {
+      closed-put = λ e. not-both e c′;
+      open-put =
+          λ e.
+          put-wet (a .rules) (getD (a .lasts .now) (a .square) 0) (getD (a .roughness .now) (a .square) 0) (a .lasting)
+          (dropsOf (plan (a .shape) (a .marks .now)) (a .rules) (a .beds .now) (a .depths .now) (a .square)) (a .rec .now) (a .square) _ _
+          (c .before .before .before .before .before .before .before .before .before .before .before .number .ensures) (c .before .before .before .before .before .before .before .before .number2 .ensures) (c .before .before .before .before .before .before .before .number3 .ensures) (c .before .before .before .before .before .before .before .before .before .drops-of .ensures) (c .before .before .before .before .before .before .weigh .ensures) (c .before .before .put-square2 .ensures);
+    }
 
 pub fill-square-spec : {M : Type 1} → statement M
 fill-square-spec =

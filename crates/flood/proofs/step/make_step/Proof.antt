@@ -4,6 +4,7 @@ use mathlib.Core.Path.{_≡_, refl, sym, _∙_, ap, subst}
 use Prim.Native.Nat.{ℕ, _+_, _≤_, _<_}
 use native.Mathlib.Omega.{arith}
 use borrow.Author.Tests.{not-true, not-false}
+use borrow.Author.Needs.{needs}
 use Rattle.reckon.specs.Ranges.{mostLength, lastClock}
 use Rattle.ledger.specs.Runs.{plan, world}
 use Rattle.ledger.specs.Engine.{seenOf}
@@ -41,7 +42,7 @@ add-end c =
     omega (arith, lasts-made p g w (c .before .before .step-length .ensures) (c .before .lasts-for .ensures), step-lasts-to p g (seenOf w) r, r .clock-to)
 
 same-length : tie.Need-same-length
-same-length c = ?
+same-length c = search needs
 
 returns : tie.Need-returns
 returns c =
@@ -76,10 +77,10 @@ add-water-requires c κs =
     )
 
 same-length-2 : tie.Need-same-length-2
-same-length-2 c = ?
+same-length-2 c = search needs
 
 same-length-3 : tie.Need-same-length-3
-same-length-3 c = ?
+same-length-3 c = search needs
 
 returns-2 : tie.Need-returns-2
 returns-2 c =
@@ -124,19 +125,19 @@ settle-requires c κs =
     )
 
 same-length-4 : tie.Need-same-length-4
-same-length-4 c = ?
+same-length-4 c = search needs
 
 same-length-5 : tie.Need-same-length-5
-same-length-5 c = ?
+same-length-5 c = search needs
 
 same-length-6 : tie.Need-same-length-6
-same-length-6 c = ?
+same-length-6 c = search needs
 
 same-length-7 : tie.Need-same-length-7
-same-length-7 c = ?
+same-length-7 c = search needs
 
 same-length-8 : tie.Need-same-length-8
-same-length-8 c = ?
+same-length-8 c = search needs
 
 returns-3 : tie.Need-returns-3
 returns-3 c =
