@@ -35,7 +35,7 @@ unfolding recordOf squareRecord
 record-same p held lasts out last a b h =
     ap (λ (l : List ℕ). held ∷ lasts ∷ l)
     (joined-ext (squares (p .shape)) (squareRecord p out last a) (squareRecord p out last b)
-      (λ i l. unless-closed (p .marks) i _ (λ e. ap (λ (x : ℕ). out i north ∷ out i east ∷ out i south ∷ out i west ∷ last i ∷ x ∷ []) (h i l e))))
+    (λ i l. unless-closed (p .marks) i _ (λ e. ap (λ (x : ℕ). out i north ∷ out i east ∷ out i south ∷ out i west ∷ last i ∷ x ∷ []) (h i l e))))
 
 -- ---- one square
 
@@ -112,9 +112,9 @@ module _ (p : Plan) (g : Given) (w : World) where
       q
       ∙ (record-same p (w .run .length) ms (leavesFor p (g .lie) (w .depths) (w .lasts) ms) (λ i. getD (w .lasts) i 0) (λ i. getD room i 0) (addedFor p g (w .run .clock) (w .run .clock + ms)) at
       ∙ ap
-        (λ (x : ℕ).
-          recordOf p (w .run .length) x (leavesFor p (g .lie) (w .depths) (w .lasts) x) (λ i. getD (w .lasts) i 0) (addedFor p g (w .run .clock) (w .run .clock + x)))
-        e)
+      (λ (x : ℕ).
+      recordOf p (w .run .length) x (leavesFor p (g .lie) (w .depths) (w .lasts) x) (λ i. getD (w .lasts) i 0) (addedFor p g (w .run .clock) (w .run .clock + x)))
+      e)
     where
       at : (i : ℕ) → i < squares (p .shape) → shut p i ≡ false → getD room i 0 ≡ addedFor p g (w .run .clock) (w .run .clock + ms) i
       at i h c =

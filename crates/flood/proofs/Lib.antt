@@ -5,4 +5,5 @@ pub mod FillLaws
 pub mod FreshLaws
 pub mod LengthLaws
 pub mod RuleLaws
+pub mod RunToLaws
 pub mod StepLaws

@@ -12,11 +12,11 @@ use lib.ListN.{length, getD}
 use borrow.Author.Tests.{le-leb, lt-leb, leb-true, eq-eqb, ne-eqb}
 use Rattle.reckon.specs.Tests.{pick, every, allBelow, Row, _unless_, refusal}
 use Rattle.reckon.specs.Ranges.{mostDepth, mostLength, lastClock, mostOutflow}
-use Rattle.reckon.proofs.TestLaws.{not-both, no-more, pick-true, pick-false, or-right, or-of, all-at, all-of, refusal-here, refusal-later, refusal-second, refusal-passed}
+use Rattle.reckon.proofs.TestLaws.{not-both, no-more, pick-true, pick-false, or-right, or-of, all-at, all-of, refusal-here, refusal-later, refusal-first, refusal-second}
 use Rattle.trials.specs.Ring.{ringFine}
 use Rattle.trials.proofs.RingLaws.{fine-ring}
 use Rattle.grid.specs.Squares.{squares}
-use Rattle.ledger.specs.Runs.{Plan, World}
+use Rattle.ledger.specs.Runs.{Plan, World, answered}
 use Rattle.ledger.specs.Flows.{shut, gone, came}
 use Rattle.ledger.specs.Record.{recordSize, roomSlots, leavesIn, lastedIn}
 use Rattle.ledger.specs.After.{Moves, remains, newDepth, depthsFit, newOutflow, lateRows, stepRecord, worldAfter}
@@ -27,8 +27,11 @@ use Rattle.flood.specs.Drops.{Given}
 use Rattle.flood.specs.Step.{addedFor, leavesFor, stepLength, stepLasts, stepMoves}
 use Rattle.flood.specs.Added.{tables, addedFits}
 use Rattle.flood.specs.Ready.{Ready}
-use Rattle.flood.specs.Refusals.{ringOf, stepChecks, stepNumber, stepped}
-use Rattle.flood.specs.Fill.{MakesStep}
+use Rattle.rule.specs.Rules.{rulesFine}
+use Rattle.ledger.specs.declared.runs.Answer.the-variants.{Done, Refused}
+use Rattle.ledger.proofs.RunLaws.{answered-done, answered-refused}
+use Rattle.flood.specs.Refusals.{ringOf, checkRows, stepChecks, stepNumber, stepped, Steps}
+use Rattle.flood.specs.Fill.{MakesStep, Passes}
 use Rattle.flood.proofs.CheckLaws.{ready, ring-is, checks-named}
 use Rattle.flood.proofs.RuleLaws.{covered, step-length-to}
 
@@ -71,7 +74,7 @@ module _ (p : Plan) (g : Given) (w : World) (passed : refusal (stepChecks p g (r
     fits-all t =
         all-of (squares (p .shape)) _
         (λ i l. or-of (shut p i) _
-          (λ c. le-leb _ _ (le-trans (added-under i) (leb-true _ _ (or-right (shut p i) _ (all-at (squares (p .shape)) _ t i l) c)))))
+        (λ c. le-leb _ _ (le-trans (added-under i) (leb-true _ _ (or-right (shut p i) _ (all-at (squares (p .shape)) _ t i l) c)))))
 
     pub step-eight : addedFits p g clock (clock + stepLasts p g v) ≡ false → MakesStep p g w 8 w
     unfolding lateRows
@@ -107,9 +110,57 @@ module _ (p : Plan) (g : Given) (w : World) (passed : refusal (stepChecks p g (r
     step-settled {rec} {held} {n} {after} e l t =
         let long = is-ready .waters .marks-long in
         let number-is : settleNumber p rec held w ≡ stepNumber p g w
-            = rw (e, l) (sym (number-late ∙ late-settled p m w long (le-leb _ _ timely))) in
+        = rw (e, l) (sym (number-late ∙ late-settled p m w long (le-leb _ _ timely))) in
         let written-is : written p rec held w ≡ worldAfter p m w = rw (e, l) (settled-is p m w long) in
         record {
           number = t .number ∙ number-is;
           world-is = t .world-is ∙ (ap (λ (k : ℕ). pick (eqb k 0) (written p rec held w) w) number-is ∙ ap (λ (x : World). pick (eqb (stepNumber p g w) 0) x w) written-is);
+        }
+
+-- ---- the public step
+
+module _ (p : Plan) (g : Given) (w : World) where
+  -- rows 1 to 6 refuse
+  pub step-checked :
+      {five : Bool} {n : ℕ} → five ≡ rulesFine (g .lie .rules) → n ≡ refusal (checkRows p g five (ringOf p g w) (seenOf w)) → (n ≡ 0 → ⊥) →
+      Steps p g w (Refused n) (w .depths) (w .lasts) (w .records)
+  unfolding stepNumber stepped
+  step-checked {five} {n} f e d =
+      let r : n ≡ refusal (stepChecks p g (ringOf p g w) (seenOf w)) = e ∙ ap (λ (b : Bool). refusal (checkRows p g b (ringOf p g w) (seenOf w))) f in
+      let number-is : n ≡ stepNumber p g w = r ∙ sym (first (λ z. d (r ∙ z))) in
+      let stays : stepped p g w ≡ w = refused-stays (λ z. d (number-is ∙ z)) in
+      record {
+        answer = answered-refused n (stepped p g w .run) d ∙ ap (λ (k : ℕ). answered k (stepped p g w .run)) number-is;
+        depths-are = sym (ap (λ (x : World). x .depths) stays);
+        lasts-are = sym (ap (λ (x : World). x .lasts) stays);
+        records-are = sym (ap (λ (x : World). x .records) stays);
+      }
+    where
+      first : (refusal (stepChecks p g (ringOf p g w) (seenOf w)) ≡ 0 → ⊥) → stepNumber p g w ≡ refusal (stepChecks p g (ringOf p g w) (seenOf w))
+      first z = refusal-first (stepChecks p g (ringOf p g w) (seenOf w)) _ (checks-named p g (ringOf p g w) (seenOf w)) z
+
+      refused-stays : (stepNumber p g w ≡ 0 → ⊥) → stepped p g w ≡ w
+      refused-stays z = pick-false _ _ (ne-eqb _ _ z)
+
+  -- they pass: what the inner step gives
+  pub passes-checks : {five : Bool} {n : ℕ} → five ≡ rulesFine (g .lie .rules) → n ≡ refusal (checkRows p g five (ringOf p g w) (seenOf w)) → n ≡ 0 → Passes p g w
+  passes-checks f e z = record { checked = sym (ap (λ (b : Bool). refusal (checkRows p g b (ringOf p g w) (seenOf w))) f) ∙ (sym e ∙ z) }
+
+  module _ {n : ℕ} {after : World} (m : MakesStep p g w n after) where
+    pub step-refused : (n ≡ 0 → ⊥) → Steps p g w (Refused n) (after .depths) (after .lasts) (after .records)
+    step-refused d =
+        record {
+          answer = answered-refused n (stepped p g w .run) d ∙ ap (λ (k : ℕ). answered k (stepped p g w .run)) (m .number);
+          depths-are = ap (λ (x : World). x .depths) (m .world-is);
+          lasts-are = ap (λ (x : World). x .lasts) (m .world-is);
+          records-are = ap (λ (x : World). x .records) (m .world-is);
+        }
+
+    pub step-done : n ≡ 0 → Steps p g w (Done (after .run)) (after .depths) (after .lasts) (after .records)
+    step-done z =
+        record {
+          answer = answered-done (after .run) z ∙ ap₂ answered (m .number) (ap (λ (x : World). x .run) (m .world-is));
+          depths-are = ap (λ (x : World). x .depths) (m .world-is);
+          lasts-are = ap (λ (x : World). x .lasts) (m .world-is);
+          records-are = ap (λ (x : World). x .records) (m .world-is);
         }

@@ -84,6 +84,47 @@ fn run_on(
     }
 }
 
+// The same in working rooms as large as any grid's.
+fn run_in(
+    shape: Shape,
+    rules: Rules,
+    run: Run,
+    end: u64,
+    marks: &[u8],
+    beds: &[u32],
+    roughness: &[u32],
+    rain: &[u32],
+    inflow: &[u32],
+    depths: &mut [u32],
+    lasts: &mut [u32],
+    records: &mut [u32],
+    rec: &mut [u32],
+    room: &mut [u32],
+) -> Ran
+    requires { ⌜ Passes (plan shape (now marks)) (given (ground rules (now beds) (now roughness)) (now rain) (now inflow)) (world (now depths) (now lasts) (now records) run) ⌝ }
+    requires { ⌜ (length (now rec) ≡ 24578) × (length (now room) ≡ 4096) × (end ≤ lastClock) ⌝ }
+    ensures { λ r. ⌜ RunsOn (plan shape (now (marks .entry))) (given (ground rules (now (beds .entry)) (now (roughness .entry))) (now (rain .entry)) (now (inflow .entry))) end (world (now (depths .entry)) (now (lasts .entry)) (now (records .entry)) run) r (now (depths .exit)) (now (lasts .exit)) (now (records .exit)) ⌝ }
+{
+    let size = record_size(shape);
+    let squares = squares_of(shape);
+    run_on(
+        shape,
+        rules,
+        run,
+        end,
+        marks,
+        beds,
+        roughness,
+        rain,
+        inflow,
+        depths,
+        lasts,
+        records,
+        &mut rec[..size],
+        &mut room[..squares],
+    )
+}
+
 // A run to an end, or a refusal.
 pub fn run_to(
     shape: Shape,
@@ -124,9 +165,7 @@ pub fn run_to(
     }
     let mut rec = [0u32; RECORD_ROOM];
     let mut room = [0u32; SQUARE_ROOM];
-    let size = record_size(shape);
-    let squares = squares_of(shape);
-    run_on(
+    run_in(
         shape,
         rules,
         run,
@@ -139,7 +178,7 @@ pub fn run_to(
         depths,
         lasts,
         records,
-        &mut rec[..size],
-        &mut room[..squares],
+        &mut rec[..],
+        &mut room[..],
     )
 }

@@ -180,6 +180,45 @@ pub(crate) fn make_step(
     settle(shape, marks, rec, length, run, depths, lasts, records, room)
 }
 
+// The same in working rooms as large as any grid's.
+fn step_in(
+    shape: Shape,
+    rules: Rules,
+    run: Run,
+    marks: &[u8],
+    beds: &[u32],
+    roughness: &[u32],
+    rain: &[u32],
+    inflow: &[u32],
+    depths: &mut [u32],
+    lasts: &mut [u32],
+    records: &mut [u32],
+    rec: &mut [u32],
+    room: &mut [u32],
+) -> Settled
+    requires { ⌜ Passes (plan shape (now marks)) (given (ground rules (now beds) (now roughness)) (now rain) (now inflow)) (world (now depths) (now lasts) (now records) run) ⌝ }
+    requires { ⌜ (length (now rec) ≡ 24578) × (length (now room) ≡ 4096) ⌝ }
+    ensures { λ r. ⌜ MakesStep (plan shape (now (marks .entry))) (given (ground rules (now (beds .entry)) (now (roughness .entry))) (now (rain .entry)) (now (inflow .entry))) (world (now (depths .entry)) (now (lasts .entry)) (now (records .entry)) run) (r .refused) (world (now (depths .exit)) (now (lasts .exit)) (now (records .exit)) (r .run)) ⌝ }
+{
+    let size = record_size(shape);
+    let squares = squares_of(shape);
+    make_step(
+        shape,
+        rules,
+        run,
+        marks,
+        beds,
+        roughness,
+        rain,
+        inflow,
+        depths,
+        lasts,
+        records,
+        &mut rec[..size],
+        &mut room[..squares],
+    )
+}
+
 // The inner step, for calls that have made the checks: refused by 7, 8 or 9, or made.
 pub fn step_on(
     shape: Shape,
@@ -199,9 +238,7 @@ pub fn step_on(
 {
     let mut rec = [0u32; RECORD_ROOM];
     let mut room = [0u32; SQUARE_ROOM];
-    let size = record_size(shape);
-    let squares = squares_of(shape);
-    make_step(
+    step_in(
         shape,
         rules,
         run,
@@ -213,8 +250,8 @@ pub fn step_on(
         depths,
         lasts,
         records,
-        &mut rec[..size],
-        &mut room[..squares],
+        &mut rec[..],
+        &mut room[..],
     )
 }
 

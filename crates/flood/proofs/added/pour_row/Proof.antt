@@ -19,7 +19,6 @@ use Rattle.flood.specs.Added.{amountAt, rowSquare}
 use Rattle.flood.proofs.added.pour_row.Statement.{statement}
 use Rattle.flood.proofs.added.pour_row.Tie as tie
 
--- <<
 within : (c : tie.After-square-at) → c .square-at .result < squares (c .before .before .before .before .before .before .before .args .shape)
 within c =
     let a = c .before .before .before .before .before .before .before .pre .0 in
@@ -29,8 +28,6 @@ within c =
       c .square-at .ensures,
       square-within (c .before .before .before .before .before .before .before .args .shape) {row = c .before .before .before .before .number .result} {column = c .before .before .before .number2 .result} (omega (arith, a .row-in j (c .before .before .before .before .before .before .before .pre .2))) (omega (arith, a .column-in j (c .before .before .before .before .before .before .before .pre .2))),
     )
-
--- >>
 
 mul-number : tie.Need-mul-number
 mul-number c = search needs

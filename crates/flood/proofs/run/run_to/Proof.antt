@@ -1,75 +1,65 @@
+-- `flood::run::run_to` meets its contract: rows 1 to 6 refuse, or the steps decide.
+-- Assumes nothing.
+use mathlib.Core.Path.{_≡_, refl, sym, _∙_}
+use borrow.Author.Needs.{needs}
+use Rattle.ledger.specs.Runs.{plan, world}
+use Rattle.flood.specs.Drops.{ground, given}
+use Rattle.flood.proofs.CheckLaws.{run-checks-step, run-checks-end, end-is}
+use Rattle.flood.proofs.RunToLaws.{run-checked, run-passed}
 use Rattle.flood.proofs.run.run_to.Statement.{statement}
 use Rattle.flood.proofs.run.run_to.Tie as tie
-use Rattle.flood.proofs.run.run_to.Reads as reads
-use Rattle.flood.proofs.run.run_to.Lts as lts
-use Rattle.flood.proofs.checks.check.Reads as check-reads
-use Rattle.flood.proofs.run.run_on.Reads as run-on-reads
-use Rattle.grid.proofs.squares.squares_of.Reads as squares-of-reads
-use Rattle.ledger.proofs.record.record_size.Reads as record-size-reads
 
--- src/run.rt:104:9
 check-requires : tie.Need-check-requires
-check-requires c κs = ?
+check-requires c κs = search needs
 
--- src/run.rt:119:9
 same-length : tie.Need-same-length
-same-length c = ?
+same-length c = search needs
 
--- src/run.rt:119:9
 same-length-2 : tie.Need-same-length-2
-same-length-2 c = ?
+same-length-2 c = search needs
 
--- src/run.rt:119:9
 same-length-3 : tie.Need-same-length-3
-same-length-3 c = ?
+same-length-3 c = search needs
 
--- src/run.rt:119:9
 returns : tie.Need-returns
-returns c = ?
+returns c =
+    let a = (c .before .before .before .before .before .before .before .before .before .before .before .before .before .args) in
+    let p = plan (a .shape) (a .marks .now) in
+    let g = given (ground (a .rules) (a .beds .now) (a .roughness .now)) (a .rain .now) (a .inflow .now) in
+    let w = world (a .depths .now) (a .lasts .now) (a .records .now) (a .run) in
+    record { ends = run-checked p g (a .end) w (c .before .check .ensures) (c .if1 .taken) }
 
--- src/run.rt:127:9
-record-size-requires : tie.Need-record-size-requires
-record-size-requires c κs = ?
+slice-aggregate-run-in : tie.Need-slice-aggregate-run-in
+slice-aggregate-run-in c = search needs
 
--- src/run.rt:128:9
-squares-of-requires : tie.Need-squares-of-requires
-squares-of-requires c κs = ?
+slice-aggregate-run-in-2 : tie.Need-slice-aggregate-run-in-2
+slice-aggregate-run-in-2 c = search needs
 
--- src/run.rt:142:9
-array-borrow-prefix-rec : tie.Need-array-borrow-prefix-rec
-array-borrow-prefix-rec c = ?
+run-in-requires : tie.Need-run-in-requires
+run-in-requires c κs =
+    let a = (c .before .before .before .before .before .before .before .before .before .before .before .before .before .before .before .before .before .before .args) in
+    let p = plan (a .shape) (a .marks .now) in
+    let g = given (ground (a .rules) (a .beds .now) (a .roughness .now)) (a .rain .now) (a .inflow .now) in
+    let w = world (a .depths .now) (a .lasts .now) (a .records .now) (a .run) in
+    let e = sym (c .before .before .before .before .before .before .check .ensures) ∙ c .before .before .before .before .before .if1 .left in
+    (record { checked = run-checks-step p g (a .end) w e }, (refl, refl, end-is (a .rules) (a .end) (run-checks-end p g (a .end) w e) .0))
 
--- src/run.rt:142:9
-slice-aggregate-run-on : tie.Need-slice-aggregate-run-on
-slice-aggregate-run-on c = ?
-
--- src/run.rt:143:9
-array-borrow-prefix-room : tie.Need-array-borrow-prefix-room
-array-borrow-prefix-room c = ?
-
--- src/run.rt:143:9
-slice-aggregate-run-on-2 : tie.Need-slice-aggregate-run-on-2
-slice-aggregate-run-on-2 c = ?
-
--- src/run.rt:129:5
-run-on-requires : tie.Need-run-on-requires
-run-on-requires c κs = ?
-
--- src/run.rt:88:1
 same-length-4 : tie.Need-same-length-4
-same-length-4 c = ?
+same-length-4 c = search needs
 
--- src/run.rt:88:1
 same-length-5 : tie.Need-same-length-5
-same-length-5 c = ?
+same-length-5 c = search needs
 
--- src/run.rt:88:1
 same-length-6 : tie.Need-same-length-6
-same-length-6 c = ?
+same-length-6 c = search needs
 
--- src/run.rt:88:1
 returns-2 : tie.Need-returns-2
-returns-2 c = ?
+returns-2 c =
+    let a = (c .before .before .before .before .before .before .before .before .before .before .before .before .before .before .before .before .before .before .before .before .before .before .before .before .before .before .before .args) in
+    let p = plan (a .shape) (a .marks .now) in
+    let g = given (ground (a .rules) (a .beds .now) (a .roughness .now)) (a .rain .now) (a .inflow .now) in
+    let w = world (a .depths .now) (a .lasts .now) (a .records .now) (a .run) in
+    record { ends = run-passed p g (a .end) w (c .before .before .before .before .before .before .before .before .before .before .before .before .before .before .before .check .ensures) (c .before .before .before .before .before .before .before .before .before .before .before .before .before .before .if1 .left) (c .before .before .before .before .before .before .before .before .run-in .ensures .ends) }
 
 pub run-to-spec : {M : Type 1} → statement M
 run-to-spec =
@@ -80,13 +70,9 @@ run-to-spec =
     same-length-2
     same-length-3
     returns
-    record-size-requires
-    squares-of-requires
-    array-borrow-prefix-rec
-    slice-aggregate-run-on
-    array-borrow-prefix-room
-    slice-aggregate-run-on-2
-    run-on-requires
+    slice-aggregate-run-in
+    slice-aggregate-run-in-2
+    run-in-requires
     same-length-4
     same-length-5
     same-length-6

@@ -34,8 +34,7 @@ loop-holds c = (omega arith, sym (zero-mod (c .before .before .before .before .b
 
 fill-square-requires : tie.Need-fill-square-requires Inv-loop μ-loop
 fill-square-requires c κs =
-    let f = c .before .before .before .before .before .before .before .before .before .before .before .before .before .before .before .pre .0 in
-    (
+    let f = c .before .before .before .before .before .before .before .before .before .before .before .before .before .before .before .pre .0 in (
       record { flows = f .flows; added-long = f .added-long; lasts-for = f .lasts-for; record-long = c .before .before .loop .inv .2 .long },
       record { fine = f .flows .lies .sited .fine; inside = omega arith; column-is = c .before .before .loop .inv .1 },
     )
@@ -51,8 +50,7 @@ loop-less c = omega arith
 
 loop-again : tie.Need-loop-again Inv-loop μ-loop
 loop-again c =
-    let a = (c .before .before .before .before .before .before .before .before .before .before .before .before .before .before .before .before .before .before .before .args) in
-    (
+    let a = (c .before .before .before .before .before .before .before .before .before .before .before .before .before .before .before .before .before .before .before .args) in (
       omega arith,
       carried (a .shape) (c .before .before .before .before .before .before .loop .square) (c .before .before .before .before .before .before .loop .inv .1) (c .next-column .ensures),
       fill-turn (plan (a .shape) (a .marks .now)) (ground (a .rules) (a .beds .now) (a .roughness .now)) (a .depths .now) (a .lasts .now) (a .added .now) (a .held) (a .lasting) (c .before .before .before .before .before .before .loop .square) (omega arith) (c .before .before .before .before .before .before .loop .inv .2) (c .before .before .before .fill-square .ensures),

@@ -90,8 +90,7 @@ put-square-requires-2 : tie.Need-put-square-requires-2
 put-square-requires-2 c κs =
     let a = (c .before .before .before .before .before .before .before .before .before .before .before .before .before .before .before .before .before .before .args) in
     let c′ = sym (c .before .before .before .before .before .before .before .before .before .before .is-closed .ensures) ∙ c .before .before .before .before .before .before .before .before .before .if1 .left in
-    let d = c .before .before .before .before .before .before .before .before .before .before .before .before .before .before .before .before .before .before .pre .0 .flows .lies .depths-to (a .square) (c .before .before .before .before .before .before .before .before .before .before .before .before .before .before .before .before .before .before .pre .1 .inside) c′ in
-    (
+    let d = c .before .before .before .before .before .before .before .before .before .before .before .before .before .before .before .before .before .before .pre .0 .flows .lies .depths-to (a .square) (c .before .before .before .before .before .before .before .before .before .before .before .before .before .before .before .before .before .before .pre .1 .inside) c′ in (
       omega (arith, c .before .before .before .before .before .before .before .before .before .before .before .before .before .before .before .before .before .before .pre .0 .record-long, c .before .before .before .before .before .before .before .before .before .before .before .before .before .before .before .before .before .before .pre .1 .inside),
       words-fit (a .rules) (c .before .before .before .before .before .number2 .result) (c .before .before .before .before .number3 .result) (a .lasting) (c .before .before .before .before .before .before .drops-of .result) {d = c .before .before .before .before .before .before .before .before .number .result} (omega (arith, c .before .before .before .before .before .before .before .before .number .ensures)) (c .before .before .before .weigh .ensures),
     )

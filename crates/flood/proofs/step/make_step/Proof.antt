@@ -58,8 +58,7 @@ add-water-requires c κs =
     let p = plan (a .shape) (a .marks .now) in
     let g = given (ground (a .rules) (a .beds .now) (a .roughness .now)) (a .rain .now) (a .inflow .now) in
     let w = world (a .depths .now) (a .lasts .now) (a .records .now) (a .run) in
-    let r = is-ready p g w (c .before .before .before .before .before .before .before .before .before .before .before .before .before .before .before .before .pre .0 .checked) in
-    (
+    let r = is-ready p g w (c .before .before .before .before .before .before .before .before .before .before .before .before .before .before .before .before .pre .0 .checked) in (
       record {
         waters =
             record {
@@ -99,8 +98,7 @@ fill-requires c κs =
     let p = plan (a .shape) (a .marks .now) in
     let g = given (ground (a .rules) (a .beds .now) (a .roughness .now)) (a .rain .now) (a .inflow .now) in
     let w = world (a .depths .now) (a .lasts .now) (a .records .now) (a .run) in
-    let r = is-ready p g w (c .before .before .before .before .before .before .before .before .before .before .before .before .before .before .before .before .before .before .before .before .before .before .before .before .pre .0 .checked) in
-    (
+    let r = is-ready p g w (c .before .before .before .before .before .before .before .before .before .before .before .before .before .before .before .before .before .before .before .before .before .before .before .before .pre .0 .checked) in (
       record {
         flows = r .flows;
         added-long = c .before .before .before .before .before .before .before .add-water .ensures .long ∙ c .before .before .before .before .before .before .before .before .before .before .before .before .before .before .before .before .before .before .before .before .before .before .before .before .pre .1 .1;
@@ -116,11 +114,10 @@ settle-requires c κs =
     let p = plan (a .shape) (a .marks .now) in
     let g = given (ground (a .rules) (a .beds .now) (a .roughness .now)) (a .rain .now) (a .inflow .now) in
     let w = world (a .depths .now) (a .lasts .now) (a .records .now) (a .run) in
-    let n = lasts-made p g w (c .before .before .before .before .before .before .before .before .before .before .before .before .before .before .before .before .before .before .before .before .step-length .ensures) (c .before .before .before .before .before .before .before .before .before .before .before .before .before .before .before .before .before .before .before .lasts-for .ensures) in
-    (
+    let n = lasts-made p g w (c .before .before .before .before .before .before .before .before .before .before .before .before .before .before .before .before .before .before .before .before .step-length .ensures) (c .before .before .before .before .before .before .before .before .before .before .before .before .before .before .before .before .before .before .before .lasts-for .ensures) in (
       settles p g w (c .before .before .before .before .before .before .before .before .before .before .before .before .before .before .before .before .before .before .before .before .before .before .before .before .before .before .before .before .before .before .before .before .pre .0 .checked) (omega (arith, n, c .before .before .before .before .before .before .before .before .before .before .before .before .before .before .before .before .before .if1 .left))
-      (record-made p g w n refl (c .before .before .before .before .before .before .before .before .before .before .before .before .before .before .before .before .before .before .before .before .before .before .before .before .before .before .before .before .before .before .before .before .pre .1 .1) (c .before .before .before .before .before .before .before .before .before .before .before .before .before .before .before .add-water .ensures) (not-false _ (c .before .before .before .before .before .before .before .before .before .before .before .before .if2 .left)) (c .before .before .before .before .before .before .before .fill .ensures))
-      (length-made p g w (c .before .before .before .before .before .before .before .before .before .before .before .before .before .before .before .before .before .before .before .before .step-length .ensures)),
+          (record-made p g w n refl (c .before .before .before .before .before .before .before .before .before .before .before .before .before .before .before .before .before .before .before .before .before .before .before .before .before .before .before .before .before .before .before .before .pre .1 .1) (c .before .before .before .before .before .before .before .before .before .before .before .before .before .before .before .add-water .ensures) (not-false _ (c .before .before .before .before .before .before .before .before .before .before .before .before .if2 .left)) (c .before .before .before .before .before .before .before .fill .ensures))
+          (length-made p g w (c .before .before .before .before .before .before .before .before .before .before .before .before .before .before .before .before .before .before .before .before .step-length .ensures)),
       c .before .before .before .before .before .before .before .before .before .before .before .before .before .before .before .add-water .ensures .long ∙ c .before .before .before .before .before .before .before .before .before .before .before .before .before .before .before .before .before .before .before .before .before .before .before .before .before .before .before .before .before .before .before .before .pre .1 .1,
     )
 

@@ -1,70 +1,76 @@
+-- `flood::step::step` meets its contract: rows 1 to 6 refuse, or the inner step decides.
+-- Assumes nothing.
+use borrow.Author.Needs.{needs}
+use Rattle.ledger.specs.Runs.{plan, world}
+use Rattle.flood.specs.Drops.{ground, given}
+use Rattle.flood.proofs.StepLaws.{step-checked, passes-checks, step-refused, step-done}
 use Rattle.flood.proofs.step.step.Statement.{statement}
 use Rattle.flood.proofs.step.step.Tie as tie
-use Rattle.flood.proofs.step.step.Reads as reads
-use Rattle.flood.proofs.step.step.Lts as lts
-use Rattle.flood.proofs.checks.checked.Reads as checked-reads
-use Rattle.flood.proofs.step.step_on.Reads as step-on-reads
-use Rattle.rule.proofs.rules.rules_fine.Reads as rules-fine-reads
 
--- src/step.rt:241:9
 rules-fine-requires : tie.Need-rules-fine-requires
-rules-fine-requires c κs = ?
+rules-fine-requires c κs = search needs
 
--- src/step.rt:237:9
 checked-requires : tie.Need-checked-requires
-checked-requires c κs = ?
+checked-requires c κs = search needs
 
--- src/step.rt:252:9
 same-length : tie.Need-same-length
-same-length c = ?
+same-length c = search needs
 
--- src/step.rt:252:9
 same-length-2 : tie.Need-same-length-2
-same-length-2 c = ?
+same-length-2 c = search needs
 
--- src/step.rt:252:9
 same-length-3 : tie.Need-same-length-3
-same-length-3 c = ?
+same-length-3 c = search needs
 
--- src/step.rt:252:9
 returns : tie.Need-returns
-returns c = ?
+returns c =
+    let a = (c .before .before .before .before .before .before .before .before .before .before .before .before .before .before .args) in
+    let p = plan (a .shape) (a .marks .now) in
+    let g = given (ground (a .rules) (a .beds .now) (a .roughness .now)) (a .rain .now) (a .inflow .now) in
+    let w = world (a .depths .now) (a .lasts .now) (a .records .now) (a .run) in
+    step-checked p g w (c .before .before .before .before .before .rules-fine .ensures) (c .before .checked .ensures) (c .if1 .taken)
 
--- src/step.rt:254:9
 step-on-requires : tie.Need-step-on-requires
-step-on-requires c κs = ?
+step-on-requires c κs =
+    let a = (c .before .before .before .before .before .before .before .before .before .before .before .before .before .before .before .before .before .args) in
+    let p = plan (a .shape) (a .marks .now) in
+    let g = given (ground (a .rules) (a .beds .now) (a .roughness .now)) (a .rain .now) (a .inflow .now) in
+    let w = world (a .depths .now) (a .lasts .now) (a .records .now) (a .run) in
+    passes-checks p g w (c .before .before .before .before .before .before .before .before .rules-fine .ensures) (c .before .before .before .before .checked .ensures) (c .before .before .before .if1 .left)
 
--- src/step.rt:270:9
 same-length-4 : tie.Need-same-length-4
-same-length-4 c = ?
+same-length-4 c = search needs
 
--- src/step.rt:270:9
 same-length-5 : tie.Need-same-length-5
-same-length-5 c = ?
+same-length-5 c = search needs
 
--- src/step.rt:270:9
 same-length-6 : tie.Need-same-length-6
-same-length-6 c = ?
+same-length-6 c = search needs
 
--- src/step.rt:270:9
 returns-2 : tie.Need-returns-2
-returns-2 c = ?
+returns-2 c =
+    let a = (c .before .before .before .before .before .before .before .before .before .before .before .before .before .before .before .before .before .before .before .before .before .before .before .before .before .before .args) in
+    let p = plan (a .shape) (a .marks .now) in
+    let g = given (ground (a .rules) (a .beds .now) (a .roughness .now)) (a .rain .now) (a .inflow .now) in
+    let w = world (a .depths .now) (a .lasts .now) (a .records .now) (a .run) in
+    step-refused p g w (c .before .before .before .before .before .before .before .before .step-on .ensures) (c .if2 .taken)
 
--- src/step.rt:222:1
 same-length-7 : tie.Need-same-length-7
-same-length-7 c = ?
+same-length-7 c = search needs
 
--- src/step.rt:222:1
 same-length-8 : tie.Need-same-length-8
-same-length-8 c = ?
+same-length-8 c = search needs
 
--- src/step.rt:222:1
 same-length-9 : tie.Need-same-length-9
-same-length-9 c = ?
+same-length-9 c = search needs
 
--- src/step.rt:222:1
 returns-3 : tie.Need-returns-3
-returns-3 c = ?
+returns-3 c =
+    let a = (c .before .before .before .before .before .before .before .before .before .before .before .before .before .before .before .before .before .before .before .before .before .before .before .before .before .before .args) in
+    let p = plan (a .shape) (a .marks .now) in
+    let g = given (ground (a .rules) (a .beds .now) (a .roughness .now)) (a .rain .now) (a .inflow .now) in
+    let w = world (a .depths .now) (a .lasts .now) (a .records .now) (a .run) in
+    step-done p g w (c .before .before .before .before .before .before .before .before .step-on .ensures) (c .if2 .left)
 
 pub step-spec : {M : Type 1} → statement M
 step-spec =

@@ -1,0 +1,113 @@
+-- `flood::step::step_in` meets its contract: the parts of the rooms are of their sizes.
+-- Assumes nothing.
+use mathlib.Core.Path.{_≡_, sym, _∙_}
+use native.Mathlib.Omega.{arith}
+use lib.Seq.{length-take-le}
+use borrow.Author.Needs.{needs}
+use Rattle.ledger.specs.Runs.{plan, world}
+use Rattle.flood.specs.Drops.{ground, given}
+use Rattle.flood.proofs.StepLaws.{is-ready}
+use Rattle.flood.proofs.step.step_in.Statement.{statement}
+use Rattle.flood.proofs.step.step_in.Tie as tie
+
+record-size-requires : tie.Need-record-size-requires
+record-size-requires c κs =
+    let a = (c .before .before .before .before .before .before .before .before .before .before .args) in
+    let p = plan (a .shape) (a .marks .now) in
+    let g = given (ground (a .rules) (a .beds .now) (a .roughness .now)) (a .rain .now) (a .inflow .now) in
+    let w = world (a .depths .now) (a .lasts .now) (a .records .now) (a .run) in
+    is-ready p g w (c .before .before .before .before .before .before .before .before .before .before .pre .0 .checked) .waters .fine
+
+squares-of-requires : tie.Need-squares-of-requires
+squares-of-requires c κs =
+    let a = (c .before .before .before .before .before .before .before .before .before .before .before .args) in
+    let p = plan (a .shape) (a .marks .now) in
+    let g = given (ground (a .rules) (a .beds .now) (a .roughness .now)) (a .rain .now) (a .inflow .now) in
+    let w = world (a .depths .now) (a .lasts .now) (a .records .now) (a .run) in
+    is-ready p g w (c .before .before .before .before .before .before .before .before .before .before .before .pre .0 .checked) .waters .fine
+
+slice-relend-prefix-make-step : tie.Need-slice-relend-prefix-make-step
+slice-relend-prefix-make-step c =
+    let a = (c .before .before .before .before .before .before .before .before .before .before .before .before .before .before .before .args) in
+    let p = plan (a .shape) (a .marks .now) in
+    let g = given (ground (a .rules) (a .beds .now) (a .roughness .now)) (a .rain .now) (a .inflow .now) in
+    let w = world (a .depths .now) (a .lasts .now) (a .records .now) (a .run) in
+    let f = is-ready p g w (c .before .before .before .before .before .before .before .before .before .before .before .before .before .before .before .pre .0 .checked) .waters .fine .few in
+    omega (arith, f, c .before .before .before .before .record-size .ensures, c .before .before .before .before .before .before .before .before .before .before .before .before .before .before .before .pre .1 .0)
+
+slice-aggregate-make-step : tie.Need-slice-aggregate-make-step
+slice-aggregate-make-step c =
+    let a = (c .before .before .before .before .before .before .before .before .before .before .before .before .before .before .before .before .args) in
+    let p = plan (a .shape) (a .marks .now) in
+    let g = given (ground (a .rules) (a .beds .now) (a .roughness .now)) (a .rain .now) (a .inflow .now) in
+    let w = world (a .depths .now) (a .lasts .now) (a .records .now) (a .run) in
+    let f = is-ready p g w (c .before .before .before .before .before .before .before .before .before .before .before .before .before .before .before .before .pre .0 .checked) .waters .fine .few in
+    sym (length-take-le (c .before .before .before .before .before .record-size .result) (a .rec .now) (omega (arith, f, c .before .before .before .before .before .record-size .ensures, c .before .before .before .before .before .before .before .before .before .before .before .before .before .before .before .before .pre .1 .0)))
+
+slice-relend-prefix-make-step-2 : tie.Need-slice-relend-prefix-make-step-2
+slice-relend-prefix-make-step-2 c =
+    let a = (c .before .before .before .before .before .before .before .before .before .before .before .before .before .before .before .before .args) in
+    let p = plan (a .shape) (a .marks .now) in
+    let g = given (ground (a .rules) (a .beds .now) (a .roughness .now)) (a .rain .now) (a .inflow .now) in
+    let w = world (a .depths .now) (a .lasts .now) (a .records .now) (a .run) in
+    let f = is-ready p g w (c .before .before .before .before .before .before .before .before .before .before .before .before .before .before .before .before .pre .0 .checked) .waters .fine .few in
+    omega (arith, f, c .before .before .before .before .squares-of .ensures, c .before .before .before .before .before .before .before .before .before .before .before .before .before .before .before .before .pre .1 .1)
+
+slice-aggregate-make-step-2 : tie.Need-slice-aggregate-make-step-2
+slice-aggregate-make-step-2 c =
+    let a = (c .before .before .before .before .before .before .before .before .before .before .before .before .before .before .before .before .before .args) in
+    let p = plan (a .shape) (a .marks .now) in
+    let g = given (ground (a .rules) (a .beds .now) (a .roughness .now)) (a .rain .now) (a .inflow .now) in
+    let w = world (a .depths .now) (a .lasts .now) (a .records .now) (a .run) in
+    let f = is-ready p g w (c .before .before .before .before .before .before .before .before .before .before .before .before .before .before .before .before .before .pre .0 .checked) .waters .fine .few in
+    sym (length-take-le (c .before .before .before .before .before .squares-of .result) (a .room .now) (omega (arith, f, c .before .before .before .before .before .squares-of .ensures, c .before .before .before .before .before .before .before .before .before .before .before .before .before .before .before .before .before .pre .1 .1)))
+
+make-step-requires : tie.Need-make-step-requires
+make-step-requires c κs =
+    let a = (c .before .before .before .before .before .before .before .before .before .before .before .before .before .before .before .before .before .args) in
+    let p = plan (a .shape) (a .marks .now) in
+    let g = given (ground (a .rules) (a .beds .now) (a .roughness .now)) (a .rain .now) (a .inflow .now) in
+    let w = world (a .depths .now) (a .lasts .now) (a .records .now) (a .run) in
+    let f = is-ready p g w (c .before .before .before .before .before .before .before .before .before .before .before .before .before .before .before .before .before .pre .0 .checked) .waters .fine .few in (
+      c .before .before .before .before .before .before .before .before .before .before .before .before .before .before .before .before .before .pre .0,
+      (
+        length-take-le (c .before .before .before .before .before .before .record-size .result) (a .rec .now) (omega (arith, f, c .before .before .before .before .before .before .record-size .ensures, c .before .before .before .before .before .before .before .before .before .before .before .before .before .before .before .before .before .pre .1 .0)) ∙ c .before .before .before .before .before .before .record-size .ensures,
+        length-take-le (c .before .before .before .before .before .squares-of .result) (a .room .now) (omega (arith, f, c .before .before .before .before .before .squares-of .ensures, c .before .before .before .before .before .before .before .before .before .before .before .before .before .before .before .before .before .pre .1 .1)) ∙ c .before .before .before .before .before .squares-of .ensures,
+      ),
+    )
+
+same-length : tie.Need-same-length
+same-length c = search needs
+
+same-length-2 : tie.Need-same-length-2
+same-length-2 c = search needs
+
+same-length-3 : tie.Need-same-length-3
+same-length-3 c = search needs
+
+same-length-4 : tie.Need-same-length-4
+same-length-4 c = search needs
+
+same-length-5 : tie.Need-same-length-5
+same-length-5 c = search needs
+
+returns : tie.Need-returns
+returns c = search needs
+
+pub step-in-spec : {M : Type 1} → statement M
+step-in-spec =
+    tie.close
+    (tie.spec
+    record-size-requires
+    squares-of-requires
+    slice-relend-prefix-make-step
+    slice-aggregate-make-step
+    slice-relend-prefix-make-step-2
+    slice-aggregate-make-step-2
+    make-step-requires
+    same-length
+    same-length-2
+    same-length-3
+    same-length-4
+    same-length-5
+    returns)
