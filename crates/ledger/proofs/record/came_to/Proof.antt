@@ -24,23 +24,65 @@ sent-to-requires-4 c κs = search needs
 
 add-result : tie.Need-add-result
 add-result c =
-    let small = sent-small (c .before .before .before .before .before .before .args .rec .now) (λ k. c .before .before .before .before .shared-slice-known2 .given k .fits) (plan (c .before .before .before .before .before .before .args .shape) (c .before .before .before .before .before .before .args .marks .now)) (c .before .before .before .before .before .before .args .square) in
-    omega (arith, c .before .before .before .sent-to .ensures, c .before .before .sent-to2 .ensures, c .before .sent-to3 .ensures, c .sent-to4 .ensures, small north, small east, small south, small west)
+    let start = c .before .before .before .before .before .before in
+    let small =
+    sent-small (start .args .rec .now) (λ k. c .before .before .before .before .shared-slice-known2 .given k .fits)
+    (plan (start .args .shape) (start .args .marks .now)) (start .args .square) in
+    omega (
+      arith,
+      c .before .before .before .sent-to .ensures,
+      c .before .before .sent-to2 .ensures,
+      c .before .sent-to3 .ensures,
+      c .sent-to4 .ensures,
+      small north,
+      small east,
+      small south,
+      small west,
+    )
 
 add-result-2 : tie.Need-add-result-2
 add-result-2 c =
-    let small = sent-small (c .before .before .before .before .before .before .args .rec .now) (λ k. c .before .before .before .before .shared-slice-known2 .given k .fits) (plan (c .before .before .before .before .before .before .args .shape) (c .before .before .before .before .before .before .args .marks .now)) (c .before .before .before .before .before .before .args .square) in
-    omega (arith, c .before .before .before .sent-to .ensures, c .before .before .sent-to2 .ensures, c .before .sent-to3 .ensures, c .sent-to4 .ensures, small north, small east, small south, small west)
+    let start = c .before .before .before .before .before .before in
+    let small =
+    sent-small (start .args .rec .now) (λ k. c .before .before .before .before .shared-slice-known2 .given k .fits)
+    (plan (start .args .shape) (start .args .marks .now)) (start .args .square) in
+    omega (
+      arith,
+      c .before .before .before .sent-to .ensures,
+      c .before .before .sent-to2 .ensures,
+      c .before .sent-to3 .ensures,
+      c .sent-to4 .ensures,
+      small north,
+      small east,
+      small south,
+      small west,
+    )
 
 add-result-3 : tie.Need-add-result-3
 add-result-3 c =
-    let small = sent-small (c .before .before .before .before .before .before .args .rec .now) (λ k. c .before .before .before .before .shared-slice-known2 .given k .fits) (plan (c .before .before .before .before .before .before .args .shape) (c .before .before .before .before .before .before .args .marks .now)) (c .before .before .before .before .before .before .args .square) in
-    omega (arith, c .before .before .before .sent-to .ensures, c .before .before .sent-to2 .ensures, c .before .sent-to3 .ensures, c .sent-to4 .ensures, small north, small east, small south, small west)
+    let start = c .before .before .before .before .before .before in
+    let small =
+    sent-small (start .args .rec .now) (λ k. c .before .before .before .before .shared-slice-known2 .given k .fits)
+    (plan (start .args .shape) (start .args .marks .now)) (start .args .square) in
+    omega (
+      arith,
+      c .before .before .before .sent-to .ensures,
+      c .before .before .sent-to2 .ensures,
+      c .before .sent-to3 .ensures,
+      c .sent-to4 .ensures,
+      small north,
+      small east,
+      small south,
+      small west,
+    )
 
 returns : tie.Need-returns
 unfolding came
 returns c =
-    four-sides (sent (plan (c .before .before .before .before .before .before .args .shape) (c .before .before .before .before .before .before .args .marks .now)) (leavesIn (c .before .before .before .before .before .before .args .rec .now)) (c .before .before .before .before .before .before .args .square)) (c .before .before .before .sent-to .ensures) (c .before .before .sent-to2 .ensures) (c .before .sent-to3 .ensures) (c .sent-to4 .ensures)
+    let start = c .before .before .before .before .before .before in
+    four-sides (sent (plan (start .args .shape) (start .args .marks .now)) (leavesIn (start .args .rec .now)) (start .args .square))
+    (c .before .before .before .sent-to .ensures) (c .before .before .sent-to2 .ensures) (c .before .sent-to3 .ensures)
+    (c .sent-to4 .ensures)
 
 pub came-to-spec : {M : Type 1} → statement M
 came-to-spec =

@@ -34,23 +34,69 @@ off-side-requires-4 c κs = search needs
 
 add-result : tie.Need-add-result
 add-result c =
-    let small = off-side-small (c .before .before .before .before .before .before .before .before .args .rec .now) (λ k. c .before .before .before .before .before .before .shared-slice-known2 .given k .fits) (plan (c .before .before .before .before .before .before .before .before .args .shape) (c .before .before .before .before .before .before .before .before .args .marks .now)) (c .before .before .before .before .before .before .before .before .args .square) in
-    omega (arith, c .before .before .before .off-side .ensures, c .before .before .off-side2 .ensures, c .before .off-side3 .ensures, c .off-side4 .ensures, small north, small east, small south, small west)
+    let start = c .before .before .before .before .before .before .before .before in
+    let small =
+    off-side-small (start .args .rec .now)
+    (λ k. c .before .before .before .before .before .before .shared-slice-known2 .given k .fits)
+    (plan (start .args .shape) (start .args .marks .now)) (start .args .square) in
+    omega (
+      arith,
+      c .before .before .before .off-side .ensures,
+      c .before .before .off-side2 .ensures,
+      c .before .off-side3 .ensures,
+      c .off-side4 .ensures,
+      small north,
+      small east,
+      small south,
+      small west,
+    )
 
 add-result-2 : tie.Need-add-result-2
 add-result-2 c =
-    let small = off-side-small (c .before .before .before .before .before .before .before .before .args .rec .now) (λ k. c .before .before .before .before .before .before .shared-slice-known2 .given k .fits) (plan (c .before .before .before .before .before .before .before .before .args .shape) (c .before .before .before .before .before .before .before .before .args .marks .now)) (c .before .before .before .before .before .before .before .before .args .square) in
-    omega (arith, c .before .before .before .off-side .ensures, c .before .before .off-side2 .ensures, c .before .off-side3 .ensures, c .off-side4 .ensures, small north, small east, small south, small west)
+    let start = c .before .before .before .before .before .before .before .before in
+    let small =
+    off-side-small (start .args .rec .now)
+    (λ k. c .before .before .before .before .before .before .shared-slice-known2 .given k .fits)
+    (plan (start .args .shape) (start .args .marks .now)) (start .args .square) in
+    omega (
+      arith,
+      c .before .before .before .off-side .ensures,
+      c .before .before .off-side2 .ensures,
+      c .before .off-side3 .ensures,
+      c .off-side4 .ensures,
+      small north,
+      small east,
+      small south,
+      small west,
+    )
 
 add-result-3 : tie.Need-add-result-3
 add-result-3 c =
-    let small = off-side-small (c .before .before .before .before .before .before .before .before .args .rec .now) (λ k. c .before .before .before .before .before .before .shared-slice-known2 .given k .fits) (plan (c .before .before .before .before .before .before .before .before .args .shape) (c .before .before .before .before .before .before .before .before .args .marks .now)) (c .before .before .before .before .before .before .before .before .args .square) in
-    omega (arith, c .before .before .before .off-side .ensures, c .before .before .off-side2 .ensures, c .before .off-side3 .ensures, c .off-side4 .ensures, small north, small east, small south, small west)
+    let start = c .before .before .before .before .before .before .before .before in
+    let small =
+    off-side-small (start .args .rec .now)
+    (λ k. c .before .before .before .before .before .before .shared-slice-known2 .given k .fits)
+    (plan (start .args .shape) (start .args .marks .now)) (start .args .square) in
+    omega (
+      arith,
+      c .before .before .before .off-side .ensures,
+      c .before .before .off-side2 .ensures,
+      c .before .off-side3 .ensures,
+      c .off-side4 .ensures,
+      small north,
+      small east,
+      small south,
+      small west,
+    )
 
 returns-2 : tie.Need-returns-2
 unfolding offSquare
 returns-2 c =
-    four-sides (offSide (plan (c .before .before .before .before .before .before .before .before .args .shape) (c .before .before .before .before .before .before .before .before .args .marks .now)) (leavesIn (c .before .before .before .before .before .before .before .before .args .rec .now)) (c .before .before .before .before .before .before .before .before .args .square)) (c .before .before .before .off-side .ensures) (c .before .before .off-side2 .ensures) (c .before .off-side3 .ensures) (c .off-side4 .ensures) ∙ sym (pick-false _ _ (sym (c .before .before .before .before .before .is-closed .ensures) ∙ c .before .before .before .before .if1 .left))
+    let start = c .before .before .before .before .before .before .before .before in
+    four-sides (offSide (plan (start .args .shape) (start .args .marks .now)) (leavesIn (start .args .rec .now)) (start .args .square))
+    (c .before .before .before .off-side .ensures) (c .before .before .off-side2 .ensures) (c .before .off-side3 .ensures)
+    (c .off-side4 .ensures) ∙ sym
+    (pick-false _ _ (sym (c .before .before .before .before .before .is-closed .ensures) ∙ c .before .before .before .before .if1 .left))
 
 pub off-from-spec : {M : Type 1} → statement M
 off-from-spec =

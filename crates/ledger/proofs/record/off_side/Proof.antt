@@ -17,15 +17,21 @@ squares-of-requires c κs = search needs
 
 returns : tie.Need-returns
 returns c =
-    off-inside (plan (c .before .before .before .before .before .args .shape) (c .before .before .before .before .before .args .marks .now)) (leavesIn (c .before .before .before .before .before .args .rec .now)) (c .before .before .before .before .before .args .square) (c .before .before .before .before .before .args .side) (c .before .before .beside-on .ensures) (omega (arith, c .before .squares-of .ensures, c .if1 .taken))
+    let start = c .before .before .before .before .before in
+    off-inside (plan (start .args .shape) (start .args .marks .now)) (leavesIn (start .args .rec .now)) (start .args .square)
+    (start .args .side) (c .before .before .beside-on .ensures) (omega (arith, c .before .squares-of .ensures, c .if1 .taken))
 
 leaving-requires : tie.Need-leaving-requires
 leaving-requires c κs =
-    omega (arith, c .before .before .before .before .before .pre .1 .0 .inside, c .before .before .before .before .before .pre .1 .1, c .before .before .before .before .before .pre .0 .record-long)
+    let start = c .before .before .before .before .before in
+    omega (arith, start .pre .1 .0 .inside, start .pre .1 .1, start .pre .0 .record-long)
 
 returns-2 : tie.Need-returns-2
 returns-2 c =
-    c .leaving .ensures ∙ off-beyond (plan (c .before .before .before .before .before .before .args .shape) (c .before .before .before .before .before .before .args .marks .now)) (leavesIn (c .before .before .before .before .before .before .args .rec .now)) (c .before .before .before .before .before .before .args .square) (c .before .before .before .before .before .before .args .side) (c .before .before .before .beside-on .ensures) (omega (arith, c .before .before .squares-of .ensures, c .before .if1 .left))
+    let start = c .before .before .before .before .before .before in
+    c .leaving .ensures ∙ off-beyond (plan (start .args .shape) (start .args .marks .now)) (leavesIn (start .args .rec .now))
+    (start .args .square) (start .args .side) (c .before .before .before .beside-on .ensures)
+    (omega (arith, c .before .before .squares-of .ensures, c .before .if1 .left))
 
 pub off-side-spec : {M : Type 1} → statement M
 off-side-spec =

@@ -34,7 +34,10 @@ returns-4 c =
 
 returns-5 : tie.Need-returns-5
 returns-5 c =
-    outflow-decides (c .before .before .before .before .before .before .before .before .before .args .k) (c .before .before .before .before .before .before .before .before .before .args .run) (sym (c .before .before .before .before .before .before .before .before .ring-fine .ensures) ∙ not-false _ (c .before .before .before .before .before .before .before .if1 .left)) (c .before .before .before .before .before .if2 .left) (c .before .before .before .if3 .left) (c .before .if4 .left)
+    let start = c .before .before .before .before .before .before .before .before .before in
+    outflow-decides (start .args .k) (start .args .run)
+    (sym (c .before .before .before .before .before .before .before .before .ring-fine .ensures) ∙ not-false _ (c .before .before .before .before .before .before .before .if1 .left))
+    (c .before .before .before .before .before .if2 .left) (c .before .before .before .if3 .left) (c .before .if4 .left)
 
 pub run-fine-spec : {M : Type 1} → statement M
 run-fine-spec =

@@ -48,7 +48,12 @@ loop-less c =
 
 loop-again : tie.Need-loop-again Inv-loop μ-loop
 loop-again c =
-    (omega arith, c .before .before .loop .inv .1, filled-put nothing (λ k. getD (c .before .before .before .args .from .now) k 0) (c .before .before .before .args .to .now) (omega arith) (c .before .before .loop .inv .2) refl refl)
+    let start = c .before .before .before in
+    let turn = c .before .before in (
+      omega arith,
+      turn .loop .inv .1,
+      filled-put nothing (λ k. getD (start .args .from .now) k 0) (start .args .to .now) (omega arith) (turn .loop .inv .2) refl refl,
+    )
 
 same-length : tie.Need-same-length Inv-loop μ-loop
 same-length c =
@@ -56,7 +61,8 @@ same-length c =
 
 returns : tie.Need-returns Inv-loop μ-loop
 returns c =
-    copied (c .before .before .args .from .now) (c .before .before .args .to .now) (c .before .before .pre) (omega arith) (c .before .loop .inv .2)
+    let start = c .before .before in
+    copied (start .args .from .now) (start .args .to .now) (start .pre) (omega arith) (c .before .loop .inv .2)
 
 pub copy-spec : {M : Type 1} → statement M
 copy-spec =

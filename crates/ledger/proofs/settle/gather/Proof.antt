@@ -41,32 +41,74 @@ loop-holds c =
 
 gather-square-requires : tie.Need-gather-square-requires Inv-loop μ-loop
 gather-square-requires c κs =
-    (c .before .before .before .before .before .before .before .before .pre .0, (walk-stands _ (c .before .before .loop .inv .0) (c .before .before .before .before .before .before .before .before .pre .0 .recorded .fine) (c .before .loop-test .taken), omega (arith, filled-long _ _ _ _ (c .before .before .loop .inv .3), c .before .before .before .before .before .before .before .before .pre .1, c .before .before .before .squares-of .ensures, c .before .loop-test .taken)))
+    let start = c .before .before .before .before .before .before .before .before in
+    let turn = c .before .before in (
+      start .pre .0,
+      (
+        walk-stands _ (turn .loop .inv .0) (start .pre .0 .recorded .fine) (c .before .loop-test .taken),
+        omega (
+          arith,
+          filled-long _ _ _ _ (turn .loop .inv .3),
+          start .pre .1,
+          c .before .before .before .squares-of .ensures,
+          c .before .loop-test .taken,
+        ),
+      ),
+    )
 
 same-length : tie.Need-same-length Inv-loop μ-loop
 same-length c =
-    c .before .before .before .gather-square .kept .1 .1 .1 .1 .1 .1 .0 ∙ filled-long _ _ _ _ (c .before .before .before .before .before .before .loop .inv .3)
+    c .before .before .before .gather-square .kept .1 .1 .1 .1 .1 .1 .0 ∙ filled-long _ _ _ _
+    (c .before .before .before .before .before .before .loop .inv .3)
 
 returns : tie.Need-returns Inv-loop μ-loop
 returns c =
-    gathered-unfit (plan (c .before .before .before .before .before .before .before .before .before .before .before .before .args .shape) (c .before .before .before .before .before .before .before .before .before .before .before .before .args .marks .now)) (c .before .before .before .before .before .before .before .before .before .before .before .before .args .rec .now) (c .before .before .before .before .before .before .before .before .before .before .before .before .args .depths .now) (omega (arith, c .before .before .before .before .before .before .before .squares-of .ensures, c .before .before .before .before .before .loop-test .taken)) (sym (c .before .before .before .gather-square .ensures .fits-is) ∙ not-true _ (c .if1 .taken))
+    let start = c .before .before .before .before .before .before .before .before .before .before .before .before in
+    gathered-unfit (plan (start .args .shape) (start .args .marks .now)) (start .args .rec .now) (start .args .depths .now)
+    (omega (arith, c .before .before .before .before .before .before .before .squares-of .ensures, c .before .before .before .before .before .loop-test .taken))
+    (sym (c .before .before .before .gather-square .ensures .fits-is) ∙ not-true _ (c .if1 .taken))
 
 off-from-requires : tie.Need-off-from-requires Inv-loop μ-loop
 off-from-requires c κs =
-    (c .before .before .before .before .before .before .before .before .before .before .before .before .pre .0 .recorded, walk-stands _ (c .before .before .before .before .before .before .loop .inv .0) (c .before .before .before .before .before .before .before .before .before .before .before .before .pre .0 .recorded .fine) (c .before .before .before .before .before .loop-test .taken))
+    let start = c .before .before .before .before .before .before .before .before .before .before .before .before in (
+      start .pre .0 .recorded,
+      walk-stands _ (c .before .before .before .before .before .before .loop .inv .0) (start .pre .0 .recorded .fine)
+          (c .before .before .before .before .before .loop-test .taken),
+    )
 
 add-off : tie.Need-add-off Inv-loop μ-loop
 add-off c =
-    let p = plan (c .before .before .before .before .before .before .before .before .before .before .before .before .before .args .shape) (c .before .before .before .before .before .before .before .before .before .before .before .before .before .args .marks .now) in
-    omega (arith, c .before .before .before .before .before .before .before .loop .inv .2, off-sum-small (c .before .before .before .before .before .before .before .before .before .before .before .before .before .args .rec .now) (λ k. c .before .before .before .before .before .before .before .before .before .before .before .shared-slice-known2 .given k .fits) p (c .before .before .before .before .before .before .before .loop .square), c .off-from .ensures, off-small (c .before .before .before .before .before .before .before .before .before .before .before .before .before .args .rec .now) (λ k. c .before .before .before .before .before .before .before .before .before .before .before .shared-slice-known2 .given k .fits) p (c .before .before .before .before .before .before .before .loop .square), c .before .before .before .before .before .before .loop-test .taken, c .before .before .before .before .before .before .before .before .squares-of .ensures, c .before .before .before .before .before .before .before .before .before .before .before .before .before .pre .0 .recorded .fine .few)
+    let start = c .before .before .before .before .before .before .before .before .before .before .before .before .before in
+    let turn = c .before .before .before .before .before .before .before in
+    let at-shared-slice-known2 = c .before .before .before .before .before .before .before .before .before .before .before in
+    let p = plan (start .args .shape) (start .args .marks .now) in
+    omega (
+      arith,
+      turn .loop .inv .2,
+      off-sum-small (start .args .rec .now) (λ k. at-shared-slice-known2 .shared-slice-known2 .given k .fits) p (turn .loop .square),
+      c .off-from .ensures,
+      off-small (start .args .rec .now) (λ k. at-shared-slice-known2 .shared-slice-known2 .given k .fits) p (turn .loop .square),
+      c .before .before .before .before .before .before .loop-test .taken,
+      c .before .before .before .before .before .before .before .before .squares-of .ensures,
+      start .pre .0 .recorded .fine .few,
+    )
 
 add-square : tie.Need-add-square Inv-loop μ-loop
 add-square c =
-    omega (arith, c .before .before .before .before .before .before .loop-test .taken, c .before .before .before .before .before .before .before .before .squares-of .ensures, c .before .before .before .before .before .before .before .before .before .before .before .before .before .pre .0 .recorded .fine .few)
+    let at-pre = c .before .before .before .before .before .before .before .before .before .before .before .before .before in
+    omega (
+      arith,
+      c .before .before .before .before .before .before .loop-test .taken,
+      c .before .before .before .before .before .before .before .before .squares-of .ensures,
+      at-pre .pre .0 .recorded .fine .few,
+    )
 
 next-column-requires : tie.Need-next-column-requires Inv-loop μ-loop
 next-column-requires c κs =
-    (c .before .before .before .before .before .before .before .before .before .before .before .before .before .pre .0 .recorded .fine, walk-column _ (c .before .before .before .before .before .before .before .loop .inv .0) (c .before .before .before .before .before .before .before .before .before .before .before .before .before .pre .0 .recorded .fine))
+    let start = c .before .before .before .before .before .before .before .before .before .before .before .before .before in (
+      start .pre .0 .recorded .fine,
+      walk-column _ (c .before .before .before .before .before .before .before .loop .inv .0) (start .pre .0 .recorded .fine),
+    )
 
 loop-less : tie.Need-loop-less Inv-loop μ-loop
 loop-less c =
@@ -74,9 +116,23 @@ loop-less c =
 
 loop-again : tie.Need-loop-again Inv-loop μ-loop
 loop-again c =
-    let p = plan (c .before .before .before .before .before .before .before .before .before .before .before .before .before .before .args .shape) (c .before .before .before .before .before .before .before .before .before .before .before .before .before .before .args .marks .now) in
-    let fit = not-false _ (c .before .before .if1 .left) in
-    (walk-next _ (c .before .before .before .before .before .before .before .before .loop .inv .0) (c .before .before .before .before .before .before .before .loop-test .taken) (c .next-column .ensures), all-more (fits p (c .before .before .before .before .before .before .before .before .before .before .before .before .before .before .args .rec .now) (c .before .before .before .before .before .before .before .before .before .before .before .before .before .before .args .depths .now)) (c .before .before .before .before .before .before .before .before .loop .square) (c .before .before .before .before .before .before .before .before .loop .inv .1) (sym (c .before .before .before .before .before .gather-square .ensures .fits-is) ∙ fit), ap₂ _+_ (c .before .before .before .before .before .before .before .before .loop .inv .2) (c .before .off-from .ensures) ∙ sym (sum-more (c .before .before .before .before .before .before .before .before .loop .square) (offSquare p (leavesIn (c .before .before .before .before .before .before .before .before .before .before .before .before .before .before .args .rec .now)))), c .before .before .before .before .before .gather-square .ensures .stored fit ∙ filled-put nothing (λ k. getD (depthsBy p (c .before .before .before .before .before .before .before .before .before .before .before .before .before .before .args .rec .now) (c .before .before .before .before .before .before .before .before .before .before .before .before .before .before .args .depths .now)) k 0) (c .before .before .before .before .before .before .before .before .before .before .before .before .before .before .args .fresh .now) (omega (arith, c .before .before .before .before .before .before .before .before .before .before .before .before .before .before .pre .1, c .before .before .before .before .before .before .before .before .before .squares-of .ensures, c .before .before .before .before .before .before .before .loop-test .taken)) (c .before .before .before .before .before .before .before .before .loop .inv .3) refl (gathered-at p (c .before .before .before .before .before .before .before .before .before .before .before .before .before .before .args .rec .now) (c .before .before .before .before .before .before .before .before .before .before .before .before .before .before .args .depths .now) (c .before .before .before .before .before .before .before .before .before .before .before .before .before .before .pre .0 .depths-long) (omega (arith, c .before .before .before .before .before .before .before .before .before .squares-of .ensures, c .before .before .before .before .before .before .before .loop-test .taken))))
+    let start = c .before .before .before .before .before .before .before .before .before .before .before .before .before .before in
+    let turn = c .before .before .before .before .before .before .before .before in
+    let at-loop-test = c .before .before .before .before .before .before .before in
+    let at-gather-square = c .before .before .before .before .before in
+    let at-squares-of = c .before .before .before .before .before .before .before .before .before in
+    let p = plan (start .args .shape) (start .args .marks .now) in
+    let fit = not-false _ (c .before .before .if1 .left) in (
+      walk-next _ (turn .loop .inv .0) (at-loop-test .loop-test .taken) (c .next-column .ensures),
+      all-more (fits p (start .args .rec .now) (start .args .depths .now)) (turn .loop .square) (turn .loop .inv .1)
+          (sym (at-gather-square .gather-square .ensures .fits-is) ∙ fit),
+      ap₂ _+_ (turn .loop .inv .2) (c .before .off-from .ensures) ∙ sym
+          (sum-more (turn .loop .square) (offSquare p (leavesIn (start .args .rec .now)))),
+      at-gather-square .gather-square .ensures .stored fit ∙ filled-put nothing
+          (λ k. getD (depthsBy p (start .args .rec .now) (start .args .depths .now)) k 0) (start .args .fresh .now)
+          (omega (arith, start .pre .1, at-squares-of .squares-of .ensures, at-loop-test .loop-test .taken)) (turn .loop .inv .3) refl
+          (gathered-at p (start .args .rec .now) (start .args .depths .now) (start .pre .0 .depths-long) (omega (arith, at-squares-of .squares-of .ensures, at-loop-test .loop-test .taken))),
+    )
 
 same-length-2 : tie.Need-same-length-2 Inv-loop μ-loop
 same-length-2 c =
@@ -84,7 +140,10 @@ same-length-2 c =
 
 returns-2 : tie.Need-returns-2 Inv-loop μ-loop
 returns-2 c =
-    gathered-fit (plan (c .before .before .before .before .before .before .before .args .shape) (c .before .before .before .before .before .before .before .args .marks .now)) (c .before .before .before .before .before .before .before .args .rec .now) (c .before .before .before .before .before .before .before .args .depths .now) (c .before .before .before .before .before .before .before .args .fresh .now) (c .before .before .before .before .before .before .before .pre .0 .depths-long) (c .before .before .before .before .before .before .before .pre .1) (walk-end _ (c .before .loop .inv .0) (c .loop-test .left)) (c .before .loop .inv .1) (c .before .loop .inv .2) (c .before .loop .inv .3)
+    let start = c .before .before .before .before .before .before .before in
+    gathered-fit (plan (start .args .shape) (start .args .marks .now)) (start .args .rec .now) (start .args .depths .now)
+    (start .args .fresh .now) (start .pre .0 .depths-long) (start .pre .1) (walk-end _ (c .before .loop .inv .0) (c .loop-test .left))
+    (c .before .loop .inv .1) (c .before .loop .inv .2) (c .before .loop .inv .3)
 
 pub gather-spec : {M : Type 1} → statement M
 gather-spec =

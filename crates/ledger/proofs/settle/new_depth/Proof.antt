@@ -10,35 +10,64 @@ use Rattle.ledger.proofs.settle.new_depth.Tie as tie
 
 number-requires : tie.Need-number-requires
 number-requires c κs =
-    omega (arith, c .before .before .before .pre .0 .depths-long, c .before .before .before .pre .1 .0 .inside)
+    let start = c .before .before .before in
+    omega (arith, start .pre .0 .depths-long, start .pre .1 .0 .inside)
 
 gone-from-requires : tie.Need-gone-from-requires
 gone-from-requires c κs =
-    omega (arith, c .before .before .before .before .pre .0 .recorded .record-long, c .before .before .before .before .pre .1 .0 .inside)
+    let start = c .before .before .before .before in
+    omega (arith, start .pre .0 .recorded .record-long, start .pre .1 .0 .inside)
 
 sub-remains : tie.Need-sub-remains
 sub-remains c =
-    omega (arith, c .before .number .ensures, c .gone-from .ensures, c .before .before .before .before .before .pre .0 .covered (c .before .before .before .before .before .args .square) (c .before .before .before .before .before .pre .1 .0 .inside) (c .before .before .before .before .before .pre .1 .1))
+    let start = c .before .before .before .before .before in
+    omega (
+      arith,
+      c .before .number .ensures,
+      c .gone-from .ensures,
+      start .pre .0 .covered (start .args .square) (start .pre .1 .0 .inside) (start .pre .1 .1),
+    )
 
 came-to-requires : tie.Need-came-to-requires
 came-to-requires c κs = search needs
 
 add-result : tie.Need-add-result
 add-result c =
-    omega (arith, c .before .before .number .ensures, c .before .before .before .shared-slice-known3 .given (c .before .before .before .before .before .before .args .square), c .came-to .ensures, came-small (c .before .before .before .before .before .before .args .rec .now) (λ k. c .before .before .before .before .shared-slice-known2 .given k .fits) (plan (c .before .before .before .before .before .before .args .shape) (c .before .before .before .before .before .before .args .marks .now)) (c .before .before .before .before .before .before .args .square))
+    let start = c .before .before .before .before .before .before in
+    omega (
+      arith,
+      c .before .before .number .ensures,
+      c .before .before .before .shared-slice-known3 .given (start .args .square),
+      c .came-to .ensures,
+      came-small (start .args .rec .now) (λ k. c .before .before .before .before .shared-slice-known2 .given k .fits)
+          (plan (start .args .shape) (start .args .marks .now)) (start .args .square),
+    )
 
 added-by-requires : tie.Need-added-by-requires
 added-by-requires c κs =
-    omega (arith, c .before .before .before .before .before .before .pre .0 .recorded .record-long, c .before .before .before .before .before .before .pre .1 .0 .inside)
+    let start = c .before .before .before .before .before .before in
+    omega (arith, start .pre .0 .recorded .record-long, start .pre .1 .0 .inside)
 
 add-result-2 : tie.Need-add-result-2
 add-result-2 c =
-    omega (arith, c .before .before .before .number .ensures, c .before .before .before .before .shared-slice-known3 .given (c .before .before .before .before .before .before .before .args .square), c .before .came-to .ensures, came-small (c .before .before .before .before .before .before .before .args .rec .now) (λ k. c .before .before .before .before .before .shared-slice-known2 .given k .fits) (plan (c .before .before .before .before .before .before .before .args .shape) (c .before .before .before .before .before .before .before .args .marks .now)) (c .before .before .before .before .before .before .before .args .square), c .added-by .ensures, added-small (c .before .before .before .before .before .before .before .args .rec .now) (λ k. c .before .before .before .before .before .shared-slice-known2 .given k .fits) (c .before .before .before .before .before .before .before .args .square))
+    let start = c .before .before .before .before .before .before .before in
+    let at-shared-slice-known2 = c .before .before .before .before .before in
+    omega (
+      arith,
+      c .before .before .before .number .ensures,
+      c .before .before .before .before .shared-slice-known3 .given (start .args .square),
+      c .before .came-to .ensures,
+      came-small (start .args .rec .now) (λ k. at-shared-slice-known2 .shared-slice-known2 .given k .fits)
+          (plan (start .args .shape) (start .args .marks .now)) (start .args .square),
+      c .added-by .ensures,
+      added-small (start .args .rec .now) (λ k. at-shared-slice-known2 .shared-slice-known2 .given k .fits) (start .args .square),
+    )
 
 returns : tie.Need-returns
 unfolding newDepth remains
 returns c =
-    rw (c .before .before .before .number .ensures, c .before .before .gone-from .ensures, c .before .came-to .ensures, c .added-by .ensures)
+    rw
+    (c .before .before .before .number .ensures, c .before .before .gone-from .ensures, c .before .came-to .ensures, c .added-by .ensures)
 
 pub new-depth-spec : {M : Type 1} → statement M
 new-depth-spec =

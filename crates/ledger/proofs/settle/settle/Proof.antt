@@ -12,7 +12,8 @@ use Rattle.ledger.proofs.settle.settle.Tie as tie
 
 gather-requires : tie.Need-gather-requires
 gather-requires c κs =
-    (settles-gathers (c .before .before .before .before .before .before .before .before .pre .0), c .before .before .before .before .before .before .before .before .pre .1)
+    let start = c .before .before .before .before .before .before .before .before in
+    (settles-gathers (start .pre .0), start .pre .1)
 
 same-length : tie.Need-same-length
 same-length c = search needs
@@ -22,11 +23,23 @@ same-length-2 c = search needs
 
 returns : tie.Need-returns
 returns c =
-    settles-deep (plan (c .before .before .before .before .before .before .before .before .before .before .before .before .before .args .shape) (c .before .before .before .before .before .before .before .before .before .before .before .before .before .args .marks .now)) (c .before .before .before .before .before .before .before .before .before .before .before .before .before .args .rec .now) (c .before .before .before .before .before .before .before .before .before .before .before .before .before .args .held) (world (c .before .before .before .before .before .before .before .before .before .before .before .before .before .args .depths .now) (c .before .before .before .before .before .before .before .before .before .before .before .before .before .args .lasts .now) (c .before .before .before .before .before .before .before .before .before .before .before .before .before .args .records .now) (c .before .before .before .before .before .before .before .before .before .before .before .before .before .args .run)) (sym (c .before .before .before .before .gather .ensures .found .fits-is) ∙ not-true _ (c .if1 .taken))
+    let start = c .before .before .before .before .before .before .before .before .before .before .before .before .before in
+    settles-deep (plan (start .args .shape) (start .args .marks .now)) (start .args .rec .now) (start .args .held)
+    (world (start .args .depths .now) (start .args .lasts .now) (start .args .records .now) (start .args .run))
+    (sym (c .before .before .before .before .gather .ensures .found .fits-is) ∙ not-true _ (c .if1 .taken))
 
 add-outflow : tie.Need-add-outflow
 add-outflow c =
-    omega (arith, c .before .before .before .before .before .before .gather .ensures .found .off-is (not-false _ (c .before .before .if1 .left)), off-grid-small (c .before .before .before .before .before .before .before .before .before .before .before .before .before .before .before .args .rec .now) (λ k. c .before .before .before .before .before .before .before .before .before .before .before .before .before .shared-slice-known2 .given k .fits) (plan (c .before .before .before .before .before .before .before .before .before .before .before .before .before .before .before .args .shape) (c .before .before .before .before .before .before .before .before .before .before .before .before .before .before .before .args .marks .now)) (c .before .before .before .before .before .before .before .before .before .before .before .before .before .before .before .pre .0 .fine), c .before .before .before .before .before .before .before .before .before .before .before .before .before .before .before .pre .0 .outflow-to)
+    let start = c .before .before .before .before .before .before .before .before .before .before .before .before .before .before .before in
+    let at-shared-slice-known2 =
+    c .before .before .before .before .before .before .before .before .before .before .before .before .before in
+    omega (
+      arith,
+      c .before .before .before .before .before .before .gather .ensures .found .off-is (not-false _ (c .before .before .if1 .left)),
+      off-grid-small (start .args .rec .now) (λ k. at-shared-slice-known2 .shared-slice-known2 .given k .fits)
+          (plan (start .args .shape) (start .args .marks .now)) (start .pre .0 .fine),
+      start .pre .0 .outflow-to,
+    )
 
 same-length-3 : tie.Need-same-length-3
 same-length-3 c = search needs
@@ -36,17 +49,31 @@ same-length-4 c = search needs
 
 returns-2 : tie.Need-returns-2
 returns-2 c =
-    let p = plan (c .before .before .before .before .before .before .before .before .before .before .before .before .before .before .before .before .args .shape) (c .before .before .before .before .before .before .before .before .before .before .before .before .before .before .before .before .args .marks .now) in
-    let w = world (c .before .before .before .before .before .before .before .before .before .before .before .before .before .before .before .before .args .depths .now) (c .before .before .before .before .before .before .before .before .before .before .before .before .before .before .before .before .args .lasts .now) (c .before .before .before .before .before .before .before .before .before .before .before .before .before .before .before .before .args .records .now) (c .before .before .before .before .before .before .before .before .before .before .before .before .before .before .before .before .args .run) in
+    let start =
+    c .before .before .before .before .before .before .before .before .before .before .before .before .before .before .before
+    .before in
+    let at-gather = c .before .before .before .before .before .before .before in
+    let p = plan (start .args .shape) (start .args .marks .now) in
+    let w = world (start .args .depths .now) (start .args .lasts .now) (start .args .records .now) (start .args .run) in
     let fit = not-false _ (c .before .before .before .if1 .left) in
-    settles-over p (c .before .before .before .before .before .before .before .before .before .before .before .before .before .before .before .before .args .rec .now) (c .before .before .before .before .before .before .before .before .before .before .before .before .before .before .before .before .args .held) w (sym (c .before .before .before .before .before .before .before .gather .ensures .found .fits-is) ∙ fit) (outflow-by p (c .before .before .before .before .before .before .before .before .before .before .before .before .before .before .before .before .args .rec .now) (c .before .before .before .before .before .before .before .before .before .before .before .before .before .before .before .before .args .held) w (c .before .before .before .before .before .before .before .gather .ensures .found .off-is fit)) (c .if2 .taken)
+    settles-over p (start .args .rec .now) (start .args .held) w (sym (at-gather .gather .ensures .found .fits-is) ∙ fit)
+    (outflow-by p (start .args .rec .now) (start .args .held) w (at-gather .gather .ensures .found .off-is fit)) (c .if2 .taken)
 
 write-requires : tie.Need-write-requires
 write-requires c κs =
-    let p = plan (c .before .before .before .before .before .before .before .before .before .before .before .before .before .before .before .before .before .before .before .before .args .shape) (c .before .before .before .before .before .before .before .before .before .before .before .before .before .before .before .before .before .before .before .before .args .marks .now) in
-    let w = world (c .before .before .before .before .before .before .before .before .before .before .before .before .before .before .before .before .before .before .before .before .args .depths .now) (c .before .before .before .before .before .before .before .before .before .before .before .before .before .before .before .before .before .before .before .before .args .lasts .now) (c .before .before .before .before .before .before .before .before .before .before .before .before .before .before .before .before .before .before .before .before .args .records .now) (c .before .before .before .before .before .before .before .before .before .before .before .before .before .before .before .before .before .before .before .before .args .run) in
-    let fit = not-false _ (c .before .before .before .before .before .before .before .if1 .left) in
-    (c .before .before .before .before .before .before .before .before .before .before .before .before .before .before .before .before .before .before .before .before .pre .0, (c .before .before .before .before .before .before .before .before .before .before .before .gather .ensures .stored fit, outflow-by p (c .before .before .before .before .before .before .before .before .before .before .before .before .before .before .before .before .before .before .before .before .args .rec .now) (c .before .before .before .before .before .before .before .before .before .before .before .before .before .before .before .before .before .before .before .before .args .held) w (c .before .before .before .before .before .before .before .before .before .before .before .gather .ensures .found .off-is fit)))
+    let start =
+    c .before .before .before .before .before .before .before .before .before .before .before .before .before .before .before
+    .before .before .before .before .before in
+    let at-gather = c .before .before .before .before .before .before .before .before .before .before .before in
+    let p = plan (start .args .shape) (start .args .marks .now) in
+    let w = world (start .args .depths .now) (start .args .lasts .now) (start .args .records .now) (start .args .run) in
+    let fit = not-false _ (c .before .before .before .before .before .before .before .if1 .left) in (
+      start .pre .0,
+      (
+        at-gather .gather .ensures .stored fit,
+        outflow-by p (start .args .rec .now) (start .args .held) w (at-gather .gather .ensures .found .off-is fit),
+      ),
+    )
 
 same-length-5 : tie.Need-same-length-5
 same-length-5 c = search needs
@@ -62,10 +89,20 @@ same-length-8 c = search needs
 
 returns-3 : tie.Need-returns-3
 returns-3 c =
-    let p = plan (c .before .before .before .before .before .before .before .before .before .before .before .before .before .before .before .before .before .before .before .before .before .before .before .before .before .before .before .args .shape) (c .before .before .before .before .before .before .before .before .before .before .before .before .before .before .before .before .before .before .before .before .before .before .before .before .before .before .before .args .marks .now) in
-    let w = world (c .before .before .before .before .before .before .before .before .before .before .before .before .before .before .before .before .before .before .before .before .before .before .before .before .before .before .before .args .depths .now) (c .before .before .before .before .before .before .before .before .before .before .before .before .before .before .before .before .before .before .before .before .before .before .before .before .before .before .before .args .lasts .now) (c .before .before .before .before .before .before .before .before .before .before .before .before .before .before .before .before .before .before .before .before .before .before .before .before .before .before .before .args .records .now) (c .before .before .before .before .before .before .before .before .before .before .before .before .before .before .before .before .before .before .before .before .before .before .before .before .before .before .before .args .run) in
-    let fit = not-false _ (c .before .before .before .before .before .before .before .before .before .before .before .before .before .before .if1 .left) in
-    settles-written p (c .before .before .before .before .before .before .before .before .before .before .before .before .before .before .before .before .before .before .before .before .before .before .before .before .before .before .before .args .rec .now) (c .before .before .before .before .before .before .before .before .before .before .before .before .before .before .before .before .before .before .before .before .before .before .before .before .before .before .before .args .held) w (sym (c .before .before .before .before .before .before .before .before .before .before .before .before .before .before .before .before .before .before .gather .ensures .found .fits-is) ∙ fit) (outflow-by p (c .before .before .before .before .before .before .before .before .before .before .before .before .before .before .before .before .before .before .before .before .before .before .before .before .before .before .before .args .rec .now) (c .before .before .before .before .before .before .before .before .before .before .before .before .before .before .before .before .before .before .before .before .before .before .before .before .before .before .before .args .held) w (c .before .before .before .before .before .before .before .before .before .before .before .before .before .before .before .before .before .before .gather .ensures .found .off-is fit)) (c .before .before .before .before .before .before .before .before .before .before .before .if2 .left) (c .before .before .before .before .before .before .write .ensures)
+    let start =
+    c .before .before .before .before .before .before .before .before .before .before .before .before .before .before .before
+    .before .before .before .before .before .before .before .before .before .before .before .before in
+    let at-if1 = c .before .before .before .before .before .before .before .before .before .before .before .before .before .before in
+    let at-gather =
+    c .before .before .before .before .before .before .before .before .before .before .before .before .before .before .before
+    .before .before .before in
+    let at-if2 = c .before .before .before .before .before .before .before .before .before .before .before in
+    let p = plan (start .args .shape) (start .args .marks .now) in
+    let w = world (start .args .depths .now) (start .args .lasts .now) (start .args .records .now) (start .args .run) in
+    let fit = not-false _ (at-if1 .if1 .left) in
+    settles-written p (start .args .rec .now) (start .args .held) w (sym (at-gather .gather .ensures .found .fits-is) ∙ fit)
+    (outflow-by p (start .args .rec .now) (start .args .held) w (at-gather .gather .ensures .found .off-is fit)) (at-if2 .if2 .left)
+    (c .before .before .before .before .before .before .write .ensures)
 
 pub settle-spec : {M : Type 1} → statement M
 settle-spec =

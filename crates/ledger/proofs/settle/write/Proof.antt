@@ -21,22 +21,39 @@ slots-in-requires c κs = search needs
 
 slot-after-requires : tie.Need-slot-after-requires
 slot-after-requires c κs =
-    omega (arith, slots-of (plan (c .before .before .before .before .before .before .before .before .args .shape) (c .before .before .before .before .before .before .before .before .args .marks .now)) (c .before .before .before .before .before .before .before .before .args .records .now) (c .before .record-size .ensures) (c .slots-in .ensures), c .before .before .before .before .before .before .before .before .pre .0 .newest-in)
+    let start = c .before .before .before .before .before .before .before .before in
+    omega (
+      arith,
+      slots-of (plan (start .args .shape) (start .args .marks .now)) (start .args .records .now) (c .before .record-size .ensures)
+          (c .slots-in .ensures),
+      start .pre .0 .newest-in,
+    )
 
 slot-start-requires : tie.Need-slot-start-requires
 slot-start-requires c κs =
-    omega (arith, next-fits (plan (c .before .before .before .before .before .before .before .before .before .args .shape) (c .before .before .before .before .before .before .before .before .before .args .marks .now)) (c .before .before .before .before .before .before .before .before .before .args .records .now) (c .before .before .record-size .ensures) (c .before .slots-in .ensures) (c .before .before .before .before .before .before .before .before .before .pre .0 .newest-in) (c .slot-after .ensures))
+    let start = c .before .before .before .before .before .before .before .before .before in
+    omega (
+      arith,
+      next-fits (plan (start .args .shape) (start .args .marks .now)) (start .args .records .now) (c .before .before .record-size .ensures)
+          (c .before .slots-in .ensures) (start .pre .0 .newest-in) (c .slot-after .ensures),
+    )
 
 add-end : tie.Need-add-end
 add-end c =
-    let fits : slotStart (c .before .before .before .record-size .result) (c .before .slot-after .result) + c .before .before .before .record-size .result ≤ length (c .before .before .before .before .before .before .before .before .before .before .args .records .now) =
-    next-fits (plan (c .before .before .before .before .before .before .before .before .before .before .args .shape) (c .before .before .before .before .before .before .before .before .before .before .args .marks .now)) (c .before .before .before .before .before .before .before .before .before .before .args .records .now) (c .before .before .before .record-size .ensures) (c .before .before .slots-in .ensures) (c .before .before .before .before .before .before .before .before .before .before .pre .0 .newest-in) (c .before .slot-after .ensures) in
+    let start = c .before .before .before .before .before .before .before .before .before .before in
+    let fits : slotStart (c .before .before .before .record-size .result) (c .before .slot-after .result) + c .before .before .before .record-size .result ≤ length (start .args .records .now) =
+    next-fits (plan (start .args .shape) (start .args .marks .now)) (start .args .records .now)
+    (c .before .before .before .record-size .ensures) (c .before .before .slots-in .ensures) (start .pre .0 .newest-in)
+    (c .before .slot-after .ensures) in
     search needs
 
 mul-copy : tie.Need-mul-copy
 mul-copy c =
-    let fits : slotStart (c .before .before .before .record-size .result) (c .before .slot-after .result) + c .before .before .before .record-size .result ≤ length (c .before .before .before .before .before .before .before .before .before .before .args .records .now) =
-    next-fits (plan (c .before .before .before .before .before .before .before .before .before .before .args .shape) (c .before .before .before .before .before .before .before .before .before .before .args .marks .now)) (c .before .before .before .before .before .before .before .before .before .before .args .records .now) (c .before .before .before .record-size .ensures) (c .before .before .slots-in .ensures) (c .before .before .before .before .before .before .before .before .before .before .pre .0 .newest-in) (c .before .slot-after .ensures) in
+    let start = c .before .before .before .before .before .before .before .before .before .before in
+    let fits : slotStart (c .before .before .before .record-size .result) (c .before .slot-after .result) + c .before .before .before .record-size .result ≤ length (start .args .records .now) =
+    next-fits (plan (start .args .shape) (start .args .marks .now)) (start .args .records .now)
+    (c .before .before .before .record-size .ensures) (c .before .before .slots-in .ensures) (start .pre .0 .newest-in)
+    (c .before .slot-after .ensures) in
     search needs
 
 sub-copy : tie.Need-sub-copy
@@ -47,8 +64,11 @@ part-copy-start c = search needs
 
 part-copy-end : tie.Need-part-copy-end
 part-copy-end c =
-    let fits : slotStart (c .before .before .before .record-size .result) (c .before .slot-after .result) + c .before .before .before .record-size .result ≤ length (c .before .before .before .before .before .before .before .before .before .before .args .records .now) =
-    next-fits (plan (c .before .before .before .before .before .before .before .before .before .before .args .shape) (c .before .before .before .before .before .before .before .before .before .before .args .marks .now)) (c .before .before .before .before .before .before .before .before .before .before .args .records .now) (c .before .before .before .record-size .ensures) (c .before .before .slots-in .ensures) (c .before .before .before .before .before .before .before .before .before .before .pre .0 .newest-in) (c .before .slot-after .ensures) in
+    let start = c .before .before .before .before .before .before .before .before .before .before in
+    let fits : slotStart (c .before .before .before .record-size .result) (c .before .slot-after .result) + c .before .before .before .record-size .result ≤ length (start .args .records .now) =
+    next-fits (plan (start .args .shape) (start .args .marks .now)) (start .args .records .now)
+    (c .before .before .before .record-size .ensures) (c .before .before .slots-in .ensures) (start .pre .0 .newest-in)
+    (c .before .slot-after .ensures) in
     search needs
 
 copy-requires : tie.Need-copy-requires
@@ -56,11 +76,15 @@ copy-requires c κs = search needs
 
 copy-requires-2 : tie.Need-copy-requires-2
 copy-requires-2 c κs =
-    c .before .before .before .before .before .before .before .before .before .before .before .before .before .before .before .pre .0 .depths-long ∙ sym (ap length (c .before .before .before .before .before .before .before .before .before .before .before .before .before .before .before .pre .1 .0) ∙ (length-filled _ _ _ _ ∙ c .before .before .before .before .before .before .before .before .before .before .before .before .before .before .before .pre .0 .depths-long))
+    let start = c .before .before .before .before .before .before .before .before .before .before .before .before .before .before .before in
+    start .pre .0 .depths-long ∙ sym (ap length (start .pre .1 .0) ∙ (length-filled _ _ _ _ ∙ start .pre .0 .depths-long))
 
 write-lasts-requires : tie.Need-write-lasts-requires
 write-lasts-requires c κs =
-    (settles-small (c .before .before .before .before .before .before .before .before .before .before .before .before .before .before .before .before .before .before .before .pre .0), c .before .before .before .before .before .before .before .before .before .before .before .before .before .before .before .before .before .before .before .pre .0 .lasts-long)
+    let start =
+    c .before .before .before .before .before .before .before .before .before .before .before .before .before .before .before
+    .before .before .before .before in
+    (settles-small (start .pre .0), start .pre .0 .lasts-long)
 
 lasted-requires : tie.Need-lasted-requires
 lasted-requires c κs = search needs
@@ -82,17 +106,34 @@ same-length-3 c = search needs
 
 returns : tie.Need-returns
 returns c =
-    let w = world (c .before .before .before .before .before .before .before .before .before .before .before .before .before .before .before .before .before .before .before .before .before .before .before .before .before .args .depths .now) (c .before .before .before .before .before .before .before .before .before .before .before .before .before .before .before .before .before .before .before .before .before .before .before .before .before .args .lasts .now) (c .before .before .before .before .before .before .before .before .before .before .before .before .before .before .before .before .before .before .before .before .before .before .before .before .before .args .records .now) (c .before .before .before .before .before .before .before .before .before .before .before .before .before .before .before .before .before .before .before .before .before .before .before .before .before .args .run) in
-    let long : length (c .before .before .before .before .before .before .before .before .before .before .before .before .before .before .before .before .before .before .before .before .before .before .before .before .before .args .rec .now) ≡ c .before .before .before .before .before .before .before .before .before .before .before .before .before .before .before .slot-start .result + c .before .before .before .before .before .before .before .before .before .before .before .before .before .before .before .before .before .before .record-size .result - c .before .before .before .before .before .before .before .before .before .before .before .before .before .before .before .slot-start .result = omega (arith, c .before .before .before .before .before .before .before .before .before .before .before .before .before .before .before .before .before .before .before .before .before .before .before .before .before .pre .0 .record-long, c .before .before .before .before .before .before .before .before .before .before .before .before .before .before .before .before .before .before .record-size .ensures) in
-    written-is (plan (c .before .before .before .before .before .before .before .before .before .before .before .before .before .before .before .before .before .before .before .before .before .before .before .before .before .args .shape) (c .before .before .before .before .before .before .before .before .before .before .before .before .before .before .before .before .before .before .before .before .before .before .before .before .before .args .marks .now)) (c .before .before .before .before .before .before .before .before .before .before .before .before .before .before .before .before .before .before .before .before .before .before .before .before .before .args .rec .now) (c .before .before .before .before .before .before .before .before .before .before .before .before .before .before .before .before .before .before .before .before .before .before .before .before .before .args .held) w
-    (slots-of (plan (c .before .before .before .before .before .before .before .before .before .before .before .before .before .before .before .before .before .before .before .before .before .before .before .before .before .args .shape) (c .before .before .before .before .before .before .before .before .before .before .before .before .before .before .before .before .before .before .before .before .before .before .before .before .before .args .marks .now)) (c .before .before .before .before .before .before .before .before .before .before .before .before .before .before .before .before .before .before .before .before .before .before .before .before .before .args .records .now) (c .before .before .before .before .before .before .before .before .before .before .before .before .before .before .before .before .before .before .record-size .ensures) (c .before .before .before .before .before .before .before .before .before .before .before .before .before .before .before .before .before .slots-in .ensures))
-    (c .before .before .before .before .before .before .before .before .before .before .before .before .before .before .before .before .slot-after .ensures)
-    (c .before .before .before .before .before .before .before .before .before .copy2 .ensures ∙ c .before .before .before .before .before .before .before .before .before .before .before .before .before .before .before .before .before .before .before .before .before .before .before .before .before .pre .1 .0)
+    let start =
+    c .before .before .before .before .before .before .before .before .before .before .before .before .before .before .before
+    .before .before .before .before .before .before .before .before .before .before in
+    let at-slot-start =
+    c .before .before .before .before .before .before .before .before .before .before .before .before .before .before .before in
+    let at-record-size =
+    c .before .before .before .before .before .before .before .before .before .before .before .before .before .before .before
+    .before .before .before in
+    let at-slots-in =
+    c .before .before .before .before .before .before .before .before .before .before .before .before .before .before .before
+    .before .before in
+    let at-slot-after =
+    c .before .before .before .before .before .before .before .before .before .before .before .before .before .before .before
+    .before in
+    let at-copy2 = c .before .before .before .before .before .before .before .before .before in
+    let at-copy = c .before .before .before .before .before .before .before .before .before .before .before .before .before in
+    let w = world (start .args .depths .now) (start .args .lasts .now) (start .args .records .now) (start .args .run) in
+    let long : length (start .args .rec .now) ≡ at-slot-start .slot-start .result + at-record-size .record-size .result - at-slot-start .slot-start .result =
+    omega (arith, start .pre .0 .record-long, at-record-size .record-size .ensures) in
+    written-is (plan (start .args .shape) (start .args .marks .now)) (start .args .rec .now) (start .args .held) w
+    (slots-of (plan (start .args .shape) (start .args .marks .now)) (start .args .records .now) (at-record-size .record-size .ensures) (at-slots-in .slots-in .ensures))
+    (at-slot-after .slot-after .ensures)
+    (at-copy2 .copy2 .ensures ∙ start .pre .1 .0)
     (c .before .before .before .before .before .write-lasts .ensures)
-    (c .before .before .before .before .before .before .before .before .before .before .before .before .before .before .before .slot-start .ensures ∙ ap (λ (k : ℕ). slotStart k (c .before .before .before .before .before .before .before .before .before .before .before .before .before .before .before .before .slot-after .result)) (c .before .before .before .before .before .before .before .before .before .before .before .before .before .before .before .before .before .before .record-size .ensures))
-    (placed-back _ _ _ (c .before .before .before .before .before .before .before .before .before .before .before .before .before .copy .ensures) long)
-    (ap (λ (k : ℕ). c .before .before .before .before .before .before .before .before .before .before .before .before .before .before .before .before .before .before .before .before .before .before .before .before .before .args .run .clock + k) (c .before .before .lasted .ensures))
-    (c .before .before .before .before .before .before .before .before .before .before .before .before .before .before .before .before .before .before .before .before .before .before .before .before .before .pre .1 .1)
+    (at-slot-start .slot-start .ensures ∙ ap (λ (k : ℕ). slotStart k (at-slot-after .slot-after .result)) (at-record-size .record-size .ensures))
+    (placed-back _ _ _ (at-copy .copy .ensures) long)
+    (ap (λ (k : ℕ). start .args .run .clock + k) (c .before .before .lasted .ensures))
+    (start .pre .1 .1)
     (c .kept-after .ensures)
 
 pub write-spec : {M : Type 1} → statement M

@@ -20,7 +20,8 @@ gone-from-requires c κs = search needs
 
 cast-lasts : tie.Need-cast-lasts
 cast-lasts c =
-    record { fits = omega (arith, c .gone-from .ensures, c .before .before .before .before .before .before .pre .1 (sym (c .before .before .is-closed .ensures) ∙ c .before .if1 .left)) }
+    record
+    { fits = omega (arith, c .gone-from .ensures, c .before .before .before .before .before .before .pre .1 (sym (c .before .before .is-closed .ensures) ∙ c .before .if1 .left)) }
 
 mul-lasts : tie.Need-mul-lasts
 mul-lasts c = search needs
@@ -34,7 +35,9 @@ same-length c =
 
 returns-2 : tie.Need-returns-2
 returns-2 c =
-    ap (set (c .before .before .before .before .before .before .args .lasts .now) (c .before .before .before .before .before .before .args .square)) (c .gone-from .ensures) ∙ sym (pick-false _ _ (sym (c .before .before .is-closed .ensures) ∙ c .before .if1 .left))
+    let start = c .before .before .before .before .before .before in
+    ap (set (start .args .lasts .now) (start .args .square)) (c .gone-from .ensures) ∙ sym
+    (pick-false _ _ (sym (c .before .before .is-closed .ensures) ∙ c .before .if1 .left))
 
 pub write-last-spec : {M : Type 1} → statement M
 write-last-spec =

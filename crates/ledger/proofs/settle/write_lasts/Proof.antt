@@ -31,12 +31,33 @@ loop-holds c =
 
 write-last-requires : tie.Need-write-last-requires Inv-loop μ-loop
 write-last-requires c κs =
-    let inside : c .before .before .loop .square < squares (c .before .before .before .before .before .before .before .args .shape) = omega (arith, c .before .before .before .squares-of .ensures, c .before .loop-test .taken) in
-    ((omega (arith, c .before .before .before .before .before .before .before .pre .0 .recorded .marks-long, c .before .before .before .squares-of .ensures, c .before .loop-test .taken), omega (arith, c .before .before .before .before .before .before .before .pre .0 .recorded .record-long, c .before .before .before .squares-of .ensures, c .before .loop-test .taken), omega (arith, filled-long _ _ _ _ (c .before .before .loop .inv .1), c .before .before .before .before .before .before .before .pre .1, c .before .before .before .squares-of .ensures, c .before .loop-test .taken)), c .before .before .before .before .before .before .before .pre .0 .small (c .before .before .loop .square) inside)
+    let start = c .before .before .before .before .before .before .before in
+    let turn = c .before .before in
+    let inside : turn .loop .square < squares (start .args .shape) =
+    omega (arith, c .before .before .before .squares-of .ensures, c .before .loop-test .taken) in (
+      (
+        omega (arith, start .pre .0 .recorded .marks-long, c .before .before .before .squares-of .ensures, c .before .loop-test .taken),
+        omega (arith, start .pre .0 .recorded .record-long, c .before .before .before .squares-of .ensures, c .before .loop-test .taken),
+        omega (
+          arith,
+          filled-long _ _ _ _ (turn .loop .inv .1),
+          start .pre .1,
+          c .before .before .before .squares-of .ensures,
+          c .before .loop-test .taken,
+        ),
+      ),
+      start .pre .0 .small (turn .loop .square) inside,
+    )
 
 add-square : tie.Need-add-square Inv-loop μ-loop
 add-square c =
-    omega (arith, c .before .before .before .before .loop-test .taken, c .before .before .before .before .before .before .squares-of .ensures, c .before .before .before .before .before .before .before .before .before .before .pre .0 .recorded .fine .few)
+    let at-pre = c .before .before .before .before .before .before .before .before .before .before in
+    omega (
+      arith,
+      c .before .before .before .before .loop-test .taken,
+      c .before .before .before .before .before .before .squares-of .ensures,
+      at-pre .pre .0 .recorded .fine .few,
+    )
 
 loop-less : tie.Need-loop-less Inv-loop μ-loop
 loop-less c =
@@ -44,7 +65,13 @@ loop-less c =
 
 loop-again : tie.Need-loop-again Inv-loop μ-loop
 loop-again c =
-    (omega (arith, c .before .before .before .before .loop-test .taken), filled-turn (closed (c .before .before .before .before .before .before .before .before .before .before .args .marks .now)) (gone (leavesIn (c .before .before .before .before .before .before .before .before .before .before .args .rec .now))) (c .before .before .before .before .before .before .before .before .before .before .args .lasts .now) (omega (arith, c .before .before .before .before .before .before .before .before .before .before .pre .1, c .before .before .before .before .before .before .squares-of .ensures, c .before .before .before .before .loop-test .taken)) (c .before .before .before .before .before .loop .inv .1) (λ z. refl) (c .before .before .write-last .ensures))
+    let start = c .before .before .before .before .before .before .before .before .before .before in
+    let at-loop-test = c .before .before .before .before in (
+      omega (arith, at-loop-test .loop-test .taken),
+      filled-turn (closed (start .args .marks .now)) (gone (leavesIn (start .args .rec .now))) (start .args .lasts .now)
+          (omega (arith, start .pre .1, c .before .before .before .before .before .before .squares-of .ensures, at-loop-test .loop-test .taken))
+          (c .before .before .before .before .before .loop .inv .1) (λ z. refl) (c .before .before .write-last .ensures),
+    )
 
 same-length : tie.Need-same-length Inv-loop μ-loop
 same-length c =
@@ -52,7 +79,8 @@ same-length c =
 
 returns : tie.Need-returns Inv-loop μ-loop
 returns c =
-    filled-whole _ _ _ (c .before .loop .inv .1) (omega (arith, c .before .before .squares-of .ensures, c .before .loop .inv .0, c .loop-test .left))
+    filled-whole _ _ _ (c .before .loop .inv .1)
+    (omega (arith, c .before .before .squares-of .ensures, c .before .loop .inv .0, c .loop-test .left))
 
 pub write-lasts-spec : {M : Type 1} → statement M
 write-lasts-spec =

@@ -14,11 +14,20 @@ came-to-requires c κs = search needs
 
 added-by-requires : tie.Need-added-by-requires
 added-by-requires c κs =
-    omega (arith, c .before .before .before .pre .0 .record-long, c .before .before .before .pre .1 .inside)
+    let start = c .before .before .before in
+    omega (arith, start .pre .0 .record-long, start .pre .1 .inside)
 
 add-result : tie.Need-add-result
 add-result c =
-    omega (arith, c .before .came-to .ensures, came-small (c .before .before .before .before .args .rec .now) (λ k. c .before .before .shared-slice-known2 .given k .fits) (plan (c .before .before .before .before .args .shape) (c .before .before .before .before .args .marks .now)) (c .before .before .before .before .args .square), c .added-by .ensures, added-small (c .before .before .before .before .args .rec .now) (λ k. c .before .before .shared-slice-known2 .given k .fits) (c .before .before .before .before .args .square))
+    let start = c .before .before .before .before in
+    omega (
+      arith,
+      c .before .came-to .ensures,
+      came-small (start .args .rec .now) (λ k. c .before .before .shared-slice-known2 .given k .fits)
+          (plan (start .args .shape) (start .args .marks .now)) (start .args .square),
+      c .added-by .ensures,
+      added-small (start .args .rec .now) (λ k. c .before .before .shared-slice-known2 .given k .fits) (start .args .square),
+    )
 
 returns : tie.Need-returns
 returns c =

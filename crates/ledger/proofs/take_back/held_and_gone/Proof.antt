@@ -16,7 +16,14 @@ gone-from-requires c κs = search needs
 
 add-result : tie.Need-add-result
 add-result c =
-    omega (arith, c .before .number .ensures, c .before .before .shared-slice-known2 .given (c .before .before .before .before .args .square), c .gone-from .ensures, gone-small (c .before .before .before .before .args .rec .now) (λ k. c .before .before .before .shared-slice-known .given k .fits) (c .before .before .before .before .args .square))
+    let start = c .before .before .before .before in
+    omega (
+      arith,
+      c .before .number .ensures,
+      c .before .before .shared-slice-known2 .given (start .args .square),
+      c .gone-from .ensures,
+      gone-small (start .args .rec .now) (λ k. c .before .before .before .shared-slice-known .given k .fits) (start .args .square),
+    )
 
 returns : tie.Need-returns
 returns c =

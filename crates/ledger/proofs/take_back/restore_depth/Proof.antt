@@ -11,7 +11,8 @@ use Rattle.ledger.proofs.take_back.restore_depth.Tie as tie
 
 is-closed-requires : tie.Need-is-closed-requires
 is-closed-requires c κs =
-    omega (arith, c .before .before .before .pre .0 .recorded .marks-long, c .before .before .before .pre .1 .0 .inside)
+    let start = c .before .before .before in
+    omega (arith, start .pre .0 .recorded .marks-long, start .pre .1 .0 .inside)
 
 returns : tie.Need-returns
 returns c =
@@ -19,31 +20,41 @@ returns c =
 
 held-and-gone-requires : tie.Need-held-and-gone-requires
 held-and-gone-requires c κs =
-    (omega (arith, c .before .before .before .before .before .before .pre .0 .depths-long, c .before .before .before .before .before .before .pre .1 .0 .inside), omega (arith, c .before .before .before .before .before .before .pre .0 .recorded .record-long, c .before .before .before .before .before .before .pre .1 .0 .inside))
+    let start = c .before .before .before .before .before .before in (
+      omega (arith, start .pre .0 .depths-long, start .pre .1 .0 .inside),
+      omega (arith, start .pre .0 .recorded .record-long, start .pre .1 .0 .inside),
+    )
 
 came-and-added-requires : tie.Need-came-and-added-requires
 came-and-added-requires c κs =
-    (c .before .before .before .before .before .before .before .pre .0 .recorded, c .before .before .before .before .before .before .before .pre .1 .0)
+    let start = c .before .before .before .before .before .before .before in
+    (start .pre .0 .recorded, start .pre .1 .0)
 
 sub-depths : tie.Need-sub-depths
 unfolding heldAndGone cameAndAdded
 sub-depths c =
-    let r = c .before .before .before .before .before .before .before .before .pre .1 .1 (sym (c .before .before .before .before .is-closed .ensures) ∙ c .before .before .before .if1 .left) in
+    let r =
+    c .before .before .before .before .before .before .before .before .pre .1 .1
+    (sym (c .before .before .before .before .is-closed .ensures) ∙ c .before .before .before .if1 .left) in
     omega (arith, c .before .held-and-gone .ensures, c .came-and-added .ensures, r .enough)
 
 cast-depths : tie.Need-cast-depths
 unfolding depthBefore heldAndGone cameAndAdded
 cast-depths c =
-    let r = c .before .before .before .before .before .before .before .before .pre .1 .1 (sym (c .before .before .before .before .is-closed .ensures) ∙ c .before .before .before .if1 .left) in
+    let r =
+    c .before .before .before .before .before .before .before .before .pre .1 .1
+    (sym (c .before .before .before .before .is-closed .ensures) ∙ c .before .before .before .if1 .left) in
     record { fits = omega (arith, c .before .held-and-gone .ensures, c .came-and-added .ensures, r .small) }
 
 mul-depths : tie.Need-mul-depths
 mul-depths c =
-    omega (arith, c .before .before .before .before .before .before .before .before .pre .0 .depths-long, c .before .before .before .before .before .before .before .before .pre .1 .0 .inside)
+    let start = c .before .before .before .before .before .before .before .before in
+    omega (arith, start .pre .0 .depths-long, start .pre .1 .0 .inside)
 
 slice-write-depths : tie.Need-slice-write-depths
 slice-write-depths c =
-    omega (arith, c .before .before .before .before .before .before .before .before .pre .0 .depths-long, c .before .before .before .before .before .before .before .before .pre .1 .0 .inside)
+    let start = c .before .before .before .before .before .before .before .before in
+    omega (arith, start .pre .0 .depths-long, start .pre .1 .0 .inside)
 
 same-length : tie.Need-same-length
 same-length c =
@@ -52,7 +63,9 @@ same-length c =
 returns-2 : tie.Need-returns-2
 unfolding depthBefore heldAndGone cameAndAdded
 returns-2 c =
-    ap (set (c .before .before .before .before .before .before .before .before .args .depths .now) (c .before .before .before .before .before .before .before .before .args .square)) (ap₂ _-_ (c .before .held-and-gone .ensures) (c .came-and-added .ensures)) ∙ sym (pick-false _ _ (sym (c .before .before .before .before .is-closed .ensures) ∙ c .before .before .before .if1 .left))
+    let start = c .before .before .before .before .before .before .before .before in
+    ap (set (start .args .depths .now) (start .args .square)) (ap₂ _-_ (c .before .held-and-gone .ensures) (c .came-and-added .ensures)) ∙
+    sym (pick-false _ _ (sym (c .before .before .before .before .is-closed .ensures) ∙ c .before .before .before .if1 .left))
 
 pub restore-depth-spec : {M : Type 1} → statement M
 restore-depth-spec =

@@ -35,19 +35,37 @@ loop-holds c =
 
 restore-depth-requires : tie.Need-restore-depth-requires Inv-loop μ-loop
 restore-depth-requires c κs =
-    let p = plan (c .before .before .before .before .before .before .before .args .shape) (c .before .before .before .before .before .before .before .args .marks .now) in
-    let i = c .before .before .loop .square in
-    let h = walk-stands _ (c .before .before .loop .inv .0) (c .before .before .before .before .before .before .before .pre .0 .recorded .fine) (c .before .loop-test .taken) in
-    let same : getD (c .before .before .loop .depths) i 0 ≡ getD (c .before .before .before .before .before .before .before .args .depths .now) i 0 = ap (λ (l : List ℕ). getD l i 0) (c .before .before .loop .inv .1) ∙ filled-ahead (closed (c .before .before .before .before .before .before .before .args .marks .now)) (depthBefore p (ofDepths (c .before .before .before .before .before .before .before .args .depths .now)) (c .before .before .before .before .before .before .before .args .rec .now)) (c .before .before .before .before .before .before .before .args .depths .now) i (omega (arith, c .before .before .before .before .before .before .before .pre .0 .depths-long, h .inside)) in
-    (record { recorded = c .before .before .before .before .before .before .before .pre .0 .recorded; depths-long = filled-long _ _ _ _ (c .before .before .loop .inv .1) ∙ c .before .before .before .before .before .before .before .pre .0 .depths-long }, (h, λ e. restores-own p (c .before .before .before .before .before .before .before .args .rec .now) i same (restores-of p (c .before .before .before .before .before .before .before .args .rec .now) (c .before .before .before .before .before .before .before .args .depths .now) i e (all-at _ _ (c .before .before .before .before .before .before .before .pre .1) i (h .inside)))))
+    let start = c .before .before .before .before .before .before .before in
+    let turn = c .before .before in
+    let p = plan (start .args .shape) (start .args .marks .now) in
+    let i = turn .loop .square in
+    let h = walk-stands _ (turn .loop .inv .0) (start .pre .0 .recorded .fine) (c .before .loop-test .taken) in
+    let same : getD (turn .loop .depths) i 0 ≡ getD (start .args .depths .now) i 0 =
+    ap (λ (l : List ℕ). getD l i 0) (turn .loop .inv .1) ∙ filled-ahead (closed (start .args .marks .now))
+    (depthBefore p (ofDepths (start .args .depths .now)) (start .args .rec .now)) (start .args .depths .now) i
+    (omega (arith, start .pre .0 .depths-long, h .inside)) in (
+      record { recorded = start .pre .0 .recorded; depths-long = filled-long _ _ _ _ (turn .loop .inv .1) ∙ start .pre .0 .depths-long },
+      (
+        h,
+        λ e. restores-own p (start .args .rec .now) i same
+            (restores-of p (start .args .rec .now) (start .args .depths .now) i e (all-at _ _ (start .pre .1) i (h .inside))),
+      ),
+    )
 
 add-square : tie.Need-add-square Inv-loop μ-loop
 add-square c =
-    omega (arith, c .before .before .before .before .loop-test .taken, c .before .before .before .before .before .before .squares-of .ensures, c .before .before .before .before .before .before .before .before .before .before .pre .0 .recorded .fine .few)
+    let at-pre = c .before .before .before .before .before .before .before .before .before .before in
+    omega (
+      arith,
+      c .before .before .before .before .loop-test .taken,
+      c .before .before .before .before .before .before .squares-of .ensures,
+      at-pre .pre .0 .recorded .fine .few,
+    )
 
 next-column-requires : tie.Need-next-column-requires Inv-loop μ-loop
 next-column-requires c κs =
-    (c .before .before .before .before .before .before .before .before .before .before .pre .0 .recorded .fine, walk-column _ (c .before .before .before .before .before .loop .inv .0) (c .before .before .before .before .before .before .before .before .before .before .pre .0 .recorded .fine))
+    let start = c .before .before .before .before .before .before .before .before .before .before in
+    (start .pre .0 .recorded .fine, walk-column _ (c .before .before .before .before .before .loop .inv .0) (start .pre .0 .recorded .fine))
 
 loop-less : tie.Need-loop-less Inv-loop μ-loop
 loop-less c =
@@ -55,11 +73,26 @@ loop-less c =
 
 loop-again : tie.Need-loop-again Inv-loop μ-loop
 loop-again c =
-    let p = plan (c .before .before .before .before .before .before .before .before .before .before .before .args .shape) (c .before .before .before .before .before .before .before .before .before .before .before .args .marks .now) in
-    let i = c .before .before .before .before .before .before .loop .square in
-    let l : i < length (c .before .before .before .before .before .before .before .before .before .before .before .args .depths .now) = omega (arith, c .before .before .before .before .before .before .before .before .before .before .before .pre .0 .depths-long, c .before .before .before .before .before .before .before .squares-of .ensures, c .before .before .before .before .before .loop-test .taken) in
-    let same : getD (c .before .before .before .before .before .before .loop .depths) i 0 ≡ getD (c .before .before .before .before .before .before .before .before .before .before .before .args .depths .now) i 0 = ap (λ (l : List ℕ). getD l i 0) (c .before .before .before .before .before .before .loop .inv .1) ∙ filled-ahead (closed (c .before .before .before .before .before .before .before .before .before .before .before .args .marks .now)) (depthBefore p (ofDepths (c .before .before .before .before .before .before .before .before .before .before .before .args .depths .now)) (c .before .before .before .before .before .before .before .before .before .before .before .args .rec .now)) (c .before .before .before .before .before .before .before .before .before .before .before .args .depths .now) i l in
-    (walk-next _ (c .before .before .before .before .before .before .loop .inv .0) (c .before .before .before .before .before .loop-test .taken) (c .next-column .ensures), filled-turn (closed (c .before .before .before .before .before .before .before .before .before .before .before .args .marks .now)) (depthBefore p (ofDepths (c .before .before .before .before .before .before .before .before .before .before .before .args .depths .now)) (c .before .before .before .before .before .before .before .before .before .before .before .args .rec .now)) (c .before .before .before .before .before .before .before .before .before .before .before .args .depths .now) l (c .before .before .before .before .before .before .loop .inv .1) (λ z. before-own p (c .before .before .before .before .before .before .before .before .before .before .before .args .rec .now) _ _ i same) (c .before .before .before .restore-depth .ensures))
+    let start = c .before .before .before .before .before .before .before .before .before .before .before in
+    let turn = c .before .before .before .before .before .before in
+    let at-loop-test = c .before .before .before .before .before in
+    let p = plan (start .args .shape) (start .args .marks .now) in
+    let i = turn .loop .square in
+    let l : i < length (start .args .depths .now) =
+    omega (
+      arith,
+      start .pre .0 .depths-long,
+      c .before .before .before .before .before .before .before .squares-of .ensures,
+      at-loop-test .loop-test .taken,
+    ) in
+    let same : getD (turn .loop .depths) i 0 ≡ getD (start .args .depths .now) i 0 =
+    ap (λ (l : List ℕ). getD l i 0) (turn .loop .inv .1) ∙ filled-ahead (closed (start .args .marks .now))
+    (depthBefore p (ofDepths (start .args .depths .now)) (start .args .rec .now)) (start .args .depths .now) i l in (
+      walk-next _ (turn .loop .inv .0) (at-loop-test .loop-test .taken) (c .next-column .ensures),
+      filled-turn (closed (start .args .marks .now)) (depthBefore p (ofDepths (start .args .depths .now)) (start .args .rec .now))
+          (start .args .depths .now) l (turn .loop .inv .1) (λ z. before-own p (start .args .rec .now) _ _ i same)
+          (c .before .before .before .restore-depth .ensures),
+    )
 
 same-length : tie.Need-same-length Inv-loop μ-loop
 same-length c =

@@ -29,7 +29,9 @@ same-length c =
 
 returns-2 : tie.Need-returns-2
 returns-2 c =
-    ap (set (c .before .before .before .before .before .before .args .lasts .now) (c .before .before .before .before .before .before .args .square)) (c .last-before .ensures) ∙ sym (pick-false _ _ (sym (c .before .before .is-closed .ensures) ∙ c .before .if1 .left))
+    let start = c .before .before .before .before .before .before in
+    ap (set (start .args .lasts .now) (start .args .square)) (c .last-before .ensures) ∙ sym
+    (pick-false _ _ (sym (c .before .before .is-closed .ensures) ∙ c .before .if1 .left))
 
 pub restore-last-spec : {M : Type 1} → statement M
 restore-last-spec =

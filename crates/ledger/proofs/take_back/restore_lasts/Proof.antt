@@ -29,11 +29,27 @@ loop-holds c =
 
 restore-last-requires : tie.Need-restore-last-requires Inv-loop μ-loop
 restore-last-requires c κs =
-    (omega (arith, c .before .before .before .before .before .before .before .pre .recorded .marks-long, c .before .before .before .squares-of .ensures, c .before .loop-test .taken), omega (arith, c .before .before .before .before .before .before .before .pre .recorded .record-long, c .before .before .before .squares-of .ensures, c .before .loop-test .taken), omega (arith, filled-long _ _ _ _ (c .before .before .loop .inv .1), c .before .before .before .before .before .before .before .pre .depths-long, c .before .before .before .squares-of .ensures, c .before .loop-test .taken))
+    let start = c .before .before .before .before .before .before .before in (
+      omega (arith, start .pre .recorded .marks-long, c .before .before .before .squares-of .ensures, c .before .loop-test .taken),
+      omega (arith, start .pre .recorded .record-long, c .before .before .before .squares-of .ensures, c .before .loop-test .taken),
+      omega (
+        arith,
+        filled-long _ _ _ _ (c .before .before .loop .inv .1),
+        start .pre .depths-long,
+        c .before .before .before .squares-of .ensures,
+        c .before .loop-test .taken,
+      ),
+    )
 
 add-square : tie.Need-add-square Inv-loop μ-loop
 add-square c =
-    omega (arith, c .before .before .before .before .loop-test .taken, c .before .before .before .before .before .before .squares-of .ensures, c .before .before .before .before .before .before .before .before .before .before .pre .recorded .fine .few)
+    let at-pre = c .before .before .before .before .before .before .before .before .before .before in
+    omega (
+      arith,
+      c .before .before .before .before .loop-test .taken,
+      c .before .before .before .before .before .before .squares-of .ensures,
+      at-pre .pre .recorded .fine .few,
+    )
 
 loop-less : tie.Need-loop-less Inv-loop μ-loop
 loop-less c =
@@ -41,7 +57,13 @@ loop-less c =
 
 loop-again : tie.Need-loop-again Inv-loop μ-loop
 loop-again c =
-    (omega (arith, c .before .before .before .before .loop-test .taken), filled-turn (closed (c .before .before .before .before .before .before .before .before .before .before .args .marks .now)) (lastIn (c .before .before .before .before .before .before .before .before .before .before .args .rec .now)) (c .before .before .before .before .before .before .before .before .before .before .args .lasts .now) (omega (arith, c .before .before .before .before .before .before .before .before .before .before .pre .depths-long, c .before .before .before .before .before .before .squares-of .ensures, c .before .before .before .before .loop-test .taken)) (c .before .before .before .before .before .loop .inv .1) (λ z. refl) (c .before .before .restore-last .ensures))
+    let start = c .before .before .before .before .before .before .before .before .before .before in
+    let at-loop-test = c .before .before .before .before in (
+      omega (arith, at-loop-test .loop-test .taken),
+      filled-turn (closed (start .args .marks .now)) (lastIn (start .args .rec .now)) (start .args .lasts .now)
+          (omega (arith, start .pre .depths-long, c .before .before .before .before .before .before .squares-of .ensures, at-loop-test .loop-test .taken))
+          (c .before .before .before .before .before .loop .inv .1) (λ z. refl) (c .before .before .restore-last .ensures),
+    )
 
 same-length : tie.Need-same-length Inv-loop μ-loop
 same-length c =
@@ -49,7 +71,8 @@ same-length c =
 
 returns : tie.Need-returns Inv-loop μ-loop
 returns c =
-    filled-whole _ _ _ (c .before .loop .inv .1) (omega (arith, c .before .before .squares-of .ensures, c .before .loop .inv .0, c .loop-test .left))
+    filled-whole _ _ _ (c .before .loop .inv .1)
+    (omega (arith, c .before .before .squares-of .ensures, c .before .loop .inv .0, c .loop-test .left))
 
 pub restore-lasts-spec : {M : Type 1} → statement M
 restore-lasts-spec =

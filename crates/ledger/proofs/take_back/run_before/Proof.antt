@@ -24,7 +24,8 @@ slot-before-requires c κs = search needs
 
 returns : tie.Need-returns
 returns c =
-    rw (c .before .before .before .before .before .lasted .ensures, c .before .before .before .held-before .ensures, c .slot-before .ensures)
+    rw
+    (c .before .before .before .before .before .lasted .ensures, c .before .before .before .held-before .ensures, c .slot-before .ensures)
 
 pub run-before-spec : {M : Type 1} → statement M
 run-before-spec =

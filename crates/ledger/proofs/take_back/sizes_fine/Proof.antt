@@ -22,7 +22,8 @@ returns c =
 
 one-each-requires : tie.Need-one-each-requires
 one-each-requires c κs =
-    ranges-of-fine (c .before .before .before .before .before .args .shape) (sym (c .before .shape-fine .ensures) ∙ not-false _ (c .if1 .left))
+    ranges-of-fine (c .before .before .before .before .before .args .shape)
+    (sym (c .before .shape-fine .ensures) ∙ not-false _ (c .if1 .left))
 
 returns-2 : tie.Need-returns-2
 unfolding oneEach
@@ -31,7 +32,8 @@ returns-2 c =
 
 one-each-requires-2 : tie.Need-one-each-requires-2
 one-each-requires-2 c κs =
-    ranges-of-fine (c .before .before .before .before .before .before .before .args .shape) (sym (c .before .before .before .shape-fine .ensures) ∙ not-false _ (c .before .before .if1 .left))
+    ranges-of-fine (c .before .before .before .before .before .before .before .args .shape)
+    (sym (c .before .before .before .shape-fine .ensures) ∙ not-false _ (c .before .before .if1 .left))
 
 returns-3 : tie.Need-returns-3
 unfolding oneEach
@@ -40,13 +42,25 @@ returns-3 c =
 
 one-each-requires-3 : tie.Need-one-each-requires-3
 one-each-requires-3 c κs =
-    ranges-of-fine (c .before .before .before .before .before .before .before .before .before .args .shape) (sym (c .before .before .before .before .before .shape-fine .ensures) ∙ not-false _ (c .before .before .before .before .if1 .left))
+    let at-args = c .before .before .before .before .before .before .before .before .before in
+    ranges-of-fine (at-args .args .shape)
+    (sym (c .before .before .before .before .before .shape-fine .ensures) ∙ not-false _ (c .before .before .before .before .if1 .left))
 
 returns-4 : tie.Need-returns-4
 unfolding oneEach
 returns-4 c =
-    let p = plan (c .before .before .before .before .before .before .before .before .before .before .args .shape) (c .before .before .before .before .before .before .before .before .before .before .args .marks .now) in
-    c .one-each3 .ensures ∙ every-decides (shapeFine (c .before .before .before .before .before .before .before .before .before .before .args .shape) ∷ oneEach p (c .before .before .before .before .before .before .before .before .before .before .args .marks .now) ∷ oneEach p (c .before .before .before .before .before .before .before .before .before .before .args .depths .now) ∷ []) (oneEach p (c .before .before .before .before .before .before .before .before .before .before .args .lasts .now)) (sym (c .before .before .before .before .before .before .shape-fine .ensures) ∙ not-false _ (c .before .before .before .before .before .if1 .left), (sym (c .before .before .before .before .one-each .ensures) ∙ not-false _ (c .before .before .before .if2 .left), (sym (c .before .before .one-each2 .ensures) ∙ not-false _ (c .before .if3 .left), tt)))
+    let start = c .before .before .before .before .before .before .before .before .before .before in
+    let p = plan (start .args .shape) (start .args .marks .now) in
+    c .one-each3 .ensures ∙ every-decides
+    (shapeFine (start .args .shape) ∷ oneEach p (start .args .marks .now) ∷ oneEach p (start .args .depths .now) ∷ [])
+    (oneEach p (start .args .lasts .now)) (
+      sym (c .before .before .before .before .before .before .shape-fine .ensures) ∙ not-false _
+          (c .before .before .before .before .before .if1 .left),
+      (
+        sym (c .before .before .before .before .one-each .ensures) ∙ not-false _ (c .before .before .before .if2 .left),
+        (sym (c .before .before .one-each2 .ensures) ∙ not-false _ (c .before .if3 .left), tt),
+      ),
+    )
 
 pub sizes-fine-spec : {M : Type 1} → statement M
 sizes-fine-spec =

@@ -24,7 +24,10 @@ same-length-2 c = search needs
 
 returns : tie.Need-returns
 returns c =
-    takes-refused (plan (c .before .before .before .before .before .before .before .before .args .shape) (c .before .before .before .before .before .before .before .before .args .marks .now)) (world (c .before .before .before .before .before .before .before .before .args .depths .now) (c .before .before .before .before .before .before .before .before .args .lasts .now) (c .before .before .before .before .before .before .before .before .args .records .now) (c .before .before .before .before .before .before .before .before .args .run)) (c .if1 .taken) (c .before .look .ensures)
+    let start = c .before .before .before .before .before .before .before .before in
+    takes-refused (plan (start .args .shape) (start .args .marks .now))
+    (world (start .args .depths .now) (start .args .lasts .now) (start .args .records .now) (start .args .run)) (c .if1 .taken)
+    (c .before .look .ensures)
 
 record-size-requires : tie.Need-record-size-requires
 record-size-requires c κs =
@@ -35,18 +38,33 @@ slots-in-requires c κs = search needs
 
 slot-start-requires : tie.Need-slot-start-requires
 slot-start-requires c κs =
-    omega (arith, newest-fits (plan (c .before .before .before .before .before .before .before .before .before .before .args .shape) (c .before .before .before .before .before .before .before .before .before .before .args .marks .now)) (world (c .before .before .before .before .before .before .before .before .before .before .args .depths .now) (c .before .before .before .before .before .before .before .before .before .before .args .lasts .now) (c .before .before .before .before .before .before .before .before .before .before .args .records .now) (c .before .before .before .before .before .before .before .before .before .before .args .run)) (c .before .before .before .look .ensures .passed (c .before .before .if1 .left)) (c .before .record-size .ensures) (c .slots-in .ensures))
+    let start = c .before .before .before .before .before .before .before .before .before .before in
+    omega (
+      arith,
+      newest-fits (plan (start .args .shape) (start .args .marks .now))
+          (world (start .args .depths .now) (start .args .lasts .now) (start .args .records .now) (start .args .run))
+          (c .before .before .before .look .ensures .passed (c .before .before .if1 .left)) (c .before .record-size .ensures)
+          (c .slots-in .ensures),
+    )
 
 add-end : tie.Need-add-end
 add-end c =
-    let fits : slotStart (c .before .before .record-size .result) (c .before .before .before .before .before .before .before .before .before .before .before .args .run .newest) + c .before .before .record-size .result ≤ length (c .before .before .before .before .before .before .before .before .before .before .before .args .records .now) =
-    newest-fits (plan (c .before .before .before .before .before .before .before .before .before .before .before .args .shape) (c .before .before .before .before .before .before .before .before .before .before .before .args .marks .now)) (world (c .before .before .before .before .before .before .before .before .before .before .before .args .depths .now) (c .before .before .before .before .before .before .before .before .before .before .before .args .lasts .now) (c .before .before .before .before .before .before .before .before .before .before .before .args .records .now) (c .before .before .before .before .before .before .before .before .before .before .before .args .run)) (c .before .before .before .before .look .ensures .passed (c .before .before .before .if1 .left)) (c .before .before .record-size .ensures) (c .before .slots-in .ensures) in
+    let start = c .before .before .before .before .before .before .before .before .before .before .before in
+    let fits : slotStart (c .before .before .record-size .result) (start .args .run .newest) + c .before .before .record-size .result ≤ length (start .args .records .now) =
+    newest-fits (plan (start .args .shape) (start .args .marks .now))
+    (world (start .args .depths .now) (start .args .lasts .now) (start .args .records .now) (start .args .run))
+    (c .before .before .before .before .look .ensures .passed (c .before .before .before .if1 .left))
+    (c .before .before .record-size .ensures) (c .before .slots-in .ensures) in
     search needs
 
 mul-rec : tie.Need-mul-rec
 mul-rec c =
-    let fits : slotStart (c .before .before .record-size .result) (c .before .before .before .before .before .before .before .before .before .before .before .args .run .newest) + c .before .before .record-size .result ≤ length (c .before .before .before .before .before .before .before .before .before .before .before .args .records .now) =
-    newest-fits (plan (c .before .before .before .before .before .before .before .before .before .before .before .args .shape) (c .before .before .before .before .before .before .before .before .before .before .before .args .marks .now)) (world (c .before .before .before .before .before .before .before .before .before .before .before .args .depths .now) (c .before .before .before .before .before .before .before .before .before .before .before .args .lasts .now) (c .before .before .before .before .before .before .before .before .before .before .before .args .records .now) (c .before .before .before .before .before .before .before .before .before .before .before .args .run)) (c .before .before .before .before .look .ensures .passed (c .before .before .before .if1 .left)) (c .before .before .record-size .ensures) (c .before .slots-in .ensures) in
+    let start = c .before .before .before .before .before .before .before .before .before .before .before in
+    let fits : slotStart (c .before .before .record-size .result) (start .args .run .newest) + c .before .before .record-size .result ≤ length (start .args .records .now) =
+    newest-fits (plan (start .args .shape) (start .args .marks .now))
+    (world (start .args .depths .now) (start .args .lasts .now) (start .args .records .now) (start .args .run))
+    (c .before .before .before .before .look .ensures .passed (c .before .before .before .if1 .left))
+    (c .before .before .record-size .ensures) (c .before .slots-in .ensures) in
     search needs
 
 sub-rec : tie.Need-sub-rec
@@ -57,14 +75,23 @@ part-rec-start c = search needs
 
 part-rec-end : tie.Need-part-rec-end
 part-rec-end c =
-    let fits : slotStart (c .before .before .record-size .result) (c .before .before .before .before .before .before .before .before .before .before .before .args .run .newest) + c .before .before .record-size .result ≤ length (c .before .before .before .before .before .before .before .before .before .before .before .args .records .now) =
-    newest-fits (plan (c .before .before .before .before .before .before .before .before .before .before .before .args .shape) (c .before .before .before .before .before .before .before .before .before .before .before .args .marks .now)) (world (c .before .before .before .before .before .before .before .before .before .before .before .args .depths .now) (c .before .before .before .before .before .before .before .before .before .before .before .args .lasts .now) (c .before .before .before .before .before .before .before .before .before .before .before .args .records .now) (c .before .before .before .before .before .before .before .before .before .before .before .args .run)) (c .before .before .before .before .look .ensures .passed (c .before .before .before .if1 .left)) (c .before .before .record-size .ensures) (c .before .slots-in .ensures) in
+    let start = c .before .before .before .before .before .before .before .before .before .before .before in
+    let fits : slotStart (c .before .before .record-size .result) (start .args .run .newest) + c .before .before .record-size .result ≤ length (start .args .records .now) =
+    newest-fits (plan (start .args .shape) (start .args .marks .now))
+    (world (start .args .depths .now) (start .args .lasts .now) (start .args .records .now) (start .args .run))
+    (c .before .before .before .before .look .ensures .passed (c .before .before .before .if1 .left))
+    (c .before .before .record-size .ensures) (c .before .slots-in .ensures) in
     search needs
 
 try-record-requires : tie.Need-try-record-requires
 try-record-requires c κs =
-    let kept = c .before .before .before .before .before .before .look .ensures .passed (c .before .before .before .before .before .if1 .left) in
-    newest-led (plan (c .before .before .before .before .before .before .before .before .before .before .before .before .before .args .shape) (c .before .before .before .before .before .before .before .before .before .before .before .before .before .args .marks .now)) (world (c .before .before .before .before .before .before .before .before .before .before .before .before .before .args .depths .now) (c .before .before .before .before .before .before .before .before .before .before .before .before .before .args .lasts .now) (c .before .before .before .before .before .before .before .before .before .before .before .before .before .args .records .now) (c .before .before .before .before .before .before .before .before .before .before .before .before .before .args .run)) kept (c .before .before .before .before .record-size .ensures) (c .before .before .before .slots-in .ensures) (c .before .before .slot-start .ensures) (kept .watered .depths-long)
+    let start = c .before .before .before .before .before .before .before .before .before .before .before .before .before in
+    let kept =
+    c .before .before .before .before .before .before .look .ensures .passed (c .before .before .before .before .before .if1 .left) in
+    newest-led (plan (start .args .shape) (start .args .marks .now))
+    (world (start .args .depths .now) (start .args .lasts .now) (start .args .records .now) (start .args .run)) kept
+    (c .before .before .before .before .record-size .ensures) (c .before .before .before .slots-in .ensures)
+    (c .before .before .slot-start .ensures) (kept .watered .depths-long)
 
 same-length-3 : tie.Need-same-length-3
 same-length-3 c = search needs
@@ -74,31 +101,79 @@ same-length-4 c = search needs
 
 returns-2 : tie.Need-returns-2
 returns-2 c =
-    let p = plan (c .before .before .before .before .before .before .before .before .before .before .before .before .before .before .before .before .args .shape) (c .before .before .before .before .before .before .before .before .before .before .before .before .before .before .before .before .args .marks .now) in
-    let w = world (c .before .before .before .before .before .before .before .before .before .before .before .before .before .before .before .before .args .depths .now) (c .before .before .before .before .before .before .before .before .before .before .before .before .before .before .before .before .args .lasts .now) (c .before .before .before .before .before .before .before .before .before .before .before .before .before .before .before .before .args .records .now) (c .before .before .before .before .before .before .before .before .before .before .before .before .before .before .before .before .args .run) in
-    let kept = c .before .before .before .before .before .before .before .before .before .look .ensures .passed (c .before .before .before .before .before .before .before .before .if1 .left) in
-    takes-unfit p w kept (newest-is p w kept (c .before .before .before .before .before .before .before .record-size .ensures) (c .before .before .before .before .before .before .slots-in .ensures) (c .before .before .before .before .before .slot-start .ensures)) (sym (c .before .before .try-record .ensures .fits-is) ∙ not-true _ (c .if2 .taken))
+    let start =
+    c .before .before .before .before .before .before .before .before .before .before .before .before .before .before .before
+    .before in
+    let at-look = c .before .before .before .before .before .before .before .before .before in
+    let p = plan (start .args .shape) (start .args .marks .now) in
+    let w = world (start .args .depths .now) (start .args .lasts .now) (start .args .records .now) (start .args .run) in
+    let kept = at-look .look .ensures .passed (c .before .before .before .before .before .before .before .before .if1 .left) in
+    takes-unfit p w kept
+    (newest-is p w kept (c .before .before .before .before .before .before .before .record-size .ensures) (c .before .before .before .before .before .before .slots-in .ensures) (c .before .before .before .before .before .slot-start .ensures))
+    (sym (c .before .before .try-record .ensures .fits-is) ∙ not-true _ (c .if2 .taken))
 
 restore-depths-requires : tie.Need-restore-depths-requires
 restore-depths-requires c κs =
-    let p = plan (c .before .before .before .before .before .before .before .before .before .before .before .before .before .before .before .before .before .args .shape) (c .before .before .before .before .before .before .before .before .before .before .before .before .before .before .before .before .before .args .marks .now) in
-    let w = world (c .before .before .before .before .before .before .before .before .before .before .before .before .before .before .before .before .before .args .depths .now) (c .before .before .before .before .before .before .before .before .before .before .before .before .before .before .before .before .before .args .lasts .now) (c .before .before .before .before .before .before .before .before .before .before .before .before .before .before .before .before .before .args .records .now) (c .before .before .before .before .before .before .before .before .before .before .before .before .before .before .before .before .before .args .run) in
-    let kept = c .before .before .before .before .before .before .before .before .before .before .look .ensures .passed (c .before .before .before .before .before .before .before .before .before .if1 .left) in
-    (newest-led p w kept (c .before .before .before .before .before .before .before .before .record-size .ensures) (c .before .before .before .before .before .before .before .slots-in .ensures) (c .before .before .before .before .before .before .slot-start .ensures) (kept .watered .depths-long), squares-restorable p w _ (sym (c .before .before .before .try-record .ensures .fits-is) ∙ not-false _ (c .before .if2 .left)))
+    let start =
+    c .before .before .before .before .before .before .before .before .before .before .before .before .before .before .before
+    .before .before in
+    let at-look = c .before .before .before .before .before .before .before .before .before .before in
+    let at-if1 = c .before .before .before .before .before .before .before .before .before in
+    let p = plan (start .args .shape) (start .args .marks .now) in
+    let w = world (start .args .depths .now) (start .args .lasts .now) (start .args .records .now) (start .args .run) in
+    let kept = at-look .look .ensures .passed (at-if1 .if1 .left) in (
+      newest-led p w kept (c .before .before .before .before .before .before .before .before .record-size .ensures)
+          (c .before .before .before .before .before .before .before .slots-in .ensures)
+          (c .before .before .before .before .before .before .slot-start .ensures) (kept .watered .depths-long),
+      squares-restorable p w _ (sym (c .before .before .before .try-record .ensures .fits-is) ∙ not-false _ (c .before .if2 .left)),
+    )
 
 restore-lasts-requires : tie.Need-restore-lasts-requires
 restore-lasts-requires c κs =
-    let kept = c .before .before .before .before .before .before .before .before .before .before .before .before .before .before .look .ensures .passed (c .before .before .before .before .before .before .before .before .before .before .before .before .before .if1 .left) in
-    newest-led (plan (c .before .before .before .before .before .before .before .before .before .before .before .before .before .before .before .before .before .before .before .before .before .args .shape) (c .before .before .before .before .before .before .before .before .before .before .before .before .before .before .before .before .before .before .before .before .before .args .marks .now)) (world (c .before .before .before .before .before .before .before .before .before .before .before .before .before .before .before .before .before .before .before .before .before .args .depths .now) (c .before .before .before .before .before .before .before .before .before .before .before .before .before .before .before .before .before .before .before .before .before .args .lasts .now) (c .before .before .before .before .before .before .before .before .before .before .before .before .before .before .before .before .before .before .before .before .before .args .records .now) (c .before .before .before .before .before .before .before .before .before .before .before .before .before .before .before .before .before .before .before .before .before .args .run)) kept (c .before .before .before .before .before .before .before .before .before .before .before .before .record-size .ensures) (c .before .before .before .before .before .before .before .before .before .before .before .slots-in .ensures) (c .before .before .before .before .before .before .before .before .before .before .slot-start .ensures) (kept .watered .lasts-long)
+    let start =
+    c .before .before .before .before .before .before .before .before .before .before .before .before .before .before .before
+    .before .before .before .before .before .before in
+    let at-look = c .before .before .before .before .before .before .before .before .before .before .before .before .before .before in
+    let at-if1 = c .before .before .before .before .before .before .before .before .before .before .before .before .before in
+    let at-record-size = c .before .before .before .before .before .before .before .before .before .before .before .before in
+    let at-slots-in = c .before .before .before .before .before .before .before .before .before .before .before in
+    let at-slot-start = c .before .before .before .before .before .before .before .before .before .before in
+    let kept = at-look .look .ensures .passed (at-if1 .if1 .left) in
+    newest-led (plan (start .args .shape) (start .args .marks .now))
+    (world (start .args .depths .now) (start .args .lasts .now) (start .args .records .now) (start .args .run)) kept
+    (at-record-size .record-size .ensures) (at-slots-in .slots-in .ensures) (at-slot-start .slot-start .ensures) (kept .watered .lasts-long)
 
 run-before-requires : tie.Need-run-before-requires
 run-before-requires c κs =
-    let p = plan (c .before .before .before .before .before .before .before .before .before .before .before .before .before .before .before .before .before .before .before .before .before .before .before .before .args .shape) (c .before .before .before .before .before .before .before .before .before .before .before .before .before .before .before .before .before .before .before .before .before .before .before .before .args .marks .now) in
-    let w = world (c .before .before .before .before .before .before .before .before .before .before .before .before .before .before .before .before .before .before .before .before .before .before .before .before .args .depths .now) (c .before .before .before .before .before .before .before .before .before .before .before .before .before .before .before .before .before .before .before .before .before .before .before .before .args .lasts .now) (c .before .before .before .before .before .before .before .before .before .before .before .before .before .before .before .before .before .before .before .before .before .before .before .before .args .records .now) (c .before .before .before .before .before .before .before .before .before .before .before .before .before .before .before .before .before .before .before .before .before .before .before .before .args .run) in
-    let kept = c .before .before .before .before .before .before .before .before .before .before .before .before .before .before .before .before .before .look .ensures .passed (c .before .before .before .before .before .before .before .before .before .before .before .before .before .before .before .before .if1 .left) in
+    let start =
+    c .before .before .before .before .before .before .before .before .before .before .before .before .before .before .before
+    .before .before .before .before .before .before .before .before .before in
+    let at-look =
+    c .before .before .before .before .before .before .before .before .before .before .before .before .before .before .before
+    .before .before in
+    let at-if1 =
+    c .before .before .before .before .before .before .before .before .before .before .before .before .before .before .before
+    .before in
+    let at-try-record = c .before .before .before .before .before .before .before .before .before .before in
+    let at-record-size =
+    c .before .before .before .before .before .before .before .before .before .before .before .before .before .before .before in
+    let at-slots-in = c .before .before .before .before .before .before .before .before .before .before .before .before .before .before in
+    let at-slot-start = c .before .before .before .before .before .before .before .before .before .before .before .before .before in
+    let p = plan (start .args .shape) (start .args .marks .now) in
+    let w = world (start .args .depths .now) (start .args .lasts .now) (start .args .records .now) (start .args .run) in
+    let kept = at-look .look .ensures .passed (at-if1 .if1 .left) in
     let fit = not-false _ (c .before .before .before .before .before .before .before .before .if2 .left) in
-    let passed = sym (c .before .before .before .before .before .before .before .before .before .before .try-record .ensures .fits-is) ∙ fit in
-    ((omega (arith, newest-long p w kept (c .before .before .before .before .before .before .before .before .before .before .before .before .before .before .before .record-size .ensures) (c .before .before .before .before .before .before .before .before .before .before .before .before .before .before .slots-in .ensures) (c .before .before .before .before .before .before .before .before .before .before .before .before .before .slot-start .ensures)), newest-below p w kept (c .before .before .before .before .before .before .before .before .before .before .before .before .before .before .before .record-size .ensures) (c .before .before .before .before .before .before .before .before .before .before .before .before .before .before .slots-in .ensures), kept-some p w kept (c .before .before .before .before .before .before .before .before .before .before .before .before .before .before .before .record-size .ensures) (c .before .before .before .before .before .before .before .before .before .before .before .before .before .before .slots-in .ensures)), (clock-covers p w _ passed, omega (arith, c .before .before .before .before .before .before .before .before .before .before .try-record .ensures .off-is fit, outflow-covers p w _ passed)))
+    let passed = sym (at-try-record .try-record .ensures .fits-is) ∙ fit in (
+      (
+        omega (
+          arith,
+          newest-long p w kept (at-record-size .record-size .ensures) (at-slots-in .slots-in .ensures) (at-slot-start .slot-start .ensures),
+        ),
+        newest-below p w kept (at-record-size .record-size .ensures) (at-slots-in .slots-in .ensures),
+        kept-some p w kept (at-record-size .record-size .ensures) (at-slots-in .slots-in .ensures),
+      ),
+      (clock-covers p w _ passed, omega (arith, at-try-record .try-record .ensures .off-is fit, outflow-covers p w _ passed)),
+    )
 
 same-length-5 : tie.Need-same-length-5
 same-length-5 c = search needs
@@ -108,11 +183,33 @@ same-length-6 c = search needs
 
 returns-3 : tie.Need-returns-3
 returns-3 c =
-    let p = plan (c .before .before .before .before .before .before .before .before .before .before .before .before .before .before .before .before .before .before .before .before .before .before .before .before .before .args .shape) (c .before .before .before .before .before .before .before .before .before .before .before .before .before .before .before .before .before .before .before .before .before .before .before .before .before .args .marks .now) in
-    let w = world (c .before .before .before .before .before .before .before .before .before .before .before .before .before .before .before .before .before .before .before .before .before .before .before .before .before .args .depths .now) (c .before .before .before .before .before .before .before .before .before .before .before .before .before .before .before .before .before .before .before .before .before .before .before .before .before .args .lasts .now) (c .before .before .before .before .before .before .before .before .before .before .before .before .before .before .before .before .before .before .before .before .before .before .before .before .before .args .records .now) (c .before .before .before .before .before .before .before .before .before .before .before .before .before .before .before .before .before .before .before .before .before .before .before .before .before .args .run) in
-    let kept = c .before .before .before .before .before .before .before .before .before .before .before .before .before .before .before .before .before .before .look .ensures .passed (c .before .before .before .before .before .before .before .before .before .before .before .before .before .before .before .before .before .if1 .left) in
-    let fit = not-false _ (c .before .before .before .before .before .before .before .before .before .if2 .left) in
-    takes-back p w kept (newest-is p w kept (c .before .before .before .before .before .before .before .before .before .before .before .before .before .before .before .before .record-size .ensures) (c .before .before .before .before .before .before .before .before .before .before .before .before .before .before .before .slots-in .ensures) (c .before .before .before .before .before .before .before .before .before .before .before .before .before .before .slot-start .ensures)) (sym (c .before .before .before .before .before .before .before .before .before .before .before .try-record .ensures .fits-is) ∙ fit) (slots-of p (c .before .before .before .before .before .before .before .before .before .before .before .before .before .before .before .before .before .before .before .before .before .before .before .before .before .args .records .now) (c .before .before .before .before .before .before .before .before .before .before .before .before .before .before .before .before .record-size .ensures) (c .before .before .before .before .before .before .before .before .before .before .before .before .before .before .before .slots-in .ensures)) (c .before .before .before .before .before .before .before .before .before .before .before .try-record .ensures .off-is fit) (c .run-before .ensures) (c .before .before .before .before .before .before .before .restore-depths .ensures) (c .before .before .before .restore-lasts .ensures)
+    let start =
+    c .before .before .before .before .before .before .before .before .before .before .before .before .before .before .before
+    .before .before .before .before .before .before .before .before .before .before in
+    let at-look =
+    c .before .before .before .before .before .before .before .before .before .before .before .before .before .before .before
+    .before .before .before in
+    let at-if1 =
+    c .before .before .before .before .before .before .before .before .before .before .before .before .before .before .before
+    .before .before in
+    let at-if2 = c .before .before .before .before .before .before .before .before .before in
+    let at-record-size =
+    c .before .before .before .before .before .before .before .before .before .before .before .before .before .before .before
+    .before in
+    let at-slots-in =
+    c .before .before .before .before .before .before .before .before .before .before .before .before .before .before .before in
+    let at-slot-start = c .before .before .before .before .before .before .before .before .before .before .before .before .before .before in
+    let at-try-record = c .before .before .before .before .before .before .before .before .before .before .before in
+    let p = plan (start .args .shape) (start .args .marks .now) in
+    let w = world (start .args .depths .now) (start .args .lasts .now) (start .args .records .now) (start .args .run) in
+    let kept = at-look .look .ensures .passed (at-if1 .if1 .left) in
+    let fit = not-false _ (at-if2 .if2 .left) in
+    takes-back p w kept
+    (newest-is p w kept (at-record-size .record-size .ensures) (at-slots-in .slots-in .ensures) (at-slot-start .slot-start .ensures))
+    (sym (at-try-record .try-record .ensures .fits-is) ∙ fit)
+    (slots-of p (start .args .records .now) (at-record-size .record-size .ensures) (at-slots-in .slots-in .ensures))
+    (at-try-record .try-record .ensures .off-is fit) (c .run-before .ensures)
+    (c .before .before .before .before .before .before .before .restore-depths .ensures) (c .before .before .before .restore-lasts .ensures)
 
 pub take-back-spec : {M : Type 1} → statement M
 take-back-spec =

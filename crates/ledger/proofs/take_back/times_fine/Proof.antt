@@ -20,19 +20,30 @@ lasted-requires c κs = search needs
 
 returns : tie.Need-returns
 returns c =
-    times-fail (c .before .before .before .before .args .rec .now) 0 (lt-leb 1 (heldIn (c .before .before .before .before .args .rec .now)) (omega (arith, c .before .before .held-before .ensures, c .if1 .taken)))
+    let start = c .before .before .before .before in
+    times-fail (start .args .rec .now) 0
+    (lt-leb 1 (heldIn (start .args .rec .now)) (omega (arith, c .before .before .held-before .ensures, c .if1 .taken)))
 
 returns-2 : tie.Need-returns-2
 returns-2 c =
-    times-fail (c .before .before .before .before .before .args .rec .now) 1 (lt-leb (heldIn (c .before .before .before .before .before .args .rec .now)) mostLength (omega (arith, c .before .before .before .held-before .ensures, c .if2 .taken)))
+    let start = c .before .before .before .before .before in
+    times-fail (start .args .rec .now) 1
+    (lt-leb (heldIn (start .args .rec .now)) mostLength (omega (arith, c .before .before .before .held-before .ensures, c .if2 .taken)))
 
 returns-3 : tie.Need-returns-3
 returns-3 c =
-    times-fail (c .before .before .before .before .before .before .args .rec .now) 2 (lt-leb 1 (lastedIn (c .before .before .before .before .before .before .args .rec .now)) (omega (arith, c .before .before .before .lasted .ensures, c .if3 .taken)))
+    let start = c .before .before .before .before .before .before in
+    times-fail (start .args .rec .now) 2
+    (lt-leb 1 (lastedIn (start .args .rec .now)) (omega (arith, c .before .before .before .lasted .ensures, c .if3 .taken)))
 
 returns-4 : tie.Need-returns-4
 returns-4 c =
-    ap (λ (k : ℕ). leb k mostLength) (c .before .before .before .lasted .ensures) ∙ lasted-decides (c .before .before .before .before .before .before .args .rec .now) (omega (arith, c .before .before .before .before .held-before .ensures, c .before .before .if1 .left)) (omega (arith, c .before .before .before .before .held-before .ensures, c .before .if2 .left)) (omega (arith, c .before .before .before .lasted .ensures, c .if3 .left))
+    let at-held-before = c .before .before .before .before in
+    ap (λ (k : ℕ). leb k mostLength) (c .before .before .before .lasted .ensures) ∙ lasted-decides
+    (c .before .before .before .before .before .before .args .rec .now)
+    (omega (arith, at-held-before .held-before .ensures, c .before .before .if1 .left))
+    (omega (arith, at-held-before .held-before .ensures, c .before .if2 .left))
+    (omega (arith, c .before .before .before .lasted .ensures, c .if3 .left))
 
 pub times-fine-spec : {M : Type 1} → statement M
 times-fine-spec =

@@ -18,14 +18,19 @@ times-fine-requires c κs = search needs
 
 returns : tie.Need-returns
 returns c =
-    record-unfit (plan (c .before .before .before .before .before .args .shape) (c .before .before .before .before .before .args .marks .now)) (world (c .before .before .before .before .before .args .depths .now) [] [] (c .before .before .before .before .before .args .run)) (c .before .before .before .before .before .args .rec .now) 0 (sym (c .before .times-fine .ensures) ∙ not-true _ (c .if1 .taken))
+    let start = c .before .before .before .before .before in
+    record-unfit (plan (start .args .shape) (start .args .marks .now)) (world (start .args .depths .now) [] [] (start .args .run))
+    (start .args .rec .now) 0 (sym (c .before .times-fine .ensures) ∙ not-true _ (c .if1 .taken))
 
 lasted-requires : tie.Need-lasted-requires
 lasted-requires c κs = search needs
 
 returns-2 : tie.Need-returns-2
 returns-2 c =
-    record-unfit (plan (c .before .before .before .before .before .before .before .before .args .shape) (c .before .before .before .before .before .before .before .before .args .marks .now)) (world (c .before .before .before .before .before .before .before .before .args .depths .now) [] [] (c .before .before .before .before .before .before .before .before .args .run)) (c .before .before .before .before .before .before .before .before .args .rec .now) 1 (lt-leb (lastedIn (c .before .before .before .before .before .before .before .before .args .rec .now)) (c .before .before .before .before .before .before .before .before .args .run .clock) (omega (arith, c .before .before .lasted .ensures, c .if2 .taken)))
+    let start = c .before .before .before .before .before .before .before .before in
+    record-unfit (plan (start .args .shape) (start .args .marks .now)) (world (start .args .depths .now) [] [] (start .args .run))
+    (start .args .rec .now) 1
+    (lt-leb (lastedIn (start .args .rec .now)) (start .args .run .clock) (omega (arith, c .before .before .lasted .ensures, c .if2 .taken)))
 
 try-squares-requires : tie.Need-try-squares-requires
 try-squares-requires c κs = search needs
@@ -33,20 +38,38 @@ try-squares-requires c κs = search needs
 returns-3 : tie.Need-returns-3
 unfolding squareRestorable depthBefore heldAndGone cameAndAdded
 returns-3 c =
-    record-unfit (plan (c .before .before .before .before .before .before .before .before .before .before .before .args .shape) (c .before .before .before .before .before .before .before .before .before .before .before .args .marks .now)) (world (c .before .before .before .before .before .before .before .before .before .before .before .args .depths .now) [] [] (c .before .before .before .before .before .before .before .before .before .before .before .args .run)) (c .before .before .before .before .before .before .before .before .before .before .before .args .rec .now) 2 (sym (c .before .before .try-squares .ensures .fits-is) ∙ not-true _ (c .if3 .taken))
+    let start = c .before .before .before .before .before .before .before .before .before .before .before in
+    record-unfit (plan (start .args .shape) (start .args .marks .now)) (world (start .args .depths .now) [] [] (start .args .run))
+    (start .args .rec .now) 2 (sym (c .before .before .try-squares .ensures .fits-is) ∙ not-true _ (c .if3 .taken))
 
 returns-4 : tie.Need-returns-4
 returns-4 c =
-    let p = plan (c .before .before .before .before .before .before .before .before .before .before .before .before .before .before .args .shape) (c .before .before .before .before .before .before .before .before .before .before .before .before .before .before .args .marks .now) in
-    record-unfit p (world (c .before .before .before .before .before .before .before .before .before .before .before .before .before .before .args .depths .now) [] [] (c .before .before .before .before .before .before .before .before .before .before .before .before .before .before .args .run)) (c .before .before .before .before .before .before .before .before .before .before .before .before .before .before .args .rec .now) 3 (lt-leb (offGrid p (leavesIn (c .before .before .before .before .before .before .before .before .before .before .before .before .before .before .args .rec .now))) (c .before .before .before .before .before .before .before .before .before .before .before .before .before .before .args .run .outflow) (omega (arith, c .before .before .before .before .before .try-squares .ensures .off-is (not-false _ (c .before .before .before .if3 .left)), c .if4 .taken)))
+    let start = c .before .before .before .before .before .before .before .before .before .before .before .before .before .before in
+    let p = plan (start .args .shape) (start .args .marks .now) in
+    record-unfit p (world (start .args .depths .now) [] [] (start .args .run)) (start .args .rec .now) 3
+    (lt-leb (offGrid p (leavesIn (start .args .rec .now))) (start .args .run .outflow) (omega (arith, c .before .before .before .before .before .try-squares .ensures .off-is (not-false _ (c .before .before .before .if3 .left)), c .if4 .taken)))
 
 returns-5 : tie.Need-returns-5
 unfolding squareRestorable depthBefore heldAndGone cameAndAdded
 returns-5 c =
-    let p = plan (c .before .before .before .before .before .before .before .before .before .before .before .before .before .before .args .shape) (c .before .before .before .before .before .before .before .before .before .before .before .before .before .before .args .marks .now) in
+    let start = c .before .before .before .before .before .before .before .before .before .before .before .before .before .before in
+    let at-try-squares = c .before .before .before .before .before in
+    let at-times-fine = c .before .before .before .before .before .before .before .before .before .before in
+    let at-if1 = c .before .before .before .before .before .before .before .before .before in
+    let p = plan (start .args .shape) (start .args .marks .now) in
     let fit = not-false _ (c .before .before .before .if3 .left) in
-    let off = c .before .before .before .before .before .try-squares .ensures .off-is fit in
-    record-fit p (world (c .before .before .before .before .before .before .before .before .before .before .before .before .before .before .args .depths .now) [] [] (c .before .before .before .before .before .before .before .before .before .before .before .before .before .before .args .run)) (c .before .before .before .before .before .before .before .before .before .before .before .before .before .before .args .rec .now) fit off (sym (c .before .before .before .before .before .before .before .before .before .before .times-fine .ensures) ∙ not-false _ (c .before .before .before .before .before .before .before .before .before .if1 .left), (le-leb (lastedIn (c .before .before .before .before .before .before .before .before .before .before .before .before .before .before .args .rec .now)) (c .before .before .before .before .before .before .before .before .before .before .before .before .before .before .args .run .clock) (omega (arith, c .before .before .before .before .before .before .before .before .lasted .ensures, c .before .before .before .before .before .before .if2 .left)), (sym (c .before .before .before .before .before .try-squares .ensures .fits-is) ∙ fit, (le-leb (offGrid p (leavesIn (c .before .before .before .before .before .before .before .before .before .before .before .before .before .before .args .rec .now))) (c .before .before .before .before .before .before .before .before .before .before .before .before .before .before .args .run .outflow) (omega (arith, off, c .if4 .left)), tt))))
+    let off = at-try-squares .try-squares .ensures .off-is fit in
+    record-fit p (world (start .args .depths .now) [] [] (start .args .run)) (start .args .rec .now) fit off (
+      sym (at-times-fine .times-fine .ensures) ∙ not-false _ (at-if1 .if1 .left),
+      (
+        le-leb (lastedIn (start .args .rec .now)) (start .args .run .clock)
+            (omega (arith, c .before .before .before .before .before .before .before .before .lasted .ensures, c .before .before .before .before .before .before .if2 .left)),
+        (
+          sym (at-try-squares .try-squares .ensures .fits-is) ∙ fit,
+          (le-leb (offGrid p (leavesIn (start .args .rec .now))) (start .args .run .outflow) (omega (arith, off, c .if4 .left)), tt),
+        ),
+      ),
+    )
 
 pub try-record-spec : {M : Type 1} → statement M
 try-record-spec =

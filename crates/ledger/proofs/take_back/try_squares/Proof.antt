@@ -38,28 +38,53 @@ loop-holds c =
 
 square-restorable-requires : tie.Need-square-restorable-requires Inv-loop μ-loop
 square-restorable-requires c κs =
-    (c .before .before .before .before .before .before .pre, walk-stands _ (c .before .loop .inv .0) (c .before .before .before .before .before .before .pre .recorded .fine) (c .loop-test .taken))
+    let start = c .before .before .before .before .before .before in
+    (start .pre, walk-stands _ (c .before .loop .inv .0) (start .pre .recorded .fine) (c .loop-test .taken))
 
 returns : tie.Need-returns Inv-loop μ-loop
 returns c =
-    walked-unfit (plan (c .before .before .before .before .before .before .before .before .args .shape) (c .before .before .before .before .before .before .before .before .args .marks .now)) (c .before .before .before .before .before .before .before .before .args .rec .now) (all-fails _ _ (c .before .before .before .loop .square) (omega (arith, c .before .before .before .before .squares-of .ensures, c .before .before .loop-test .taken)) (sym (c .before .square-restorable .ensures) ∙ not-true _ (c .if1 .taken)))
+    let start = c .before .before .before .before .before .before .before .before in
+    walked-unfit (plan (start .args .shape) (start .args .marks .now)) (start .args .rec .now)
+    (all-fails _ _ (c .before .before .before .loop .square) (omega (arith, c .before .before .before .before .squares-of .ensures, c .before .before .loop-test .taken)) (sym (c .before .square-restorable .ensures) ∙ not-true _ (c .if1 .taken)))
 
 off-from-requires : tie.Need-off-from-requires Inv-loop μ-loop
 off-from-requires c κs =
-    (c .before .before .before .before .before .before .before .before .pre .recorded, walk-stands _ (c .before .before .before .loop .inv .0) (c .before .before .before .before .before .before .before .before .pre .recorded .fine) (c .before .before .loop-test .taken))
+    let start = c .before .before .before .before .before .before .before .before in (
+      start .pre .recorded,
+      walk-stands _ (c .before .before .before .loop .inv .0) (start .pre .recorded .fine) (c .before .before .loop-test .taken),
+    )
 
 add-off : tie.Need-add-off Inv-loop μ-loop
 add-off c =
-    let p = plan (c .before .before .before .before .before .before .before .before .before .args .shape) (c .before .before .before .before .before .before .before .before .before .args .marks .now) in
-    omega (arith, c .before .before .before .before .loop .inv .2, off-sum-small (c .before .before .before .before .before .before .before .before .before .args .rec .now) (λ k. c .before .before .before .before .before .before .before .shared-slice-known2 .given k .fits) p (c .before .before .before .before .loop .square), c .off-from .ensures, off-small (c .before .before .before .before .before .before .before .before .before .args .rec .now) (λ k. c .before .before .before .before .before .before .before .shared-slice-known2 .given k .fits) p (c .before .before .before .before .loop .square), c .before .before .before .loop-test .taken, c .before .before .before .before .before .squares-of .ensures, c .before .before .before .before .before .before .before .before .before .pre .recorded .fine .few)
+    let start = c .before .before .before .before .before .before .before .before .before in
+    let turn = c .before .before .before .before in
+    let at-shared-slice-known2 = c .before .before .before .before .before .before .before in
+    let p = plan (start .args .shape) (start .args .marks .now) in
+    omega (
+      arith,
+      turn .loop .inv .2,
+      off-sum-small (start .args .rec .now) (λ k. at-shared-slice-known2 .shared-slice-known2 .given k .fits) p (turn .loop .square),
+      c .off-from .ensures,
+      off-small (start .args .rec .now) (λ k. at-shared-slice-known2 .shared-slice-known2 .given k .fits) p (turn .loop .square),
+      c .before .before .before .loop-test .taken,
+      c .before .before .before .before .before .squares-of .ensures,
+      start .pre .recorded .fine .few,
+    )
 
 add-square : tie.Need-add-square Inv-loop μ-loop
 add-square c =
-    omega (arith, c .before .before .before .loop-test .taken, c .before .before .before .before .before .squares-of .ensures, c .before .before .before .before .before .before .before .before .before .pre .recorded .fine .few)
+    let at-pre = c .before .before .before .before .before .before .before .before .before in
+    omega (
+      arith,
+      c .before .before .before .loop-test .taken,
+      c .before .before .before .before .before .squares-of .ensures,
+      at-pre .pre .recorded .fine .few,
+    )
 
 next-column-requires : tie.Need-next-column-requires Inv-loop μ-loop
 next-column-requires c κs =
-    (c .before .before .before .before .before .before .before .before .before .pre .recorded .fine, walk-column _ (c .before .before .before .before .loop .inv .0) (c .before .before .before .before .before .before .before .before .before .pre .recorded .fine))
+    let start = c .before .before .before .before .before .before .before .before .before in
+    (start .pre .recorded .fine, walk-column _ (c .before .before .before .before .loop .inv .0) (start .pre .recorded .fine))
 
 loop-less : tie.Need-loop-less Inv-loop μ-loop
 loop-less c =
@@ -67,13 +92,22 @@ loop-less c =
 
 loop-again : tie.Need-loop-again Inv-loop μ-loop
 loop-again c =
-    let p = plan (c .before .before .before .before .before .before .before .before .before .before .args .shape) (c .before .before .before .before .before .before .before .before .before .before .args .marks .now) in
-    (walk-next _ (c .before .before .before .before .before .loop .inv .0) (c .before .before .before .before .loop-test .taken) (c .next-column .ensures), all-more _ _ (c .before .before .before .before .before .loop .inv .1) (sym (c .before .before .before .square-restorable .ensures) ∙ not-false _ (c .before .before .if1 .left)), ap₂ _+_ (c .before .before .before .before .before .loop .inv .2) (c .before .off-from .ensures) ∙ sym (sum-more (c .before .before .before .before .before .loop .square) (offSquare p (leavesIn (c .before .before .before .before .before .before .before .before .before .before .args .rec .now)))))
+    let start = c .before .before .before .before .before .before .before .before .before .before in
+    let turn = c .before .before .before .before .before in
+    let p = plan (start .args .shape) (start .args .marks .now) in (
+      walk-next _ (turn .loop .inv .0) (c .before .before .before .before .loop-test .taken) (c .next-column .ensures),
+      all-more _ _ (turn .loop .inv .1)
+          (sym (c .before .before .before .square-restorable .ensures) ∙ not-false _ (c .before .before .if1 .left)),
+      ap₂ _+_ (turn .loop .inv .2) (c .before .off-from .ensures) ∙ sym
+          (sum-more (turn .loop .square) (offSquare p (leavesIn (start .args .rec .now)))),
+    )
 
 returns-2 : tie.Need-returns-2 Inv-loop μ-loop
 returns-2 c =
+    let start = c .before .before .before .before .before .before in
     let end = walk-end _ (c .before .loop .inv .0) (c .loop-test .left) in
-    walked-fit (plan (c .before .before .before .before .before .before .args .shape) (c .before .before .before .before .before .before .args .marks .now)) (c .before .before .before .before .before .before .args .rec .now) (all-whole _ (c .before .loop .inv .1) end) (c .before .loop .inv .2) end
+    walked-fit (plan (start .args .shape) (start .args .marks .now)) (start .args .rec .now) (all-whole _ (c .before .loop .inv .1) end)
+    (c .before .loop .inv .2) end
 
 pub try-squares-spec : {M : Type 1} → statement M
 try-squares-spec =

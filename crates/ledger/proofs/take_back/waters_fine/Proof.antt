@@ -32,29 +32,42 @@ loop-holds c =
 
 square-fine-requires : tie.Need-square-fine-requires Inv-loop μ-loop
 square-fine-requires c κs =
-    (omega (arith, c .before .before .before .before .before .before .pre .marks-long, c .before .before .squares-of .ensures, c .loop-test .taken), omega (arith, c .before .before .before .before .before .before .pre .depths-long, c .before .before .squares-of .ensures, c .loop-test .taken), omega (arith, c .before .before .before .before .before .before .pre .lasts-long, c .before .before .squares-of .ensures, c .loop-test .taken))
+    let start = c .before .before .before .before .before .before in (
+      omega (arith, start .pre .marks-long, c .before .before .squares-of .ensures, c .loop-test .taken),
+      omega (arith, start .pre .depths-long, c .before .before .squares-of .ensures, c .loop-test .taken),
+      omega (arith, start .pre .lasts-long, c .before .before .squares-of .ensures, c .loop-test .taken),
+    )
 
 returns : tie.Need-returns Inv-loop μ-loop
 unfolding watersFine
 returns c =
-    sym (all-fails _ _ (c .before .before .before .loop .square) (omega (arith, c .before .before .before .before .squares-of .ensures, c .before .before .loop-test .taken)) (sym (c .before .square-fine .ensures) ∙ not-true _ (c .if1 .taken)))
+    sym
+    (all-fails _ _ (c .before .before .before .loop .square) (omega (arith, c .before .before .before .before .squares-of .ensures, c .before .before .loop-test .taken)) (sym (c .before .square-fine .ensures) ∙ not-true _ (c .if1 .taken)))
 
 add-square : tie.Need-add-square Inv-loop μ-loop
 add-square c =
-    omega (arith, c .before .before .before .before .squares-of .ensures, c .before .before .before .before .before .before .before .before .pre .fine .few, c .before .before .loop-test .taken)
+    omega (
+      arith,
+      c .before .before .before .before .squares-of .ensures,
+      c .before .before .before .before .before .before .before .before .pre .fine .few,
+      c .before .before .loop-test .taken,
+    )
 
 loop-less : tie.Need-loop-less Inv-loop μ-loop
 loop-less c =
     omega (arith, c .before .before .loop-test .taken)
 
 loop-again : tie.Need-loop-again Inv-loop μ-loop
-loop-again c =
-    (omega (arith, c .before .before .loop-test .taken), all-more _ _ (c .before .before .before .loop .inv .1) (sym (c .before .square-fine .ensures) ∙ not-false _ (c .if1 .left)))
+loop-again c = (
+  omega (arith, c .before .before .loop-test .taken),
+  all-more _ _ (c .before .before .before .loop .inv .1) (sym (c .before .square-fine .ensures) ∙ not-false _ (c .if1 .left)),
+)
 
 returns-2 : tie.Need-returns-2 Inv-loop μ-loop
 unfolding watersFine
 returns-2 c =
-    sym (all-whole _ (c .before .loop .inv .1) (omega (arith, c .before .before .squares-of .ensures, c .before .loop .inv .0, c .loop-test .left)))
+    sym
+    (all-whole _ (c .before .loop .inv .1) (omega (arith, c .before .before .squares-of .ensures, c .before .loop .inv .0, c .loop-test .left)))
 
 pub waters-fine-spec : {M : Type 1} → statement M
 waters-fine-spec =
