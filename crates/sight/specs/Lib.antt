@@ -1,0 +1,4 @@
+pub mod Arrows
+pub mod Refusals
+pub mod Speeds
+pub mod WetRows
