@@ -1,1 +1,4 @@
-
+pub mod ArrowLaws
+pub mod RefusalLaws
+pub mod SpeedLaws
+pub mod WetLaws

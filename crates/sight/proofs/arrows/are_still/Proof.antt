@@ -1,41 +1,41 @@
+-- `sight::arrows::are_still` meets its contract: the first side that is not still decides, and after the others the last one does.
+-- Assumes nothing.
+use mathlib.Core.Path.{sym, _∙_}
+use mathlib.Core.List.{[], _∷_}
+use borrow.Author.Tests.{not-true, not-false}
 use borrow.Author.Needs.{needs}
+use Rattle.reckon.proofs.TestLaws.{every-fails}
+use Rattle.sight.proofs.RefusalLaws.{every-last}
 use Rattle.sight.proofs.arrows.are_still.Statement.{statement}
 use Rattle.sight.proofs.arrows.are_still.Tie as tie
-use Rattle.sight.proofs.arrows.are_still.Reads as reads
-use Rattle.sight.proofs.arrows.are_still.Lts as lts
-use Rattle.sight.proofs.arrows.is_still.Reads as is-still-reads
 
--- src/arrows.rt:134:9
 is-still-requires : tie.Need-is-still-requires
 is-still-requires c κs = search needs
 
--- src/arrows.rt:135:9
 returns : tie.Need-returns
-returns c = ?
+returns c = sym (every-fails _ 0 (sym (c .before .is-still .ensures) ∙ not-true _ (c .if1 .taken)))
 
--- src/arrows.rt:137:9
 is-still-requires-2 : tie.Need-is-still-requires-2
 is-still-requires-2 c κs = search needs
 
--- src/arrows.rt:138:9
 returns-2 : tie.Need-returns-2
-returns-2 c = ?
+returns-2 c = sym (every-fails _ 1 (sym (c .before .is-still2 .ensures) ∙ not-true _ (c .if2 .taken)))
 
--- src/arrows.rt:140:9
 is-still-requires-3 : tie.Need-is-still-requires-3
 is-still-requires-3 c κs = search needs
 
--- src/arrows.rt:141:9
 returns-3 : tie.Need-returns-3
-returns-3 c = ?
+returns-3 c = sym (every-fails _ 2 (sym (c .before .is-still3 .ensures) ∙ not-true _ (c .if3 .taken)))
 
--- src/arrows.rt:143:5
 is-still-requires-4 : tie.Need-is-still-requires-4
 is-still-requires-4 c κs = search needs
 
--- src/arrows.rt:131:1
 returns-4 : tie.Need-returns-4
-returns-4 c = ?
+returns-4 c =
+    let north = sym (c .before .before .before .before .before .before .is-still .ensures) ∙ not-false _ (c .before .before .before .before .before .if1 .left) in
+    let east = sym (c .before .before .before .before .is-still2 .ensures) ∙ not-false _ (c .before .before .before .if2 .left) in
+    let south = sym (c .before .before .is-still3 .ensures) ∙ not-false _ (c .before .if3 .left) in
+    c .is-still4 .ensures ∙ sym (every-last (_ ∷ _ ∷ _ ∷ []) (north, (east, (south, tt))))
 
 pub are-still-spec : {M : Type 1} → statement M
 are-still-spec =

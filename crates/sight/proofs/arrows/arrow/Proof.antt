@@ -1,69 +1,62 @@
+-- `sight::arrows::arrow` meets its contract: refused before its record is read, or by what the record holds, or seen by it.
+-- Assumes nothing.
+use mathlib.Core.Path.{refl}
+use native.Mathlib.Omega.{arith}
+use borrow.Author.Tests.{not-true, not-false}
+use borrow.Author.Needs.{needs}
+use Rattle.sight.proofs.ArrowLaws.{opened, seen-refused, seen-late, seen-is, timed, room-within, record-is, record-long, laid, stands}
 use Rattle.sight.proofs.arrows.arrow.Statement.{statement}
 use Rattle.sight.proofs.arrows.arrow.Tie as tie
-use Rattle.sight.proofs.arrows.arrow.Reads as reads
-use Rattle.sight.proofs.arrows.arrow.Lts as lts
-use Rattle.grid.proofs.squares.square_at.Reads as square-at-reads
-use Rattle.ledger.proofs.record.record_size.Reads as record-size-reads
-use Rattle.ledger.proofs.take_back.times_fine.Reads as times-fine-reads
-use Rattle.sight.proofs.arrows.early_refusal.Reads as early-refusal-reads
-use Rattle.sight.proofs.arrows.seen.Reads as seen-reads
-use Rattle.trials.proofs.slot_start.Reads as slot-start-reads
 
--- src/arrows.rt:189:9
 early-refusal-requires : tie.Need-early-refusal-requires
-early-refusal-requires c κs = ?
+early-refusal-requires c κs = search needs
 
--- src/arrows.rt:191:9
 returns : tie.Need-returns
-returns c = ?
+returns c = seen-refused _ _ _ _ _ (c .before .early-refusal .ensures) (c .if1 .taken)
 
--- src/arrows.rt:193:9
 record-size-requires : tie.Need-record-size-requires
-record-size-requires c κs = ?
+record-size-requires c κs = opened _ _ _ _ _ (c .before .early-refusal .ensures) (c .if1 .left) .shared .sizes .fine
 
--- src/arrows.rt:194:9
 slot-start-requires : tie.Need-slot-start-requires
-slot-start-requires c κs = ?
+slot-start-requires c κs = omega (arith, room-within (opened _ _ _ _ _ (c .before .before .early-refusal .ensures) (c .before .if1 .left)) (c .record-size .ensures) refl, (c .before .before .before .before .before .before .good))
 
--- src/arrows.rt:195:15
 add-end : tie.Need-add-end
-add-end c = ?
+add-end c = omega (arith, room-within (opened _ _ _ _ _ (c .before .before .before .early-refusal .ensures) (c .before .before .if1 .left)) (c .before .record-size .ensures) (c .slot-start .ensures), (c .before .before .before .before .before .before .before .good))
 
--- src/arrows.rt:196:15
 mul-rec : tie.Need-mul-rec
-mul-rec c = ?
+mul-rec c = omega (arith, room-within (opened _ _ _ _ _ (c .before .before .before .early-refusal .ensures) (c .before .before .if1 .left)) (c .before .record-size .ensures) (c .slot-start .ensures), (c .before .before .before .before .before .before .before .good))
 
--- src/arrows.rt:196:15
 sub-rec : tie.Need-sub-rec
-sub-rec c = ?
+sub-rec c = omega arith
 
--- src/arrows.rt:196:15
 part-rec-start : tie.Need-part-rec-start
-part-rec-start c = ?
+part-rec-start c = omega arith
 
--- src/arrows.rt:196:15
 part-rec-end : tie.Need-part-rec-end
-part-rec-end c = ?
+part-rec-end c = room-within (opened _ _ _ _ _ (c .before .before .before .early-refusal .ensures) (c .before .before .if1 .left)) (c .before .record-size .ensures) (c .slot-start .ensures)
 
--- src/arrows.rt:197:9
 times-fine-requires : tie.Need-times-fine-requires
-times-fine-requires c κs = ?
+times-fine-requires c κs = omega (arith, record-long (opened _ _ _ _ _ (c .before .before .before .before .early-refusal .ensures) (c .before .before .before .if1 .left)) (c .before .before .record-size .ensures) (c .before .slot-start .ensures))
 
--- src/arrows.rt:198:9
 returns-2 : tie.Need-returns-2
-returns-2 c = ?
+returns-2 c =
+    let rec = record-is (opened _ _ _ _ _ (c .before .before .before .before .before .before .early-refusal .ensures) (c .before .before .before .before .before .if1 .left)) (c .before .before .before .before .record-size .ensures) (c .before .before .before .slot-start .ensures) in
+    seen-late _ _ _ _ _ (c .before .before .before .before .before .before .early-refusal .ensures) (c .before .before .before .before .before .if1 .left) rec (c .before .times-fine .ensures) (not-true _ (c .if2 .taken))
 
--- src/arrows.rt:200:50
 square-at-requires : tie.Need-square-at-requires
-square-at-requires c κs = ?
+square-at-requires c κs = opened _ _ _ _ _ (c .before .before .before .before .before .before .early-refusal .ensures) (c .before .before .before .before .before .if1 .left) .on-grid
 
--- src/arrows.rt:200:5
 seen-requires : tie.Need-seen-requires
-seen-requires c κs = ?
+seen-requires c κs =
+    let left = opened _ _ _ _ _ (c .before .before .before .before .before .before .before .early-refusal .ensures) (c .before .before .before .before .before .before .if1 .left) in
+    let rec = record-is left (c .before .before .before .before .before .record-size .ensures) (c .before .before .before .before .slot-start .ensures) in
+    let times = timed _ _ _ _ _ (c .before .before .before .before .before .before .before .early-refusal .ensures) (c .before .before .before .before .before .before .if1 .left) rec (c .before .before .times-fine .ensures) (not-false _ (c .before .if2 .left)) (left .side-to) in
+    (laid left (c .before .before .before .before .before .record-size .ensures) (c .before .before .before .before .slot-start .ensures), (times, stands (left .on-grid) (c .square-at .ensures)))
 
--- src/arrows.rt:177:1
 returns-3 : tie.Need-returns-3
-returns-3 c = ?
+returns-3 c =
+    let rec = record-is (opened _ _ _ _ _ (c .before .before .before .before .before .before .before .before .early-refusal .ensures) (c .before .before .before .before .before .before .before .if1 .left)) (c .before .before .before .before .before .before .record-size .ensures) (c .before .before .before .before .before .slot-start .ensures) in
+    seen-is _ _ _ _ _ (c .before .before .before .before .before .before .before .before .early-refusal .ensures) (c .before .before .before .before .before .before .before .if1 .left) rec (c .before .before .before .times-fine .ensures) (not-false _ (c .before .before .if2 .left)) (c .before .square-at .ensures) (c .seen .ensures)
 
 pub arrow-spec : {M : Type 1} → statement M
 arrow-spec =

@@ -1,48 +1,54 @@
+-- `sight::arrows::early_refusal` meets its contract: the first test that fails gives its number.
+-- Assumes nothing.
+use mathlib.Core.Path.{sym, ap, _∙_}
+use Prim.Native.Nat.{ℕ}
+use native.Mathlib.Omega.{arith}
+use borrow.Author.Tests.{not-true, not-false}
+use borrow.Author.Needs.{needs}
+use Rattle.ledger.specs.Runs.{runFine}
+use Rattle.sight.proofs.RefusalLaws.{lent}
+use Rattle.sight.proofs.ArrowLaws.{early-shared, early-run, early-kept, early-none, slots-are}
 use Rattle.sight.proofs.arrows.early_refusal.Statement.{statement}
 use Rattle.sight.proofs.arrows.early_refusal.Tie as tie
-use Rattle.sight.proofs.arrows.early_refusal.Reads as reads
-use Rattle.sight.proofs.arrows.early_refusal.Lts as lts
-use Rattle.ledger.proofs.record.record_size.Reads as record-size-reads
-use Rattle.ledger.proofs.runs.run_fine.Reads as run-fine-reads
-use Rattle.sight.proofs.arrows.asked_fine.Reads as asked-fine-reads
-use Rattle.sight.proofs.refusals.shared_refusal.Reads as shared-refusal-reads
-use Rattle.trials.proofs.slots_in.Reads as slots-in-reads
 
--- src/arrows.rt:71:9
 asked-fine-requires : tie.Need-asked-fine-requires
-asked-fine-requires c κs = ?
+asked-fine-requires c κs = search needs
 
--- src/arrows.rt:72:9
 shared-refusal-requires : tie.Need-shared-refusal-requires
-shared-refusal-requires c κs = ?
+shared-refusal-requires c κs = search needs
 
--- src/arrows.rt:74:9
 returns : tie.Need-returns
-returns c = ?
+returns c = early-shared _ _ _ _ _ (c .before .before .asked-fine .ensures) (c .before .shared-refusal .ensures) (c .if1 .taken)
 
--- src/arrows.rt:76:35
 record-size-requires : tie.Need-record-size-requires
-record-size-requires c κs = ?
+record-size-requires c κs = lent _ _ _ (sym (c .before .shared-refusal .ensures) ∙ c .if1 .left) .sizes .fine
 
--- src/arrows.rt:76:18
 slots-in-requires : tie.Need-slots-in-requires
-slots-in-requires c κs = ?
+slots-in-requires c κs = omega (arith, c .record-size .ensures)
 
--- src/arrows.rt:76:9
 run-fine-requires : tie.Need-run-fine-requires
-run-fine-requires c κs = ?
+run-fine-requires c κs = search needs
 
--- src/arrows.rt:77:9
 returns-2 : tie.Need-returns-2
-returns-2 c = ?
+returns-2 c =
+    let fine =
+        c .before .run-fine .ensures
+        ∙ ap (λ (k : ℕ). runFine k (c .before .before .before .before .before .before .before .before .before .before .args .run)) (slots-are _ _ (c .before .before .slots-in .ensures) (c .before .before .before .record-size .ensures)) in
+    early-run _ _ _ _ _ (c .before .before .before .before .before .before .asked-fine .ensures) (c .before .before .before .before .before .shared-refusal .ensures) (c .before .before .before .before .if1 .left) fine (not-true _ (c .if2 .taken))
 
--- src/arrows.rt:80:9
 returns-3 : tie.Need-returns-3
-returns-3 c = ?
+returns-3 c =
+    let fine =
+        c .before .before .before .run-fine .ensures
+        ∙ ap (λ (k : ℕ). runFine k (c .before .before .before .before .before .before .before .before .before .before .before .before .args .run)) (slots-are _ _ (c .before .before .before .before .slots-in .ensures) (c .before .before .before .before .before .record-size .ensures)) in
+    early-kept _ _ _ _ _ (c .before .before .before .before .before .before .before .before .asked-fine .ensures) (c .before .before .before .before .before .before .before .shared-refusal .ensures) (c .before .before .before .before .before .before .if1 .left) fine (not-false _ (c .before .before .if2 .left)) (c .if3 .taken)
 
--- src/arrows.rt:59:1
 returns-4 : tie.Need-returns-4
-returns-4 c = ?
+returns-4 c =
+    let fine =
+        c .before .before .before .run-fine .ensures
+        ∙ ap (λ (k : ℕ). runFine k (c .before .before .before .before .before .before .before .before .before .before .before .before .args .run)) (slots-are _ _ (c .before .before .before .before .slots-in .ensures) (c .before .before .before .before .before .record-size .ensures)) in
+    early-none _ _ _ _ _ (c .before .before .before .before .before .before .before .before .asked-fine .ensures) (c .before .before .before .before .before .before .before .shared-refusal .ensures) (c .before .before .before .before .before .before .if1 .left) fine (not-false _ (c .before .before .if2 .left)) (c .if3 .left)
 
 pub early-refusal-spec : {M : Type 1} → statement M
 early-refusal-spec =

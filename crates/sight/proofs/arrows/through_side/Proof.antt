@@ -1,70 +1,64 @@
+-- `sight::arrows::through_side` meets its contract: the side is off the grid, towards a closed square or towards an open one.
+-- Assumes nothing.
+use mathlib.Core.Path.{sym, _∙_}
+use native.Mathlib.Omega.{arith}
 use borrow.Author.Needs.{needs}
+use Rattle.sight.proofs.RefusalLaws.{depth-to}
+use Rattle.sight.proofs.ArrowLaws.{side-off, side-closed, side-open}
+use denote.Ref.{now}
 use Rattle.sight.proofs.arrows.through_side.Statement.{statement}
 use Rattle.sight.proofs.arrows.through_side.Tie as tie
-use Rattle.sight.proofs.arrows.through_side.Reads as reads
-use Rattle.sight.proofs.arrows.through_side.Lts as lts
-use Rattle.grid.proofs.marks.is_closed.Reads as is-closed-reads
-use Rattle.grid.proofs.squares.beside_on.Reads as beside-on-reads
-use Rattle.grid.proofs.squares.squares_of.Reads as squares-of-reads
-use Rattle.ledger.proofs.record.leaving.Reads as leaving-reads
-use Rattle.ledger.proofs.record.sent_to.Reads as sent-to-reads
-use Rattle.reckon.proofs.numbers.number.Reads as number-reads
 
--- src/arrows.rt:100:9
 number-requires : tie.Need-number-requires
 number-requires c κs = search needs
 
--- src/arrows.rt:101:9
 beside-on-requires : tie.Need-beside-on-requires
 beside-on-requires c κs = search needs
 
--- src/arrows.rt:102:8
 squares-of-requires : tie.Need-squares-of-requires
 squares-of-requires c κs = search needs
 
--- src/arrows.rt:104:18
 leaving-requires : tie.Need-leaving-requires
 leaving-requires c κs = search needs
 
--- src/arrows.rt:106:19
 add-t13 : tie.Need-add-t13
-add-t13 c = ?
+add-t13 c = omega (arith, depth-to _ _ (c .before .before .before .before .before .before .before .before .pre .0 .depths-fine) (c .before .before .before .before .before .before .before .before .pre .1 .0 .0 .inside) (c .before .before .before .before .before .before .before .before .pre .1 .0 .1), c .before .before .before .before .number .ensures)
 
--- src/arrows.rt:103:9
 returns : tie.Need-returns
-returns c = ?
+returns c =
+    let low = depth-to _ _ (c .before .before .before .before .before .before .before .before .pre .0 .depths-fine) (c .before .before .before .before .before .before .before .before .pre .1 .0 .0 .inside) (c .before .before .before .before .before .before .before .before .pre .1 .0 .1) in
+    side-off _ _ (now (c .before .before .before .before .before .before .before .before .args .rec)) _ _ (λ k. omega (arith, c .before .before .before .before .before .shared-slice-known3 .given k)) (c .before .before .before .before .number .ensures) (c .before .before .before .beside-on .ensures) (c .before .before .squares-of .ensures) low (c .before .before .before .before .before .before .before .before .pre .0 .recorded .marks-long) (c .before .if1 .taken) (c .leaving .ensures)
 
--- src/arrows.rt:109:8
 is-closed-requires : tie.Need-is-closed-requires
 is-closed-requires c κs = search needs
 
--- src/arrows.rt:113:19
 add-t15 : tie.Need-add-t15
-add-t15 c = ?
+add-t15 c = omega (arith, depth-to _ _ (c .before .before .before .before .before .before .before .before .before .pre .0 .depths-fine) (c .before .before .before .before .before .before .before .before .before .pre .1 .0 .0 .inside) (c .before .before .before .before .before .before .before .before .before .pre .1 .0 .1), c .before .before .before .before .before .number .ensures)
 
--- src/arrows.rt:110:9
 returns-2 : tie.Need-returns-2
-returns-2 c = ?
+returns-2 c =
+    let low = depth-to _ _ (c .before .before .before .before .before .before .before .before .before .pre .0 .depths-fine) (c .before .before .before .before .before .before .before .before .before .pre .1 .0 .0 .inside) (c .before .before .before .before .before .before .before .before .before .pre .1 .0 .1) in
+    side-closed _ _ (now (c .before .before .before .before .before .before .before .before .before .args .rec)) _ _ (λ k. omega (arith, c .before .before .before .before .before .before .shared-slice-known3 .given k)) (c .before .before .before .before .before .number .ensures) (c .before .before .before .before .beside-on .ensures) (c .before .before .before .squares-of .ensures) low (c .before .before .if1 .left) (sym (c .before .is-closed .ensures) ∙ c .if2 .taken)
 
--- src/arrows.rt:117:14
 leaving-requires-2 : tie.Need-leaving-requires-2
 leaving-requires-2 c κs = search needs
 
--- src/arrows.rt:118:15
 sent-to-requires : tie.Need-sent-to-requires
 sent-to-requires c κs = search needs
 
--- src/arrows.rt:119:21
 number-requires-2 : tie.Need-number-requires-2
 number-requires-2 c κs = search needs
 
--- src/arrows.rt:119:15
 add-t19 : tie.Need-add-t19
-add-t19 c = ?
+add-t19 c =
+    let near = depth-to _ _ (c .before .before .before .before .before .before .before .before .before .before .before .before .pre .0 .depths-fine) (omega (arith, c .before .before .before .before .before .before .squares-of .ensures, c .before .before .before .before .before .if1 .left)) (sym (c .before .before .before .before .is-closed .ensures) ∙ c .before .before .before .if2 .left) in
+    omega (arith, depth-to _ _ (c .before .before .before .before .before .before .before .before .before .before .before .before .pre .0 .depths-fine) (c .before .before .before .before .before .before .before .before .before .before .before .before .pre .1 .0 .0 .inside) (c .before .before .before .before .before .before .before .before .before .before .before .before .pre .1 .0 .1), near, c .before .before .before .before .before .before .before .before .number .ensures, c .number2 .ensures)
 
--- src/arrows.rt:86:1
 returns-3 : tie.Need-returns-3
-returns-3 c = ?
+returns-3 c =
+    let low = depth-to _ _ (c .before .before .before .before .before .before .before .before .before .before .before .before .pre .0 .depths-fine) (c .before .before .before .before .before .before .before .before .before .before .before .before .pre .1 .0 .0 .inside) (c .before .before .before .before .before .before .before .before .before .before .before .before .pre .1 .0 .1) in
+    let near = depth-to _ _ (c .before .before .before .before .before .before .before .before .before .before .before .before .pre .0 .depths-fine) (omega (arith, c .before .before .before .before .before .before .squares-of .ensures, c .before .before .before .before .before .if1 .left)) (sym (c .before .before .before .before .is-closed .ensures) ∙ c .before .before .before .if2 .left) in
+    side-open _ _ (now (c .before .before .before .before .before .before .before .before .before .before .before .before .args .rec)) _ _ (λ k. omega (arith, c .before .before .before .before .before .before .before .before .before .shared-slice-known3 .given k)) (c .before .before .before .before .before .before .before .before .number .ensures) (c .before .before .before .before .before .before .before .beside-on .ensures) (c .before .before .before .before .before .before .squares-of .ensures) low (sym (c .before .before .before .before .is-closed .ensures) ∙ c .before .before .before .if2 .left) (c .before .before .leaving2 .ensures) (c .before .sent-to .ensures) (c .number2 .ensures) near
 
 pub through-side-spec : {M : Type 1} → statement M
 through-side-spec =

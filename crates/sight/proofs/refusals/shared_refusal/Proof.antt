@@ -1,42 +1,56 @@
+-- `sight::refusals::shared_refusal` meets its contract: the first test that fails gives its number.
+-- Assumes nothing.
+use mathlib.Core.Path.{sym, _∙_}
+use borrow.Author.Tests.{not-true, not-false}
+use borrow.Author.Needs.{needs}
+use Rattle.reckon.proofs.TestLaws.{refusal-here, refusal-later, passed-refusal}
+use Rattle.sight.specs.Refusals.{sharedRows}
+use Rattle.sight.proofs.RefusalLaws.{sized}
 use Rattle.sight.proofs.refusals.shared_refusal.Statement.{statement}
 use Rattle.sight.proofs.refusals.shared_refusal.Tie as tie
-use Rattle.sight.proofs.refusals.shared_refusal.Reads as reads
-use Rattle.sight.proofs.refusals.shared_refusal.Lts as lts
-use Rattle.grid.proofs.marks.marks_fine.Reads as marks-fine-reads
-use Rattle.sight.proofs.refusals.depths_fine.Reads as depths-fine-reads
-use Rattle.sight.proofs.refusals.sizes_fine.Reads as sizes-fine-reads
 
--- src/refusals.rt:40:9
 sizes-fine-requires : tie.Need-sizes-fine-requires
-sizes-fine-requires c κs = ?
+sizes-fine-requires c κs = search needs
 
--- src/refusals.rt:41:9
 returns : tie.Need-returns
-returns c = ?
+unfolding sharedRows
+returns c = sym (refusal-here 1 _ (sym (c .before .sizes-fine .ensures) ∙ not-true _ (c .if1 .taken)))
 
--- src/refusals.rt:44:9
 returns-2 : tie.Need-returns-2
-returns-2 c = ?
+unfolding sharedRows
+returns-2 c = sym (refusal-later 1 _ (sym (c .before .before .sizes-fine .ensures) ∙ not-false _ (c .before .if1 .left)) ∙ refusal-here 1 _ (not-true _ (c .if2 .taken)))
 
--- src/refusals.rt:46:9
 marks-fine-requires : tie.Need-marks-fine-requires
-marks-fine-requires c κs = ?
+marks-fine-requires c κs =
+    let sizes = sized _ _ (sym (c .before .before .sizes-fine .ensures) ∙ not-false _ (c .before .if1 .left)) in
+    record { fine = sizes .fine; whole = sizes .marks-long }
 
--- src/refusals.rt:47:9
 returns-3 : tie.Need-returns-3
-returns-3 c = ?
+unfolding sharedRows
+returns-3 c =
+    sym
+    (refusal-later 1 _ (sym (c .before .before .before .before .sizes-fine .ensures) ∙ not-false _ (c .before .before .before .if1 .left))
+    ∙ (refusal-later 1 _ (not-false _ (c .before .before .if2 .left)) ∙ refusal-here 2 _ (sym (c .before .marks-fine .ensures) ∙ not-true _ (c .if3 .taken))))
 
--- src/refusals.rt:49:9
 depths-fine-requires : tie.Need-depths-fine-requires
-depths-fine-requires c κs = ?
+depths-fine-requires c κs = sized _ _ (sym (c .before .before .before .before .sizes-fine .ensures) ∙ not-false _ (c .before .before .before .if1 .left))
 
--- src/refusals.rt:50:9
 returns-4 : tie.Need-returns-4
-returns-4 c = ?
+unfolding sharedRows
+returns-4 c =
+    sym
+    (refusal-later 1 _ (sym (c .before .before .before .before .before .before .sizes-fine .ensures) ∙ not-false _ (c .before .before .before .before .before .if1 .left))
+    ∙ (refusal-later 1 _ (not-false _ (c .before .before .before .before .if2 .left))
+    ∙ (refusal-later 2 _ (sym (c .before .before .before .marks-fine .ensures) ∙ not-false _ (c .before .before .if3 .left)) ∙ refusal-here 3 _ (sym (c .before .depths-fine .ensures) ∙ not-true _ (c .if4 .taken)))))
 
--- src/refusals.rt:37:1
 returns-5 : tie.Need-returns-5
-returns-5 c = ?
+unfolding sharedRows
+returns-5 c =
+    let sizes = sym (c .before .before .before .before .before .before .sizes-fine .ensures) ∙ not-false _ (c .before .before .before .before .before .if1 .left) in
+    let more = not-false _ (c .before .before .before .before .if2 .left) in
+    let marks = sym (c .before .before .before .marks-fine .ensures) ∙ not-false _ (c .before .before .if3 .left) in
+    let depths = sym (c .before .depths-fine .ensures) ∙ not-false _ (c .if4 .left) in
+    sym (passed-refusal _ (sizes, (more, (marks, (depths, tt)))))
 
 pub shared-refusal-spec : {M : Type 1} → statement M
 shared-refusal-spec =

@@ -1,53 +1,46 @@
+-- `sight::speeds::side_speed` meets its contract: the sign of net decides, and what is divided, and by what, is below 2 ^ 53.
+-- Assumes nothing.
+use mathlib.Core.Path.{sym, ap, _∙_}
+use native.Mathlib.Omega.{arith}
+use lib.Ieee as Ieee
 use borrow.Author.Needs.{needs}
+use Rattle.sight.proofs.SpeedLaws.{above-le, below-le, exact, speed-none, speed-out, speed-back}
 use Rattle.sight.proofs.speeds.side_speed.Statement.{statement}
 use Rattle.sight.proofs.speeds.side_speed.Tie as tie
-use Rattle.sight.proofs.speeds.side_speed.Reads as reads
-use Rattle.sight.proofs.speeds.side_speed.Lts as lts
-use Rattle.sight.proofs.speeds.quotient.Reads as quotient-reads
 
--- src/speeds.rt:36:9
 returns : tie.Need-returns
-returns c = ?
+unfolding Ieee.ofBits
+returns c = sym (speed-none _ _ _ (c .if1 .taken))
 
--- src/speeds.rt:38:17
 mul-below : tie.Need-mul-below
-mul-below c = ?
+mul-below c = omega (arith, below-le ((c .before .before .pre)))
 
--- src/speeds.rt:40:33
 sub-quotient : tie.Need-sub-quotient
 sub-quotient c = search needs
 
--- src/speeds.rt:40:25
 mul-quotient : tie.Need-mul-quotient
 mul-quotient c = search needs
 
--- src/speeds.rt:40:25
 mul-quotient-2 : tie.Need-mul-quotient-2
-mul-quotient-2 c = ?
+mul-quotient-2 c = omega (arith, above-le (c .before .before .before .args .side .out) (c .before .before .before .args .side .back) (c .before .before .before .pre .out-small) (c .before .before .before .pre .side-to))
 
--- src/speeds.rt:40:9
 quotient-requires : tie.Need-quotient-requires
-quotient-requires c κs = ?
+quotient-requires c κs = exact ((c .before .before .before .pre)) _ _ (c .before .before .before .pre .out-small)
 
--- src/speeds.rt:40:9
 returns-2 : tie.Need-returns-2
-returns-2 c = ?
+returns-2 c = c .quotient .ensures ∙ sym (speed-out _ _ _ (c .before .before .before .if1 .left) (c .before .if2 .taken))
 
--- src/speeds.rt:42:15
 mul-quotient-3 : tie.Need-mul-quotient-3
 mul-quotient-3 c = search needs
 
--- src/speeds.rt:42:15
 mul-quotient-4 : tie.Need-mul-quotient-4
-mul-quotient-4 c = ?
+mul-quotient-4 c = omega (arith, above-le (c .before .before .before .args .side .back) (c .before .before .before .args .side .out) (c .before .before .before .pre .back-small) (c .before .before .before .pre .side-to))
 
--- src/speeds.rt:42:6
 quotient-requires-2 : tie.Need-quotient-requires-2
-quotient-requires-2 c κs = ?
+quotient-requires-2 c κs = exact ((c .before .before .before .pre)) _ _ (c .before .before .before .pre .back-small)
 
--- src/speeds.rt:29:1
 returns-3 : tie.Need-returns-3
-returns-3 c = ?
+returns-3 c = ap Ieee.neg (c .quotient2 .ensures) ∙ sym (speed-back _ _ _ (c .before .before .before .if1 .left) (c .before .if2 .left))
 
 pub side-speed-spec : {M : Type 1} → statement M
 side-speed-spec =

@@ -1,50 +1,55 @@
+-- `sight::wet_rows::ones_in` meets its contract: row after row, the sum so far is that of the ones of the rows passed.
+-- Assumes nothing.
+use mathlib.Core.Path.{_≡_, sym, ap₂, _∙_}
+use Prim.Native.Nat.{_≤_, _+_, _-_, _*_, zero-le}
+use native.Mathlib.Omega.{arith}
+use lib.Count.{ones, ones-le}
+use lib.ListN.{length, getD}
+use borrow.Author.Needs.{needs}
+use Rattle.reckon.specs.Lists.{sumBelow}
+use Rattle.reckon.proofs.ListLaws.{sum-none, sum-more, sum-whole}
+use Rattle.sight.specs.WetRows.{onesOver}
+use denote.Ref.{now}
 use Rattle.sight.proofs.wet_rows.ones_in.Statement.{statement}
 use Rattle.sight.proofs.wet_rows.ones_in.Tie as tie
-use Rattle.sight.proofs.wet_rows.ones_in.Reads as reads
-use Rattle.sight.proofs.wet_rows.ones_in.Lts as lts
-use Rattle.grid.proofs.masks.ones.Reads as ones-reads
 
 abbrev Inv-loop : tie.InvT-loop
-Inv-loop rows count total₀ row₀ total row = ?
+Inv-loop rows count total₀ row₀ total row = (row ≤ length rows) × (total ≤ 64 * row) × (total ≡ sumBelow row (λ k. ones (getD rows k 0)))
 
 abbrev μ-loop : tie.MeasureT-loop
-μ-loop rows count total₀ row₀ total row = ?
+μ-loop rows count total₀ row₀ total row = length rows - row
 
--- src/wet_rows.rt:44:5
 loop-holds : tie.Need-loop-holds Inv-loop μ-loop
-loop-holds c = ?
+loop-holds c = (zero-le, zero-le, sym (sum-none _))
 
--- src/wet_rows.rt:45:23
 mul-ones : tie.Need-mul-ones Inv-loop μ-loop
-mul-ones c = ?
+mul-ones c = search needs
 
--- src/wet_rows.rt:45:23
 shared-slice-read-ones : tie.Need-shared-slice-read-ones Inv-loop μ-loop
-shared-slice-read-ones c = ?
+shared-slice-read-ones c = search needs
 
--- src/wet_rows.rt:45:18
 ones-requires : tie.Need-ones-requires Inv-loop μ-loop
-ones-requires c κs = ?
+ones-requires c κs = search needs
 
--- src/wet_rows.rt:45:9
 add-total : tie.Need-add-total Inv-loop μ-loop
-add-total c = ?
+add-total c =
+    let few = ones-le 64 (getD (now (c .before .before .before .before .before .args .rows)) (c .before .before .before .loop .row) 0) (omega (arith, c .before .shared-slice-known2 .given (c .before .before .before .loop .row))) in
+    omega (arith, c .ones .ensures)
 
--- src/wet_rows.rt:46:9
 add-row : tie.Need-add-row Inv-loop μ-loop
-add-row c = ?
+add-row c = search needs
 
--- src/wet_rows.rt:44:5
 loop-less : tie.Need-loop-less Inv-loop μ-loop
-loop-less c = ?
+loop-less c = search needs
 
--- src/wet_rows.rt:44:5
 loop-again : tie.Need-loop-again Inv-loop μ-loop
-loop-again c = ?
+loop-again c =
+    let few = ones-le 64 (getD (now (c .before .before .before .before .before .args .rows)) (c .before .before .before .loop .row) 0) (omega (arith, c .before .shared-slice-known2 .given (c .before .before .before .loop .row))) in
+    (omega arith, omega (arith, c .ones .ensures), ap₂ _+_ (c .before .before .before .loop .inv .2) (c .ones .ensures) ∙ sym (sum-more _ _))
 
--- src/wet_rows.rt:37:1
 returns : tie.Need-returns Inv-loop μ-loop
-returns c = ?
+unfolding onesOver
+returns c = sum-whole _ (c .before .loop .inv .2) (omega arith)
 
 pub ones-in-spec : {M : Type 1} → statement M
 ones-in-spec =
