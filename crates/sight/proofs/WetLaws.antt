@@ -71,6 +71,10 @@ masks-whole p depths least old h g e =
     let f = maskOf (p .marks) depths least (p .shape .columns) in
     e ∙ (filled-whole f old (omega arith) ∙ ap (λ (n : ℕ). tabulate n f) h)
 
+pub masks-long : (p : Plan) (depths : List ℕ) (least : ℕ) {rows : List ℕ} → rows ≡ wetMasks p depths least → length rows ≡ p .shape .rows
+unfolding wetMasks
+masks-long p depths least e = ap length e ∙ length-tabulate (p .shape .rows) _
+
 -- ---- the count
 
 pub count-is : (p : Plan) (depths : List ℕ) (least : ℕ) → onesOver (wetMasks p depths least) ≡ wetSquares p depths least

@@ -2,3 +2,4 @@ pub mod Arrows
 pub mod Refusals
 pub mod Speeds
 pub mod WetRows
+pub mod Worked

@@ -1,34 +1,29 @@
+-- `sight::wet_rows::wet_rows` meets its contract: refused, nothing is written; else the masks are, and their ones are counted.
+-- Assumes nothing.
+use mathlib.Core.Path.{sym, _∙_}
+use native.Mathlib.Omega.{arith}
+use borrow.Author.Needs.{needs}
+use Rattle.sight.proofs.WetLaws.{masks-long, wet-refused, wet-counted, wet-lent}
 use Rattle.sight.proofs.wet_rows.wet_rows.Statement.{statement}
 use Rattle.sight.proofs.wet_rows.wet_rows.Tie as tie
-use Rattle.sight.proofs.wet_rows.wet_rows.Reads as reads
-use Rattle.sight.proofs.wet_rows.wet_rows.Lts as lts
-use Rattle.sight.proofs.wet_rows.mask_rows.Reads as mask-rows-reads
-use Rattle.sight.proofs.wet_rows.ones_in.Reads as ones-in-reads
-use Rattle.sight.proofs.wet_rows.wet_refusal.Reads as wet-refusal-reads
 
--- src/wet_rows.rt:75:9
 wet-refusal-requires : tie.Need-wet-refusal-requires
-wet-refusal-requires c κs = ?
+wet-refusal-requires c κs = search needs
 
--- src/wet_rows.rt:77:9
 returns : tie.Need-returns
-returns c = ?
+returns c = wet-refused _ _ _ _ (c .before .wet-refusal .ensures) (c .if1 .taken)
 
--- src/wet_rows.rt:79:5
 mask-rows-requires : tie.Need-mask-rows-requires
-mask-rows-requires c κs = ?
+mask-rows-requires c κs = wet-lent _ _ _ _ (c .before .before .wet-refusal .ensures) (c .before .if1 .left)
 
--- src/wet_rows.rt:80:16
 ones-in-requires : tie.Need-ones-in-requires
-ones-in-requires c κs = ?
+ones-in-requires c κs = omega (arith, masks-long _ _ _ (c .before .before .before .mask-rows .ensures), wet-lent _ _ _ _ (c .before .before .before .before .before .before .wet-refusal .ensures) (c .before .before .before .before .before .if1 .left) .fine .rows-high)
 
--- src/wet_rows.rt:66:1
 same-length : tie.Need-same-length
-same-length c = ?
+same-length c = masks-long _ _ _ (c .before .before .before .before .mask-rows .ensures) ∙ sym (wet-lent _ _ _ _ (c .before .before .before .before .before .before .before .wet-refusal .ensures) (c .before .before .before .before .before .before .if1 .left) .rows-long)
 
--- src/wet_rows.rt:66:1
 returns-2 : tie.Need-returns-2
-returns-2 c = ?
+returns-2 c = wet-counted _ _ _ _ (c .before .before .before .before .before .before .before .wet-refusal .ensures) (c .before .before .before .before .before .before .if1 .left) (c .before .before .before .before .mask-rows .ensures) (c .ones-in .ensures)
 
 pub wet-rows-spec : {M : Type 1} → statement M
 wet-rows-spec =
