@@ -1,7 +1,7 @@
 -- No answer depends on what a closed square holds: a closed square is answered before its numbers are read, and a closed neighbour's
 -- numbers stand behind a choice that does not take them.
 -- Assumes nothing.
-use mathlib.Core.Path.{_≡_, refl, sym, ap, ap₂, _∙_}
+use mathlib.Core.Path.{_≡_, refl, ap, ap₂, _∙_}
 use mathlib.Core.Bool.{Bool, true, false, _&&_, _||_, not}
 use mathlib.Core.List.{List, [], _∷_, _++_}
 use Prim.Native.Nat.{ℕ, zero, suc, _+_, _*_}
@@ -58,11 +58,11 @@ module _ (p : Plan) {a b : List ℕ} (h : AlikeDepths p a b) where
   unfolding sharedRows
   shared-alike more =
       ap₂ (λ (s t : Bool).
-        1 unless every (shapeFine (p .shape) ∷ oneEach p (p .marks) ∷ s ∷ [])
-        ∷ 1 unless more
-        ∷ 2 unless marksFine (p .shape) (p .marks)
-        ∷ 3 unless t
-        ∷ [])
+      1 unless every (shapeFine (p .shape) ∷ oneEach p (p .marks) ∷ s ∷ [])
+      ∷ 1 unless more
+      ∷ 2 unless marksFine (p .shape) (p .marks)
+      ∷ 3 unless t
+      ∷ [])
       one-each-alike depths-fine-alike
 
   -- ---- wet rows
@@ -108,8 +108,8 @@ module _ (p : Plan) (D : ℕ) {d e r s : List ℕ} (h : AlikeDepths p d e) (g : 
       let we = through-alike i west o in
       let l = g .lasted in
       λ k.
-        sighted number (shut p i) (eqb (h .alike .at i o k) 0) (every (netNone (n k) ∷ netNone (ea k) ∷ netNone (so k) ∷ netNone (we k) ∷ []))
-        (arrowOf (speedOf D (l k) (n k)) (speedOf D (l k) (ea k)) (speedOf D (l k) (so k)) (speedOf D (l k) (we k)))
+      sighted number (shut p i) (eqb (h .alike .at i o k) 0) (every (netNone (n k) ∷ netNone (ea k) ∷ netNone (so k) ∷ netNone (we k) ∷ []))
+      (arrowOf (speedOf D (l k) (n k)) (speedOf D (l k) (ea k)) (speedOf D (l k) (so k)) (speedOf D (l k) (we k)))
 
   closed-same : (number : ℕ) {c : Bool} (a b m n : Bool) (x y : Arrow) → c ≡ true → sighted number c a m x ≡ sighted number c b n y
   unfolding sighted
@@ -143,10 +143,10 @@ arrow-alike p D {d} {e} r s run row column h m g =
     let slots = room-alike p r s m in
     let times = times-alike p D h g in
     let number : arrowNumber p D (view d r run) row column ≡ arrowNumber p D (view e s run) row column =
-        λ k.
-          refusal
-          ((shared k
-          ++ (6 unless runFine (slots k) run ∷ 10 unless not (eqb (run .kept) 0) ∷ []))
-          ++ (11 unless times k ∷ [])) in
+    λ k.
+    refusal
+    ((shared k
+    ++ (6 unless runFine (slots k) run ∷ 10 unless not (eqb (run .kept) 0) ∷ []))
+    ++ (11 unless times k ∷ [])) in
     ap (λ (n : ℕ). seenBy n p D d (newestRecord p (view d r run)) (squareAt (p .shape) row column)) number
     ∙ seen-alike p D h g (arrowNumber p D (view e s run) row column) (squareAt (p .shape) row column)

@@ -3,15 +3,15 @@
 -- Assumes nothing.
 use mathlib.Core.Path.{_≡_, refl, sym, ap, ap₂, _∙_}
 use mathlib.Core.Bool.{Bool, true, false, _&&_, not}
-use mathlib.Core.List.{List, [], _∷_, _++_}
-use Prim.Native.Nat.{ℕ, zero, suc, _+_, _-_, _*_, _%_, _^_, _≤_, _<_}
+use mathlib.Core.List.{List, [], _∷_}
+use Prim.Native.Nat.{ℕ, zero, suc, _+_, _-_, _%_, _^_, _≤_, _<_}
 use native.Mathlib.Omega.{arith}
 use lib.Dec.{eqb}
 use lib.ListN.{length, getD, take, drop, length-drop}
 use lib.Seq.{length-take-le}
-use borrow.Author.Tests.{eq-eqb, ne-eqb, le-ltb, lt-ltb, ltb-true, leb-true, eqb-false}
-use Rattle.reckon.specs.Tests.{pick, every, refusal, _unless_}
-use Rattle.reckon.specs.Ranges.{mostDepth, mostSide, mostLength}
+use borrow.Author.Tests.{eq-eqb, ne-eqb, le-ltb, lt-ltb, ltb-true, leb-true}
+use Rattle.reckon.specs.Tests.{every, refusal}
+use Rattle.reckon.specs.Ranges.{mostDepth, mostSide}
 use Rattle.reckon.proofs.TestLaws.{pick-true, pick-false, and-both, and-false, every-each, refusal-here, refusal-later, refusal-first, refusal-second, refusal-both, refusal-passed, passed-refusal}
 use Rattle.trials.specs.Ring.{slotsIn, slotStart, ringFine}
 use Rattle.trials.specs.Room.{recordIn}
@@ -23,16 +23,16 @@ use Rattle.grid.proofs.MarkLaws.{closed-past}
 use Rattle.ledger.specs.declared.runs.Run.{Run}
 use Rattle.ledger.specs.Runs.{Plan, World, runFine}
 use Rattle.ledger.specs.Flows.{shut, sent}
-use Rattle.ledger.specs.Record.{recordSize, heldIn, lastedIn, wordPlace, leavesIn, roomSlots, newestRecord}
+use Rattle.ledger.specs.Record.{recordSize, lastedIn, wordPlace, leavesIn, roomSlots, newestRecord}
 use Rattle.ledger.specs.TakeBack.{timesFine}
-use Rattle.sight.specs.Refusals.{depthsFine, sharedRows}
+use Rattle.sight.specs.Refusals.{sharedRows}
 use Rattle.sight.specs.Speeds.{speedOf, arrowOf, Ranged}
 use Rattle.sight.specs.Arrows.{netNone, outThrough, nearDepth, throughSide, allStill, arrowBy, sighted, seenBy, askedFine, earlyRows, arrowRows, arrowNumber, seenAt, Laid, Timed, Sided}
 use Rattle.sight.specs.declared.speeds.Arrow.{Arrow}
 use Rattle.sight.specs.declared.speeds.Through.{Through}
 use Rattle.sight.specs.declared.arrows.Sight.{Sight}
 use Rattle.sight.specs.declared.arrows.Sight.the-variants.{Closed, Dry, Still, Moving, Refused}
-use Rattle.sight.proofs.RefusalLaws.{depth-to, Lent, lent}
+use Rattle.sight.proofs.RefusalLaws.{Lent, lent}
 
 -- ---- what went through a side
 
@@ -147,6 +147,22 @@ ranged m e o n s =
 
 -- ---- the answer by a record
 
+-- the number that an answer gives back, 0 where it is no refusal: by it a refusal is kept apart from the four other cases
+abbrev pub numberIn : Sight → ℕ
+numberIn Closed = 0
+numberIn Dry = 0
+numberIn Still = 0
+numberIn (Moving a) = 0
+numberIn (Refused n) = n
+
+pub number-kept : (number : ℕ) (c d s : Bool) (a : Arrow) → numberIn (sighted number c d s a) ≡ number
+unfolding sighted
+number-kept (suc n) c d s a = refl
+number-kept zero true d s a = refl
+number-kept zero false true s a = refl
+number-kept zero false false true a = refl
+number-kept zero false false false a = refl
+
 module _ (d s : Bool) (a : Arrow) where
   sighted-refused : {m : ℕ} (n : ℕ) (c : Bool) → n ≡ m → (n ≡ 0 → ⊥) → Refused n ≡ sighted m c d s a
   unfolding sighted
@@ -202,7 +218,7 @@ module _ (p : Plan) (D : ℕ) (depths rec : List ℕ) (i : ℕ) where
           ap Moving
           (q
           ∙ (λ k.
-            arrowOf (speedOf D (l k) (ns .is k)) (speedOf D (l k) (es .is k)) (speedOf D (l k) (ss .is k)) (speedOf D (l k) (ws .is k))))
+          arrowOf (speedOf D (l k) (ns .is k)) (speedOf D (l k) (es .is k)) (speedOf D (l k) (ss .is k)) (speedOf D (l k) (ws .is k))))
           ∙ sighted-moving _ o wet (sym still-is ∙ z)
 
 -- ---- refusals before 11
@@ -282,7 +298,7 @@ module _ (p : Plan) (D : ℕ) (w : World) (row column : ℕ) {n : ℕ} (e : n �
     unfolding seenAt arrowNumber arrowRows earlyRows sharedRows
     seen-is {i} b g q =
         let passed : 0 ≡ refusal (arrowRows p D w row column) =
-            sym (refusal-second (earlyRows p D w row column) _ tt (sym e ∙ z) ∙ passed-refusal _ (ap timesFine (sym r) ∙ (sym f ∙ b), tt)) in
+        sym (refusal-second (earlyRows p D w row column) _ tt (sym e ∙ z) ∙ passed-refusal _ (ap timesFine (sym r) ∙ (sym f ∙ b), tt)) in
         q ∙ (λ k. seenBy (passed k) p D (w .depths) (r k) (g k))
 
     pub timed : fine ≡ true → D ≤ mostSide → Timed D rec

@@ -1,7 +1,7 @@
 -- Laws of the shared refusals: each row is decided by its own test, and where none applies what is lent is of its size and in range.
 -- Assumes nothing.
-use mathlib.Core.Path.{_≡_, refl, sym, ap, _∙_}
-use mathlib.Core.Bool.{Bool, true, false, _&&_, _||_}
+use mathlib.Core.Path.{_≡_, refl, ap}
+use mathlib.Core.Bool.{Bool, true, false, _||_}
 use mathlib.Core.List.{List, [], _∷_, _++_}
 use Prim.Native.Nat.{ℕ, _≤_, _<_}
 use lib.Dec.{leb}
@@ -9,7 +9,7 @@ use lib.ListN.{length, getD}
 use borrow.Author.Tests.{leb-true, eqb-true}
 use Rattle.reckon.specs.Tests.{every, refusal}
 use Rattle.reckon.specs.Ranges.{mostDepth, waterFine}
-use Rattle.reckon.proofs.TestLaws.{and-true, and-both, or-right, Each, every-each, all-at, all-ext, refusal-passed}
+use Rattle.reckon.proofs.TestLaws.{and-true, or-right, Each, every-each, all-at, all-ext, refusal-passed}
 use Rattle.grid.specs.Squares.{squares, shapeFine}
 use Rattle.grid.proofs.SquareLaws.{ranges-of-fine}
 use Rattle.ledger.specs.Runs.{Plan}

@@ -16,9 +16,9 @@ use Rattle.reckon.specs.Lists.{tabulate, filled, sumBelow}
 use Rattle.reckon.specs.Ranges.{mostDepth}
 use Rattle.reckon.proofs.TestLaws.{pick-true, pick-false, refusal-here, refusal-first, refusal-second, passed-refusal, refusal-both}
 use Rattle.reckon.proofs.ListLaws.{length-tabulate, getD-tabulate, is-tabulate, length-filled, filled-in, filled-none, filled-store, sum-ext}
-use Rattle.grid.specs.Squares.{squares}
-use Rattle.grid.specs.Masks.{saysYes, digit, maskFrom, rowMask}
-use Rattle.grid.proofs.MaskLaws.{ones-of-rows}
+use Rattle.grid.specs.Squares.{squareAt}
+use Rattle.grid.specs.Masks.{saysYes, maskFrom, rowMask, bitAt}
+use Rattle.grid.proofs.MaskLaws.{mask-in, mask-past, ones-of-rows}
 use Rattle.ledger.specs.Runs.{Plan}
 use Rattle.sight.specs.Refusals.{sharedRows}
 use Rattle.sight.specs.WetRows.{isWet, wetMasks, onesOver, wetSquares, wetRefusals, wetNumber, counted, RowsLent, WetRowed}
@@ -75,6 +75,20 @@ pub masks-long : (p : Plan) (depths : List ℕ) (least : ℕ) {rows : List ℕ} 
 unfolding wetMasks
 masks-long p depths least e = ap length e ∙ length-tabulate (p .shape .rows) _
 
+-- "bit c set exactly when the square in column c is" wet; past the last column no bit is set
+module _ (p : Plan) (depths : List ℕ) (least : ℕ) {row : ℕ} (h : row < p .shape .rows) where
+  row-is : getD (wetMasks p depths least) row 0 ≡ rowMask (p .shape) (isWet p depths least) row
+  unfolding wetMasks
+  row-is = getD-tabulate (p .shape .rows) _ row h
+
+  pub bit-is :
+      {column : ℕ} → column < p .shape .columns →
+      bitAt (getD (wetMasks p depths least) row 0) column ≡ isWet p depths least (squareAt (p .shape) row column)
+  bit-is {column} l = ap (λ (m : ℕ). bitAt m column) row-is ∙ mask-in (isWet p depths least) (row * p .shape .columns) l
+
+  pub bit-past : {column : ℕ} → p .shape .columns ≤ column → bitAt (getD (wetMasks p depths least) row 0) column ≡ false
+  bit-past {column} l = ap (λ (m : ℕ). bitAt m column) row-is ∙ mask-past (isWet p depths least) (row * p .shape .columns) l
+
 -- ---- the count
 
 pub count-is : (p : Plan) (depths : List ℕ) (least : ℕ) → onesOver (wetMasks p depths least) ≡ wetSquares p depths least
@@ -102,6 +116,16 @@ module _ (p : Plan) (depths : List ℕ) (least numbers : ℕ) {shared : ℕ}
   wet-none e h = sym (refusal-second _ _ tt (sym s ∙ e) ∙ passed-refusal _ (le-leb _ _ h, tt))
 
 -- ---- the answer
+
+-- the number that an answer gives back, 0 where it is no refusal: by it the cases are kept apart
+abbrev pub numberIn : Wet → ℕ
+numberIn (Count n) = 0
+numberIn (Refused k) = k
+
+pub number-kept : (number count : ℕ) → numberIn (counted number count) ≡ number
+unfolding counted
+number-kept zero count = refl
+number-kept (suc k) count = refl
 
 refused-is : (n m k : ℕ) → n ≡ m → (n ≡ 0 → ⊥) → Refused n ≡ counted m k
 unfolding counted

@@ -197,5 +197,13 @@ pub fn arrow(
     if !times_fine(rec) {
         return Sight::Refused(11);
     }
-    seen(shape, square_side, marks, depths, rec, square_at(shape, row, column), column)
+    seen(
+        shape,
+        square_side,
+        marks,
+        depths,
+        rec,
+        square_at(shape, row, column),
+        column,
+    )
 }

@@ -63,13 +63,7 @@ fn wet_refusal(shape: Shape, marks: &[u8], depths: &[u32], wet_depth: u32, numbe
 }
 
 // The wet rows and their count; refused, the row slice stays as it was.
-pub fn wet_rows(
-    shape: Shape,
-    marks: &[u8],
-    depths: &[u32],
-    wet_depth: u32,
-    rows: &mut [u64],
-) -> Wet
+pub fn wet_rows(shape: Shape, marks: &[u8], depths: &[u32], wet_depth: u32, rows: &mut [u64]) -> Wet
     ensures { λ r. ⌜ WetRowed (plan shape (now (marks .entry))) (now (depths .entry)) «wet_depth» (now (rows .entry)) r (now (rows .exit)) ⌝ }
 {
     let refused = wet_refusal(shape, marks, depths, wet_depth, rows.len());

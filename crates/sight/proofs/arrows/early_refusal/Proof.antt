@@ -32,22 +32,22 @@ run-fine-requires c κs = search needs
 returns-2 : tie.Need-returns-2
 returns-2 c =
     let fine =
-        c .before .run-fine .ensures
-        ∙ ap (λ (k : ℕ). runFine k (c .before .before .before .before .before .before .before .before .before .before .args .run)) (slots-are _ _ (c .before .before .slots-in .ensures) (c .before .before .before .record-size .ensures)) in
+    c .before .run-fine .ensures
+    ∙ ap (λ (k : ℕ). runFine k (c .before .before .before .before .before .before .before .before .before .before .args .run)) (slots-are _ _ (c .before .before .slots-in .ensures) (c .before .before .before .record-size .ensures)) in
     early-run _ _ _ _ _ (c .before .before .before .before .before .before .asked-fine .ensures) (c .before .before .before .before .before .shared-refusal .ensures) (c .before .before .before .before .if1 .left) fine (not-true _ (c .if2 .taken))
 
 returns-3 : tie.Need-returns-3
 returns-3 c =
     let fine =
-        c .before .before .before .run-fine .ensures
-        ∙ ap (λ (k : ℕ). runFine k (c .before .before .before .before .before .before .before .before .before .before .before .before .args .run)) (slots-are _ _ (c .before .before .before .before .slots-in .ensures) (c .before .before .before .before .before .record-size .ensures)) in
+    c .before .before .before .run-fine .ensures
+    ∙ ap (λ (k : ℕ). runFine k (c .before .before .before .before .before .before .before .before .before .before .before .before .args .run)) (slots-are _ _ (c .before .before .before .before .slots-in .ensures) (c .before .before .before .before .before .record-size .ensures)) in
     early-kept _ _ _ _ _ (c .before .before .before .before .before .before .before .before .asked-fine .ensures) (c .before .before .before .before .before .before .before .shared-refusal .ensures) (c .before .before .before .before .before .before .if1 .left) fine (not-false _ (c .before .before .if2 .left)) (c .if3 .taken)
 
 returns-4 : tie.Need-returns-4
 returns-4 c =
     let fine =
-        c .before .before .before .run-fine .ensures
-        ∙ ap (λ (k : ℕ). runFine k (c .before .before .before .before .before .before .before .before .before .before .before .before .args .run)) (slots-are _ _ (c .before .before .before .before .slots-in .ensures) (c .before .before .before .before .before .record-size .ensures)) in
+    c .before .before .before .run-fine .ensures
+    ∙ ap (λ (k : ℕ). runFine k (c .before .before .before .before .before .before .before .before .before .before .before .before .args .run)) (slots-are _ _ (c .before .before .before .before .slots-in .ensures) (c .before .before .before .before .before .record-size .ensures)) in
     early-none _ _ _ _ _ (c .before .before .before .before .before .before .before .before .asked-fine .ensures) (c .before .before .before .before .before .before .before .shared-refusal .ensures) (c .before .before .before .before .before .before .if1 .left) fine (not-false _ (c .before .before .if2 .left)) (c .if3 .left)
 
 pub early-refusal-spec : {M : Type 1} → statement M

@@ -1,6 +1,6 @@
 -- `sight::arrows::seen` meets its contract: the first case that applies is the answer.
 -- Assumes nothing.
-use mathlib.Core.Path.{_≡_, sym, _∙_}
+use mathlib.Core.Path.{sym, _∙_}
 use native.Mathlib.Omega.{arith}
 use lib.Dec.{lit<}
 use borrow.Author.Needs.{needs}
@@ -44,13 +44,16 @@ lasted-requires : tie.Need-lasted-requires
 lasted-requires c κs = omega (arith, c .before .before .before .before .before .before .before .before .before .before .before .before .before .pre .0 .recorded .record-long)
 
 arrow-through-requires : tie.Need-arrow-through-requires
-arrow-through-requires c κs =
+arrow-through-requires c κs = (
+  ranged (c .before .before .before .before .before .before .before .before .before .before .before .before .before .before .pre .1 .0) (c .lasted .ensures) (c .before .before .before .before .before .before .before .before .number .ensures) (c .before .before .before .before .before .before .before .if2 .left) (c .before .before .before .before .before .before .through-side .ensures),
+  (
+    ranged (c .before .before .before .before .before .before .before .before .before .before .before .before .before .before .pre .1 .0) (c .lasted .ensures) (c .before .before .before .before .before .before .before .before .number .ensures) (c .before .before .before .before .before .before .before .if2 .left) (c .before .before .before .before .before .through-side2 .ensures),
     (
-      ranged (c .before .before .before .before .before .before .before .before .before .before .before .before .before .before .pre .1 .0) (c .lasted .ensures) (c .before .before .before .before .before .before .before .before .number .ensures) (c .before .before .before .before .before .before .before .if2 .left) (c .before .before .before .before .before .before .through-side .ensures),
-      (ranged (c .before .before .before .before .before .before .before .before .before .before .before .before .before .before .pre .1 .0) (c .lasted .ensures) (c .before .before .before .before .before .before .before .before .number .ensures) (c .before .before .before .before .before .before .before .if2 .left) (c .before .before .before .before .before .through-side2 .ensures),
-      (ranged (c .before .before .before .before .before .before .before .before .before .before .before .before .before .before .pre .1 .0) (c .lasted .ensures) (c .before .before .before .before .before .before .before .before .number .ensures) (c .before .before .before .before .before .before .before .if2 .left) (c .before .before .before .before .through-side3 .ensures),
-      ranged (c .before .before .before .before .before .before .before .before .before .before .before .before .before .before .pre .1 .0) (c .lasted .ensures) (c .before .before .before .before .before .before .before .before .number .ensures) (c .before .before .before .before .before .before .before .if2 .left) (c .before .before .before .through-side4 .ensures))),
-    )
+      ranged (c .before .before .before .before .before .before .before .before .before .before .before .before .before .before .pre .1 .0) (c .lasted .ensures) (c .before .before .before .before .before .before .before .before .number .ensures) (c .before .before .before .before .before .before .before .if2 .left) (c .before .before .before .before .through-side3 .ensures),
+      ranged (c .before .before .before .before .before .before .before .before .before .before .before .before .before .before .pre .1 .0) (c .lasted .ensures) (c .before .before .before .before .before .before .before .before .number .ensures) (c .before .before .before .before .before .before .before .if2 .left) (c .before .before .before .through-side4 .ensures),
+    ),
+  ),
+)
 
 returns-4 : tie.Need-returns-4
 returns-4 c =

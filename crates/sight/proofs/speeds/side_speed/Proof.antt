@@ -13,7 +13,7 @@ unfolding Ieee.ofBits
 returns c = sym (speed-none _ _ _ (c .if1 .taken))
 
 mul-below : tie.Need-mul-below
-mul-below c = omega (arith, below-le ((c .before .before .pre)))
+mul-below c = omega (arith, below-le (c .before .before .pre))
 
 sub-quotient : tie.Need-sub-quotient
 sub-quotient c = search needs
@@ -25,7 +25,7 @@ mul-quotient-2 : tie.Need-mul-quotient-2
 mul-quotient-2 c = omega (arith, above-le (c .before .before .before .args .side .out) (c .before .before .before .args .side .back) (c .before .before .before .pre .out-small) (c .before .before .before .pre .side-to))
 
 quotient-requires : tie.Need-quotient-requires
-quotient-requires c κs = exact ((c .before .before .before .pre)) _ _ (c .before .before .before .pre .out-small)
+quotient-requires c κs = exact (c .before .before .before .pre) _ _ (c .before .before .before .pre .out-small)
 
 returns-2 : tie.Need-returns-2
 returns-2 c = c .quotient .ensures ∙ sym (speed-out _ _ _ (c .before .before .before .if1 .left) (c .before .if2 .taken))
@@ -37,7 +37,7 @@ mul-quotient-4 : tie.Need-mul-quotient-4
 mul-quotient-4 c = omega (arith, above-le (c .before .before .before .args .side .back) (c .before .before .before .args .side .out) (c .before .before .before .pre .back-small) (c .before .before .before .pre .side-to))
 
 quotient-requires-2 : tie.Need-quotient-requires-2
-quotient-requires-2 c κs = exact ((c .before .before .before .pre)) _ _ (c .before .before .before .pre .back-small)
+quotient-requires-2 c κs = exact (c .before .before .before .pre) _ _ (c .before .before .before .pre .back-small)
 
 returns-3 : tie.Need-returns-3
 returns-3 c = ap Ieee.neg (c .quotient2 .ensures) ∙ sym (speed-back _ _ _ (c .before .before .before .if1 .left) (c .before .if2 .left))

@@ -1,6 +1,5 @@
 -- `sight::wet_rows::mask_rows` meets its contract: row after row, what is filled so far is the masks of the rows passed.
 -- Assumes nothing.
-use mathlib.Core.Path.{_∙_}
 use Prim.Native.Nat.{_≤_, _-_, zero-le}
 use native.Mathlib.Omega.{arith}
 use Rattle.grid.proofs.SquareLaws.{row-fits}
