@@ -12,7 +12,7 @@ use Rattle.trials.specs.Room.{recordIn}
 use Rattle.grid.specs.declared.squares.Shape.{Shape}
 use Rattle.grid.specs.Squares.{north, east, south, west, squares, FineShape}
 use Rattle.ledger.specs.Runs.{Plan, World, plan}
-use Rattle.ledger.specs.Flows.{Leaves, shut, gone, sent, came, offSide, offSquare, offGrid}
+use Rattle.ledger.specs.Flows.{Leaves, shut, gone, sent, came, offSquare, offGrid}
 use Rattle.ledger.specs.declared.record.Found.{Found}
 
 -- "One record is 2 + 6·squares numbers": the words before the squares, and those of a square

@@ -15,7 +15,7 @@ use Rattle.trials.specs.Room.{storedIn}
 use Rattle.grid.specs.Squares.{squares, FineShape}
 use Rattle.ledger.specs.Runs.{Plan, World, ofDepths}
 use Rattle.ledger.specs.Flows.{shut, gone}
-use Rattle.ledger.specs.Record.{recordSize, heldIn, lastedIn, leavesIn, addedIn, roomSlots, Recorded, Walked}
+use Rattle.ledger.specs.Record.{recordSize, lastedIn, leavesIn, addedIn, roomSlots, Recorded, Walked}
 use Rattle.ledger.specs.After.{Moves, newDepth, depthsFit, newOutflow}
 use Rattle.ledger.specs.declared.record.Found.{Found}
 
@@ -89,7 +89,6 @@ pub record Gathers (p : Plan) (rec : List ℕ) (depths : List ℕ) : Type 0 wher
 pub record GatheredOne (p : Plan) (rec depths : List ℕ) (i : ℕ) (old : List ℕ) (r : Bool) (new : List ℕ) : Type 0 where
   pub fits-is : r ≡ (shut p i || leb (depthBy p rec depths i) mostDepth)
   pub stored : r ≡ true → new ≡ set old i (pick (shut p i) (getD depths i 0) (depthBy p rec depths i))
-  pub long : length new ≡ length old
 
 -- all squares gathered
 pub record GatheredAll (p : Plan) (rec depths : List ℕ) (r : Found) (new : List ℕ) : Type 0 where

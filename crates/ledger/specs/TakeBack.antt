@@ -1,9 +1,9 @@
 -- Document 01, "The record" and "Numbers given back on refusal": the take-back.
 -- Assumes nothing.
 use mathlib.Core.Path.{_≡_}
-use mathlib.Core.Bool.{Bool, true, false, _||_, not}
+use mathlib.Core.Bool.{Bool, true, _||_, not}
 use mathlib.Core.List.{List, [], _∷_}
-use Prim.Native.Nat.{ℕ, _+_, _-_, _≤_, _<_}
+use Prim.Native.Nat.{ℕ, _+_, _-_, _≤_}
 use lib.Dec.{eqb, leb}
 use lib.ListN.{length, getD}
 use Rattle.reckon.specs.Tests.{pick, every, allBelow, Row, _unless_, refusal}
@@ -16,6 +16,7 @@ use Rattle.grid.specs.Marks.{marksFine}
 use Rattle.ledger.specs.Runs.{Plan, World, ofDepths, runFine, answered}
 use Rattle.ledger.specs.Flows.{shut, gone, came, offGrid}
 use Rattle.ledger.specs.Record.{heldIn, lastedIn, leavesIn, lastIn, addedIn, roomSlots, newestRecord, Recorded}
+use Rattle.ledger.specs.declared.runs.Run.{Run}
 use Rattle.ledger.specs.declared.runs.Answer.{Answer}
 
 -- ---- the tests, each by its refusal's number
@@ -132,6 +133,17 @@ pub record Kept (p : Plan) (w : World) : Type 0 where
 pub record Looked (p : Plan) (w : World) (n : ℕ) : Type 0 where
   pub refused : (n ≡ 0 → ⊥) → n ≡ backNumber p w
   pub passed : n ≡ 0 → Kept p w
+
+-- the run before the step of a record that sent an amount off the grid
+abbrev pub runBefore : ℕ → Run → List ℕ → ℕ → Run
+runBefore slots u rec off =
+    record {
+      clock = u .clock - lastedIn rec;
+      length = heldIn rec;
+      outflow = u .outflow - off;
+      kept = u .kept - 1;
+      newest = slotBefore slots (u .newest);
+    }
 
 -- a record and the depths that it leads to, one number a square
 pub record Led (p : Plan) (rec depths : List ℕ) : Type 0 where

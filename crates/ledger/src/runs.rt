@@ -1,5 +1,4 @@
 // The run value, and the answer of a call that gives one.
-ghost use mathlib.Core.Path.{_≡_};
 ghost use Rattle.ledger.specs.Runs.{RunFine};
 
 // clock and length are in ms; outflow is in µm over one square; kept and newest are of the ring of records.

@@ -3,7 +3,7 @@
 ghost use mathlib.Core.Path.{_≡_};
 ghost use mathlib.Core.Bool.{false};
 ghost use Prim.Native.Nat.{_<_, _≤_};
-ghost use lib.ListN.{getD, length, set};
+ghost use lib.ListN.{length, set};
 ghost use Rattle.reckon.specs.Tests.{pick};
 ghost use Rattle.reckon.specs.Lists.{filled};
 ghost use Rattle.reckon.specs.Ranges.{mostDepth};
@@ -148,7 +148,7 @@ fn write(
     shape: Shape,
     marks: &[u8],
     rec: &[u32],
-    length: u64,
+    held: u64,
     outflow: u64,
     run: Run,
     fresh: &[u32],
@@ -156,10 +156,10 @@ fn write(
     lasts: &mut [u32],
     records: &mut [u32],
 ) -> Run
-    requires { ⌜ Settles (plan shape (now marks)) (now rec) length (world (now depths) (now lasts) (now records) run) ⌝ }
+    requires { ⌜ Settles (plan shape (now marks)) (now rec) held (world (now depths) (now lasts) (now records) run) ⌝ }
     requires { ⌜ now fresh ≡ depthsBy (plan shape (now marks)) (now rec) (now depths) ⌝ }
-    requires { ⌜ outflow ≡ newOutflow (plan shape (now marks)) (movesIn (now rec) length) (world (now depths) (now lasts) (now records) run) ⌝ }
-    ensures { λ r. ⌜ world (now (depths .exit)) (now (lasts .exit)) (now (records .exit)) r ≡ written (plan shape (now (marks .entry))) (now (rec .entry)) length (world (now (depths .entry)) (now (lasts .entry)) (now (records .entry)) run) ⌝ }
+    requires { ⌜ outflow ≡ newOutflow (plan shape (now marks)) (movesIn (now rec) held) (world (now depths) (now lasts) (now records) run) ⌝ }
+    ensures { λ r. ⌜ world (now (depths .exit)) (now (lasts .exit)) (now (records .exit)) r ≡ written (plan shape (now (marks .entry))) (now (rec .entry)) held (world (now (depths .entry)) (now (lasts .entry)) (now (records .entry)) run) ⌝ }
 {
     let size = record_size(shape);
     let slots = trials::slots_in(size, records.len());
@@ -171,7 +171,7 @@ fn write(
     write_lasts(shape, marks, rec, lasts);
     Run {
         clock: run.clock + lasted(rec),
-        length: length,
+        length: held,
         outflow: outflow,
         kept: trials::kept_after(slots, run.kept),
         newest: slot,
@@ -183,16 +183,16 @@ pub fn settle(
     shape: Shape,
     marks: &[u8],
     rec: &[u32],
-    length: u64,
+    held: u64,
     run: Run,
     depths: &mut [u32],
     lasts: &mut [u32],
     records: &mut [u32],
     fresh: &mut [u32],
 ) -> Settled
-    requires { ⌜ Settles (plan shape (now marks)) (now rec) length (world (now depths) (now lasts) (now records) run) ⌝ }
-    requires { ⌜ lib.ListN.length (now fresh) ≡ squares shape ⌝ }
-    ensures { λ r. ⌜ SettlesTo (plan shape (now (marks .entry))) (now (rec .entry)) length (world (now (depths .entry)) (now (lasts .entry)) (now (records .entry)) run) (r .refused) (world (now (depths .exit)) (now (lasts .exit)) (now (records .exit)) (r .run)) ⌝ }
+    requires { ⌜ Settles (plan shape (now marks)) (now rec) held (world (now depths) (now lasts) (now records) run) ⌝ }
+    requires { ⌜ length (now fresh) ≡ squares shape ⌝ }
+    ensures { λ r. ⌜ SettlesTo (plan shape (now (marks .entry))) (now (rec .entry)) held (world (now (depths .entry)) (now (lasts .entry)) (now (records .entry)) run) (r .refused) (world (now (depths .exit)) (now (lasts .exit)) (now (records .exit)) (r .run)) ⌝ }
 {
     let found = gather(shape, marks, rec, depths, fresh);
     if !found.fits {
@@ -212,7 +212,7 @@ pub fn settle(
         shape,
         marks,
         rec,
-        length,
+        held,
         outflow,
         run,
         fresh,

@@ -12,8 +12,8 @@ ghost use Rattle.grid.specs.Squares.{FineShape, Stands, shapeFine, squares, wes
 ghost use Rattle.grid.specs.Marks.{closed};
 ghost use Rattle.ledger.specs.Runs.{ofDepths, plan, world};
 ghost use Rattle.ledger.specs.Flows.{came, gone};
-ghost use Rattle.ledger.specs.Record.{Recorded, Walked, addedIn, headWords, lastIn, lastWord, leavesIn, wordPlace};
-ghost use Rattle.ledger.specs.TakeBack.{Led, Looked, OneEach, Restores, TakesBack, TimesJudged, Watered, WatersJudged, depthBefore, oneEach, restorable, squareRestorable};
+ghost use Rattle.ledger.specs.Record.{Recorded, Walked, addedIn, headWords, lastIn, lastWord, lastedIn, leavesIn, wordPlace};
+ghost use Rattle.ledger.specs.TakeBack.{Led, Looked, OneEach, Restores, TakesBack, TimesJudged, Watered, WatersJudged, depthBefore, oneEach, restorable, runBefore, squareRestorable};
 use crate::record::Found;
 use crate::record::UNFIT;
 use crate::record::added_by;
@@ -279,6 +279,21 @@ fn restore_lasts(shape: Shape, marks: &[u8], rec: &[u32], lasts: &mut [u32])
     }
 }
 
+// The run before the step of a record that sent an amount off the grid.
+fn run_before(run: Run, slots: usize, rec: &[u32], off: u64) -> Run
+    requires { ⌜ (headWords ≤ length (now rec)) × (run .newest < slots) × (1 ≤ run .kept) ⌝ }
+    requires { ⌜ (lastedIn (now rec) ≤ run .clock) × (off ≤ run .outflow) ⌝ }
+    ensures { λ r. ⌜ r ≡ runBefore slots run (now (rec .entry)) off ⌝ }
+{
+    Run {
+        clock: run.clock - lasted(rec),
+        length: held_before(rec),
+        outflow: run.outflow - off,
+        kept: run.kept - 1,
+        newest: trials::slot_before(slots, run.newest),
+    }
+}
+
 // Takes the newest step back: depths, last leaving and run as they were before it.
 pub fn take_back(
     shape: Shape,
@@ -305,11 +320,5 @@ pub fn take_back(
     }
     restore_depths(shape, marks, rec, depths);
     restore_lasts(shape, marks, rec, lasts);
-    Answer::Done(Run {
-        clock: run.clock - lasted(rec),
-        length: held_before(rec),
-        outflow: run.outflow - found.off,
-        kept: run.kept - 1,
-        newest: trials::slot_before(slots, run.newest),
-    })
+    Answer::Done(run_before(run, slots, rec, found.off))
 }

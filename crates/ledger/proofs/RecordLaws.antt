@@ -1,0 +1,128 @@
+-- Laws of a record that is written: words stored one after the other are placed, and squares written from the first on make a record.
+-- Assumes nothing.
+use mathlib.Core.Path.{_≡_, refl, sym, ap, _∙_, subst}
+use mathlib.Core.Bool.{true, false}
+use mathlib.Core.List.{List, [], _∷_, _++_, append-assoc}
+use Prim.Native.Nat.{ℕ, suc, _+_, _-_, _≤_, _<_}
+use native.Mathlib.Omega.{arith}
+use lib.ListN.{length, getD, set, take, drop, length-append, length-drop}
+use lib.Seq.{sets, sets-eq, drop-drop, take-at, take-all, length-take-le}
+use borrow.Rule.Slice.PartMut.{putMid}
+use Rattle.reckon.specs.Lists.{joined, placed}
+use Rattle.reckon.proofs.TestLaws.{pick-true, pick-false}
+use Rattle.reckon.proofs.ListLaws.{joined-none, joined-more, length-placed}
+use Rattle.trials.specs.Ring.{slotsIn, slotStart}
+use Rattle.trials.proofs.RingLaws.{slot-within}
+use Rattle.grid.specs.Squares.{north, east, south, west, sides, squares}
+use Rattle.ledger.specs.Runs.{Plan}
+use Rattle.ledger.specs.Flows.{Leaves, shut}
+use Rattle.ledger.specs.Record.{squareWords, recordSize, wordPlace, squareRecord, recordOf, roomSlots, HeadPut, SquarePut, ClosedPut}
+
+-- ---- words stored
+
+pub stored-placed : (l : List ℕ) (a : ℕ) (v : List ℕ) → a + length v ≤ length l → sets l a v ≡ placed l a v
+unfolding placed
+stored-placed l a v h =
+    sets-eq v l a h
+    ∙ (append-assoc (take a l) v (drop (a + length v) l) ∙ ap (λ (r : List ℕ). take a l ++ (v ++ r)) (sym (drop-drop (length v) a l)))
+
+-- six stores, as the code makes them
+pub six-placed :
+    (l : List ℕ) (a n e s w p d : ℕ) → a + squareWords ≤ length l →
+    set (set (set (set (set (set l a n) (a + 1) e) (a + 2) s) (a + 3) w) (a + 4) p) (a + 5) d ≡ placed l a (n ∷ e ∷ s ∷ w ∷ p ∷ d ∷ [])
+six-placed l a n e s w p d h =
+    let e1 : a + 1 ≡ suc a = omega arith in
+    let e2 : a + 2 ≡ suc (suc a) = omega arith in
+    let e3 : a + 3 ≡ suc (suc (suc a)) = omega arith in
+    let e4 : a + 4 ≡ suc (suc (suc (suc a))) = omega arith in
+    let e5 : a + 5 ≡ suc (suc (suc (suc (suc a)))) = omega arith in
+    rw (e1, e2, e3, e4, e5) (stored-placed l a (n ∷ e ∷ s ∷ w ∷ p ∷ d ∷ []) h)
+
+pub placed-at : (l : List ℕ) {a b : ℕ} (v : List ℕ) → a ≡ b → placed l a v ≡ placed l b v
+placed-at l v e = ap (λ (k : ℕ). placed l k v) e
+
+-- a part that was lent and has come back
+pub placed-back : (a k : ℕ) (l : List ℕ) {ys new : List ℕ} → ys ≡ new → length new ≡ k → putMid a k l ys ≡ placed l a new
+unfolding placed
+placed-back a k l e h = rw (e, ← h)
+
+pub part-long : (a k : ℕ) (l : List ℕ) → a + k ≤ length l → length (take (a + k - a) (drop a l)) ≡ k
+part-long a k l h =
+    let e : a + k - a ≡ k = omega arith in
+    rw e (length-take-le k (drop a l) (omega (arith, length-drop a l)))
+
+-- what stands up to the end of what was placed
+take-placed : (l : List ℕ) (a : ℕ) (v : List ℕ) → a + length v ≤ length l → take (a + length v) (placed l a v) ≡ take a l ++ v
+unfolding placed
+take-placed l a v h =
+    ap (take (a + length v)) (sym (append-assoc (take a l) v (drop (length v) (drop a l))))
+    ∙ take-at (take a l ++ v) (drop (length v) (drop a l)) (a + length v)
+    (length-append (take a l) v ∙ ap (λ (k : ℕ). k + length v) (length-take-le a l (omega arith)))
+
+-- ---- a record, square by square
+
+-- the head and the first i squares stand
+pub record Begun (p : Plan) (held lasted : ℕ) (out : Leaves) (last added : ℕ → ℕ) (i : ℕ) (rec : List ℕ) : Type 0 where
+  pub long : length rec ≡ recordSize p
+  pub so-far : take (wordPlace i north) rec ≡ held ∷ lasted ∷ joined i (squareRecord p out last added)
+
+module _ {p : Plan} {held lasted : ℕ} {out : Leaves} {last added : ℕ → ℕ} where
+  -- the head is put
+  pub begun-none : (old : List ℕ) {rec : List ℕ} → length old ≡ recordSize p → HeadPut old held lasted rec → Begun p held lasted out last added 0 rec
+  begun-none old l e =
+      let fits : 0 + length (held ∷ lasted ∷ []) ≤ length old = omega arith in
+      record {
+        long = ap length e ∙ (length-placed old 0 (held ∷ lasted ∷ []) fits ∙ l);
+        so-far =
+            ap (take 2) e
+            ∙ (take-placed old 0 (held ∷ lasted ∷ []) fits
+            ∙ ap (λ (r : List ℕ). held ∷ lasted ∷ r) (sym (joined-none (squareRecord p out last added))));
+      }
+
+  -- the next square's six words are put
+  begun-next :
+      {i : ℕ} {old new : List ℕ} (six : List ℕ) → i < squares (p .shape) → length six ≡ squareWords → six ≡ squareRecord p out last added i →
+      new ≡ placed old (wordPlace i north) six → Begun p held lasted out last added i old → Begun p held lasted out last added (i + 1) new
+  begun-next {i} {old} six h l s e b =
+      let fits : wordPlace i north + length six ≤ length old = omega (arith, b .long) in
+      let next : wordPlace (i + 1) north ≡ wordPlace i north + length six = omega arith in
+      record {
+        long = ap length e ∙ (length-placed old (wordPlace i north) six fits ∙ b .long);
+        so-far =
+            rw (next, e) (take-placed old (wordPlace i north) six fits)
+            ∙ (ap (λ (r : List ℕ). r ++ six) (b .so-far)
+            ∙ ap (λ (r : List ℕ). held ∷ lasted ∷ r) (ap (λ (r : List ℕ). joined i (squareRecord p out last added) ++ r) s ∙ sym (joined-more i (squareRecord p out last added))));
+      }
+
+  module _ {i : ℕ} (h : i < squares (p .shape)) {old new : List ℕ} (b : Begun p held lasted out last added i old) where
+    pub begun-open :
+        shut p i ≡ false → (leaves : List ℕ) {l a : ℕ} → ((side : ℕ) → side < sides → getD leaves side 0 ≡ out i side) → l ≡ last i → a ≡ added i →
+        SquarePut old i leaves l a new → Begun p held lasted out last added (i + 1) new
+    unfolding squareRecord
+    begun-open c leaves f q r e =
+        begun-next _ h refl
+        (rw (f north (omega arith), f east (omega arith), f south (omega arith), f west (omega arith), q, r) (sym (pick-false _ _ c)))
+        e b
+
+    pub begun-closed : shut p i ≡ true → ClosedPut old i new → Begun p held lasted out last added (i + 1) new
+    unfolding squareRecord
+    begun-closed c e = begun-next _ h refl (sym (pick-true _ _ c)) e b
+
+  -- all squares are put
+  pub begun-whole : {i : ℕ} {rec : List ℕ} → i ≡ squares (p .shape) → Begun p held lasted out last added i rec → rec ≡ recordOf p held lasted out last added
+  unfolding recordOf
+  begun-whole {i} {rec} e b =
+      sym (take-all (wordPlace i north) rec (omega (arith, b .long)))
+      ∙ (b .so-far ∙ ap (λ (k : ℕ). held ∷ lasted ∷ joined k (squareRecord p out last added)) e)
+
+-- ---- the slots of a room
+
+pub slots-of : (p : Plan) (records : List ℕ) {size slots : ℕ} → size ≡ recordSize p → slots ≡ slotsIn size (length records) → slots ≡ roomSlots p records
+unfolding roomSlots
+slots-of p records e s = s ∙ ap (λ (k : ℕ). slotsIn k (length records)) e
+
+pub slot-fits :
+    (p : Plan) (records : List ℕ) {size slots slot : ℕ} → size ≡ recordSize p → slots ≡ slotsIn size (length records) → slot < slots →
+    slotStart size slot + size ≤ length records
+slot-fits p records {size} {slots} {slot} e s h =
+    slot-within size (omega arith) (subst (λ (k : ℕ). slot < k) s h)

@@ -1,0 +1,138 @@
+-- Laws of settling: a square's new depth is the world's, whatever else the world holds; 8 comes before 9; and parts written make a world.
+-- Assumes nothing.
+use mathlib.Core.Path.{_≡_, refl, sym, ap, _∙_}
+use mathlib.Core.Bool.{Bool, true, false, _||_}
+use mathlib.Core.List.{List}
+use Prim.Native.Nat.{ℕ, _+_, _≤_, _<_}
+use native.Mathlib.Omega.{arith}
+use lib.Dec.{leb}
+use lib.ListN.{length, getD, set}
+use borrow.Author.Tests.{le-leb, lt-leb, eq-eqb, ne-eqb}
+use Rattle.reckon.specs.Tests.{pick, allBelow}
+use Rattle.reckon.specs.Lists.{filled, placed, sumBelow}
+use Rattle.reckon.specs.Ranges.{mostDepth, mostOutflow}
+use Rattle.reckon.proofs.TestLaws.{not-both, pick-true, pick-false, all-fails, all-whole, refusal-here, refusal-later, passed-refusal}
+use Rattle.reckon.proofs.ListLaws.{filled-in, filled-skipped, length-filled}
+use Rattle.trials.specs.Ring.{slotsIn, slotStart, slotAfter, keptAfter}
+use Rattle.trials.proofs.RingLaws.{after-below}
+use Rattle.grid.specs.Squares.{squares}
+use Rattle.ledger.specs.Runs.{Plan, World, world, ofDepths}
+use Rattle.ledger.specs.Flows.{shut, gone, offSquare, offGrid}
+use Rattle.ledger.specs.Record.{recordSize, lastedIn, leavesIn, roomSlots, Recorded}
+use Rattle.ledger.specs.After.{remains, newDepth, depthsFit, newOutflow}
+use Rattle.ledger.specs.Settle.{movesIn, settleRows, settleNumber, written, settled, Settles, SettlesTo, depthBy, depthsBy, Gathers, GatheredOne, GatheredAll, SmallLeaving}
+use Rattle.ledger.proofs.RecordLaws.{slots-of, slot-fits}
+use Rattle.ledger.proofs.WalkLaws.{nothing, copied, walked-unfit, walked-fit}
+
+-- ---- one square gathered
+
+module _ (p : Plan) (rec depths : List ℕ) (i : ℕ) (old : List ℕ) where
+  pub gathered-closed : shut p i ≡ true → GatheredOne p rec depths i old true (set old i (getD depths i 0))
+  gathered-closed e = record { fits-is = rw e; stored = λ z. ap (set old i) (sym (pick-true _ _ e)) }
+
+  module _ (e : shut p i ≡ false) {x : ℕ} (d : x ≡ depthBy p rec depths i) where
+    pub gathered-deep : mostDepth < x → GatheredOne p rec depths i old false old
+    gathered-deep h =
+        let l : leb (depthBy p rec depths i) mostDepth ≡ false = lt-leb (depthBy p rec depths i) mostDepth (omega (arith, h, d)) in
+        record { fits-is = rw (e, l); stored = λ z. not-both z refl }
+
+    pub gathered-open : x ≤ mostDepth → GatheredOne p rec depths i old true (set old i x)
+    gathered-open h =
+        let l : leb (depthBy p rec depths i) mostDepth ≡ true = le-leb (depthBy p rec depths i) mostDepth (omega (arith, h, d)) in
+        record { fits-is = rw (e, l); stored = λ z. ap (set old i) (d ∙ sym (pick-false _ _ e)) }
+
+-- ---- all squares gathered
+
+module _ (p : Plan) (rec depths : List ℕ) where
+  abbrev pub fits : ℕ → Bool
+  fits i = shut p i || leb (depthBy p rec depths i) mostDepth
+
+  -- the number that is stored for a square is that of the new depths
+  pub gathered-at : {i : ℕ} → length depths ≡ squares (p .shape) → i < squares (p .shape) →
+      pick (shut p i) (getD depths i 0) (depthBy p rec depths i) ≡ getD (depthsBy p rec depths) i 0
+  gathered-at {i} l h = go (shut p i) refl
+    where
+      go : (b : Bool) → shut p i ≡ b → pick (shut p i) (getD depths i 0) (depthBy p rec depths i) ≡ getD (depthsBy p rec depths) i 0
+      go true e = pick-true _ _ e ∙ sym (filled-skipped (squares (p .shape)) (shut p) (depthBy p rec depths) depths i (omega arith) e)
+      go false e = pick-false _ _ e ∙ sym (filled-in (squares (p .shape)) (shut p) (depthBy p rec depths) depths i (omega arith) h e)
+
+  pub gathered-unfit : {i : ℕ} {new : List ℕ} → i < squares (p .shape) → fits i ≡ false → GatheredAll p rec depths (record { fits = false; off = 0 }) new
+  unfolding depthsFit
+  gathered-unfit {i} h e =
+      record { found = walked-unfit p rec (all-fails (squares (p .shape)) fits i h e); stored = λ z. not-both z refl }
+
+  pub gathered-fit :
+      {n off : ℕ} (old : List ℕ) {new : List ℕ} → length depths ≡ squares (p .shape) → length old ≡ squares (p .shape) → n ≡ squares (p .shape) →
+      allBelow n fits ≡ true → off ≡ sumBelow n (offSquare p (leavesIn rec)) → new ≡ filled n nothing (λ k. getD (depthsBy p rec depths) k 0) old →
+      GatheredAll p rec depths (record { fits = true; off = off }) new
+  unfolding depthsFit
+  gathered-fit old l m h a s q =
+      let long : length (depthsBy p rec depths) ≡ squares (p .shape) = length-filled (squares (p .shape)) (shut p) (depthBy p rec depths) depths ∙ l in
+      record {
+        found = walked-fit p rec (all-whole fits a h) s h;
+        stored = λ z. copied (depthsBy p rec depths) old (m ∙ sym long) (omega arith) q;
+      }
+
+-- ---- what is asked of the parts
+
+module _ {p : Plan} {rec : List ℕ} {held : ℕ} {w : World} (s : Settles p rec held w) where
+  pub settles-recorded : Recorded p rec
+  settles-recorded = record { fine = s .fine; marks-long = s .marks-long; record-long = s .record-long }
+
+  pub settles-gathers : Gathers p rec (w .depths)
+  settles-gathers = record { recorded = settles-recorded; depths-long = s .depths-long; covered = s .covered }
+
+  pub settles-small : SmallLeaving p rec
+  settles-small =
+      record { recorded = settles-recorded; small = λ i h e. omega (arith, s .covered i h e, s .depths-to i h e) }
+
+-- ---- the numbers and the world
+
+module _ (p : Plan) (rec : List ℕ) (held : ℕ) (w : World) where
+  -- the depths fit by the record and the depths alone
+  fit-is : depthsFit p (movesIn rec held) w ≡ depthsFit p (movesIn rec 0) (ofDepths (w .depths))
+  unfolding depthsFit newDepth remains
+  fit-is = refl
+
+  as-it-was : {n : ℕ} → (n ≡ 0 → ⊥) → settleNumber p rec held w ≡ n → SettlesTo p rec held w n w
+  unfolding settled
+  as-it-was d e = record { number = sym e; world-is = sym (pick-false _ _ (ne-eqb (settleNumber p rec held w) 0 (λ z. d (sym e ∙ z)))) }
+
+  pub settles-deep : depthsFit p (movesIn rec 0) (ofDepths (w .depths)) ≡ false → SettlesTo p rec held w 8 w
+  unfolding settleNumber settleRows
+  settles-deep e = as-it-was (λ z. omega arith) (refusal-here 8 _ (fit-is ∙ e))
+
+  module _ (e : depthsFit p (movesIn rec 0) (ofDepths (w .depths)) ≡ true) {o : ℕ} (f : o ≡ newOutflow p (movesIn rec held) w) where
+    pub settles-over : mostOutflow < o → SettlesTo p rec held w 9 w
+    unfolding settleNumber settleRows
+    settles-over h =
+        as-it-was (λ z. omega arith)
+        (refusal-later 8 _ (fit-is ∙ e) ∙ refusal-here 9 _ (lt-leb (newOutflow p (movesIn rec held) w) mostOutflow (omega arith)))
+
+    pub settles-written : {after : World} → o ≤ mostOutflow → after ≡ written p rec held w → SettlesTo p rec held w 0 after
+    unfolding settleNumber settleRows settled
+    settles-written h q =
+        let z : settleNumber p rec held w ≡ 0 =
+        passed-refusal (settleRows p rec held w) (fit-is ∙ e, (le-leb (newOutflow p (movesIn rec held) w) mostOutflow (omega arith), tt)) in
+        record { number = sym z; world-is = q ∙ sym (pick-true _ _ (eq-eqb _ 0 z)) }
+
+  pub outflow-by : {off : ℕ} → off ≡ offGrid p (leavesIn rec) → w .run .outflow + off ≡ newOutflow p (movesIn rec held) w
+  unfolding newOutflow
+  outflow-by e = ap (λ (k : ℕ). w .run .outflow + k) e
+
+  -- the parts, as they are written
+  pub written-is :
+      {d l r : List ℕ} {slots slot at clock outflow kept : ℕ} → slots ≡ roomSlots p (w .records) → slot ≡ slotAfter slots (w .run .newest) →
+      d ≡ depthsBy p rec (w .depths) → l ≡ filled (squares (p .shape)) (shut p) (gone (leavesIn rec)) (w .lasts) →
+      at ≡ slotStart (recordSize p) slot → r ≡ placed (w .records) at rec →
+      clock ≡ w .run .clock + lastedIn rec → outflow ≡ newOutflow p (movesIn rec held) w → kept ≡ keptAfter slots (w .run .kept) →
+      world d l r (record { clock = clock; length = held; outflow = outflow; kept = kept; newest = slot }) ≡ written p rec held w
+  unfolding written newDepth remains
+  written-is s t d l a r c o k = rw (d, l, r, a, c, o, k, t, s)
+
+-- the slot that is written lies in the room
+pub next-fits :
+    (p : Plan) (records : List ℕ) {size slots slot newest : ℕ} → size ≡ recordSize p → slots ≡ slotsIn size (length records) →
+    newest < roomSlots p records → slot ≡ slotAfter slots newest → slotStart size slot + size ≤ length records
+next-fits p records {size} {slots} {slot} {newest} e s h q =
+    slot-fits p records e s (rw q (after-below slots newest (omega (arith, slots-of p records e s))))

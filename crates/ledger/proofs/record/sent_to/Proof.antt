@@ -1,0 +1,52 @@
+-- `ledger::record::sent_to` meets its contract: no neighbour, a closed one, or one that sent.
+-- Assumes nothing.
+use mathlib.Core.Path.{sym, _∙_}
+use native.Mathlib.Omega.{arith}
+use Rattle.grid.proofs.SquareLaws.{opposite-small}
+use Rattle.ledger.specs.Runs.{plan}
+use Rattle.ledger.specs.Record.{leavesIn}
+use Rattle.ledger.proofs.FlowLaws.{sent-none, sent-closed, sent-open}
+use borrow.Author.Needs.{needs}
+use Rattle.ledger.proofs.record.sent_to.Statement.{statement}
+use Rattle.ledger.proofs.record.sent_to.Tie as tie
+
+beside-on-requires : tie.Need-beside-on-requires
+beside-on-requires c κs = search needs
+
+squares-of-requires : tie.Need-squares-of-requires
+squares-of-requires c κs = search needs
+
+returns : tie.Need-returns
+returns c =
+    sent-none (plan (c .before .before .before .before .before .args .shape) (c .before .before .before .before .before .args .marks .now)) (leavesIn (c .before .before .before .before .before .args .rec .now)) (c .before .before .before .before .before .args .square) (c .before .before .before .before .before .args .side) (c .before .before .beside-on .ensures) (c .before .before .before .before .before .pre .0 .marks-long) (omega (arith, c .before .squares-of .ensures, c .if1 .taken))
+
+is-closed-requires : tie.Need-is-closed-requires
+is-closed-requires c κs = search needs
+
+returns-2 : tie.Need-returns-2
+returns-2 c =
+    sent-closed (plan (c .before .before .before .before .before .before .before .args .shape) (c .before .before .before .before .before .before .before .args .marks .now)) (leavesIn (c .before .before .before .before .before .before .before .args .rec .now)) (c .before .before .before .before .before .before .before .args .square) (c .before .before .before .before .before .before .before .args .side) (c .before .before .before .before .beside-on .ensures) (sym (c .before .is-closed .ensures) ∙ c .if2 .taken)
+
+opposite-of-requires : tie.Need-opposite-of-requires
+opposite-of-requires c κs = search needs
+
+leaving-requires : tie.Need-leaving-requires
+leaving-requires c κs =
+    omega (arith, c .opposite-of .ensures, opposite-small (c .before .before .before .before .before .before .before .before .args .side), c .before .before .before .before .squares-of .ensures, c .before .before .before .if1 .left, c .before .before .before .before .before .before .before .before .pre .0 .record-long)
+
+returns-3 : tie.Need-returns-3
+returns-3 c =
+    c .leaving .ensures ∙ sent-open (plan (c .before .before .before .before .before .before .before .before .before .args .shape) (c .before .before .before .before .before .before .before .before .before .args .marks .now)) (leavesIn (c .before .before .before .before .before .before .before .before .before .args .rec .now)) (c .before .before .before .before .before .before .before .before .before .args .square) (c .before .before .before .before .before .before .before .before .before .args .side) (c .before .before .before .before .before .before .beside-on .ensures) (sym (c .before .before .before .is-closed .ensures) ∙ c .before .before .if2 .left) (c .before .opposite-of .ensures)
+
+pub sent-to-spec : {M : Type 1} → statement M
+sent-to-spec =
+    tie.close
+    (tie.spec
+    beside-on-requires
+    squares-of-requires
+    returns
+    is-closed-requires
+    returns-2
+    opposite-of-requires
+    leaving-requires
+    returns-3)

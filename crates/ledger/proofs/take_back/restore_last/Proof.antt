@@ -1,0 +1,44 @@
+-- `ledger::take_back::restore_last` meets its contract: nothing is stored where the square is closed.
+-- Assumes nothing.
+use mathlib.Core.Path.{sym, ap, _∙_}
+use lib.ListN.{set, length-set}
+use Rattle.reckon.proofs.TestLaws.{pick-true, pick-false}
+use borrow.Author.Needs.{needs}
+use Rattle.ledger.proofs.take_back.restore_last.Statement.{statement}
+use Rattle.ledger.proofs.take_back.restore_last.Tie as tie
+
+is-closed-requires : tie.Need-is-closed-requires
+is-closed-requires c κs = search needs
+
+returns : tie.Need-returns
+returns c =
+    sym (pick-true _ _ (sym (c .before .is-closed .ensures) ∙ c .if1 .taken))
+
+last-before-requires : tie.Need-last-before-requires
+last-before-requires c κs = search needs
+
+mul-lasts : tie.Need-mul-lasts
+mul-lasts c = search needs
+
+slice-write-lasts : tie.Need-slice-write-lasts
+slice-write-lasts c = search needs
+
+same-length : tie.Need-same-length
+same-length c =
+    simp length-set
+
+returns-2 : tie.Need-returns-2
+returns-2 c =
+    ap (set (c .before .before .before .before .before .before .args .lasts .now) (c .before .before .before .before .before .before .args .square)) (c .last-before .ensures) ∙ sym (pick-false _ _ (sym (c .before .before .is-closed .ensures) ∙ c .before .if1 .left))
+
+pub restore-last-spec : {M : Type 1} → statement M
+restore-last-spec =
+    tie.close
+    (tie.spec
+    is-closed-requires
+    returns
+    last-before-requires
+    mul-lasts
+    slice-write-lasts
+    same-length
+    returns-2)
