@@ -51,11 +51,11 @@ module _ (p : Plan) (out : Leaves) (i side : ℕ) {at : ℕ} (e : at ≡ beside 
   sent-open h o = ap₂ out e o ∙ sym (pick-false _ _ (ap (shut p) (sym e) ∙ h))
 
   pub off-inside : at < squares (p .shape) → 0 ≡ offSide p out i side
-  unfolding offSide within
+  unfolding offSide
   off-inside h = sym (pick-true _ _ (lt-ltb (beside (p .shape) i side) (squares (p .shape)) (omega arith)))
 
   pub off-beyond : squares (p .shape) ≤ at → out i side ≡ offSide p out i side
-  unfolding offSide within
+  unfolding offSide
   off-beyond h = sym (pick-false _ _ (le-ltb (beside (p .shape) i side) (squares (p .shape)) (omega arith)))
 
 -- ---- sums of words
