@@ -3,6 +3,7 @@
 use mathlib.Core.Path.{sym, _∙_}
 use native.Mathlib.Omega.{arith}
 use borrow.Author.Needs.{needs}
+use denote.Ref.{now}
 use Rattle.sight.proofs.WetLaws.{masks-long, wet-refused, wet-counted, wet-lent}
 use Rattle.sight.proofs.wet_rows.wet_rows.Statement.{statement}
 use Rattle.sight.proofs.wet_rows.wet_rows.Tie as tie
@@ -17,10 +18,10 @@ mask-rows-requires : tie.Need-mask-rows-requires
 mask-rows-requires c κs = wet-lent _ _ _ _ (c .before .before .wet-refusal .ensures) (c .before .if1 .left)
 
 ones-in-requires : tie.Need-ones-in-requires
-ones-in-requires c κs = omega (arith, masks-long _ _ _ (c .before .before .before .mask-rows .ensures), wet-lent _ _ _ _ (c .before .before .before .before .before .before .wet-refusal .ensures) (c .before .before .before .before .before .if1 .left) .fine .rows-high)
+ones-in-requires c κs = omega (arith, masks-long _ _ _ (c .before .before .before .mask-rows .ensures), wet-lent _ _ _ (now (c .before .before .before .before .before .before .before .before .before .before .args .rows)) (c .before .before .before .before .before .before .wet-refusal .ensures) (c .before .before .before .before .before .if1 .left) .fine .rows-high)
 
 same-length : tie.Need-same-length
-same-length c = masks-long _ _ _ (c .before .before .before .before .mask-rows .ensures) ∙ sym (wet-lent _ _ _ _ (c .before .before .before .before .before .before .before .wet-refusal .ensures) (c .before .before .before .before .before .before .if1 .left) .rows-long)
+same-length c = masks-long _ _ _ (c .before .before .before .before .mask-rows .ensures) ∙ sym (wet-lent _ _ _ (now (c .before .before .before .before .before .before .before .before .before .before .before .args .rows)) (c .before .before .before .before .before .before .before .wet-refusal .ensures) (c .before .before .before .before .before .before .if1 .left) .rows-long)
 
 returns-2 : tie.Need-returns-2
 returns-2 c = wet-counted _ _ _ _ (c .before .before .before .before .before .before .before .wet-refusal .ensures) (c .before .before .before .before .before .before .if1 .left) (c .before .before .before .before .mask-rows .ensures) (c .ones-in .ensures)
