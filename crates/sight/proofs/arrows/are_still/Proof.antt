@@ -32,9 +32,14 @@ is-still-requires-4 c κs = search needs
 
 returns-4 : tie.Need-returns-4
 returns-4 c =
-    let north = sym (c .before .before .before .before .before .before .is-still .ensures) ∙ not-false _ (c .before .before .before .before .before .if1 .left) in
-    let east = sym (c .before .before .before .before .is-still2 .ensures) ∙ not-false _ (c .before .before .before .if2 .left) in
-    let south = sym (c .before .before .is-still3 .ensures) ∙ not-false _ (c .before .if3 .left) in
+    let at-is-still3 = c .before .before in
+    let at-if2 = at-is-still3 .before in
+    let at-is-still2 = at-if2 .before in
+    let at-if1 = at-is-still2 .before in
+    let at-is-still = at-if1 .before in
+    let north = sym (at-is-still .is-still .ensures) ∙ not-false _ (at-if1 .if1 .left) in
+    let east = sym (at-is-still2 .is-still2 .ensures) ∙ not-false _ (at-if2 .if2 .left) in
+    let south = sym (at-is-still3 .is-still3 .ensures) ∙ not-false _ (c .before .if3 .left) in
     c .is-still4 .ensures ∙ sym (every-last (_ ∷ _ ∷ _ ∷ []) (north, (east, (south, tt))))
 
 pub are-still-spec : {M : Type 1} → statement M

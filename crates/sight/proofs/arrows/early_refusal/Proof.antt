@@ -31,24 +31,52 @@ run-fine-requires c κs = search needs
 
 returns-2 : tie.Need-returns-2
 returns-2 c =
+    let at-slots-in = c .before .before in
+    let at-record-size = at-slots-in .before in
+    let at-if1 = at-record-size .before in
+    let at-shared-refusal = at-if1 .before in
+    let at-asked-fine = at-shared-refusal .before in
+    let start = at-asked-fine .before .before .before .before in
     let fine =
     c .before .run-fine .ensures
-    ∙ ap (λ (k : ℕ). runFine k (c .before .before .before .before .before .before .before .before .before .before .args .run)) (slots-are _ _ (c .before .before .slots-in .ensures) (c .before .before .before .record-size .ensures)) in
-    early-run _ _ _ _ _ (c .before .before .before .before .before .before .asked-fine .ensures) (c .before .before .before .before .before .shared-refusal .ensures) (c .before .before .before .before .if1 .left) fine (not-true _ (c .if2 .taken))
+    ∙ ap (λ (k : ℕ). runFine k (start .args .run))
+    (slots-are _ _ (at-slots-in .slots-in .ensures) (at-record-size .record-size .ensures)) in
+    early-run _ _ _ _ _ (at-asked-fine .asked-fine .ensures) (at-shared-refusal .shared-refusal .ensures) (at-if1 .if1 .left) fine
+    (not-true _ (c .if2 .taken))
 
 returns-3 : tie.Need-returns-3
 returns-3 c =
+    let at-if2 = c .before .before in
+    let at-run-fine = at-if2 .before in
+    let at-slots-in = at-run-fine .before in
+    let at-record-size = at-slots-in .before in
+    let at-if1 = at-record-size .before in
+    let at-shared-refusal = at-if1 .before in
+    let at-asked-fine = at-shared-refusal .before in
+    let start = at-asked-fine .before .before .before .before in
     let fine =
-    c .before .before .before .run-fine .ensures
-    ∙ ap (λ (k : ℕ). runFine k (c .before .before .before .before .before .before .before .before .before .before .before .before .args .run)) (slots-are _ _ (c .before .before .before .before .slots-in .ensures) (c .before .before .before .before .before .record-size .ensures)) in
-    early-kept _ _ _ _ _ (c .before .before .before .before .before .before .before .before .asked-fine .ensures) (c .before .before .before .before .before .before .before .shared-refusal .ensures) (c .before .before .before .before .before .before .if1 .left) fine (not-false _ (c .before .before .if2 .left)) (c .if3 .taken)
+    at-run-fine .run-fine .ensures
+    ∙ ap (λ (k : ℕ). runFine k (start .args .run))
+    (slots-are _ _ (at-slots-in .slots-in .ensures) (at-record-size .record-size .ensures)) in
+    early-kept _ _ _ _ _ (at-asked-fine .asked-fine .ensures) (at-shared-refusal .shared-refusal .ensures) (at-if1 .if1 .left) fine
+    (not-false _ (at-if2 .if2 .left)) (c .if3 .taken)
 
 returns-4 : tie.Need-returns-4
 returns-4 c =
+    let at-if2 = c .before .before in
+    let at-run-fine = at-if2 .before in
+    let at-slots-in = at-run-fine .before in
+    let at-record-size = at-slots-in .before in
+    let at-if1 = at-record-size .before in
+    let at-shared-refusal = at-if1 .before in
+    let at-asked-fine = at-shared-refusal .before in
+    let start = at-asked-fine .before .before .before .before in
     let fine =
-    c .before .before .before .run-fine .ensures
-    ∙ ap (λ (k : ℕ). runFine k (c .before .before .before .before .before .before .before .before .before .before .before .before .args .run)) (slots-are _ _ (c .before .before .before .before .slots-in .ensures) (c .before .before .before .before .before .record-size .ensures)) in
-    early-none _ _ _ _ _ (c .before .before .before .before .before .before .before .before .asked-fine .ensures) (c .before .before .before .before .before .before .before .shared-refusal .ensures) (c .before .before .before .before .before .before .if1 .left) fine (not-false _ (c .before .before .if2 .left)) (c .if3 .left)
+    at-run-fine .run-fine .ensures
+    ∙ ap (λ (k : ℕ). runFine k (start .args .run))
+    (slots-are _ _ (at-slots-in .slots-in .ensures) (at-record-size .record-size .ensures)) in
+    early-none _ _ _ _ _ (at-asked-fine .asked-fine .ensures) (at-shared-refusal .shared-refusal .ensures) (at-if1 .if1 .left) fine
+    (not-false _ (at-if2 .if2 .left)) (c .if3 .left)
 
 pub early-refusal-spec : {M : Type 1} → statement M
 early-refusal-spec =

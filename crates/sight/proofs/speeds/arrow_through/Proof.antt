@@ -23,8 +23,12 @@ combined-requires c κs = search needs
 
 returns : tie.Need-returns
 returns c =
+    let at-side-speed3 = c .before .before in
+    let at-side-speed2 = at-side-speed3 .before in
+    let at-side-speed = at-side-speed2 .before in
     c .combined .ensures
-    ∙ same-arrow (c .before .before .before .before .side-speed .ensures) (c .before .before .before .side-speed2 .ensures) (c .before .before .side-speed3 .ensures) (c .before .side-speed4 .ensures)
+    ∙ same-arrow (at-side-speed .side-speed .ensures) (at-side-speed2 .side-speed2 .ensures) (at-side-speed3 .side-speed3 .ensures)
+    (c .before .side-speed4 .ensures)
 
 pub arrow-through-spec : {M : Type 1} → statement M
 arrow-through-spec =

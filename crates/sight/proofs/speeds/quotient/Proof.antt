@@ -16,7 +16,9 @@ unfolding Ieee.inFloat
 int-to-float-result-2 c = le→leb (c .before .before .args .below) (2 ^ 53) (c .before .before .pre .1)
 
 returns : tie.Need-returns
-returns c = quotient-is (c .before .before .args .above) (c .before .before .args .below) (c .before .before .pre .0) (c .before .before .pre .1) (c .before .before .pre .2)
+returns c =
+    let start = c .before .before in
+    quotient-is (start .args .above) (start .args .below) (start .pre .0) (start .pre .1) (start .pre .2)
 
 pub quotient-spec : {M : Type 1} → statement M
 quotient-spec = tie.close (tie.spec int-to-float-result int-to-float-result-2 returns)

@@ -22,7 +22,9 @@ mul-quotient : tie.Need-mul-quotient
 mul-quotient c = search needs
 
 mul-quotient-2 : tie.Need-mul-quotient-2
-mul-quotient-2 c = omega (arith, above-le (c .before .before .before .args .side .out) (c .before .before .before .args .side .back) (c .before .before .before .pre .out-small) (c .before .before .before .pre .side-to))
+mul-quotient-2 c =
+    let start = c .before .before .before in
+    omega (arith, above-le (start .args .side .out) (start .args .side .back) (start .pre .out-small) (start .pre .side-to))
 
 quotient-requires : tie.Need-quotient-requires
 quotient-requires c κs = exact (c .before .before .before .pre) _ _ (c .before .before .before .pre .out-small)
@@ -34,7 +36,9 @@ mul-quotient-3 : tie.Need-mul-quotient-3
 mul-quotient-3 c = search needs
 
 mul-quotient-4 : tie.Need-mul-quotient-4
-mul-quotient-4 c = omega (arith, above-le (c .before .before .before .args .side .back) (c .before .before .before .args .side .out) (c .before .before .before .pre .back-small) (c .before .before .before .pre .side-to))
+mul-quotient-4 c =
+    let start = c .before .before .before in
+    omega (arith, above-le (start .args .side .back) (start .args .side .out) (start .pre .back-small) (start .pre .side-to))
 
 quotient-requires-2 : tie.Need-quotient-requires-2
 quotient-requires-2 c κs = exact (c .before .before .before .pre) _ _ (c .before .before .before .pre .back-small)

@@ -29,19 +29,31 @@ mul-rows : tie.Need-mul-rows Inv-loop μ-loop
 mul-rows c = omega (arith, c .before .before .before .before .before .before .pre .fine .rows-high, c .before .loop-test .taken)
 
 slice-write-rows : tie.Need-slice-write-rows Inv-loop μ-loop
-slice-write-rows c = omega (arith, rowed-long _ _ _ _ _ _ (c .before .before .loop .inv .1), c .before .before .before .before .before .before .pre .rows-long, c .before .loop-test .taken)
+slice-write-rows c =
+    let at-loop = c .before .before in
+    let start = at-loop .before .before .before .before in
+    omega (arith, rowed-long _ _ _ _ _ _ (at-loop .loop .inv .1), start .pre .rows-long, c .before .loop-test .taken)
 
 add-row : tie.Need-add-row Inv-loop μ-loop
 add-row c = omega (arith, c .before .before .before .before .before .before .pre .fine .rows-high, c .before .loop-test .taken)
 
 add-first : tie.Need-add-first Inv-loop μ-loop
-add-first c = omega (arith, row-fits (c .before .before .before .before .before .before .args .shape) (c .before .loop-test .taken), c .before .before .before .before .before .before .pre .fine .few, c .before .before .loop .inv .1 .0)
+add-first c =
+    let at-loop = c .before .before in
+    let start = at-loop .before .before .before .before in
+    omega (arith, row-fits (start .args .shape) (c .before .loop-test .taken), start .pre .fine .few, at-loop .loop .inv .1 .0)
 
 loop-less : tie.Need-loop-less Inv-loop μ-loop
 loop-less c = omega (arith, c .before .loop-test .taken)
 
 loop-again : tie.Need-loop-again Inv-loop μ-loop
-loop-again c = (omega (arith, c .before .loop-test .taken), rowed-more _ _ _ _ _ _ (c .before .before .loop .inv .1) (omega (arith, c .before .before .before .before .before .before .pre .rows-long, c .before .loop-test .taken)) (c .row-mask .ensures))
+loop-again c =
+    let at-loop = c .before .before in
+    let start = at-loop .before .before .before .before in (
+      omega (arith, c .before .loop-test .taken),
+      rowed-more _ _ _ _ _ _ (at-loop .loop .inv .1)
+          (omega (arith, start .pre .rows-long, c .before .loop-test .taken)) (c .row-mask .ensures),
+    )
 
 same-length : tie.Need-same-length Inv-loop μ-loop
 same-length c = rowed-long _ _ _ _ _ _ (c .before .loop .inv .1)

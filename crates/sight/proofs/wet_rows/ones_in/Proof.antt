@@ -33,7 +33,10 @@ ones-requires c κs = search needs
 
 add-total : tie.Need-add-total Inv-loop μ-loop
 add-total c =
-    let few = ones-le 64 (getD (now (c .before .before .before .before .before .args .rows)) (c .before .before .before .loop .row) 0) (omega (arith, c .before .shared-slice-known2 .given (c .before .before .before .loop .row))) in
+    let at-loop = c .before .before .before in
+    let start = at-loop .before .before in
+    let few = ones-le 64 (getD (now (start .args .rows)) (at-loop .loop .row) 0)
+    (omega (arith, c .before .shared-slice-known2 .given (at-loop .loop .row))) in
     omega (arith, c .ones .ensures)
 
 add-row : tie.Need-add-row Inv-loop μ-loop
@@ -44,8 +47,11 @@ loop-less c = search needs
 
 loop-again : tie.Need-loop-again Inv-loop μ-loop
 loop-again c =
-    let few = ones-le 64 (getD (now (c .before .before .before .before .before .args .rows)) (c .before .before .before .loop .row) 0) (omega (arith, c .before .shared-slice-known2 .given (c .before .before .before .loop .row))) in
-    (omega arith, omega (arith, c .ones .ensures), ap₂ _+_ (c .before .before .before .loop .inv .2) (c .ones .ensures) ∙ sym (sum-more _ _))
+    let at-loop = c .before .before .before in
+    let start = at-loop .before .before in
+    let few = ones-le 64 (getD (now (start .args .rows)) (at-loop .loop .row) 0)
+    (omega (arith, c .before .shared-slice-known2 .given (at-loop .loop .row))) in
+    (omega arith, omega (arith, c .ones .ensures), ap₂ _+_ (at-loop .loop .inv .2) (c .ones .ensures) ∙ sym (sum-more _ _))
 
 returns : tie.Need-returns Inv-loop μ-loop
 unfolding onesOver

@@ -18,13 +18,33 @@ mask-rows-requires : tie.Need-mask-rows-requires
 mask-rows-requires c κs = wet-lent _ _ _ _ (c .before .before .wet-refusal .ensures) (c .before .if1 .left)
 
 ones-in-requires : tie.Need-ones-in-requires
-ones-in-requires c κs = omega (arith, masks-long _ _ _ (c .before .before .before .mask-rows .ensures), wet-lent _ _ _ (now (c .before .before .before .before .before .before .before .before .before .before .args .rows)) (c .before .before .before .before .before .before .wet-refusal .ensures) (c .before .before .before .before .before .if1 .left) .fine .rows-high)
+ones-in-requires c κs =
+    let at-mask-rows = c .before .before .before in
+    let at-if1 = at-mask-rows .before .before in
+    let at-wet-refusal = at-if1 .before in
+    let start = at-wet-refusal .before .before .before .before in
+    omega (
+      arith,
+      masks-long _ _ _ (at-mask-rows .mask-rows .ensures),
+      wet-lent _ _ _ (now (start .args .rows))
+          (at-wet-refusal .wet-refusal .ensures) (at-if1 .if1 .left) .fine .rows-high,
+    )
 
 same-length : tie.Need-same-length
-same-length c = masks-long _ _ _ (c .before .before .before .before .mask-rows .ensures) ∙ sym (wet-lent _ _ _ (now (c .before .before .before .before .before .before .before .before .before .before .before .args .rows)) (c .before .before .before .before .before .before .before .wet-refusal .ensures) (c .before .before .before .before .before .before .if1 .left) .rows-long)
+same-length c =
+    let at-mask-rows = c .before .before .before .before in
+    let at-if1 = at-mask-rows .before .before in
+    let at-wet-refusal = at-if1 .before in
+    let start = at-wet-refusal .before .before .before .before in
+    masks-long _ _ _ (at-mask-rows .mask-rows .ensures) ∙ sym
+    (wet-lent _ _ _ (now (start .args .rows)) (at-wet-refusal .wet-refusal .ensures) (at-if1 .if1 .left) .rows-long)
 
 returns-2 : tie.Need-returns-2
-returns-2 c = wet-counted _ _ _ _ (c .before .before .before .before .before .before .before .wet-refusal .ensures) (c .before .before .before .before .before .before .if1 .left) (c .before .before .before .before .mask-rows .ensures) (c .ones-in .ensures)
+returns-2 c =
+    let at-mask-rows = c .before .before .before .before in
+    let at-if1 = at-mask-rows .before .before in
+    let at-wet-refusal = at-if1 .before in
+    wet-counted _ _ _ _ (at-wet-refusal .wet-refusal .ensures) (at-if1 .if1 .left) (at-mask-rows .mask-rows .ensures) (c .ones-in .ensures)
 
 pub wet-rows-spec : {M : Type 1} → statement M
 wet-rows-spec =
