@@ -15,13 +15,15 @@ use Rattle.grid.specs.Squares.{squares, within, beside}
 use Rattle.grid.specs.Marks.{exit}
 use Rattle.rule.specs.Drops.{dropTo, dropOff}
 use Rattle.rule.specs.Rules.{GroundInRange}
-use Rattle.rule.specs.Weighing.{mostDrop, DropsInRange}
+use Rattle.rule.specs.Weighing.{mostDrop, DropsInRange, SquareInRange, Weighable}
+use Rattle.rule.specs.Length.{Candidacy}
 use Rattle.rule.specs.declared.rules.Rules.{Rules}
 use Rattle.rule.proofs.DropLaws.{off-le}
-use Rattle.reckon.specs.Ranges.{mostBed, mostDepth}
+use Rattle.reckon.specs.Ranges.{mostDepth, mostLength}
 use Rattle.ledger.specs.Runs.{Plan}
 use Rattle.ledger.specs.Flows.{shut}
-use Rattle.flood.specs.Drops.{levelAt, sideDrop, dropsOf}
+use Rattle.flood.specs.Drops.{Ground, levelAt, sideDrop, dropsOf}
+use Rattle.flood.specs.Ready.{Lies}
 
 -- what stands on a side, as the code finds it
 module _ (p : Plan) (r : Rules) (beds depths : List ℕ) (i side : ℕ) {other : ℕ} (q : other ≡ beside (p .shape) i side) where
@@ -74,3 +76,39 @@ unfolding dropsOf
 drops-in-range p r beds depths i b d =
     let h : GroundInRange (getD beds i 0) 1 = record { bed-to = b .bed-to; roughness-from = omega arith; roughness-to = omega arith } in
     record { north = drop-le p r beds depths i 0 h d; east = drop-le p r beds depths i 1 h d; south = drop-le p r beds depths i 2 h d; west = drop-le p r beds depths i 3 h d }
+
+-- the four as the code finds them
+pub drops-made :
+    (p : Plan) (r : Rules) (beds depths : List ℕ) (i : ℕ) {n e s w : ℕ} →
+    n ≡ sideDrop p r beds depths i 0 → e ≡ sideDrop p r beds depths i 1 → s ≡ sideDrop p r beds depths i 2 → w ≡ sideDrop p r beds depths i 3 →
+    n ∷ e ∷ s ∷ w ∷ [] ≡ dropsOf p r beds depths i
+unfolding dropsOf
+drops-made p r beds depths i a b c d = rw (a, b, c, d)
+
+-- ---- what the weighing and the candidates of a square not closed may rely on
+
+module _ (p : Plan) (o : Ground) (depths : List ℕ) (l : Lies p o depths) (i : ℕ) (h : i < squares (p .shape)) (e : shut p i ≡ false) where
+  pub square-in-range : SquareInRange (o .rules) (getD depths i 0) (getD (o .roughness) i 0)
+  square-in-range =
+      let g = l .grounds i h e in
+      record {
+        side-from = l .rules .side-from;
+        side-to = l .rules .side-to;
+        depth-to = l .depths-to i h e;
+        roughness-from = g .roughness-from;
+        roughness-to = g .roughness-to;
+      }
+
+  drops-fit : DropsInRange (dropsOf p (o .rules) (o .beds) depths i)
+  drops-fit = drops-in-range p (o .rules) (o .beds) depths i (l .grounds i h e) (l .depths-to i h e)
+
+  pub candidacy :
+      {d k : ℕ} {v : List ℕ} → d ≡ getD depths i 0 → k ≡ getD (o .roughness) i 0 → v ≡ dropsOf p (o .rules) (o .beds) depths i →
+      Candidacy (o .rules) d k v
+  candidacy a b c = rw (a, b, c) (record { square = square-in-range; tolerance-to = l .rules .tolerance-to; drops = drops-fit })
+
+  pub weighable :
+      (lasts : List ℕ) {ms d q k : ℕ} {v : List ℕ} → getD lasts i 0 ≤ mostDepth → ms ≤ mostLength →
+      d ≡ getD depths i 0 → q ≡ getD lasts i 0 → k ≡ getD (o .roughness) i 0 → v ≡ dropsOf p (o .rules) (o .beds) depths i →
+      Weighable (o .rules) d q k ms v
+  weighable lasts m n a q b c = rw (a, q, b, c) (record { square = square-in-range; last-to = m; lasts-to = n; drops = drops-fit })

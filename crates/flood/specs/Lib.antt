@@ -1,4 +1,6 @@
+pub mod Added
 pub mod Drops
+pub mod Fill
 pub mod Ready
 pub mod Refusals
 pub mod Run

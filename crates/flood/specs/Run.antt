@@ -78,6 +78,10 @@ module _ (p : Plan) (r : Rules) (lasts records : List ℕ) where
 pub record RunsTo (p : Plan) (g : Given) (end : ℕ) (w : World) (a : Ran) (depths lasts records : List ℕ) : Type 0 where
   pub ends : ended (a .refused) (a .steps) (world depths lasts records (a .run)) ≡ runTo p g end w
 
+-- the same where rows 1 to 6 have passed
+pub record RunsOn (p : Plan) (g : Given) (end : ℕ) (w : World) (a : Ran) (depths lasts records : List ℕ) : Type 0 where
+  pub ends : ended (a .refused) (a .steps) (world depths lasts records (a .run)) ≡ runFrom p g end (end - w .run .clock) 0 w
+
 pub record Freshens (p : Plan) (r : Rules) (records before : List ℕ) (a : Answer) (lasts : List ℕ) : Type 0 where
   pub answer : a ≡ answered (freshNumber p r before records) (freshRun p r before records)
   pub lasts-are : lasts ≡ freshLasts p r before records

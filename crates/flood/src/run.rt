@@ -1,5 +1,145 @@
+// A run to an end: the checks once, then steps while the clock is below the end.
+use crate::checks::check;
+use crate::step::RECORD_ROOM;
+use crate::step::SQUARE_ROOM;
+use crate::step::make_step;
+use grid::squares::Shape;
+use grid::squares::squares_of;
+use ledger::record::record_size;
+use ledger::runs::Run;
+use rule::rules::Rules;
+ghost use mathlib.Core.Path.{_≡_};
+ghost use Prim.Native.Nat.{_≤_};
+ghost use lib.ListN.{length};
+ghost use Rattle.reckon.specs.Ranges.{lastClock};
+ghost use Rattle.grid.specs.Squares.{squares};
+ghost use Rattle.ledger.specs.Runs.{plan, world};
+ghost use Rattle.ledger.specs.Record.{recordSize};
+ghost use Rattle.flood.specs.Drops.{ground, given};
+ghost use Rattle.flood.specs.Fill.{Passes};
+ghost use Rattle.flood.specs.Run.{RunsOn, RunsTo};
+
+// The refusal's number, 0 for none, the steps made, and the run that they leave.
 pub struct Ran {
     pub refused: u32,
     pub steps: u64,
-    pub run: ledger::runs::Run,
+    pub run: Run,
+}
+
+// Steps while the clock is below the end, up to a step that is refused. `rec` and `room` are working rooms.
+fn run_on(
+    shape: Shape,
+    rules: Rules,
+    run: Run,
+    end: u64,
+    marks: &[u8],
+    beds: &[u32],
+    roughness: &[u32],
+    rain: &[u32],
+    inflow: &[u32],
+    depths: &mut [u32],
+    lasts: &mut [u32],
+    records: &mut [u32],
+    rec: &mut [u32],
+    room: &mut [u32],
+) -> Ran
+    requires { ⌜ Passes (plan shape (now marks)) (given (ground rules (now beds) (now roughness)) (now rain) (now inflow)) (world (now depths) (now lasts) (now records) run) ⌝ }
+    requires { ⌜ (length (now rec) ≡ recordSize (plan shape (now marks))) × (length (now room) ≡ squares shape) × (end ≤ lastClock) ⌝ }
+    ensures { λ r. ⌜ RunsOn (plan shape (now (marks .entry))) (given (ground rules (now (beds .entry)) (now (roughness .entry))) (now (rain .entry)) (now (inflow .entry))) end (world (now (depths .entry)) (now (lasts .entry)) (now (records .entry)) run) r (now (depths .exit)) (now (lasts .exit)) (now (records .exit)) ⌝ }
+{
+    let mut at = run;
+    let mut steps: u64 = 0;
+    while at.clock < end {
+        let made = make_step(
+            shape,
+            rules,
+            at,
+            marks,
+            beds,
+            roughness,
+            rain,
+            inflow,
+            depths,
+            lasts,
+            records,
+            rec,
+            room,
+        );
+        let refused = made.refused;
+        let after = made.run;
+        if refused != 0 {
+            return Ran {
+                refused: refused,
+                steps: steps,
+                run: after,
+            };
+        }
+        at = after;
+        steps += 1;
+    }
+    Ran {
+        refused: 0,
+        steps: steps,
+        run: at,
+    }
+}
+
+// A run to an end, or a refusal.
+pub fn run_to(
+    shape: Shape,
+    rules: Rules,
+    run: Run,
+    end: u64,
+    marks: &[u8],
+    beds: &[u32],
+    roughness: &[u32],
+    rain: &[u32],
+    inflow: &[u32],
+    depths: &mut [u32],
+    lasts: &mut [u32],
+    records: &mut [u32],
+) -> Ran
+    ensures { λ r. ⌜ RunsTo (plan shape (now (marks .entry))) (given (ground rules (now (beds .entry)) (now (roughness .entry))) (now (rain .entry)) (now (inflow .entry))) end (world (now (depths .entry)) (now (lasts .entry)) (now (records .entry)) run) r (now (depths .exit)) (now (lasts .exit)) (now (records .exit)) ⌝ }
+{
+    let number = check(
+        shape,
+        rules,
+        run,
+        end,
+        marks,
+        beds,
+        roughness,
+        rain,
+        inflow,
+        depths,
+        lasts,
+        records,
+    );
+    if number != 0 {
+        return Ran {
+            refused: number,
+            steps: 0,
+            run: run,
+        };
+    }
+    let mut rec = [0u32; RECORD_ROOM];
+    let mut room = [0u32; SQUARE_ROOM];
+    let size = record_size(shape);
+    let squares = squares_of(shape);
+    run_on(
+        shape,
+        rules,
+        run,
+        end,
+        marks,
+        beds,
+        roughness,
+        rain,
+        inflow,
+        depths,
+        lasts,
+        records,
+        &mut rec[..size],
+        &mut room[..squares],
+    )
 }

@@ -1,6 +1,10 @@
 pub mod BackLaws
+pub mod Bridge
+pub mod EngineLaws
 pub mod FlowLaws
+pub mod ReadBack
 pub mod RecordLaws
 pub mod RunLaws
 pub mod SettleLaws
 pub mod WalkLaws
+pub mod Walls

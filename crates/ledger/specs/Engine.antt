@@ -88,7 +88,7 @@ module _ (p : Plan) where
     stateOf w = record { seen = seenOf w; room = w .records; kept = w .run .kept; newest = w .run .newest }
 
     -- What a rule owes, so that a take-back undoes its steps: its checks pass only where the take-back's look does; a step lasts and
-    -- leaves a length within the limits; no square sends more than it holds; a closed square sends nothing.
+    -- leaves a length within the limits; no square sends more than it holds.
     pub record Owed : Type 0 where
       pub looks : (ring : Bool) (g : Given) (v : Seen) → refusal (rule .checks ring g v) ≡ 0 → refusal (lookRows ring v) ≡ 0
       pub named : (ring : Bool) (g : Given) (v : Seen) → T (numbered (rule .checks ring g v))

@@ -5,3 +5,4 @@ pub mod Record
 pub mod Runs
 pub mod Settle
 pub mod TakeBack
+pub mod Walls

@@ -245,3 +245,8 @@ sum-le (suc n) b f h = rw suc-mul (add-le-add (sum-le n b f (λ i l. h i (omega 
 -- a sum that was carried to its end
 pub sum-whole : {s j n : ℕ} (f : ℕ → ℕ) → s ≡ sumBelow j f → j ≡ n → s ≡ sumBelow n f
 sum-whole f e h = e ∙ ap (λ (k : ℕ). sumBelow k f) h
+
+pub sum-zero : (n : ℕ) (f : ℕ → ℕ) → ((i : ℕ) → i < n → f i ≡ 0) → sumBelow n f ≡ 0
+unfolding sumBelow
+sum-zero zero f h = refl
+sum-zero (suc n) f h = ap₂ _+_ (sum-zero n f (λ i l. h i (omega arith))) (h n (omega arith))

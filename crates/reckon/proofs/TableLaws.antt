@@ -5,18 +5,18 @@ use mathlib.Core.Path.{_≡_, refl, sym, _∙_, ap, subst}
 use mathlib.Core.Bool.{Bool, true, false}
 use mathlib.Core.List.{List, [], _∷_}
 use Prim.Native.Nat.{ℕ, _+_, _-_, _*_, _/_, _%_, _≤_, _<_, min}
-use native.Mathlib.Nat.{le-refl, le-trans, mul-le-mul, mul-le-mul-left}
+use native.Mathlib.Nat.{le-refl, le-trans, mul-le-mul, mul-le-mul-left, div-le-self, zero-div}
 use native.Mathlib.Omega.{arith}
 use lib.Dec.{eqb, leb}
 use lib.ListN.{length, getD}
 use borrow.Author.Tests.{leb-true, le-leb, lt-leb, eq-eqb, ne-eqb}
 use Rattle.reckon.specs.Tests.{pick, every, allBelow}
 use Rattle.reckon.specs.Lists.{sumBelow}
-use Rattle.reckon.specs.Ranges.{lastClock, mostRows}
+use Rattle.reckon.specs.Ranges.{lastClock, mostRain, mostLitres, mostRows}
 use Rattle.reckon.specs.Tables.{rainKind, inflowKind, hour, rowStart, ran, rowGives, given, rainBy, onSquare, inflowBy, rowFine, tableFine, Fits}
 use Rattle.reckon.specs.declared.tables.Kind.{Kind}
-use Rattle.reckon.proofs.TestLaws.{pick-both, and-both, and-false, and-true, every-each, each-every, every-fails, all-at, all-fails}
-use Rattle.reckon.proofs.ListLaws.{sum-mono, sum-le}
+use Rattle.reckon.proofs.TestLaws.{pick-false, pick-both, and-both, and-false, and-true, every-each, each-every, every-fails, all-at, all-fails}
+use Rattle.reckon.proofs.ListLaws.{sum-mono, sum-le, sum-zero}
 use Rattle.reckon.proofs.QuotientLaws.{div-mono}
 
 -- ---- one row
@@ -60,6 +60,24 @@ module _ (k : Kind) (counts : ℕ → Bool) (rows : List ℕ) where
   given-mono : {t u : ℕ} → t ≤ u → given k counts rows t ≤ given k counts rows u
   unfolding given
   given-mono h = sum-mono _ _ _ (λ j l. pick-mono (counts j) (gives-mono rows (rowStart k j) h))
+
+-- how much a table can have given at the most, as a bound far below 64 bits
+pub rain-le : (rows : List ℕ) {t : ℕ} → Fits rainKind rows t → rainBy rows t ≤ 64 * (mostRain * lastClock)
+unfolding rainBy given
+rain-le rows {t} f =
+    le-trans (div-le-self _ hour) (omega (arith, terms-le rainKind (λ j. true) rows f (length rows / 3) (le-refl _), f .few))
+
+pub inflow-le : (rows : List ℕ) (r c side : ℕ) {t : ℕ} → Fits inflowKind rows t → inflowBy rows r c side t ≤ 64 * (mostLitres * lastClock)
+unfolding inflowBy given
+inflow-le rows r c side {t} f =
+    le-trans (div-le-self _ (side * side)) (omega (arith, terms-le inflowKind (onSquare rows r c) rows f (length rows / 5) (le-refl _), f .few))
+
+-- a square that no inflow row is for gets nothing
+pub inflow-none :
+    (rows : List ℕ) (r c side t : ℕ) → ((j : ℕ) → j < length rows / 5 → onSquare rows r c j ≡ false) → inflowBy rows r c side t ≡ 0
+unfolding inflowBy given
+inflow-none rows r c side t h =
+    ap (λ (x : ℕ). x / (side * side)) (sum-zero (length rows / 5) _ (λ j l. pick-false _ _ (h j l))) ∙ zero-div (side * side)
 
 -- every rain row counts, and it starts with its from
 pub rain-term : (rows : List ℕ) (t j : ℕ) → rowGives rows (3 * j) t ≡ term rainKind (λ i. true) rows t j

@@ -38,6 +38,11 @@ unfolding pick
 pick-both P true h g = h
 pick-both P false h g = g
 
+-- a test that cannot hold fails
+pub no-more : (b : Bool) → (b ≡ true → ⊥) → b ≡ false
+no-more true h = absurd (h refl)
+no-more false h = refl
+
 -- ---- two tests
 
 pub and-left : (a b : Bool) → (a && b) ≡ true → a ≡ true
@@ -126,6 +131,25 @@ pub all-ext : (n : ℕ) (f g : ℕ → Bool) → ((i : ℕ) → i < n → f i �
 unfolding allBelow
 all-ext zero f g h = refl
 all-ext (suc n) f g h = rw (all-ext n f g (λ i l. h i (omega arith)), h n (omega arith))
+
+-- where the range does not hold, some number of it fails
+pub all-some : (n : ℕ) (f : ℕ → Bool) → allBelow n f ≡ false → (i : ℕ) × ((i < n) × (f i ≡ false))
+unfolding allBelow
+all-some zero f e = not-both refl e
+all-some (suc n) f e = go (f n) refl (all-some n f)
+  where
+    go :
+        (b : Bool) → f n ≡ b → (allBelow n f ≡ false → (i : ℕ) × ((i < n) × (f i ≡ false))) →
+        (i : ℕ) × ((i < suc n) × (f i ≡ false))
+    go false b ih = (n, (omega arith, b))
+    go true b ih =
+        let h = ih (sym (rw b (and-true (allBelow n f))) ∙ e) in
+        (h .0, (omega (arith, h .1 .0), h .1 .1))
+
+-- one number more, where its test holds
+pub all-beside : (n : ℕ) (f : ℕ → Bool) → f n ≡ true → allBelow (n + 1) f ≡ allBelow n f
+unfolding allBelow
+all-beside n f e = rw (add-one n, e) (and-true (allBelow n f))
 
 -- a range that was carried to its end
 pub all-whole : {j n : ℕ} (f : ℕ → Bool) → allBelow j f ≡ true → j ≡ n → allBelow n f ≡ true

@@ -1,7 +1,8 @@
 -- `flood::drops::drops_of` meets its contract.
 -- Assumes nothing.
 use borrow.Author.Needs.{needs}
-use Rattle.flood.specs.Drops.{dropsOf}
+use Rattle.ledger.specs.Runs.{plan}
+use Rattle.flood.proofs.DropLaws.{drops-made}
 use Rattle.flood.proofs.drops.drops_of.Statement.{statement}
 use Rattle.flood.proofs.drops.drops_of.Tie as tie
 
@@ -21,8 +22,9 @@ side-drop-requires-4 : tie.Need-side-drop-requires-4
 side-drop-requires-4 c κs = search needs
 
 returns : tie.Need-returns
-unfolding dropsOf
-returns c = cc
+returns c =
+    drops-made (plan (c .before .before .before .before .before .before .before .before .args .shape) (c .before .before .before .before .before .before .before .before .args .marks .now)) (c .before .before .before .before .before .before .before .before .args .rules) (c .before .before .before .before .before .before .before .before .args .beds .now) (c .before .before .before .before .before .before .before .before .args .depths .now) (c .before .before .before .before .before .before .before .before .args .square)
+    (c .before .before .before .side-drop .ensures) (c .before .before .side-drop2 .ensures) (c .before .side-drop3 .ensures) (c .side-drop4 .ensures)
 
 pub drops-of-spec : {M : Type 1} → statement M
 drops-of-spec =

@@ -1,14 +1,10 @@
 -- `flood::length::shorter_by` meets its contract: a closed or a dry square has no candidate.
 -- Assumes nothing.
 use mathlib.Core.Path.{_≡_, sym, _∙_, ap}
-use Prim.Native.Nat.{ℕ}
-use native.Mathlib.Omega.{arith}
-use lib.ListN.{getD}
 use borrow.Author.Needs.{needs}
-use Rattle.rule.specs.Length.{Candidacy, candidatesOf, leastFrom}
 use Rattle.ledger.specs.Runs.{plan}
 use Rattle.flood.specs.Drops.{ground}
-use Rattle.flood.proofs.DropLaws.{drops-in-range}
+use Rattle.flood.proofs.DropLaws.{candidacy}
 use Rattle.flood.proofs.LengthLaws.{least-closed, least-open, least-dry, shorter-made}
 use Rattle.flood.proofs.length.shorter_by.Statement.{statement}
 use Rattle.flood.proofs.length.shorter_by.Tie as tie
@@ -32,7 +28,7 @@ number-requires-2 : tie.Need-number-requires-2
 number-requires-2 c κs = search needs
 
 shorter-requires : tie.Need-shorter-requires
-shorter-requires c κs = ?
+shorter-requires c κs = candidacy (plan (c .before .before .before .before .before .before .before .before .before .before .args .shape) (c .before .before .before .before .before .before .before .before .before .before .args .marks .now)) (ground (c .before .before .before .before .before .before .before .before .before .before .args .rules) (c .before .before .before .before .before .before .before .before .before .before .args .beds .now) (c .before .before .before .before .before .before .before .before .before .before .args .roughness .now)) (c .before .before .before .before .before .before .before .before .before .before .args .depths .now) (c .before .before .before .before .before .before .before .before .before .before .pre .0) (c .before .before .before .before .before .before .before .before .before .before .args .square) (c .before .before .before .before .before .before .before .before .before .before .pre .1 .inside) (sym (c .before .before .before .before .before .is-closed .ensures) ∙ c .before .before .before .before .if1 .left) (c .before .before .before .number .ensures) (c .number2 .ensures) (c .before .drops-of .ensures)
 
 returns-3 : tie.Need-returns-3
 returns-3 c =

@@ -1,31 +1,31 @@
+-- `flood::length::step_length` meets its contract: a length that starts at the longest is the list's.
+-- Assumes nothing.
+use mathlib.Core.Path.{_≡_, sym, _∙_, ap}
 use borrow.Author.Needs.{needs}
+use Rattle.rule.specs.Length.{heldBetween}
+use Rattle.rule.proofs.LengthLaws.{fresh-held}
+use Rattle.flood.proofs.LengthLaws.{length-afresh, length-kept}
 use Rattle.flood.proofs.length.step_length.Statement.{statement}
 use Rattle.flood.proofs.length.step_length.Tie as tie
-use Rattle.flood.proofs.length.step_length.Reads as reads
-use Rattle.flood.proofs.length.step_length.Lts as lts
-use Rattle.flood.proofs.length.least_candidate.Reads as least-candidate-reads
-use Rattle.rule.proofs.length.held_length.Reads as held-length-reads
-use Rattle.rule.proofs.length.is_update.Reads as is-update-reads
 
--- src/length.rt:94:8
 is-update-requires : tie.Need-is-update-requires
 is-update-requires c κs = search needs
 
--- src/length.rt:97:13
 least-candidate-requires : tie.Need-least-candidate-requires
 least-candidate-requires c κs = search needs
 
--- src/length.rt:95:9
 held-length-requires : tie.Need-held-length-requires
 held-length-requires c κs = search needs
 
--- src/length.rt:95:9
 returns : tie.Need-returns
-returns c = ?
+returns c =
+    c .held-length .ensures
+    ∙ (ap (heldBetween (c .before .before .before .before .before .before .before .before .args .rules)) (c .before .least-candidate .ensures)
+    ∙ (fresh-held (c .before .before .before .before .before .before .before .before .args .rules) _ (c .before .before .before .before .before .before .before .before .pre .rules .shortest-to)
+    ∙ sym (length-afresh (c .before .before .before .before .before .before .before .before .args .rules) (c .before .before .before .before .before .before .before .before .args .clock) (c .before .before .before .before .before .before .before .before .args .held) _ (sym (c .before .before .before .is-update .ensures) ∙ c .before .before .if1 .taken))))
 
--- src/length.rt:81:1
 returns-2 : tie.Need-returns-2
-returns-2 c = ?
+returns-2 c = sym (length-kept (c .before .before .before .before .before .before .args .rules) (c .before .before .before .before .before .before .args .clock) (c .before .before .before .before .before .before .args .held) _ (sym (c .before .is-update .ensures) ∙ c .if1 .left))
 
 pub step-length-spec : {M : Type 1} → statement M
 step-length-spec =

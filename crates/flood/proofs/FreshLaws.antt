@@ -1,0 +1,112 @@
+-- Laws of a fresh run: what its checks leave as facts, one square more cleared, and its two answers.
+-- Assumes nothing.
+use mathlib.Core.Path.{_≡_, refl, sym, ap, _∙_}
+use mathlib.Core.Bool.{Bool, true, false}
+use mathlib.Core.List.{List, [], _∷_}
+use Prim.Native.Nat.{ℕ, zero, suc, _+_, _-_, _<_}
+use lib.Dec.{T}
+use lib.ListN.{length, set}
+use borrow.Author.Tests.{eq-eqb, ne-eqb, not-true, eqb-false}
+use Rattle.reckon.specs.Tests.{every, numbered, pick}
+use Rattle.reckon.specs.Lists.{filled}
+use Rattle.reckon.proofs.TestLaws.{not-both, pick-true, pick-false, every-each, refusal-passed}
+use Rattle.reckon.proofs.ListLaws.{length-filled, filled-store, filled-keep}
+use Rattle.grid.specs.declared.squares.Shape.{Shape}
+use Rattle.grid.specs.Squares.{squares, shapeFine}
+use Rattle.grid.specs.Marks.{Marked, closed}
+use Rattle.grid.proofs.SquareLaws.{ranges-of-fine}
+use Rattle.rule.specs.Rules.{sideFine}
+use Rattle.rule.specs.declared.rules.Rules.{Rules}
+use Rattle.ledger.specs.Runs.{Plan, answered, plan}
+use Rattle.ledger.specs.Flows.{shut}
+use Rattle.ledger.specs.Record.{roomSlots}
+use Rattle.ledger.specs.TakeBack.{oneEach}
+use Rattle.ledger.specs.declared.runs.Run.{Run}
+use Rattle.ledger.specs.declared.runs.Answer.the-variants.{Done, Refused}
+use Rattle.flood.specs.Run.{freshRows, freshNumber, freshRun, freshLasts, Freshens}
+use Rattle.flood.proofs.CheckLaws.{each-long}
+
+-- ---- the checks
+
+-- row 1
+module _ (s : Shape) (marks : List ℕ) (r : Rules) (lasts : List ℕ) where
+  abbrev pub sizeTests : List Bool
+  sizeTests = shapeFine s ∷ sideFine r ∷ oneEach (plan s marks) marks ∷ oneEach (plan s marks) lasts ∷ []
+
+  module _ (e : every sizeTests ≡ true) where
+    pub sizes-marked : Marked s marks
+    sizes-marked =
+        let t = every-each _ e in
+        record { fine = ranges-of-fine s (t .0); whole = each-long (plan s marks) _ (t .1 .1 .0) }
+
+    pub sizes-lent : (Marked s marks) × (length lasts ≡ squares s)
+    sizes-lent = (sizes-marked, each-long (plan s marks) _ (every-each _ e .1 .1 .1 .0))
+
+module _ (p : Plan) (r : Rules) (lasts records : List ℕ) where
+  rows-named : T (numbered (freshRows p r lasts records))
+  unfolding freshRows
+  rows-named = tt
+
+  module _ (e : freshNumber p r lasts records ≡ 0) where
+    pub fresh-sizes : every (sizeTests (p .shape) (p .marks) r lasts) ≡ true
+    unfolding freshNumber freshRows
+    fresh-sizes = refusal-passed _ rows-named e .0
+
+    -- K is not 0
+    pub fresh-slots : roomSlots p records ≡ 0 → ⊥
+    unfolding freshNumber freshRows
+    fresh-slots = eqb-false _ _ (not-true _ (refusal-passed _ rows-named e .1 .1 .1 .0))
+
+-- ---- last leaving cleared below i, and then of square i
+
+pub clear-long : (marks old : List ℕ) (i : ℕ) {l : List ℕ} → l ≡ filled i (closed marks) (λ k. 0) old → length l ≡ length old
+clear-long marks old i e = ap length e ∙ length-filled i (closed marks) (λ k. 0) old
+
+pub clear-more :
+    (marks old : List ℕ) (i : ℕ) → i < length old → {l new : List ℕ} → l ≡ filled i (closed marks) (λ k. 0) old →
+    new ≡ pick (closed marks i) l (set l i 0) → new ≡ filled (i + 1) (closed marks) (λ k. 0) old
+clear-more marks old i h {l} {new} e q = go (closed marks i) refl
+  where
+    go : (b : Bool) → closed marks i ≡ b → new ≡ filled (i + 1) (closed marks) (λ k. 0) old
+    go true s = q ∙ (pick-true _ _ s ∙ (e ∙ filled-keep (closed marks) (λ k. 0) old i h (λ f. not-both s f)))
+    go false s =
+        q
+        ∙ (pick-false _ _ s
+        ∙ (ap (λ (x : List ℕ). set x i 0) e ∙ filled-store (closed marks) (λ k. 0) old i h s refl))
+
+pub clear-whole :
+    (marks old : List ℕ) {i n : ℕ} {l : List ℕ} → l ≡ filled i (closed marks) (λ k. 0) old → i ≡ n →
+    l ≡ filled n (closed marks) (λ k. 0) old
+clear-whole marks old e q = e ∙ ap (λ (n : ℕ). filled n (closed marks) (λ k. 0) old) q
+
+-- ---- the answers
+
+refused-is : (n : ℕ) {k : ℕ} (u : Run) → (n ≡ 0 → ⊥) → n ≡ k → Refused n ≡ answered k u
+unfolding answered
+refused-is zero u d e = absurd (d refl)
+refused-is (suc n) u d e = rw (sym e)
+
+done-is : {k : ℕ} {u v : Run} → k ≡ 0 → u ≡ v → Done u ≡ answered k v
+unfolding answered
+done-is e q = rw e (ap Done q)
+
+module _ (p : Plan) (r : Rules) (records before : List ℕ) {n : ℕ} (e : n ≡ freshNumber p r before records) where
+  pub fresh-refused : (n ≡ 0 → ⊥) → Freshens p r records before (Refused n) before
+  unfolding freshLasts
+  fresh-refused d =
+      record {
+        answer = refused-is n (freshRun p r before records) d e;
+        lasts-are = sym (pick-false _ _ (ne-eqb _ _ (λ z. d (e ∙ z))));
+      }
+
+  pub fresh-done :
+      n ≡ 0 → {lasts : List ℕ} {slots : ℕ} → lasts ≡ filled (squares (p .shape)) (shut p) (λ i. 0) before → slots ≡ roomSlots p records →
+      Freshens p r records before (Done (record { clock = 0; length = r .longest; outflow = 0; kept = 0; newest = slots - 1 })) lasts
+  unfolding freshLasts freshRun
+  fresh-done z {slots = slots} q k =
+      record {
+        answer =
+            done-is (sym e ∙ z)
+            (ap (λ (s : ℕ). record { clock = 0; length = r .longest; outflow = 0; kept = 0; newest = s - 1 }) k);
+        lasts-are = q ∙ sym (pick-true _ _ (eq-eqb _ _ (sym e ∙ z)));
+      }

@@ -1,0 +1,115 @@
+-- Laws of the step: once the checks have passed, 7 is decided by the clock, 8 where a square could not hold what is added, and else
+-- the ledger settles the record; and a valid world stays valid.
+-- Assumes nothing.
+use mathlib.Core.Path.{_≡_, refl, sym, ap, ap₂, _∙_, subst}
+use mathlib.Core.Bool.{Bool, true, false, _||_}
+use mathlib.Core.List.{List, [], _∷_}
+use Prim.Native.Nat.{ℕ, _+_, _-_, _≤_, _<_}
+use native.Mathlib.Nat.{le-trans}
+use native.Mathlib.Omega.{arith}
+use lib.Dec.{leb, eqb}
+use lib.ListN.{length, getD}
+use borrow.Author.Tests.{le-leb, lt-leb, leb-true, eq-eqb, ne-eqb}
+use Rattle.reckon.specs.Tests.{pick, every, allBelow, Row, _unless_, refusal}
+use Rattle.reckon.specs.Ranges.{mostDepth, mostLength, lastClock, mostOutflow}
+use Rattle.reckon.proofs.TestLaws.{not-both, no-more, pick-true, pick-false, or-right, or-of, all-at, all-of, refusal-here, refusal-later, refusal-second, refusal-passed}
+use Rattle.trials.specs.Ring.{ringFine}
+use Rattle.trials.proofs.RingLaws.{fine-ring}
+use Rattle.grid.specs.Squares.{squares}
+use Rattle.ledger.specs.Runs.{Plan, World}
+use Rattle.ledger.specs.Flows.{shut, gone, came}
+use Rattle.ledger.specs.Record.{recordSize, roomSlots, leavesIn, lastedIn}
+use Rattle.ledger.specs.After.{Moves, remains, newDepth, depthsFit, newOutflow, lateRows, stepRecord, worldAfter}
+use Rattle.ledger.specs.Settle.{settleNumber, settled, written, Settles, SettlesTo}
+use Rattle.ledger.specs.Engine.{Seen, seenOf}
+use Rattle.ledger.proofs.ReadBack.{step-long, step-lasted, step-gone, settled-is, late-settled}
+use Rattle.flood.specs.Drops.{Given}
+use Rattle.flood.specs.Step.{addedFor, leavesFor, stepLength, stepLasts, stepMoves}
+use Rattle.flood.specs.Added.{tables, addedFits}
+use Rattle.flood.specs.Ready.{Ready}
+use Rattle.flood.specs.Refusals.{ringOf, stepChecks, stepNumber, stepped}
+use Rattle.flood.specs.Fill.{MakesStep}
+use Rattle.flood.proofs.CheckLaws.{ready, ring-is, checks-named}
+use Rattle.flood.proofs.RuleLaws.{covered, step-length-to}
+
+module _ (p : Plan) (g : Given) (w : World) (passed : refusal (stepChecks p g (ringOf p g w) (seenOf w)) ≡ 0) where
+  abbrev v : Seen
+  v = seenOf w
+
+  abbrev m : Moves
+  m = stepMoves p g v
+
+  abbrev clock : ℕ
+  clock = w .run .clock
+
+  pub is-ready : Ready p g v
+  is-ready = ready p g (ringOf p g w) v passed
+
+  -- the checks pass, so that the late rows decide
+  number-late : stepNumber p g w ≡ refusal (lateRows p m w)
+  unfolding stepNumber
+  number-late = refusal-second (stepChecks p g (ringOf p g w) v) (lateRows p m w) (checks-named p g (ringOf p g w) v) passed
+
+  -- a refused step leaves the world as it was
+  refused-by : {n : ℕ} → (n ≡ 0 → ⊥) → n ≡ stepNumber p g w → MakesStep p g w n w
+  unfolding stepped
+  refused-by d e = record { number = e; world-is = sym (pick-false _ _ (ne-eqb _ _ (λ z. d (e ∙ z)))) }
+
+  pub step-seven : lastClock < clock + stepLasts p g v → MakesStep p g w 7 w
+  unfolding lateRows
+  step-seven h = refused-by (λ z. omega arith) (sym (number-late ∙ refusal-here 7 _ (lt-leb _ _ h)))
+
+  module _ (timely : clock + stepLasts p g v ≤ lastClock) where
+    -- what is added is part of the new depth
+    added-under : (i : ℕ) → m .added i ≤ newDepth p m w i
+    unfolding newDepth
+    added-under i = omega arith
+
+    -- where all new depths fit, so does all that is added
+    fits-all : depthsFit p m w ≡ true → addedFits p g clock (clock + stepLasts p g v) ≡ true
+    unfolding depthsFit addedFits
+    fits-all t =
+        all-of (squares (p .shape)) _
+        (λ i l. or-of (shut p i) _
+          (λ c. le-leb _ _ (le-trans (added-under i) (leb-true _ _ (or-right (shut p i) _ (all-at (squares (p .shape)) _ t i l) c)))))
+
+    pub step-eight : addedFits p g clock (clock + stepLasts p g v) ≡ false → MakesStep p g w 8 w
+    unfolding lateRows
+    step-eight e =
+        refused-by (λ z. omega arith)
+        (sym (number-late ∙ (refusal-later 7 _ (le-leb _ _ timely) ∙ refusal-here 8 _ (no-more _ (λ t. not-both {A = ⊥} (fits-all t) e)))))
+
+    -- what the ledger asks of the record
+    pub settles : {rec : List ℕ} {held : ℕ} → rec ≡ stepRecord p m w → held ≡ stepLength p g v → Settles p rec held w
+    settles {rec} {held} e l =
+        let r = is-ready in
+        let marks-long = r .waters .marks-long in
+        let ring = fine-ring (roomSlots p (w .records)) (w .run .kept) (w .run .newest) (ring-is p g (ringOf p g w) v passed) in
+        rw (e, l)
+        (record {
+          fine = r .waters .fine;
+          marks-long = marks-long;
+          depths-long = r .flows .lies .sited .depths-long;
+          lasts-long = r .flows .lasts-long;
+          record-long = step-long p m w;
+          newest-in = ring .newest-below;
+          outflow-to = r .outflow-to;
+          clock-to = rw (step-lasted p m w) timely;
+          length-to = step-length-to p g v r;
+          depths-to = r .flows .lies .depths-to;
+          covered = λ i h s. rw (step-gone p m w i h s) (covered p (g .lie) (w .depths) (w .lasts) (stepLasts p g v) i s);
+        })
+
+    pub step-settled :
+        {rec : List ℕ} {held n : ℕ} {after : World} → rec ≡ stepRecord p m w → held ≡ stepLength p g v → SettlesTo p rec held w n after →
+        MakesStep p g w n after
+    unfolding stepped settled
+    step-settled {rec} {held} {n} {after} e l t =
+        let long = is-ready .waters .marks-long in
+        let number-is : settleNumber p rec held w ≡ stepNumber p g w
+            = rw (e, l) (sym (number-late ∙ late-settled p m w long (le-leb _ _ timely))) in
+        let written-is : written p rec held w ≡ worldAfter p m w = rw (e, l) (settled-is p m w long) in
+        record {
+          number = t .number ∙ number-is;
+          world-is = t .world-is ∙ (ap (λ (k : ℕ). pick (eqb k 0) (written p rec held w) w) number-is ∙ ap (λ (x : World). pick (eqb (stepNumber p g w) 0) x w) written-is);
+        }

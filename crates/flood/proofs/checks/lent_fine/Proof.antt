@@ -1,0 +1,98 @@
+-- `flood::checks::lent_fine` meets its contract: the first test that fails decides, and where each before it holds the last does.
+-- Assumes nothing.
+use mathlib.Core.Path.{sym, _∙_}
+use borrow.Author.Needs.{needs}
+use Rattle.reckon.proofs.TestLaws.{every-fails}
+use Rattle.grid.proofs.SquareLaws.{ranges-of-fine}
+use Rattle.ledger.specs.TakeBack.{oneEach}
+use Rattle.flood.proofs.CheckLaws.{fails-by, holds-by, every-decided}
+use Rattle.flood.proofs.checks.lent_fine.Statement.{statement}
+use Rattle.flood.proofs.checks.lent_fine.Tie as tie
+
+shape-fine-requires : tie.Need-shape-fine-requires
+shape-fine-requires c κs = search needs
+
+returns : tie.Need-returns
+unfolding oneEach
+returns c = sym (every-fails _ 0 (fails-by (c .before .shape-fine .ensures) (c .if1 .taken)))
+
+side-fine-requires : tie.Need-side-fine-requires
+side-fine-requires c κs = search needs
+
+returns-2 : tie.Need-returns-2
+unfolding oneEach
+returns-2 c = sym (every-fails _ 1 (fails-by (c .before .side-fine .ensures) (c .if2 .taken)))
+
+one-each-requires : tie.Need-one-each-requires
+one-each-requires c κs = ranges-of-fine _ (holds-by (c .before .before .before .shape-fine .ensures) (c .before .before .if1 .left))
+
+returns-3 : tie.Need-returns-3
+unfolding oneEach
+returns-3 c = sym (every-fails _ 2 (fails-by (c .before .one-each .ensures) (c .if3 .taken)))
+
+one-each-requires-2 : tie.Need-one-each-requires-2
+one-each-requires-2 c κs = ranges-of-fine _ (holds-by (c .before .before .before .before .before .shape-fine .ensures) (c .before .before .before .before .if1 .left))
+
+returns-4 : tie.Need-returns-4
+unfolding oneEach
+returns-4 c = sym (every-fails _ 3 (fails-by (c .before .one-each2 .ensures) (c .if4 .taken)))
+
+one-each-requires-3 : tie.Need-one-each-requires-3
+one-each-requires-3 c κs = ranges-of-fine _ (holds-by (c .before .before .before .before .before .before .before .shape-fine .ensures) (c .before .before .before .before .before .before .if1 .left))
+
+returns-5 : tie.Need-returns-5
+unfolding oneEach
+returns-5 c = sym (every-fails _ 4 (fails-by (c .before .one-each3 .ensures) (c .if5 .taken)))
+
+one-each-requires-4 : tie.Need-one-each-requires-4
+one-each-requires-4 c κs = ranges-of-fine _ (holds-by (c .before .before .before .before .before .before .before .before .before .shape-fine .ensures) (c .before .before .before .before .before .before .before .before .if1 .left))
+
+returns-6 : tie.Need-returns-6
+unfolding oneEach
+returns-6 c = sym (every-fails _ 5 (fails-by (c .before .one-each4 .ensures) (c .if6 .taken)))
+
+one-each-requires-5 : tie.Need-one-each-requires-5
+one-each-requires-5 c κs = ranges-of-fine _ (holds-by (c .before .before .before .before .before .before .before .before .before .before .before .shape-fine .ensures) (c .before .before .before .before .before .before .before .before .before .before .if1 .left))
+
+returns-7 : tie.Need-returns-7
+unfolding oneEach
+returns-7 c =
+    every-decided _ 6 _ (sym (c .one-each5 .ensures))
+    (λ t. (
+      holds-by (c .before .before .before .before .before .before .before .before .before .before .before .before .shape-fine .ensures) (c .before .before .before .before .before .before .before .before .before .before .before .if1 .left),
+      (
+        holds-by (c .before .before .before .before .before .before .before .before .before .before .side-fine .ensures) (c .before .before .before .before .before .before .before .before .before .if2 .left),
+        (
+          holds-by (c .before .before .before .before .before .before .before .before .one-each .ensures) (c .before .before .before .before .before .before .before .if3 .left),
+          (
+            holds-by (c .before .before .before .before .before .before .one-each2 .ensures) (c .before .before .before .before .before .if4 .left),
+            (
+              holds-by (c .before .before .before .before .one-each3 .ensures) (c .before .before .before .if5 .left),
+              (
+                holds-by (c .before .before .one-each4 .ensures) (c .before .if6 .left),
+                (sym (c .one-each5 .ensures) ∙ t, tt),
+              ),
+            ),
+          ),
+        ),
+      ),
+    ))
+
+pub lent-fine-spec : {M : Type 1} → statement M
+lent-fine-spec =
+    tie.close
+    (tie.spec
+    shape-fine-requires
+    returns
+    side-fine-requires
+    returns-2
+    one-each-requires
+    returns-3
+    one-each-requires-2
+    returns-4
+    one-each-requires-3
+    returns-5
+    one-each-requires-4
+    returns-6
+    one-each-requires-5
+    returns-7)

@@ -1,0 +1,51 @@
+-- `flood::fresh::fresh` meets its contract: refused, nothing is written; else the last leaving is cleared and the run is the fresh one.
+-- Assumes nothing.
+use mathlib.Core.Path.{_≡_, sym, _∙_}
+use native.Mathlib.Omega.{arith}
+use borrow.Author.Needs.{needs}
+use Rattle.ledger.specs.Record.{roomSlots}
+use Rattle.flood.proofs.FreshLaws.{sizes-marked, sizes-lent, fresh-sizes, fresh-slots, fresh-refused, fresh-done}
+use Rattle.flood.proofs.fresh.fresh.Statement.{statement}
+use Rattle.flood.proofs.fresh.fresh.Tie as tie
+
+fresh-number-requires : tie.Need-fresh-number-requires
+fresh-number-requires c κs = search needs
+
+same-length : tie.Need-same-length
+same-length c = search needs
+
+returns : tie.Need-returns
+returns c = fresh-refused _ _ _ _ (c .before .fresh-number .ensures) (c .if1 .taken)
+
+clear-lasts-requires : tie.Need-clear-lasts-requires
+clear-lasts-requires c κs = sizes-lent _ _ _ _ (fresh-sizes _ _ _ _ (sym (c .before .before .fresh-number .ensures) ∙ c .before .if1 .left))
+
+slots-of-requires : tie.Need-slots-of-requires
+slots-of-requires c κs = sizes-marked _ _ _ _ (fresh-sizes _ _ _ _ (sym (c .before .before .before .before .before .fresh-number .ensures) ∙ c .before .before .before .before .if1 .left)) .fine
+
+sub-t14 : tie.Need-sub-t14
+unfolding roomSlots
+sub-t14 c =
+    let some : (c .slots-of .result ≡ 0 → ⊥) =
+    λ z. fresh-slots _ _ _ _ (sym (c .before .before .before .before .before .before .fresh-number .ensures) ∙ c .before .before .before .before .before .if1 .left) (sym (c .slots-of .ensures) ∙ z) in
+    omega arith
+
+same-length-2 : tie.Need-same-length-2
+same-length-2 c = search needs
+
+returns-2 : tie.Need-returns-2
+unfolding roomSlots
+returns-2 c = fresh-done _ _ _ _ (c .before .before .before .before .before .before .fresh-number .ensures) (c .before .before .before .before .before .if1 .left) (c .before .before .before .clear-lasts .ensures) (c .slots-of .ensures)
+
+pub fresh-spec : {M : Type 1} → statement M
+fresh-spec =
+    tie.close
+    (tie.spec
+    fresh-number-requires
+    same-length
+    returns
+    clear-lasts-requires
+    slots-of-requires
+    sub-t14
+    same-length-2
+    returns-2)

@@ -1,0 +1,82 @@
+-- `flood::step::fill` meets its contract: the squares passed are the record's.
+-- Assumes nothing.
+use mathlib.Core.Path.{_≡_, refl, sym, _∙_}
+use Prim.Native.Nat.{ℕ, _+_, _-_, _*_, _%_, _≤_}
+use native.Mathlib.Nat.{zero-mod}
+use native.Mathlib.Omega.{arith}
+use lib.ListN.{getD}
+use Rattle.grid.proofs.SquareLaws.{carried, column-within}
+use Rattle.ledger.specs.Runs.{plan}
+use Rattle.ledger.proofs.RecordLaws.{Begun, begun-none, begun-whole}
+use Rattle.flood.specs.Drops.{ground}
+use Rattle.flood.specs.Step.{leavesFor}
+use Rattle.flood.proofs.FillLaws.{fill-turn}
+use Rattle.flood.proofs.step.fill.Statement.{statement}
+use Rattle.flood.proofs.step.fill.Tie as tie
+
+abbrev Inv-loop : tie.InvT-loop
+Inv-loop shape rules marks beds roughness depths lasts added held lasting rec₀ squares square₀ column₀ rec square column =
+    (square ≤ shape .rows * shape .columns)
+    × (column ≡ square % shape .columns)
+    × Begun (plan shape marks) held lasting (leavesFor (plan shape marks) (ground rules beds roughness) depths lasts lasting) (λ i. getD lasts i 0) (λ i. getD added i 0) square rec
+
+abbrev μ-loop : tie.MeasureT-loop
+μ-loop shape rules marks beds roughness depths lasts added held lasting rec₀ squares square₀ column₀ rec square column = squares - square
+
+put-head-requires : tie.Need-put-head-requires Inv-loop μ-loop
+put-head-requires c κs = (omega (arith, c .before .before .before .before .before .before .before .before .pre .0 .record-long), (c .before .before .before .before .before .before .before .before .pre .1, c .before .before .before .before .before .before .before .before .pre .0 .lasts-for))
+
+squares-of-requires : tie.Need-squares-of-requires Inv-loop μ-loop
+squares-of-requires c κs = c .before .before .before .before .before .before .before .before .before .before .before .pre .0 .flows .lies .sited .fine
+
+loop-holds : tie.Need-loop-holds Inv-loop μ-loop
+loop-holds c = (omega arith, sym (zero-mod (c .before .before .before .before .before .before .before .before .before .before .before .before .args .shape .columns)), begun-none (c .before .before .before .before .before .before .before .before .before .before .before .before .args .rec .now) (c .before .before .before .before .before .before .before .before .before .before .before .before .pre .0 .record-long) (c .before .before .before .put-head .ensures))
+
+fill-square-requires : tie.Need-fill-square-requires Inv-loop μ-loop
+fill-square-requires c κs =
+    let f = c .before .before .before .before .before .before .before .before .before .before .before .before .before .before .before .pre .0 in
+    (
+      record { flows = f .flows; added-long = f .added-long; lasts-for = f .lasts-for; record-long = c .before .before .loop .inv .2 .long },
+      record { fine = f .flows .lies .sited .fine; inside = omega arith; column-is = c .before .before .loop .inv .1 },
+    )
+
+add-square : tie.Need-add-square Inv-loop μ-loop
+add-square c = omega arith
+
+next-column-requires : tie.Need-next-column-requires Inv-loop μ-loop
+next-column-requires c κs = (c .before .before .before .before .before .before .before .before .before .before .before .before .before .before .before .before .before .before .pre .0 .flows .lies .sited .fine, column-within (c .before .before .before .before .before .before .before .before .before .before .before .before .before .before .before .before .before .before .args .shape) (c .before .before .before .before .before .loop .square) (c .before .before .before .before .before .before .before .before .before .before .before .before .before .before .before .before .before .before .pre .0 .flows .lies .sited .fine .columns-low) (c .before .before .before .before .before .loop .inv .1))
+
+loop-less : tie.Need-loop-less Inv-loop μ-loop
+loop-less c = omega arith
+
+loop-again : tie.Need-loop-again Inv-loop μ-loop
+loop-again c =
+    let a = (c .before .before .before .before .before .before .before .before .before .before .before .before .before .before .before .before .before .before .before .args) in
+    (
+      omega arith,
+      carried (a .shape) (c .before .before .before .before .before .before .loop .square) (c .before .before .before .before .before .before .loop .inv .1) (c .next-column .ensures),
+      fill-turn (plan (a .shape) (a .marks .now)) (ground (a .rules) (a .beds .now) (a .roughness .now)) (a .depths .now) (a .lasts .now) (a .added .now) (a .held) (a .lasting) (c .before .before .before .before .before .before .loop .square) (omega arith) (c .before .before .before .before .before .before .loop .inv .2) (c .before .before .before .fill-square .ensures),
+    )
+
+same-length : tie.Need-same-length Inv-loop μ-loop
+same-length c = c .before .loop .inv .2 .long ∙ sym (c .before .before .before .before .before .before .before .before .before .before .before .before .before .before .pre .0 .record-long)
+
+returns : tie.Need-returns Inv-loop μ-loop
+returns c = begun-whole (omega arith) (c .before .loop .inv .2)
+
+pub fill-spec : {M : Type 1} → statement M
+fill-spec =
+    tie.close
+    (tie.spec
+    Inv-loop
+    μ-loop
+    put-head-requires
+    squares-of-requires
+    loop-holds
+    fill-square-requires
+    add-square
+    next-column-requires
+    loop-less
+    loop-again
+    same-length
+    returns)

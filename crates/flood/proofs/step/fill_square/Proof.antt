@@ -1,0 +1,141 @@
+-- `flood::step::fill_square` meets its contract: a closed square is written as zeros, a dry one sends nothing, any other what the weighing gives.
+-- Assumes nothing.
+use mathlib.Core.Path.{_≡_, refl, sym, _∙_}
+use native.Mathlib.Omega.{arith}
+use lib.ListN.{getD}
+use borrow.Author.Needs.{needs}
+use Rattle.reckon.proofs.TestLaws.{not-both}
+use Rattle.ledger.specs.Runs.{plan}
+use Rattle.flood.specs.Drops.{ground, dropsOf}
+use Rattle.flood.proofs.DropLaws.{weighable}
+use Rattle.flood.proofs.FillLaws.{put-dry, put-wet, words-fit}
+use Rattle.flood.proofs.step.fill_square.Statement.{statement}
+use Rattle.flood.proofs.step.fill_square.Tie as tie
+
+is-closed-requires : tie.Need-is-closed-requires
+is-closed-requires c κs = search needs
+
+put-closed-requires : tie.Need-put-closed-requires
+put-closed-requires c κs = search needs
+
+same-length : tie.Need-same-length
+same-length c = search needs
+
+returns : tie.Need-returns
+returns c =
+    let c′ = sym (c .before .before .before .before .before .is-closed .ensures) ∙ c .before .before .before .before .if1 .taken in
+    record { closed-put = λ e. c .before .before .put-closed .ensures; open-put = λ e. not-both c′ e }
+
+number-requires : tie.Need-number-requires
+number-requires c κs = search needs
+
+mul-put-square : tie.Need-mul-put-square
+mul-put-square c = search needs
+
+shared-slice-read-put-square : tie.Need-shared-slice-read-put-square
+shared-slice-read-put-square c = search needs
+
+mul-put-square-2 : tie.Need-mul-put-square-2
+mul-put-square-2 c = search needs
+
+shared-slice-read-put-square-2 : tie.Need-shared-slice-read-put-square-2
+shared-slice-read-put-square-2 c = search needs
+
+put-square-requires : tie.Need-put-square-requires
+put-square-requires c κs = search needs
+
+same-length-2 : tie.Need-same-length-2
+same-length-2 c = search needs
+
+returns-2 : tie.Need-returns-2
+returns-2 c =
+    let a = (c .before .before .before .before .before .before .before .before .before .before .before .before .before .before .before .before .before .args) in
+    let c′ = sym (c .before .before .before .before .before .before .before .before .before .is-closed .ensures) ∙ c .before .before .before .before .before .before .before .before .if1 .left in
+    record {
+      closed-put = λ e. not-both e c′;
+      open-put = λ e. put-dry (a .rules) _ _ (a .lasting) _ (a .rec .now) (a .square) _ _ (sym (c .before .before .before .before .before .before .before .number .ensures) ∙ c .before .before .before .before .before .before .if2 .taken) (c .before .before .put-square .ensures);
+    }
+
+drops-of-requires : tie.Need-drops-of-requires
+drops-of-requires c κs = search needs
+
+number-requires-2 : tie.Need-number-requires-2
+number-requires-2 c κs = search needs
+
+number-requires-3 : tie.Need-number-requires-3
+number-requires-3 c κs = search needs
+
+weigh-requires : tie.Need-weigh-requires
+weigh-requires c κs =
+    let a = (c .before .before .before .before .before .before .before .before .before .before .before .before .before .before .args) in
+    let f = c .before .before .before .before .before .before .before .before .before .before .before .before .before .before .pre .0 .flows in
+    let c′ = sym (c .before .before .before .before .before .before .is-closed .ensures) ∙ c .before .before .before .before .before .if1 .left in
+    let inside = c .before .before .before .before .before .before .before .before .before .before .before .before .before .before .pre .1 .inside in
+    weighable (plan (a .shape) (a .marks .now)) (ground (a .rules) (a .beds .now) (a .roughness .now)) (a .depths .now) (f .lies) (a .square) inside c′
+    (a .lasts .now) (f .lasts-to (a .square) inside c′) (c .before .before .before .before .before .before .before .before .before .before .before .before .before .before .pre .0 .lasts-for) (c .before .before .before .before .number .ensures) (c .before .number2 .ensures) (c .number3 .ensures) (c .before .before .drops-of .ensures)
+
+mul-put-square-3 : tie.Need-mul-put-square-3
+mul-put-square-3 c = search needs
+
+shared-slice-read-put-square-3 : tie.Need-shared-slice-read-put-square-3
+shared-slice-read-put-square-3 c = search needs
+
+mul-put-square-4 : tie.Need-mul-put-square-4
+mul-put-square-4 c = search needs
+
+shared-slice-read-put-square-4 : tie.Need-shared-slice-read-put-square-4
+shared-slice-read-put-square-4 c = search needs
+
+put-square-requires-2 : tie.Need-put-square-requires-2
+put-square-requires-2 c κs =
+    let a = (c .before .before .before .before .before .before .before .before .before .before .before .before .before .before .before .before .before .before .args) in
+    let c′ = sym (c .before .before .before .before .before .before .before .before .before .before .is-closed .ensures) ∙ c .before .before .before .before .before .before .before .before .before .if1 .left in
+    let d = c .before .before .before .before .before .before .before .before .before .before .before .before .before .before .before .before .before .before .pre .0 .flows .lies .depths-to (a .square) (c .before .before .before .before .before .before .before .before .before .before .before .before .before .before .before .before .before .before .pre .1 .inside) c′ in
+    (
+      omega (arith, c .before .before .before .before .before .before .before .before .before .before .before .before .before .before .before .before .before .before .pre .0 .record-long, c .before .before .before .before .before .before .before .before .before .before .before .before .before .before .before .before .before .before .pre .1 .inside),
+      words-fit (a .rules) (c .before .before .before .before .before .number2 .result) (c .before .before .before .before .number3 .result) (a .lasting) (c .before .before .before .before .before .before .drops-of .result) {d = c .before .before .before .before .before .before .before .before .number .result} (omega (arith, c .before .before .before .before .before .before .before .before .number .ensures)) (c .before .before .before .weigh .ensures),
+    )
+
+same-length-3 : tie.Need-same-length-3
+same-length-3 c = search needs
+
+returns-3 : tie.Need-returns-3
+returns-3 c =
+    let a = (c .before .before .before .before .before .before .before .before .before .before .before .before .before .before .before .before .before .before .before .before .before .args) in
+    let c′ = sym (c .before .before .before .before .before .before .before .before .before .before .before .before .before .is-closed .ensures) ∙ c .before .before .before .before .before .before .before .before .before .before .before .before .if1 .left in
+    record {
+      closed-put = λ e. not-both e c′;
+      open-put =
+          λ e.
+          put-wet (a .rules) (getD (a .lasts .now) (a .square) 0) (getD (a .roughness .now) (a .square) 0) (a .lasting)
+          (dropsOf (plan (a .shape) (a .marks .now)) (a .rules) (a .beds .now) (a .depths .now) (a .square)) (a .rec .now) (a .square) _ _
+          (c .before .before .before .before .before .before .before .before .before .before .before .number .ensures) (c .before .before .before .before .before .before .before .before .number2 .ensures) (c .before .before .before .before .before .before .before .number3 .ensures) (c .before .before .before .before .before .before .before .before .before .drops-of .ensures) (c .before .before .before .before .before .before .weigh .ensures) (c .before .before .put-square2 .ensures);
+    }
+
+pub fill-square-spec : {M : Type 1} → statement M
+fill-square-spec =
+    tie.close
+    (tie.spec
+    is-closed-requires
+    put-closed-requires
+    same-length
+    returns
+    number-requires
+    mul-put-square
+    shared-slice-read-put-square
+    mul-put-square-2
+    shared-slice-read-put-square-2
+    put-square-requires
+    same-length-2
+    returns-2
+    drops-of-requires
+    number-requires-2
+    number-requires-3
+    weigh-requires
+    mul-put-square-3
+    shared-slice-read-put-square-3
+    mul-put-square-4
+    shared-slice-read-put-square-4
+    put-square-requires-2
+    same-length-3
+    returns-3)

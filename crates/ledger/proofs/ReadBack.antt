@@ -1,0 +1,206 @@
+-- A written record is read back, for each square has its own six places; so a step settled by its record is the step.
+-- Assumes nothing.
+use mathlib.Core.Path.{_≡_, refl, ap, _∙_}
+use mathlib.Core.Bool.{Bool, true, false, _||_}
+use mathlib.Core.List.{List, [], _∷_}
+use Prim.Native.Nat.{ℕ, zero, suc, _+_, _*_, _<_}
+use native.Mathlib.Omega.{arith}
+use lib.Dec.{leb}
+use lib.ListN.{length, getD}
+use lib.Seq.{getD-append-add}
+use Rattle.reckon.specs.Tests.{_unless_, refusal}
+use Rattle.reckon.specs.Lists.{joined}
+use Rattle.reckon.specs.Ranges.{mostDepth, lastClock, mostOutflow}
+use Rattle.reckon.proofs.TestLaws.{pick-true, pick-false, pick-both, all-ext, refusal-later}
+use Rattle.reckon.proofs.ListLaws.{filled-ext, length-joined, getD-joined, sum-ext}
+use Rattle.grid.specs.Squares.{sides, squares, beside, opposite}
+use Rattle.grid.proofs.SquareLaws.{opposite-small}
+use Rattle.grid.proofs.MarkLaws.{marked, unless-closed}
+use Rattle.ledger.specs.Runs.{Plan, World}
+use Rattle.ledger.specs.Flows.{Leaves, shut, gone, sent, came, offSide, offSquare, offGrid}
+use Rattle.ledger.specs.Record.{squareWords, lastWord, addedWord, recordSize, heldIn, lastedIn, wordPlace, leavesIn, lastIn, addedIn, squareRecord, recordOf}
+use Rattle.ledger.specs.After.{Moves, remains, newDepth, depthsFit, newOutflow, lateRows, stepRecord, worldAfter}
+use Rattle.ledger.specs.Settle.{movesIn, settleRows, settleNumber, written}
+
+-- ---- the words of a record
+
+module _ (p : Plan) (held lasted : ℕ) (out : Leaves) (last added : ℕ → ℕ) where
+  abbrev rec : List ℕ
+  rec = recordOf p held lasted out last added
+
+  square-long : (i : ℕ) → length (squareRecord p out last added i) ≡ squareWords
+  unfolding squareRecord
+  square-long i = pick-both (λ (l : List ℕ). length l ≡ squareWords) (shut p i) refl refl
+
+  pub record-long : length rec ≡ recordSize p
+  unfolding recordOf
+  record-long = omega (arith, length-joined (squares (p .shape)) squareWords (squareRecord p out last added) square-long)
+
+  pub held-read : heldIn rec ≡ held
+  unfolding recordOf
+  held-read = refl
+
+  pub lasted-read : lastedIn rec ≡ lasted
+  unfolding recordOf
+  lasted-read = refl
+
+  module _ (i : ℕ) (inside : i < squares (p .shape)) where
+    word-read : (word : ℕ) → word < squareWords → getD rec (wordPlace i word) 0 ≡ getD (squareRecord p out last added i) word 0
+    unfolding recordOf
+    word-read word h =
+        getD-append-add (held ∷ lasted ∷ []) (joined (squares (p .shape)) (squareRecord p out last added)) (squareWords * i + word) 0
+        ∙ getD-joined (squares (p .shape)) squareWords (squareRecord p out last added) square-long i word inside h
+
+    -- "A closed square gets six zeros"
+    pub closed-read : shut p i ≡ true → (word : ℕ) → word < squareWords → getD rec (wordPlace i word) 0 ≡ 0
+    unfolding squareRecord
+    closed-read e word h = word-read word h ∙ (ap (λ (l : List ℕ). getD l word 0) (pick-true _ _ e) ∙ zeros word h)
+      where
+        zeros : (word : ℕ) → word < squareWords → getD {A = ℕ} (0 ∷ 0 ∷ 0 ∷ 0 ∷ 0 ∷ 0 ∷ []) word 0 ≡ 0
+        zeros zero h = refl
+        zeros (suc zero) h = refl
+        zeros (suc (suc zero)) h = refl
+        zeros (suc (suc (suc zero))) h = refl
+        zeros (suc (suc (suc (suc zero)))) h = refl
+        zeros (suc (suc (suc (suc (suc zero))))) h = refl
+        zeros (suc (suc (suc (suc (suc (suc _)))))) h = absurd (omega arith)
+
+    module _ (not-closed : shut p i ≡ false) where
+      abbrev words : List ℕ
+      words = out i 0 ∷ out i 1 ∷ out i 2 ∷ out i 3 ∷ last i ∷ added i ∷ []
+
+      open-read : (word : ℕ) → word < squareWords → getD rec (wordPlace i word) 0 ≡ getD words word 0
+      unfolding squareRecord
+      open-read word h = word-read word h ∙ ap (λ (l : List ℕ). getD l word 0) (pick-false _ _ not-closed)
+
+      pub leaves-read : (side : ℕ) → side < sides → leavesIn rec i side ≡ out i side
+      unfolding leavesIn
+      leaves-read side h = open-read side (omega arith) ∙ at side h
+        where
+          at : (side : ℕ) → side < sides → getD words side 0 ≡ out i side
+          at zero h = refl
+          at (suc zero) h = refl
+          at (suc (suc zero)) h = refl
+          at (suc (suc (suc zero))) h = refl
+          at (suc (suc (suc (suc _)))) h = absurd (omega arith)
+
+      pub last-read : lastIn rec i ≡ last i
+      unfolding lastIn
+      last-read = open-read lastWord (omega arith)
+
+      pub added-read : addedIn rec i ≡ added i
+      unfolding addedIn
+      added-read = open-read addedWord (omega arith)
+
+      pub gone-read : gone (leavesIn rec) i ≡ gone out i
+      unfolding gone
+      gone-read =
+          rw (leaves-read 0 (omega arith), leaves-read 1 (omega arith), leaves-read 2 (omega arith), leaves-read 3 (omega arith))
+
+  -- what squares not closed sent off the grid: closed ones are not asked
+  off-side-read : (i : ℕ) → i < squares (p .shape) → shut p i ≡ false → (side : ℕ) → side < sides →
+      offSide p (leavesIn rec) i side ≡ offSide p out i side
+  unfolding offSide
+  off-side-read i inside e side h = rw (leaves-read i inside e side h)
+
+  off-square-read : (i : ℕ) → i < squares (p .shape) → offSquare p (leavesIn rec) i ≡ offSquare p out i
+  unfolding offSquare
+  off-square-read i inside =
+      unless-closed (p .marks) i 0
+      (λ e.
+      let same = off-side-read i inside e in
+      rw (same 0 (omega arith), same 1 (omega arith), same 2 (omega arith), same 3 (omega arith)))
+
+  pub off-read : offGrid p (leavesIn rec) ≡ offGrid p out
+  unfolding offGrid
+  off-read = sum-ext (squares (p .shape)) _ _ off-square-read
+
+  -- nor are they asked what they sent to a neighbour
+  module _ (marks-long : length (p .marks) ≡ squares (p .shape)) where
+    pub sent-read : (i side : ℕ) → sent p (leavesIn rec) i side ≡ sent p out i side
+    unfolding sent
+    sent-read i side =
+        let j : ℕ = beside (p .shape) i side in
+        unless-closed (p .marks) j 0 (λ e. leaves-read j (omega (arith, marked (p .marks) j e)) e (opposite side) (opposite-small side))
+
+    pub came-read : (i : ℕ) → came p (leavesIn rec) i ≡ came p out i
+    unfolding came
+    came-read i = rw (sent-read i 0, sent-read i 1, sent-read i 2, sent-read i 3)
+
+-- ---- the record of a step
+
+module _ (p : Plan) (m : Moves) (w : World) where
+  abbrev lastBefore : ℕ → ℕ
+  lastBefore i = getD (w .lasts) i 0
+
+  pub step-long : length (stepRecord p m w) ≡ recordSize p
+  unfolding stepRecord
+  step-long = record-long p (w .run .length) (m .lasts) (m .leaves) lastBefore (m .added)
+
+  pub step-held : heldIn (stepRecord p m w) ≡ w .run .length
+  unfolding stepRecord
+  step-held = held-read p (w .run .length) (m .lasts) (m .leaves) lastBefore (m .added)
+
+  pub step-lasted : lastedIn (stepRecord p m w) ≡ m .lasts
+  unfolding stepRecord
+  step-lasted = lasted-read p (w .run .length) (m .lasts) (m .leaves) lastBefore (m .added)
+
+  pub step-off : offGrid p (leavesIn (stepRecord p m w)) ≡ offGrid p (m .leaves)
+  unfolding stepRecord
+  step-off = off-read p (w .run .length) (m .lasts) (m .leaves) lastBefore (m .added)
+
+  pub step-came : length (p .marks) ≡ squares (p .shape) → (i : ℕ) → came p (leavesIn (stepRecord p m w)) i ≡ came p (m .leaves) i
+  unfolding stepRecord
+  step-came marks-long i = came-read p (w .run .length) (m .lasts) (m .leaves) lastBefore (m .added) marks-long i
+
+  module _ (i : ℕ) (inside : i < squares (p .shape)) (not-closed : shut p i ≡ false) where
+    pub step-gone : gone (leavesIn (stepRecord p m w)) i ≡ gone (m .leaves) i
+    unfolding stepRecord
+    step-gone = gone-read p (w .run .length) (m .lasts) (m .leaves) lastBefore (m .added) i inside not-closed
+
+    pub step-last : lastIn (stepRecord p m w) i ≡ getD (w .lasts) i 0
+    unfolding stepRecord
+    step-last = last-read p (w .run .length) (m .lasts) (m .leaves) lastBefore (m .added) i inside not-closed
+
+    pub step-added : addedIn (stepRecord p m w) i ≡ m .added i
+    unfolding stepRecord
+    step-added = added-read p (w .run .length) (m .lasts) (m .leaves) lastBefore (m .added) i inside not-closed
+
+-- ---- a step settled by its record
+
+module _ (p : Plan) (m : Moves) (w : World) (marks-long : length (p .marks) ≡ squares (p .shape)) where
+  abbrev moved : Moves
+  moved = movesIn (stepRecord p m w) (m .length)
+
+  depth-read : (i : ℕ) → i < squares (p .shape) → shut p i ≡ false → newDepth p moved w i ≡ newDepth p m w i
+  unfolding newDepth remains
+  depth-read i inside e = rw (step-gone p m w i inside e, step-came p m w marks-long i, step-added p m w i inside e)
+
+  outflow-read : newOutflow p moved w ≡ newOutflow p m w
+  unfolding newOutflow
+  outflow-read = rw (step-off p m w)
+
+  fit-read : depthsFit p moved w ≡ depthsFit p m w
+  unfolding depthsFit
+  fit-read = all-ext (squares (p .shape)) _ _ (λ i inside. at i inside (shut p i) refl)
+    where
+      at : (i : ℕ) → i < squares (p .shape) → (b : Bool) → shut p i ≡ b →
+          (shut p i || leb (newDepth p moved w i) mostDepth) ≡ (shut p i || leb (newDepth p m w i) mostDepth)
+      at i inside true e = rw e
+      at i inside false e = rw (depth-read i inside e)
+
+  -- the world that its record writes is the world after the step
+  pub settled-is : written p (stepRecord p m w) (m .length) w ≡ worldAfter p m w
+  unfolding written worldAfter
+  settled-is =
+      let depths = filled-ext (squares (p .shape)) (shut p) (newDepth p moved w) (newDepth p m w) (w .depths) depth-read in
+      let lasts = filled-ext (squares (p .shape)) (shut p) (gone (moved .leaves)) (gone (m .leaves)) (w .lasts) (step-gone p m w) in
+      rw (depths, lasts, outflow-read, step-lasted p m w)
+
+  -- what is refused where 7 is not: 8 or 9, by the record
+  pub late-settled : leb (w .run .clock + m .lasts) lastClock ≡ true → refusal (lateRows p m w) ≡ settleNumber p (stepRecord p m w) (m .length) w
+  unfolding lateRows settleNumber settleRows
+  late-settled e =
+      let same : refusal (8 unless depthsFit p m w ∷ 9 unless leb (newOutflow p m w) mostOutflow ∷ []) ≡ settleNumber p (stepRecord p m w) (m .length) w
+      = rw (fit-read, outflow-read) in
+      refusal-later 7 (8 unless depthsFit p m w ∷ 9 unless leb (newOutflow p m w) mostOutflow ∷ []) e ∙ same

@@ -1,0 +1,6 @@
+pub mod LineLaws
+pub mod ReadingLaws
+pub mod RoundTrip
+pub mod StandLaws
+pub mod WorkedText
+pub mod WritingLaws

@@ -1,0 +1,232 @@
+// Reading at a position of a text. A position past the end reads as nothing.
+ghost use mathlib.Core.Path.{_≡_};
+ghost use mathlib.Core.Bool.{true, _&&_};
+ghost use Prim.Native.Nat.{_+_, _<_, _≤_};
+ghost use lib.Dec.{eqb};
+ghost use lib.ListN.{length, getD, drop};
+ghost use Rattle.text.specs.Reading.{endsAt, mostFields, isDigit, digitsOf, numberOf, ByteIs, WordAt, NumberAt, FieldAt, FieldsAt, RestOfLine, LineOf, NextLine, LineCount, asFields, Reading};
+
+// What stands at a position as a number: its value and the position after it, or none.
+pub enum Number {
+    Is(u32, usize),
+    Not,
+}
+
+// The fields of a line: whether they were all found, their values with 0 after them, and the position after them.
+pub struct Fields {
+    pub found: bool,
+    pub values: [u32; 8],
+    pub next: usize,
+}
+
+pub const TAB: u8 = 9;
+
+pub const NEWLINE: u8 = 10;
+
+const MOST_NUMBER: u64 = 4_294_967_295;
+
+// A given byte stands at a position.
+pub fn byte_is(text: &[u8], at: usize, byte: u8) -> bool
+    ensures { λ r. ⌜ ByteIs (now (text .entry)) at byte r ⌝ }
+{
+    if text.len() <= at {
+        return false;
+    }
+    text[at] == byte
+}
+
+// A word stands at a position.
+pub fn word_at(text: &[u8], at: usize, word: &[u8]) -> bool
+    ensures { λ r. ⌜ WordAt (now (text .entry)) at (now (word .entry)) r ⌝ }
+{
+    if text.len() < at {
+        return false;
+    }
+    if text.len() - at < word.len() {
+        return false;
+    }
+    let mut i: usize = 0;
+    while i < word.len() {
+        if text[at + i] != word[i] {
+            return false;
+        }
+        i += 1;
+    }
+    true
+}
+
+fn is_digit(text: &[u8], at: usize) -> bool
+    ensures { λ r. ⌜ r ≡ isDigit (getD (now (text .entry)) at 0) ⌝ }
+{
+    if text.len() <= at {
+        return false;
+    }
+    if text[at] < b'0' {
+        return false;
+    }
+    text[at] <= b'9'
+}
+
+fn digit(text: &[u8], at: usize) -> u64
+    requires { ⌜ isDigit (getD (now text) at 0) ≡ true ⌝ }
+    ensures { λ r. ⌜ r + 48 ≡ getD (now (text .entry)) at 0 ⌝ }
+{
+    (text[at] - b'0') as u64
+}
+
+// The digit at a position is a 0 with another digit after it.
+fn needless_zero(text: &[u8], at: usize) -> bool
+    requires { ⌜ isDigit (getD (now text) at 0) ≡ true ⌝ }
+    ensures { λ r. ⌜ r ≡ (eqb (getD (now (text .entry)) at 0) 48 && isDigit (getD (now (text .entry)) (at + 1) 0)) ⌝ }
+{
+    if text[at] != b'0' {
+        return false;
+    }
+    is_digit(text, at + 1)
+}
+
+// The digits at a position as a number.
+fn digits(text: &[u8], at: usize) -> Number
+    ensures { λ r. ⌜ r ≡ numberOf (digitsOf (drop at (now (text .entry)))) at ⌝ }
+{
+    let mut value: u64 = 0;
+    let mut p = at;
+    while is_digit(text, p) {
+        value = value * 10 + digit(text, p);
+        if MOST_NUMBER < value {
+            return Number::Not;
+        }
+        p += 1;
+    }
+    Number::Is(value as u32, p)
+}
+
+// The number at a position.
+pub fn number_at(text: &[u8], at: usize) -> Number
+    ensures { λ r. ⌜ NumberAt (now (text .entry)) at r ⌝ }
+{
+    if !is_digit(text, at) {
+        return Number::Not;
+    }
+    if needless_zero(text, at) {
+        return Number::Not;
+    }
+    digits(text, at)
+}
+
+// A tab and a number.
+pub fn field_at(text: &[u8], at: usize) -> Number
+    ensures { λ r. ⌜ FieldAt (now (text .entry)) at r ⌝ }
+{
+    if !byte_is(text, at, TAB) {
+        return Number::Not;
+    }
+    number_at(text, at + 1)
+}
+
+// Nothing was read at a position.
+fn nothing(at: usize) -> Fields
+    ensures { λ r. ⌜ r ≡ asFields at Reading.unread ⌝ }
+{
+    Fields {
+        found: false,
+        values: [0; 8],
+        next: at,
+    }
+}
+
+// Exactly count fields from a position on.
+pub fn fields_at(text: &[u8], at: usize, count: usize) -> Fields
+    requires { ⌜ count ≤ mostFields ⌝ }
+    ensures { λ r. ⌜ FieldsAt (now (text .entry)) at count r ⌝ }
+{
+    let mut values: [u32; 8] = [0; 8];
+    let mut p = at;
+    let mut i: usize = 0;
+    while i < count {
+        let Number::Is(value, next) = field_at(text, p) else {
+            return nothing(at);
+        };
+        values[i] = value;
+        p = next;
+        i += 1;
+    }
+    Fields {
+        found: true,
+        values: values,
+        next: p,
+    }
+}
+
+// Exactly count fields from a position on, and then the end of the line.
+pub fn rest_of_line(text: &[u8], at: usize, count: usize) -> Fields
+    requires { ⌜ count ≤ mostFields ⌝ }
+    ensures { λ r. ⌜ RestOfLine (now (text .entry)) at count r ⌝ }
+{
+    let fields = fields_at(text, at, count);
+    if !fields.found {
+        return nothing(at);
+    }
+    let end = fields.next;
+    if !byte_is(text, end, NEWLINE) {
+        return nothing(at);
+    }
+    let values = fields.values;
+    Fields {
+        found: true,
+        values: values,
+        next: end + 1,
+    }
+}
+
+// A line of a kind: its word, exactly count fields, and the end of the line.
+pub fn line_of(text: &[u8], at: usize, word: &[u8], count: usize) -> Fields
+    requires { ⌜ count ≤ mostFields ⌝ }
+    ensures { λ r. ⌜ LineOf (now (text .entry)) at (now (word .entry)) count r ⌝ }
+{
+    if !word_at(text, at, word) {
+        return nothing(at);
+    }
+    let rest = rest_of_line(text, at + word.len(), count);
+    if !rest.found {
+        return nothing(at);
+    }
+    rest
+}
+
+// Where the line after the one at a position starts: after the next newline, or where the text ends.
+pub fn next_line(text: &[u8], at: usize) -> usize
+    ensures { λ r. ⌜ NextLine (now (text .entry)) at r ⌝ }
+{
+    let mut p = at;
+    while p < text.len() {
+        if text[p] == NEWLINE {
+            return p + 1;
+        }
+        p += 1;
+    }
+    p
+}
+
+fn newline_at(text: &[u8], at: usize) -> usize
+    requires { ⌜ at < length (now text) ⌝ }
+    ensures { λ r. ⌜ r ≡ endsAt (now (text .entry)) at ⌝ }
+{
+    if text[at] == NEWLINE {
+        return 1;
+    }
+    0
+}
+
+// How many lines a text has: each is ended by a newline.
+pub fn line_count(text: &[u8]) -> usize
+    ensures { λ r. ⌜ LineCount (now (text .entry)) r ⌝ }
+{
+    let mut count: usize = 0;
+    let mut i: usize = 0;
+    while i < text.len() {
+        count += newline_at(text, i);
+        i += 1;
+    }
+    count
+}
