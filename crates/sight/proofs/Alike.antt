@@ -1,5 +1,4 @@
--- No answer depends on what a closed square holds: a closed square is answered before its numbers are read, and a closed neighbour's
--- numbers stand behind a choice that does not take them.
+-- No answer depends on what a closed square holds: each of its numbers stands behind a choice that does not take it.
 -- Assumes nothing.
 use mathlib.Core.Path.{_≡_, refl, ap, ap₂, _∙_}
 use mathlib.Core.Bool.{Bool, true, false, _&&_, _||_, not}

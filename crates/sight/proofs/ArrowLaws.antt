@@ -1,5 +1,4 @@
--- Laws of arrows: a side is off the grid, towards a closed square or towards an open one, and that decides what went through it; the
--- first case that applies is the answer.
+-- Laws of arrows: where a side leads decides what went through it, and the first case that applies is the answer.
 -- Assumes nothing.
 use mathlib.Core.Path.{_≡_, refl, sym, ap, ap₂, _∙_}
 use mathlib.Core.Bool.{Bool, true, false, _&&_, not}
@@ -47,17 +46,17 @@ leaving-small rec i side h = h (wordPlace i side)
 module _ (p : Plan) (depths rec : List ℕ) (i side : ℕ) where
   out-own :
       (within (p .shape) (beside (p .shape) i side) && shut p (beside (p .shape) i side)) ≡ false →
-      outThrough p depths rec i side ≡ leavesIn rec i side
+      outThrough p rec i side ≡ leavesIn rec i side
   unfolding outThrough
   out-own e = pick-false _ _ e
 
   out-none :
-      (within (p .shape) (beside (p .shape) i side) && shut p (beside (p .shape) i side)) ≡ true → outThrough p depths rec i side ≡ 0
+      (within (p .shape) (beside (p .shape) i side) && shut p (beside (p .shape) i side)) ≡ true → outThrough p rec i side ≡ 0
   unfolding outThrough
   out-none e = pick-true _ _ e
 
   same-side :
-      {x y z : ℕ} → x ≡ outThrough p depths rec i side → y ≡ sent p (leavesIn rec) i side → z ≡ getD depths i 0 + nearDepth p depths rec i side →
+      {x y z : ℕ} → x ≡ outThrough p rec i side → y ≡ sent p (leavesIn rec) i side → z ≡ getD depths i 0 + nearDepth p depths i side →
       _≡_ {A = Through} (record { out = x; back = y; deep = z }) (throughSide p depths rec i side)
   unfolding throughSide
   same-side h g f = λ k. record { out = h k; back = g k; deep = f k }
@@ -73,7 +72,7 @@ module _ (p : Plan) (depths rec : List ℕ) (i side : ℕ) where
       unfolding sent
       sent-none = sym (pick-true _ _ c)
 
-      own-twice : own + own ≡ getD depths i 0 + nearDepth p depths rec i side
+      own-twice : own + own ≡ getD depths i 0 + nearDepth p depths i side
       unfolding nearDepth
       own-twice = ap₂ _+_ o (o ∙ sym (pick-true _ _ c))
 
@@ -114,7 +113,7 @@ module _ (p : Plan) (depths rec : List ℕ) (i side : ℕ) where
       unfolding sent
       small-back e = rw (e ∙ pick-false _ _ beside-open) (leaving-small rec (beside (p .shape) i side) (opposite side) words)
 
-      near-is : {near : ℕ} → near ≡ getD depths at 0 → own + near ≡ getD depths i 0 + nearDepth p depths rec i side
+      near-is : {near : ℕ} → near ≡ getD depths at 0 → own + near ≡ getD depths i 0 + nearDepth p depths i side
       unfolding nearDepth
       near-is f = ap₂ _+_ o (f ∙ (ap (λ (j : ℕ). getD depths j 0) a ∙ sym (pick-false _ _ beside-open)))
 

@@ -28,20 +28,20 @@ use Rattle.sight.specs.declared.arrows.Sight.the-variants.{Closed, Dry, 
 abbrev pub netNone : Through → Bool
 netNone t = eqb (t .out) (t .back)
 
+-- "own leaving .. off the grid, own leaving; towards a closed square, 0"
+unfoldable pub outThrough : Plan → List ℕ → ℕ → ℕ → ℕ
+outThrough p rec i side = pick (within (p .shape) (beside (p .shape) i side) && shut p (beside (p .shape) i side)) 0 (leavesIn rec i side)
+
+-- "Off the grid the neighbour's depth is taken as the own depth"; so is a closed one's, towards which net is 0 and no depth counts.
+-- Off the grid there is no mark, and none reads closed.
+unfoldable pub nearDepth : Plan → List ℕ → ℕ → ℕ → ℕ
+nearDepth p depths i side = pick (shut p (beside (p .shape) i side)) (getD depths i 0) (getD depths (beside (p .shape) i side) 0)
+
 module _ (p : Plan) (depths rec : List ℕ) (i : ℕ) where
-  -- "own leaving .. off the grid, own leaving; towards a closed square, 0"
-  unfoldable pub outThrough : ℕ → ℕ
-  outThrough side = pick (within (p .shape) (beside (p .shape) i side) && shut p (beside (p .shape) i side)) 0 (leavesIn rec i side)
-
-  -- "Off the grid the neighbour's depth is taken as the own depth"; so is a closed one's, towards which net is 0 and no depth counts.
-  -- Off the grid there is no mark, and none reads closed.
-  unfoldable pub nearDepth : ℕ → ℕ
-  nearDepth side = pick (shut p (beside (p .shape) i side)) (getD depths i 0) (getD depths (beside (p .shape) i side) 0)
-
   -- "net through a side = own leaving − what the neighbour sent back", as the two amounts; and "own depth + neighbour's depth"
   unfoldable pub throughSide : ℕ → Through
   throughSide side =
-      record { out = outThrough side; back = sent p (leavesIn rec) i side; deep = getD depths i 0 + nearDepth side }
+      record { out = outThrough p rec i side; back = sent p (leavesIn rec) i side; deep = getD depths i 0 + nearDepth p depths i side }
 
   -- "still (all four nets 0)"
   unfoldable pub allStill : Bool
