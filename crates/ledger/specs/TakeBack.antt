@@ -110,6 +110,9 @@ pub record Watered (p : Plan) (depths lasts : List ℕ) : Type 0 where
 abbrev pub WatersJudged : Plan → List ℕ → List ℕ → Bool → Type 0
 WatersJudged p depths lasts r = r ≡ watersFine p depths lasts
 
+abbrev pub TimesJudged : List ℕ → Bool → Type 0
+TimesJudged rec r = r ≡ timesFine rec
+
 -- the answer, the depths and the last leaving afterwards
 pub record TakesBack (p : Plan) (w : World) (a : Answer) (depths lasts : List ℕ) : Type 0 where
   pub answer : a ≡ answered (backNumber p w) (takenBack p w .run)

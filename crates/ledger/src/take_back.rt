@@ -13,7 +13,7 @@ ghost use Rattle.grid.specs.Marks.{closed};
 ghost use Rattle.ledger.specs.Runs.{ofDepths, plan, world};
 ghost use Rattle.ledger.specs.Flows.{came, gone};
 ghost use Rattle.ledger.specs.Record.{Recorded, Walked, addedIn, headWords, lastIn, lastWord, lastedIn, leavesIn, wordPlace};
-ghost use Rattle.ledger.specs.TakeBack.{Led, Looked, OneEach, Restores, TakesBack, Watered, WatersJudged, depthBefore, oneEach, restorable, runBefore, squareRestorable, timesFine};
+ghost use Rattle.ledger.specs.TakeBack.{Led, Looked, OneEach, Restores, TakesBack, TimesJudged, Watered, WatersJudged, depthBefore, oneEach, restorable, runBefore, squareRestorable};
 use crate::record::Found;
 use crate::record::UNFIT;
 use crate::record::added_by;
@@ -112,9 +112,9 @@ fn look(shape: Shape, run: Run, marks: &[u8], depths: &[u32], lasts: &[u32], rec
 }
 
 // Refusal 11: length held and time lasted are 1 to 60,000.
-fn times_fine(rec: &[u32]) -> bool
+pub fn times_fine(rec: &[u32]) -> bool
     requires { ⌜ headWords ≤ length (now rec) ⌝ }
-    ensures { λ r. ⌜ r ≡ timesFine (now (rec .entry)) ⌝ }
+    ensures { λ r. ⌜ TimesJudged (now (rec .entry)) r ⌝ }
 {
     let held = held_before(rec);
     let lasts = lasted(rec);

@@ -1,0 +1,6 @@
+pub mod Alike
+pub mod ArrowLaws
+pub mod RefusalLaws
+pub mod SpeedLaws
+pub mod WetLaws
+pub mod WorkedArrows

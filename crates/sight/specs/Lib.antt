@@ -1,0 +1,5 @@
+pub mod Arrows
+pub mod Refusals
+pub mod Speeds
+pub mod WetRows
+pub mod Worked
