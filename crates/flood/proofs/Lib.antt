@@ -7,3 +7,4 @@ pub mod LengthLaws
 pub mod RuleLaws
 pub mod RunToLaws
 pub mod StepLaws
+pub mod WorkedSteps

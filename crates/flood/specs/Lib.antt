@@ -5,3 +5,4 @@ pub mod Ready
 pub mod Refusals
 pub mod Run
 pub mod Step
+pub mod Worked
