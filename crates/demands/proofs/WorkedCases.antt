@@ -1,0 +1,43 @@
+-- The worked cases marked P, by computation.
+-- Assumes nothing.
+use mathlib.Core.Path.{_≡_, refl}
+use mathlib.Core.List.{List, [], _∷_, _++_}
+use Rattle.reckon.specs.Tests.{pick, every, allBelow, refusal}
+use Rattle.reckon.specs.Lists.{tabulate, filled, joined, placed, sumBelow}
+use Rattle.reckon.specs.Ranges.{waterFine}
+use Rattle.reckon.specs.Roots.{rootFrom, rootOf}
+use Rattle.reckon.specs.Tables.{rowGives, given, rainBy, onSquare, inflowBy, rowFine, tableFine}
+use Rattle.reckon.specs.Worked.{Case, AsSaid, tableCases}
+use Rattle.reckon.proofs.WorkedTables.{table-cases}
+use Rattle.trials.specs.Ring.{slotAfter, slotBefore, ringFine}
+use Rattle.trials.specs.Room.{recordIn}
+use Rattle.grid.specs.Squares.{beside, opposite, onRim, shapeFine}
+use Rattle.grid.specs.Marks.{closed, exit, markFine, marksFine, inflowSquareFine, inflowSquaresFine}
+use Rattle.rule.specs.Drops.{dropOff}
+use Rattle.rule.specs.Length.{candidate, counts, sideCandidates, candidatesOf, leastFrom, heldBetween, freshLength, isUpdate, lengthAt, lastsFor}
+use Rattle.rule.specs.Rules.{sideFine, groundFine, rulesFine}
+use Rattle.rule.specs.Weighing.{lesserPositive, leastDrop, greatestDrop, dropSum, heightOf, slopeOf, criticalSpeed, manningSpeed, speedOf, mostThrough, totalOf, throughSides, weighed}
+use Rattle.rule.specs.Worked.{squareCases}
+use Rattle.rule.proofs.WorkedSquares.{square-cases}
+use Rattle.ledger.specs.After.{remains, newDepth, depthsFit, newOutflow, lateRows, stepRecord, worldAfter}
+use Rattle.ledger.specs.Flows.{gone, sent, came, offSide, offSquare, offGrid}
+use Rattle.ledger.specs.Record.{leavesIn, lastIn, addedIn, squareRecord, recordOf, roomSlots, newestRecord}
+use Rattle.ledger.specs.Runs.{runFine}
+use Rattle.ledger.specs.TakeBack.{oneEach, watersFine, timesFine, heldAndGone, cameAndAdded, depthBefore, squareRestorable, restorable, worldBefore, backRows, backNumber, takenBack}
+use Rattle.flood.specs.Drops.{sideDrop, dropsOf}
+use Rattle.flood.specs.Refusals.{groundsFine, checkRows, stepNumber, stepped}
+use Rattle.flood.specs.Run.{freshRun}
+use Rattle.flood.specs.Step.{squareCandidates, candidates, leavesFor, addedFor, stepLength, stepLasts}
+use Rattle.demands.specs.Worked.{worldCases, provedCases}
+
+world-cases : AsSaid worldCases
+unfolding pick every allBelow refusal tabulate filled joined placed sumBelow waterFine rootFrom rootOf rowGives given rainBy onSquare inflowBy rowFine tableFine slotAfter slotBefore ringFine recordIn beside opposite onRim shapeFine closed exit markFine marksFine inflowSquareFine inflowSquaresFine dropOff candidate counts sideCandidates candidatesOf leastFrom heldBetween freshLength isUpdate lengthAt lastsFor sideFine groundFine rulesFine lesserPositive leastDrop greatestDrop dropSum heightOf slopeOf criticalSpeed manningSpeed speedOf mostThrough totalOf throughSides weighed remains newDepth depthsFit newOutflow lateRows stepRecord worldAfter gone sent came offSide offSquare offGrid leavesIn lastIn addedIn squareRecord recordOf roomSlots newestRecord runFine oneEach watersFine timesFine heldAndGone cameAndAdded depthBefore squareRestorable restorable worldBefore backRows backNumber takenBack sideDrop dropsOf groundsFine checkRows stepNumber stepped freshRun squareCandidates candidates leavesFor addedFor stepLength stepLasts
+world-cases = (refl, (refl, (refl, (refl, (refl, (refl, (refl, (refl, (refl, (refl, (refl, tt)))))))))))
+
+-- two lists of cases, each as said, are as said one after the other
+both-said : (cs ds : List Case) → AsSaid cs → AsSaid ds → AsSaid (cs ++ ds)
+both-said [] ds a b = b
+both-said (c ∷ cs) ds a b = (a .0, both-said cs ds (a .1) b)
+
+pub proved-cases : AsSaid provedCases
+proved-cases = both-said tableCases (squareCases ++ worldCases) table-cases (both-said squareCases worldCases square-cases world-cases)
