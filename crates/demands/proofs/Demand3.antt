@@ -11,7 +11,8 @@ use borrow.Author.Tests.{eq-eqb, ne-eqb}
 use Rattle.reckon.specs.Tests.{pick, Row, _unless_, refusal}
 use Rattle.reckon.proofs.TestLaws.{pick-true, pick-false, refusal-first, refusal-second, refusal-here}
 use Rattle.trials.specs.Ring.{ringFine}
-use Rattle.trials.specs.Series.{Outcome, refused, done, andThen, Engine, State, step, takeBack, Ran, ranOn, runOn, run}
+use Rattle.trials.specs.Series.{Outcome, refused, done, andThen, Engine, State, step, takeBack, Ran, ranOn, runOn, run, afterStep, afterBack, older, repeat, replay, shown, Stands}
+use Rattle.trials.specs.Series as Any
 
 use Rattle.trials.proofs.RunLaws.{run-at, run-stands}
 use Rattle.trials.proofs.StepLaws.{not-done}
@@ -77,14 +78,142 @@ module _ (p : Plan) where
       steps-are : r .steps ≡ e .steps
 
     same-run : (most made : ℕ) (w : World) → SameRun (runOn E g more most (state w) made) (runFrom p g end most made w)
-    unfolding runOn runFrom
+    unfolding runOn runFrom pick goOn
     same-run zero made w = record { state-is = refl; steps-are = refl }
     same-run (suc most) made w = go (ltb (w .run .clock) end) (stepNumber p g w) refl (same-run most (suc made) (stepped p g w))
       where
         go : (b : Bool) (n : ℕ) → stepNumber p g w ≡ n → SameRun (runOn E g more most (state (stepped p g w)) (suc made)) (runFrom p g end most (suc made) (stepped p g w)) →
             SameRun (pick b (ranOn E (step E g (state w)) (state w) made (λ t. runOn E g more most t (suc made))) (record { state = state w; steps = made; number = 0 }))
             (pick b (goOn (stepNumber p g w) made w (runFrom p g end most (suc made) (stepped p g w))) (ended 0 made w))
-        unfolding pick goOn
         go false n e h = record { state-is = refl; steps-are = refl }
         go true zero e h = rw (step-made g w e, e) h
         go true (suc n) e h = rw (step-refused g w e, e) (record { state-is = refl; steps-are = refl })
+
+    -- the most steps that the run may make: none where rows 1 to 6 refuse it
+    abbrev allowed : ℕ → ℕ → ℕ
+    allowed zero n = n
+    allowed (suc k) n = 0
+
+    abbrev most : World → ℕ
+    most w = allowed (refusal (runChecks p g end w)) (end - w .run .clock)
+
+    same-run-to : (w : World) → SameRun (runOn E g more (most w) (state w) 0) (runTo p g end w)
+    unfolding runTo runOn goOn
+    same-run-to w = go (refusal (runChecks p g end w))
+      where
+        go : (n : ℕ) → SameRun (runOn E g more (allowed n (end - w .run .clock)) (state w) 0) (goOn n 0 w (runFrom p g end (end - w .run .clock) 0 w))
+        go zero = same-run (end - w .run .clock) 0 w
+        go (suc n) = record { state-is = refl; steps-are = refl }
+
+  -- ---- a series of the flood is one of the engine
+
+  abbrev trail : Trail p → Any.Trail E
+  trail x = record { at = state (x .at); standing = x .standing; peak = x .peak }
+
+  -- the call of the engine, which depends on the world that the series has come to
+  abbrev callOf : Call → World → Any.Call E
+  callOf (stepping g) w = Any.stepping g
+  callOf (running g end) w = Any.running g (more g end) (most g end w)
+  callOf takingBack w = Any.takingBack
+
+  -- the most that ever stood, after n steps with the same inputs
+  record Grown (y z : Any.Trail E) : Type 0 where
+    peak-is : z .peak ≡ max (y .peak) (length (z .standing))
+    longer : length (y .standing) ≤ length (z .standing)
+
+  grown : (n : ℕ) (g : Given) (y : Any.Trail E) → length (y .standing) ≤ y .peak → Grown y (repeat E n g y)
+  unfolding repeat
+  grown zero g y h = record { peak-is = omega arith; longer = omega arith }
+  grown (suc n) g y h = go (step E g (y .at)) (grown n g)
+    where
+      go : (a : Outcome (State E)) → ((z : Any.Trail E) → length (z .standing) ≤ z .peak → Grown z (repeat E n g z)) →
+          Grown y (repeat E n g (afterStep E g y a))
+      go (refused k) ih = ih y h
+      go (done t) ih =
+          let i = ih (afterStep E g y (done t)) (omega arith) in
+          record { peak-is = omega (arith, i .peak-is, i .longer); longer = omega (arith, i .longer) }
+
+  trail-is : {y z : Any.Trail E} → y .at ≡ z .at → y .standing ≡ z .standing → y .peak ≡ z .peak → y ≡ z
+  trail-is a b c = λ j. record { at = a j; standing = b j; peak = c j }
+
+  module _ (x : Trail p) (high : length (x .standing) ≤ x .peak) where
+    step-called : (g : Given) (n : ℕ) → stepNumber p g (x .at) ≡ n → Any.called E (Any.stepping g) (trail x) ≡ trail (called p (stepping g) x)
+    step-called g zero e =
+        let stands : standAfter p (stepping g) (x .at) (x .standing) ≡ g ∷ x .standing = pick-true _ _ (eq-eqb _ _ e) in
+        ap (afterStep E g (trail x)) (step-made g (x .at) e) ∙ trail-is refl (sym stands) (rw stands (omega arith))
+    step-called g (suc n) e =
+        let stands : standAfter p (stepping g) (x .at) (x .standing) ≡ x .standing = pick-false _ _ (ne-eqb _ _ (some-number e)) in
+        ap (afterStep E g (trail x)) (step-refused g (x .at) e)
+        ∙ trail-is (ap state (sym (refused-is p g (x .at) (some-number e)))) (sym stands) (rw stands (omega arith))
+
+    back-called : (n : ℕ) → backNumber p (x .at) ≡ n → Any.called E Any.takingBack (trail x) ≡ trail (called p takingBack x)
+    back-called zero e =
+        let stands : standAfter p takingBack (x .at) (x .standing) ≡ drop 1 (x .standing) = pick-true _ _ (eq-eqb _ _ e) in
+        ap (afterBack E (trail x)) (back-made (x .at) e) ∙ trail-is refl (older-is (x .standing) ∙ sym stands) (rw stands (fewer (x .standing) high))
+      where
+        older-is : (steps : List Given) → older E steps ≡ drop 1 steps
+        older-is [] = refl
+        older-is (g ∷ gs) = refl
+        fewer : (steps : List Given) {n : ℕ} → length steps ≤ n → n ≡ max n (length (drop 1 steps))
+        fewer [] h = omega arith
+        fewer (g ∷ gs) h = omega arith
+    back-called (suc n) e =
+        let stands : standAfter p takingBack (x .at) (x .standing) ≡ x .standing = pick-false _ _ (ne-eqb _ _ (some-number e)) in
+        ap (afterBack E (trail x)) (back-refused (x .at) e)
+        ∙ trail-is (ap state (sym (refused-stays p (x .at) (some-number e)))) (sym stands) (rw stands (omega arith))
+
+    run-called : (g : Given) (end : ℕ) → Any.called E (callOf (running g end) (x .at)) (trail x) ≡ trail (called p (running g end) x)
+    run-called g end =
+        trail-is (run-at E g (more g end) (most g end (x .at)) (trail x) ∙ same .state-is) stands
+        (grown (run E g (more g end) (most g end (x .at)) (state (x .at)) .steps) g (trail x) high .peak-is
+        ∙ ap (λ (l : List Given). max (x .peak) (length l)) stands)
+      where
+        same : SameRun g end (runOn E g (more g end) (most g end (x .at)) (state (x .at)) 0) (runTo p g end (x .at))
+        same = same-run-to g end (x .at)
+
+        stands : Any.called E (callOf (running g end) (x .at)) (trail x) .standing ≡ replicate (runTo p g end (x .at) .steps) g ++ x .standing
+        stands =
+            run-stands E g (more g end) (most g end (x .at)) (trail x)
+            ∙ ap (λ (n : ℕ). replicate n g ++ x .standing) (same .steps-are)
+
+    called-is : (c : Call) → Any.called E (callOf c (x .at)) (trail x) ≡ trail (called p c x)
+    called-is (stepping g) = step-called g (stepNumber p g (x .at)) refl
+    called-is (running g end) = run-called g end
+    called-is takingBack = back-called (backNumber p (x .at)) refl
+
+  -- some series of the engine comes to where a series of the flood comes to
+  series-is : (cs : List Call) (x : Trail p) → length (x .standing) ≤ x .peak →
+      (ds : List (Any.Call E)) × (Any.series E ds (trail x) ≡ trail (series p cs x))
+  unfolding Any.series series
+  series-is [] x h = ([], refl)
+  series-is (c ∷ cs) x h =
+      let next = series-is cs (called p c x) (omega arith) in
+      (callOf c (x .at) ∷ next .0, ap (Any.series E (next .0)) (called-is x h c) ∙ next .1)
+
+  -- ---- the steps still standing, made alone
+
+  module _ (f : World) where
+    record Alone (gs : List Given) (s : State E) : Type 0 where
+      state-is : s ≡ state (alone p gs f)
+      all-made : AllMade p gs f
+
+    alone-is : (gs : List Given) (s : State E) → replay E gs (state f) ≡ done s → Alone gs s
+    unfolding replay alone andThen
+    alone-is [] s e = record { state-is = cc; all-made = tt }
+    alone-is (g ∷ gs) s e = go (replay E gs (state f)) refl (alone-is gs)
+      where
+        w : World
+        w = alone p gs f
+
+        last : (n : ℕ) → stepNumber p g w ≡ n → AllMade p gs f → step E g (state w) ≡ done s → Alone (g ∷ gs) s
+        last zero z m q =
+            let same : _≡_ {A = Outcome (State E)} (done s) (done (state (stepped p g w))) = sym q ∙ step-made g w z in
+            record { state-is = cc; all-made = (z, m) }
+        last (suc n) z m q = absurd (not-done (sym (step-refused g w z) ∙ q))
+
+        go : (a : Outcome (State E)) → replay E gs (state f) ≡ a → ((t : State E) → replay E gs (state f) ≡ done t → Alone gs t) → Alone (g ∷ gs) s
+        go (refused n) q ih = absurd (not-done (sym (ap (λ (a : Outcome (State E)). andThen a (step E g)) q) ∙ e))
+        go (done t) q ih =
+            let A : Alone gs t = ih t q in
+            last (stepNumber p g w) refl (A .all-made)
+            (ap (step E g) (sym (A .state-is)) ∙ (sym (ap (λ (a : Outcome (State E)). andThen a (step E g)) q) ∙ e))
