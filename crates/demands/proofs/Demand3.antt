@@ -35,6 +35,19 @@ use Rattle.demands.specs.Demand3.{Call, stepping, running, takingBack, a
 some-number : {n k : ℕ} → n ≡ suc k → n ≡ 0 → ⊥
 some-number e z = omega arith
 
+-- two outcomes that are equal, or show the same, have the same number
+same-number : {A : Type 0} (n m : ℕ) (a b : A) → outcome n a ≡ outcome m b → n ≡ m
+unfolding outcome
+same-number zero zero a b e = refl
+same-number zero (suc m) a b e = absurd (not-done (sym e))
+same-number (suc n) zero a b e = absurd (not-done e)
+same-number (suc n) (suc m) a b e = cc
+
+outcome-then : {A B : Type 0} (n : ℕ) (a : A) (f : A → B) → andThen (outcome n a) (λ x. done (f x)) ≡ outcome n (f a)
+unfolding outcome andThen
+outcome-then zero a f = refl
+outcome-then (suc n) a f = refl
+
 module _ (p : Plan) where
   abbrev E : Engine
   E = engine p (floodRule p)
@@ -217,3 +230,90 @@ module _ (p : Plan) where
             let A : Alone gs t = ih t q in
             last (stepNumber p g w) refl (A .all-made)
             (ap (step E g) (sym (A .state-is)) ∙ (sym (ap (λ (a : Outcome (State E)). andThen a (step E g)) q) ∙ e))
+
+    -- ---- demand 3
+
+    same-next : (g : Given) (s : State E) (w v : World) → s ≡ state v → shown E (step E g (state w)) ≡ shown E (step E g s) →
+        stepNumber p g w ≡ stepNumber p g v
+    same-next g s w v q e =
+        same-number (stepNumber p g w) (stepNumber p g v) _ _
+        (sym (outcome-then _ _ (λ t. t .seen)) ∙ (sym (ap (shown E) (step-is g w)) ∙ (e ∙ (ap (λ (t : State E). shown E (step E g t)) q ∙ (ap (shown E) (step-is g v) ∙ outcome-then _ _ (λ t. t .seen))))))
+
+    in-the-flood : (x : Trail p) → Stands E (state f) (trail x) → NeverMade p f x
+    in-the-flood x D =
+        record {
+          all-made = A .all-made;
+          same-depths = ap (λ (v : Seen). v .depths) seen;
+          same-lasts = ap (λ (v : Seen). v .lasts) seen;
+          same-clock = ap (λ (v : Seen). v .clock) seen;
+          same-length = ap (λ (v : Seen). v .length) seen;
+          same-outflow = ap (λ (v : Seen). v .outflow) seen;
+          same-next = λ g. same-next g (D .alone) (x .at) (alone p (x .standing) f) (A .state-is) (D .same-next g);
+          same-newest = D .same-newest ∙ ap (λ (s : State E). s .newest) (A .state-is);
+          same-records = λ j h. D .same-records j h ∙ ap (λ (s : State E). E .read (s .room) _) (A .state-is);
+          kept-is = D .kept-is;
+          back-made = λ h. made (D .back-kept h .0) (D .back-kept h .1) (backNumber p (x .at)) refl;
+          back-fails = λ d. fails d (backNumber p (x .at)) refl;
+          back-none = λ h. same-number _ _ _ _ (sym (back-bridge p (x .at) (floodRule p)) ∙ (D .back-none h ∙ back-bridge p f (floodRule p)));
+        }
+      where
+        A : Alone (x .standing) (D .alone)
+        A = alone-is (x .standing) (D .alone) (D .again)
+
+        seen : seenOf (x .at) ≡ seenOf (alone p (x .standing) f)
+        seen = D .same-seen ∙ ap (λ (s : State E). s .seen) (A .state-is)
+
+        made : (s : State E) → takeBack E (state (x .at)) ≡ done s → (n : ℕ) → backNumber p (x .at) ≡ n → backNumber p (x .at) ≡ 0
+        made s e zero z = z
+        made s e (suc n) z = absurd (not-done (sym (back-refused (x .at) z) ∙ e))
+
+        fails : (backNumber p (x .at) ≡ 0 → ⊥) → (n : ℕ) → backNumber p (x .at) ≡ n → x .at .run .kept ≡ 0
+        fails d zero z = absurd (d z)
+        fails d (suc n) z = D .back-fails (suc n) (back-refused (x .at) z)
+
+    module _ (F : Fresh p f) where
+      -- DEMAND 3: any series from a fresh run
+      pub trials-never-made : (cs : List Call) → NeverMade p f (series p cs (start p f))
+      trials-never-made cs =
+          let same = series-is cs (start p f) (omega arith) in
+          in-the-flood (series p cs (start p f))
+          (subst (λ (y : Any.Trail E). Stands E (state f) y) (same .1)
+          (never-made E (engine-laws p (floodRule p) (flood-owed p)) (state f) (record { kept-none = F .kept-none; newest-last = F .newest-last }) (same .0)))
+
+      -- ---- a take-back of the fresh run
+
+      abbrev look : List Row
+      look = lookRows p (ringFine (roomSlots p (f .records)) (f .run .kept) (f .run .newest)) (seenOf f)
+
+      abbrev lastRows : List Row
+      lastRows = 10 unless not (eqb (f .run .kept) 0) ∷ 11 unless restorable p f (newestRecord p f) ∷ []
+
+      is-ten : refusal lastRows ≡ 10
+      is-ten = refusal-here 10 _ (ap not (eq-eqb _ _ (F .kept-none)))
+
+      look-passed : refusal look ≡ 0 → backNumber p f ≡ 10
+      unfolding backNumber backRows lookRows runFine
+      look-passed e = refusal-second look lastRows tt e ∙ is-ten
+
+      look-failed : (refusal look ≡ 0 → ⊥) → backNumber p f ≡ refusal look
+      unfolding backNumber backRows lookRows runFine
+      look-failed d = refusal-first look lastRows tt d
+
+      low : (a b c d : Bool) → refusal (1 unless a ∷ 2 unless b ∷ 3 unless c ∷ 6 unless d ∷ []) ≤ 6
+      unfolding refusal pick
+      low false b c d = omega arith
+      low true false c d = omega arith
+      low true true false d = omega arith
+      low true true true false = omega arith
+      low true true true true = omega arith
+
+      look-low : refusal look ≤ 6
+      unfolding lookRows
+      look-low = low _ _ _ _
+
+      pub back-of-fresh : BackOfFresh p f
+      back-of-fresh = record { ten = look-passed; never-eleven = λ e. go (refusal look) refl e }
+        where
+          go : (n : ℕ) → refusal look ≡ n → backNumber p f ≡ 11 → ⊥
+          go zero z e = omega (arith, look-passed z)
+          go (suc n) z e = omega (arith, look-failed (some-number z), look-low)
