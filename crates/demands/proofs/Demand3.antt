@@ -17,20 +17,23 @@ use Rattle.trials.specs.Series as Any
 use Rattle.trials.proofs.RunLaws.{run-at, run-stands}
 use Rattle.trials.proofs.StepLaws.{not-done}
 use Rattle.trials.proofs.Standing.{never-made}
-use Rattle.ledger.specs.Runs.{Plan, World, runFine}
+use Rattle.rule.specs.declared.rules.Rules.{Rules}
+use Rattle.ledger.specs.Runs.{Plan, World, world, runFine, answered}
 use Rattle.ledger.specs.Record.{roomSlots, newestRecord}
 use Rattle.ledger.specs.After.{worldAfter}
 use Rattle.ledger.specs.TakeBack.{restorable, backRows, backNumber, takenBack}
 use Rattle.ledger.specs.Engine.{Seen, seenOf, outcome, lookRows, engine, stateOf}
 use Rattle.ledger.proofs.Bridge.{refused-stays, back-bridge, step-bridge}
 use Rattle.ledger.proofs.EngineLaws.{engine-laws}
+use Rattle.ledger.specs.declared.runs.Run.{Run}
+use Rattle.ledger.specs.declared.runs.Answer.the-variants.{Done}
 use Rattle.flood.specs.Drops.{Given}
 use Rattle.flood.specs.Step.{stepMoves}
 use Rattle.flood.specs.Refusals.{runChecks, stepNumber, stepped, floodRule}
-use Rattle.flood.specs.Run.{Ended, ended, goOn, runFrom, runTo}
+use Rattle.flood.specs.Run.{Ended, ended, goOn, runFrom, runTo, freshNumber, freshRun, Freshens}
 use Rattle.flood.proofs.RuleLaws.{flood-owed}
 use Rattle.flood.proofs.RunToLaws.{made-is, refused-is}
-use Rattle.demands.specs.Demand3.{Call, stepping, running, takingBack, afterCall, standAfter, Trail, start, called, series, alone, AllMade, Fresh, NeverMade, BackOfFresh}
+use Rattle.demands.specs.Demand3.{Call, stepping, running, takingBack, afterCall, standAfter, Trail, start, called, series, alone, AllMade, Fresh, NeverMade, BackOfFresh, Demand3}
 
 some-number : {n k : ℕ} → n ≡ suc k → n ≡ 0 → ⊥
 some-number e z = omega arith
@@ -272,8 +275,7 @@ module _ (p : Plan) where
         fails d (suc n) z = D .back-fails (suc n) (back-refused (x .at) z)
 
     module _ (F : Fresh p f) where
-      -- DEMAND 3: any series from a fresh run
-      pub trials-never-made : (cs : List Call) → NeverMade p f (series p cs (start p f))
+      trials-never-made : (cs : List Call) → NeverMade p f (series p cs (start p f))
       trials-never-made cs =
           let same = series-is cs (start p f) (omega arith) in
           in-the-flood (series p cs (start p f))
@@ -311,9 +313,23 @@ module _ (p : Plan) where
       unfolding lookRows
       look-low = low _ _ _ _
 
-      pub back-of-fresh : BackOfFresh p f
+      back-of-fresh : BackOfFresh p f
       back-of-fresh = record { ten = look-passed; never-eleven = λ e. go (refusal look) refl e }
         where
           go : (n : ℕ) → refusal look ≡ n → backNumber p f ≡ 11 → ⊥
           go zero z e = omega (arith, look-passed z)
           go (suc n) z e = omega (arith, look-failed (some-number z), look-low)
+
+  -- what `fresh` answers is a fresh run
+  fresh-is : (r : Rules) (depths records before lasts : List ℕ) (u : Run) → Freshens p r records before (Done u) lasts → Fresh p (world depths lasts records u)
+  unfolding answered freshRun
+  fresh-is r depths records before lasts u a = go (freshNumber p r before records) (a .answer)
+    where
+      go : (n : ℕ) → Done u ≡ answered n (freshRun p r before records) → Fresh p (world depths lasts records u)
+      go zero e =
+          let same : u ≡ freshRun p r before records = cc in
+          record { kept-none = ap (λ (v : Run). v .kept) same; newest-last = ap (λ (v : Run). v .newest) same }
+      go (suc n) e = absurd (let z : _≡_ {A = ℕ} 0 1 = cc in omega arith)
+
+  pub demand-3 : Demand3 p
+  demand-3 = record { fresh-is = fresh-is; never-made = trials-never-made; back-of-fresh = back-of-fresh }

@@ -8,13 +8,16 @@ use lib.ListN.{length, replicate, drop}
 use Rattle.reckon.specs.Tests.{pick, refusal}
 use Rattle.trials.specs.Ring.{slotAgo, ringFine}
 use Rattle.trials.specs.Room.{recordIn}
-use Rattle.ledger.specs.Runs.{Plan, World}
+use Rattle.rule.specs.declared.rules.Rules.{Rules}
+use Rattle.ledger.specs.Runs.{Plan, World, world}
 use Rattle.ledger.specs.Record.{recordSize, roomSlots}
 use Rattle.ledger.specs.TakeBack.{backNumber, takenBack}
 use Rattle.ledger.specs.Engine.{seenOf, lookRows}
+use Rattle.ledger.specs.declared.runs.Run.{Run}
+use Rattle.ledger.specs.declared.runs.Answer.the-variants.{Done}
 use Rattle.flood.specs.Drops.{Given}
 use Rattle.flood.specs.Refusals.{stepNumber, stepped}
-use Rattle.flood.specs.Run.{Ended, runTo}
+use Rattle.flood.specs.Run.{Ended, runTo, Freshens}
 
 -- "any series of steps and take-backs .. a run to a clock counts as the steps it made": each step and run with its own heights, tables and rules
 pub data Call : Type 0 where
@@ -97,3 +100,9 @@ module _ (p : Plan) where
   pub record BackOfFresh (f : World) : Type 0 where
     pub ten : refusal (lookRows p (ringFine (roomSlots p (f .records)) (f .run .kept) (f .run .newest)) (seenOf f)) ≡ 0 → backNumber p f ≡ 10
     pub never-eleven : backNumber p f ≡ 11 → ⊥
+
+  -- "from a fresh run": whatever `fresh` may answer, with any depths
+  pub record Demand3 : Type 0 where
+    pub fresh-is : (r : Rules) (depths records before lasts : List ℕ) (u : Run) → Freshens p r records before (Done u) lasts → Fresh (world depths lasts records u)
+    pub never-made : (f : World) → Fresh f → (cs : List Call) → NeverMade f (series cs (start f))
+    pub back-of-fresh : (f : World) → Fresh f → BackOfFresh f
