@@ -13,7 +13,6 @@ use Rattle.reckon.proofs.TestLaws.{pick-true, pick-false, refusal-first, refusa
 use Rattle.trials.specs.Ring.{ringFine}
 use Rattle.trials.specs.Series.{Outcome, refused, done, andThen, Engine, State, step, takeBack, Ran, ranOn, runOn, run, afterStep, afterBack, older, repeat, replay, shown, Stands}
 use Rattle.trials.specs.Series as Any
-
 use Rattle.trials.proofs.RunLaws.{run-at, run-stands}
 use Rattle.trials.proofs.StepLaws.{not-done}
 use Rattle.trials.proofs.Standing.{never-made}
@@ -170,6 +169,7 @@ module _ (p : Plan) where
         older-is : (steps : List Given) → older E steps ≡ drop 1 steps
         older-is [] = refl
         older-is (g ∷ gs) = refl
+
         fewer : (steps : List Given) {n : ℕ} → length steps ≤ n → n ≡ max n (length (drop 1 steps))
         fewer [] h = omega arith
         fewer (g ∷ gs) h = omega arith
