@@ -1,0 +1,105 @@
+-- The letter's demand 2, of closed squares: "What a closed square holds is not altered, and no answer depends on it", and "walls that no
+-- water enters". That each step gives what the published rule gives is what its contract says, of the definitions of document 01.
+-- Assumes nothing.
+use mathlib.Core.Path.{_≡_}
+use mathlib.Core.Bool.{true, false}
+use mathlib.Core.List.{List}
+use Prim.Native.Nat.{ℕ, _<_}
+use lib.ListN.{length, getD}
+use Rattle.reckon.specs.Tests.{refusal}
+use Rattle.grid.specs.Squares.{squares, sides}
+use Rattle.grid.specs.Marks.{Alike}
+use Rattle.rule.specs.declared.rules.Rules.{Rules}
+use Rattle.ledger.specs.Runs.{Plan, World}
+use Rattle.ledger.specs.Flows.{shut}
+use Rattle.ledger.specs.Record.{squareWords, wordPlace, heldIn, lastedIn, newestRecord}
+use Rattle.ledger.specs.TakeBack.{backNumber, takenBack}
+use Rattle.ledger.specs.Engine.{Seen}
+use Rattle.ledger.specs.Walls.{Walled, Goes, Untouched}
+use Rattle.flood.specs.Drops.{Given}
+use Rattle.flood.specs.Step.{stepMoves}
+use Rattle.flood.specs.Refusals.{runChecks, stepNumber, stepped}
+use Rattle.flood.specs.Run.{Ended, runTo, freshNumber, freshRun, freshLasts}
+
+module _ (p : Plan) where
+  -- ---- what differs only in what closed squares hold
+
+  -- two slices of as many numbers
+  pub record SameOpen (a b : List ℕ) : Type 0 where
+    pub long : length a ≡ length b
+    pub alike : Alike (p .marks) a b
+
+  -- heights, roughness, rules and tables
+  pub record SameGiven (g h : Given) : Type 0 where
+    pub beds : SameOpen (g .lie .beds) (h .lie .beds)
+    pub roughness : SameOpen (g .lie .roughness) (h .lie .roughness)
+    pub rules : g .lie .rules ≡ h .lie .rules
+    pub rain : g .rain ≡ h .rain
+    pub inflow : g .inflow ≡ h .inflow
+
+  -- depths, last leaving and run
+  pub record SameWater (w v : World) : Type 0 where
+    pub depths : SameOpen (w .depths) (v .depths)
+    pub lasts : SameOpen (w .lasts) (v .lasts)
+    pub run : w .run ≡ v .run
+
+  -- and the record room, number for number
+  pub record SameWorld (w v : World) : Type 0 where
+    pub water : SameWater w v
+    pub records : w .records ≡ v .records
+
+  -- two records: "A closed square's numbers in a record are never read"
+  pub record SameRecord (a b : List ℕ) : Type 0 where
+    pub held : heldIn a ≡ heldIn b
+    pub lasted : lastedIn a ≡ lastedIn b
+    pub words : (i word : ℕ) → shut p i ≡ false → word < squareWords → getD a (wordPlace i word) 0 ≡ getD b (wordPlace i word) 0
+
+  -- what a take-back is lent: of the record room only the newest record
+  pub record SameBack (w v : World) : Type 0 where
+    pub water : SameWater w v
+    pub room : length (w .records) ≡ length (v .records)
+    pub newest : SameRecord (newestRecord p w) (newestRecord p v)
+
+  -- how a run ended
+  pub record SameEnd (e f : Ended) : Type 0 where
+    pub number : e .number ≡ f .number
+    pub steps : e .steps ≡ f .steps
+    pub world : SameWorld (e .world) (f .world)
+
+  -- ---- "no answer depends on it"
+
+  -- the number, the run, the record written and the water of squares not closed are the same
+  pub record NoneDepends : Type 0 where
+    pub step : (g h : Given) (w v : World) → SameGiven g h → SameWorld w v →
+        (stepNumber p g w ≡ stepNumber p h v) × SameWorld (stepped p g w) (stepped p h v)
+    pub run-to : (g h : Given) (end : ℕ) (w v : World) → SameGiven g h → SameWorld w v → SameEnd (runTo p g end w) (runTo p h end v)
+    pub take-back : (w v : World) → SameBack w v → (backNumber p w ≡ backNumber p v) × SameWater (takenBack p w) (takenBack p v)
+    pub fresh : (r : Rules) (lasts others records : List ℕ) → SameOpen lasts others →
+        (freshNumber p r lasts records ≡ freshNumber p r others records)
+        × (freshRun p r lasts records ≡ freshRun p r others records)
+        × SameOpen (freshLasts p r lasts records) (freshLasts p r others records)
+    pub check : (g h : Given) (end : ℕ) (w v : World) → SameGiven g h → SameWorld w v → refusal (runChecks p g end w) ≡ refusal (runChecks p h end v)
+
+  -- ---- "What a closed square holds is not altered": bed and roughness are lent to no call for writing
+
+  pub record NoneAltered : Type 0 where
+    pub step : (g : Given) (w : World) → Untouched p w (stepped p g w)
+    pub run-to : (g : Given) (end : ℕ) (w : World) → Untouched p w (runTo p g end w .world)
+    pub take-back : (w : World) → Untouched p w (takenBack p w)
+    pub fresh : (r : Rules) (lasts records : List ℕ) (i : ℕ) → shut p i ≡ true → getD (freshLasts p r lasts records) i 0 ≡ getD lasts i 0
+    -- in the slot that a step writes: "A closed square gets six zeros"
+    pub slot : (g : Given) (w : World) → stepNumber p g w ≡ 0 → (i word : ℕ) → i < squares (p .shape) → shut p i ≡ true → word < squareWords →
+        getD (newestRecord p (stepped p g w)) (wordPlace i word) 0 ≡ 0
+
+  -- ---- "walls that no water enters"
+
+  -- whatever is given and seen: nothing goes through a side towards a closed square, a closed square sends nothing, and off the grid
+  -- water goes only from an exit; so all that leaves a square comes to a neighbour that is not closed, or leaves from an exit
+  pub record WallRule : Type 0 where
+    pub walled : (g : Given) (v : Seen) → Walled p (stepMoves p g v .leaves)
+    pub goes : (g : Given) (v : Seen) (i side : ℕ) → i < squares (p .shape) → side < sides → Goes p (stepMoves p g v .leaves) i side
+
+  pub record Demand2 : Type 0 where
+    pub none-depends : NoneDepends
+    pub none-altered : NoneAltered
+    pub wall-rule : WallRule
