@@ -11,8 +11,11 @@ use lib.ListN.{length, getD, List·getD-eq-default}
 use Rattle.reckon.specs.Tests.{pick, allBelow, refusal}
 use Rattle.reckon.specs.Lists.{filled}
 use Rattle.reckon.specs.Ranges.{mostDepth, waterFine}
-use Rattle.reckon.proofs.TestLaws.{pick-true, pick-false, pick-both, all-ext}
-use Rattle.reckon.proofs.ListLaws.{getD-tabulate, length-filled, joined-ext, sum-ext}
+use Rattle.reckon.proofs.TestLaws.{pick-true, pick-false, pick-both, all-ext, refusal-both}
+use Rattle.reckon.proofs.ListLaws.{getD-tabulate, length-filled, filled-skipped, joined-ext, sum-ext}
+use Rattle.trials.specs.Ring.{slotAfter}
+use Rattle.trials.proofs.RingLaws.{fine-ring, ring-after}
+use Rattle.trials.proofs.RoomLaws.{read-stored}
 use Rattle.grid.specs.Squares.{squares, within, beside, opposite}
 use Rattle.grid.specs.Marks.{closed, exit, Alike}
 use Rattle.grid.proofs.SquareLaws.{opposite-small}
@@ -24,15 +27,21 @@ use Rattle.rule.specs.Rules.{groundFine}
 use Rattle.rule.specs.declared.rules.Rules.{Rules}
 use Rattle.ledger.specs.Runs.{Plan, World, world}
 use Rattle.ledger.specs.Flows.{shut, gone, sent, came, offSide, offSquare, offGrid}
-use Rattle.ledger.specs.Record.{squareWords, leavesIn, lastIn, addedIn, squareRecord, recordOf, roomSlots}
+use Rattle.ledger.specs.Record.{squareWords, recordSize, wordPlace, newestRecord, leavesIn, lastIn, addedIn, squareRecord, recordOf, roomSlots}
 use Rattle.ledger.specs.After.{Moves, remains, newDepth, depthsFit, newOutflow, lateRows, stepRecord, worldAfter}
 use Rattle.ledger.specs.TakeBack.{oneEach, watersFine, timesFine, heldAndGone, cameAndAdded, depthBefore, squareRestorable, restorable, worldBefore, backRows, backNumber, takenBack}
 use Rattle.ledger.specs.Engine.{Seen, seenOf}
+use Rattle.ledger.specs.Walls.{Untouched}
+use Rattle.ledger.proofs.ReadBack.{step-long, closed-read}
+use Rattle.ledger.proofs.Walls.{goes-where, after-untouched, back-untouched}
 use Rattle.ledger.specs.declared.runs.Run.{Run}
 use Rattle.flood.specs.Drops.{Ground, Given, ground, given, sideDrop, dropsOf}
 use Rattle.flood.specs.Step.{squareCandidates, candidates, leavesFor, addedFor, stepLength, stepLasts, stepMoves}
 use Rattle.flood.specs.Refusals.{groundsFine, checkRows, stepChecks, runChecks, ringOf, stepNumber, stepped}
 use Rattle.flood.specs.Run.{Ended, ended, goOn, runFrom, runTo, freshRows, freshNumber, freshRun, freshLasts}
+use Rattle.flood.proofs.CheckLaws.{checks-named, ring-is}
+use Rattle.flood.proofs.RuleLaws.{flood-walled}
+use Rattle.flood.proofs.RunToLaws.{made-is}
 use Rattle.demands.specs.Demand2.{SameOpen, SameGiven, SameWater, SameWorld, SameRecord, SameBack, SameEnd, NoneDepends, NoneAltered, WallRule, Demand2}
 
 or-ext : (b : Bool) {x y : Bool} → (b ≡ false → x ≡ y) → (b || x) ≡ (b || y)
@@ -324,8 +333,14 @@ module _ (p : Plan) where
     back-number-same : backNumber p w ≡ backNumber p v
     unfolding backNumber backRows
     back-number-same =
-        rw (restorable-same (S .newest) (S .water), one-each-same (S .water .depths), one-each-same (S .water .lasts),
-        waters-same (S .water .depths) (S .water .lasts), slots-same, S .water .run)
+        rw (
+          restorable-same (S .newest) (S .water),
+          one-each-same (S .water .depths),
+          one-each-same (S .water .lasts),
+          waters-same (S .water .depths) (S .water .lasts),
+          slots-same,
+          S .water .run,
+        )
 
     taken-same : SameWater p (takenBack p w) (takenBack p v)
     unfolding takenBack
@@ -348,3 +363,94 @@ module _ (p : Plan) where
     fresh-lasts-same =
         rw (← fresh-number-same)
         (pick-two (SameOpen p) (eqb (freshNumber p r lasts records) 0) (filled-same (squares (p .shape)) _ _ L (λ i e. refl)) L)
+
+  none-depends : NoneDepends p
+  none-depends =
+      record {
+        step = step-same;
+        run-to = λ g h end w v G W. run-same g h end G w v W;
+        take-back = λ w v S. (back-number-same w v S, taken-same w v S);
+        fresh = λ r lasts others records L.
+            (fresh-number-same r lasts others records L, fresh-run-same r lasts others records L, fresh-lasts-same r lasts others records L);
+        check = check-same;
+      }
+
+  -- ---- closed squares stay as they were
+
+  stays : (w : World) → Untouched p w w
+  stays w = record { depth-stays = λ i e. refl; last-stays = λ i e. refl }
+
+  stays-on : {u v w : World} → Untouched p u v → Untouched p v w → Untouched p u w
+  stays-on a b = record { depth-stays = λ i e. b .depth-stays i e ∙ a .depth-stays i e; last-stays = λ i e. b .last-stays i e ∙ a .last-stays i e }
+
+  step-untouched : (g : Given) (w : World) → Untouched p w (stepped p g w)
+  unfolding stepped
+  step-untouched g w = pick-both (Untouched p w) _ (after-untouched p w (stepMoves p g (seenOf w))) (stays w)
+
+  module _ (g : Given) (end : ℕ) where
+    on-untouched : (n made : ℕ) (w : World) (e : Ended) → Untouched p w (e .world) → Untouched p w (goOn n made w e .world)
+    unfolding goOn
+    on-untouched zero made w e x = x
+    on-untouched (suc n) made w e x = stays w
+
+    from-untouched : (most made : ℕ) (w : World) → Untouched p w (runFrom p g end most made w .world)
+    unfolding runFrom
+    from-untouched zero made w = stays w
+    from-untouched (suc most) made w =
+        pick-both (λ (e : Ended). Untouched p w (e .world)) _
+        (on-untouched (stepNumber p g w) made w _ (stays-on (step-untouched g w) (from-untouched most (suc made) (stepped p g w)))) (stays w)
+
+    run-untouched : (w : World) → Untouched p w (runTo p g end w .world)
+    unfolding runTo
+    run-untouched w = on-untouched (refusal (runChecks p g end w)) 0 w _ (from-untouched (end - w .run .clock) 0 w)
+
+  -- the slot that a step writes
+  module _ (g : Given) (w : World) (made : stepNumber p g w ≡ 0) where
+    checked : refusal (stepChecks p g (ringOf p g w) (seenOf w)) ≡ 0
+    unfolding stepNumber
+    checked = refusal-both (stepChecks p g (ringOf p g w) (seenOf w)) _ (checks-named p g (ringOf p g w) (seenOf w)) made .0
+
+    newest-written : newestRecord p (stepped p g w) ≡ stepRecord p (stepMoves p g (seenOf w)) w
+    unfolding newestRecord worldAfter roomSlots
+    newest-written =
+        let ring = fine-ring _ _ _ (ring-is p g (ringOf p g w) (seenOf w) checked) in
+        rw (made-is p g w made)
+        (read-stored (recordSize p) (omega arith) (w .records) (slotAfter (roomSlots p (w .records)) (w .run .newest))
+        (stepRecord p (stepMoves p g (seenOf w)) w) (step-long p (stepMoves p g (seenOf w)) w) (ring-after ring .newest-below))
+
+    slot-zeros : (i word : ℕ) → i < squares (p .shape) → shut p i ≡ true → word < squareWords → getD (newestRecord p (stepped p g w)) (wordPlace i word) 0 ≡ 0
+    unfolding stepRecord
+    slot-zeros i word l e h = ap (λ (rec : List ℕ). getD rec (wordPlace i word) 0) newest-written ∙ closed-read p _ _ _ _ _ i l e word h
+
+  fresh-untouched : (r : Rules) (lasts records : List ℕ) (i : ℕ) → shut p i ≡ true → getD (freshLasts p r lasts records) i 0 ≡ getD lasts i 0
+  unfolding freshLasts
+  fresh-untouched r lasts records i e = pick-both (λ (l : List ℕ). getD l i 0 ≡ getD lasts i 0) _ (go (decLt i (length lasts))) refl
+    where
+      cleared : List ℕ
+      cleared = filled (squares (p .shape)) (shut p) (λ k. 0) lasts
+
+      go : Dec (i < length lasts) → getD cleared i 0 ≡ getD lasts i 0
+      go (yes l) = filled-skipped (squares (p .shape)) (shut p) (λ k. 0) lasts i l e
+      go (no l) =
+          List·getD-eq-default cleared 0 (omega (arith, length-filled (squares (p .shape)) (shut p) (λ k. 0) lasts))
+          ∙ sym (List·getD-eq-default lasts 0 (omega arith))
+
+  none-altered : NoneAltered p
+  none-altered =
+      record {
+        step = step-untouched;
+        run-to = run-untouched;
+        take-back = back-untouched p;
+        fresh = fresh-untouched;
+        slot = slot-zeros;
+      }
+
+  wall-rule : WallRule p
+  wall-rule =
+      record {
+        walled = λ g v. flood-walled p (g .lie) (v .depths) (v .lasts) (stepLasts p g v);
+        goes = λ g v i side h l. goes-where p _ i side h l (flood-walled p (g .lie) (v .depths) (v .lasts) (stepLasts p g v));
+      }
+
+  pub demand-2 : Demand2 p
+  demand-2 = record { none-depends = none-depends; none-altered = none-altered; wall-rule = wall-rule }
