@@ -25,14 +25,14 @@ use Rattle.ledger.specs.Record.{leavesIn, lastIn, addedIn, squareRecord, record
 use Rattle.ledger.specs.Runs.{runFine}
 use Rattle.ledger.specs.TakeBack.{oneEach, watersFine, timesFine, heldAndGone, cameAndAdded, depthBefore, squareRestorable, restorable, worldBefore, backRows, backNumber, takenBack}
 use Rattle.flood.specs.Drops.{sideDrop, dropsOf}
-use Rattle.flood.specs.Refusals.{groundsFine, checkRows, stepNumber, stepped}
-use Rattle.flood.specs.Run.{freshRun}
+use Rattle.flood.specs.Refusals.{groundsFine, endFine, checkRows, stepNumber, stepped}
+use Rattle.flood.specs.Run.{goOn, runFrom, runTo, freshRun}
 use Rattle.flood.specs.Step.{squareCandidates, candidates, leavesFor, addedFor, stepLength, stepLasts}
 use Rattle.demands.specs.Worked.{worldCases, provedCases}
 
 world-cases : AsSaid worldCases
-unfolding pick every allBelow refusal tabulate filled joined placed sumBelow waterFine rootFrom rootOf rowGives given rainBy onSquare inflowBy rowFine tableFine slotAfter slotBefore ringFine recordIn beside opposite onRim shapeFine closed exit markFine marksFine inflowSquareFine inflowSquaresFine dropOff candidate counts sideCandidates candidatesOf leastFrom heldBetween freshLength isUpdate lengthAt lastsFor sideFine groundFine rulesFine lesserPositive leastDrop greatestDrop dropSum heightOf slopeOf criticalSpeed manningSpeed speedOf mostThrough totalOf throughSides weighed remains newDepth depthsFit newOutflow lateRows stepRecord worldAfter gone sent came offSide offSquare offGrid leavesIn lastIn addedIn squareRecord recordOf roomSlots newestRecord runFine oneEach watersFine timesFine heldAndGone cameAndAdded depthBefore squareRestorable restorable worldBefore backRows backNumber takenBack sideDrop dropsOf groundsFine checkRows stepNumber stepped freshRun squareCandidates candidates leavesFor addedFor stepLength stepLasts
-world-cases = (refl, (refl, (refl, (refl, (refl, (refl, (refl, (refl, (refl, (refl, (refl, tt)))))))))))
+unfolding pick every allBelow refusal tabulate filled joined placed sumBelow waterFine rootFrom rootOf rowGives given rainBy onSquare inflowBy rowFine tableFine slotAfter slotBefore ringFine recordIn beside opposite onRim shapeFine closed exit markFine marksFine inflowSquareFine inflowSquaresFine dropOff candidate counts sideCandidates candidatesOf leastFrom heldBetween freshLength isUpdate lengthAt lastsFor sideFine groundFine rulesFine lesserPositive leastDrop greatestDrop dropSum heightOf slopeOf criticalSpeed manningSpeed speedOf mostThrough totalOf throughSides weighed remains newDepth depthsFit newOutflow lateRows stepRecord worldAfter gone sent came offSide offSquare offGrid leavesIn lastIn addedIn squareRecord recordOf roomSlots newestRecord runFine oneEach watersFine timesFine heldAndGone cameAndAdded depthBefore squareRestorable restorable worldBefore backRows backNumber takenBack sideDrop dropsOf groundsFine endFine checkRows stepNumber stepped goOn runFrom runTo freshRun squareCandidates candidates leavesFor addedFor stepLength stepLasts
+world-cases = (refl, (refl, (refl, (refl, (refl, (refl, (refl, (refl, (refl, (refl, (refl, (refl, (refl, (refl, (refl, (refl, tt))))))))))))))))
 
 -- two lists of cases, each as said, are as said one after the other
 both-said : (cs ds : List Case) → AsSaid cs → AsSaid ds → AsSaid (cs ++ ds)

@@ -10,7 +10,7 @@ use Rattle.ledger.specs.Record.{recordSize}
 use Rattle.ledger.specs.TakeBack.{backNumber, takenBack}
 use Rattle.flood.specs.Drops.{Given, given, ground}
 use Rattle.flood.specs.Refusals.{stepNumber, stepped}
-use Rattle.flood.specs.Run.{freshRun}
+use Rattle.flood.specs.Run.{Ended, runTo, freshRun}
 
 -- one row of squares, with beds of 0 and roughness 100, by the sheet's rules and without rain or inflow
 abbrev row : List ℕ → Plan
@@ -19,49 +19,51 @@ row marks = record { shape = record { rows = 1; columns = length marks }; marks 
 abbrev flat : List ℕ → Given
 flat marks = given (ground sheetRules (replicate {A = ℕ} (length marks) 0) (replicate {A = ℕ} (length marks) 100)) [] []
 
-module _ (marks : List ℕ) where
-  -- a fresh run with room for one record
-  abbrev filledTo : List ℕ → World
-  filledTo depths =
-      let records = replicate {A = ℕ} (recordSize (row marks)) 0 in
-      let lasts = replicate {A = ℕ} (length marks) 0 in
-      world depths lasts records (freshRun (row marks) sheetRules lasts records)
+-- a fresh run on it with these depths and room for one record
+abbrev freshOn : List ℕ → List ℕ → World
+freshOn marks depths =
+    let lasts = replicate {A = ℕ} (length marks) 0 in
+    let records = replicate {A = ℕ} (recordSize (row marks)) 0 in
+    world depths lasts records (freshRun (row marks) sheetRules lasts records)
 
-  abbrev afterStep : World → World
-  afterStep w = stepped (row marks) (flat marks) w
+abbrev next : List ℕ → World → World
+next marks w = stepped (row marks) (flat marks) w
 
-  abbrev numberOf : World → ℕ
-  numberOf w = stepNumber (row marks) (flat marks) w
+-- the sheet's two open squares; an exit alone
+abbrev two : List ℕ
+two = 1 ∷ 1 ∷ []
 
--- "the sheet above": two open squares; and one exit square
-abbrev sheet : List ℕ → World
-sheet depths = filledTo (1 ∷ 1 ∷ []) depths
+abbrev sheet : World
+sheet = freshOn two (1_000 ∷ 0 ∷ [])
 
-abbrev sheetAfter : World → World
-sheetAfter w = afterStep (1 ∷ 1 ∷ []) w
-
-abbrev oneExit : World
-oneExit = filledTo (2 ∷ []) (10_000 ∷ [])
+abbrev one : List ℕ
+one = 2 ∷ []
 
 abbrev pub worldCases : List Case
 worldCases =
-    -- "the sheet above: .. through east 31": depths 969 and 31
-    numberOf (1 ∷ 1 ∷ []) (sheet (1_000 ∷ 0 ∷ [])) should-be 0
-    ∷ sheetAfter (sheet (1_000 ∷ 0 ∷ [])) .depths should-be (969 ∷ 31 ∷ [])
+    -- "the sheet above .. through east 31", and its output: `cell 0 0 969`, `cell 0 1 31`, `out 0`, `steps 1`, `clock 1000`
+    stepNumber (row two) (flat two) sheet should-be 0
+    ∷ next two sheet .depths should-be (969 ∷ 31 ∷ [])
+    ∷ runTo (row two) (flat two) 1_000 sheet .number should-be 0
+    ∷ runTo (row two) (flat two) 1_000 sheet .steps should-be 1
+    ∷ runTo (row two) (flat two) 1_000 sheet .world .depths should-be (969 ∷ 31 ∷ [])
+    ∷ runTo (row two) (flat two) 1_000 sheet .world .run .outflow should-be 0
+    ∷ runTo (row two) (flat two) 1_000 sheet .world .run .clock should-be 1_000
     -- "its second step (1000 ms): .. depths 941 and 59"
-    ∷ sheetAfter (sheetAfter (sheet (1_000 ∷ 0 ∷ []))) .depths should-be (941 ∷ 59 ∷ [])
-    -- "one exit square ..: depth 2,000, outflow 8,000"
-    ∷ afterStep (2 ∷ []) oneExit .depths should-be (2_000 ∷ [])
-    ∷ afterStep (2 ∷ []) oneExit .run .outflow should-be 8_000
+    ∷ next two (next two sheet) .depths should-be (941 ∷ 59 ∷ [])
+    -- "one exit square, D 1, k 100, depth 10,000, 1000 ms: .. depth 2,000, outflow 8,000"
+    ∷ next one (freshOn one (10_000 ∷ [])) .depths should-be (2_000 ∷ [])
+    ∷ next one (freshOn one (10_000 ∷ [])) .run .outflow should-be 8_000
     -- "two equal levels: nothing moves"
-    ∷ numberOf (1 ∷ 1 ∷ []) (sheet (500 ∷ 500 ∷ [])) should-be 0
-    ∷ sheetAfter (sheet (500 ∷ 500 ∷ [])) .depths should-be (500 ∷ 500 ∷ [])
+    ∷ stepNumber (row two) (flat two) (freshOn two (500 ∷ 500 ∷ [])) should-be 0
+    ∷ next two (freshOn two (500 ∷ 500 ∷ [])) .depths should-be (500 ∷ 500 ∷ [])
     -- "take-back of the first step: depths 1000 and 0, P 0, clock 0"
-    ∷ backNumber (row (1 ∷ 1 ∷ [])) (sheetAfter (sheet (1_000 ∷ 0 ∷ []))) should-be 0
-    ∷ takenBack (row (1 ∷ 1 ∷ [])) (sheetAfter (sheet (1_000 ∷ 0 ∷ []))) .depths should-be (1_000 ∷ 0 ∷ [])
-    ∷ takenBack (row (1 ∷ 1 ∷ [])) (sheetAfter (sheet (1_000 ∷ 0 ∷ []))) .lasts should-be (0 ∷ 0 ∷ [])
-    ∷ takenBack (row (1 ∷ 1 ∷ [])) (sheetAfter (sheet (1_000 ∷ 0 ∷ []))) .run .clock should-be 0
+    ∷ backNumber (row two) (next two sheet) should-be 0
+    ∷ takenBack (row two) (next two sheet) .depths should-be (1_000 ∷ 0 ∷ [])
+    ∷ takenBack (row two) (next two sheet) .lasts should-be (0 ∷ 0 ∷ [])
+    ∷ takenBack (row two) (next two sheet) .run .clock should-be 0
     ∷ []
 
+-- all of them
 abbrev pub provedCases : List Case
 provedCases = tableCases ++ (squareCases ++ worldCases)
