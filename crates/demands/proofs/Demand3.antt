@@ -6,30 +6,39 @@ use mathlib.Core.List.{List, [], _∷_, _++_}
 use Prim.Native.Nat.{ℕ, zero, suc, _+_, _-_, _≤_, _<_, max}
 use native.Mathlib.Omega.{arith}
 use lib.Dec.{eqb, ltb}
-use lib.ListN.{length, replicate, drop}
+use lib.ListN.{length, getD, replicate, drop}
 use borrow.Author.Tests.{eq-eqb, ne-eqb}
 use Rattle.reckon.specs.Tests.{pick, Row, _unless_, refusal}
-use Rattle.reckon.proofs.TestLaws.{pick-true, pick-false, refusal-first, refusal-second, refusal-here}
+use Rattle.reckon.proofs.TestLaws.{pick-true, pick-false, refusal-first, refusal-second, refusal-here, every-each, Passed, refusal-passed}
+use Rattle.reckon.specs.Lists.{filled}
+use Rattle.reckon.specs.Ranges.{mostDepth}
+use Rattle.reckon.proofs.ListLaws.{length-filled, filled-in}
 use Rattle.trials.specs.Ring.{ringFine}
+use Rattle.trials.proofs.RingLaws.{ring-fine}
 use Rattle.trials.specs.Series.{Outcome, refused, done, andThen, Engine, State, step, takeBack, Ran, ranOn, runOn, run, afterStep, afterBack, older, repeat, replay, shown, Stands}
 use Rattle.trials.specs.Series as Any
 use Rattle.trials.proofs.RunLaws.{run-at, run-stands}
 use Rattle.trials.proofs.StepLaws.{not-done}
 use Rattle.trials.proofs.Standing.{never-made}
+use Rattle.grid.specs.Squares.{squares}
+use Rattle.rule.proofs.RuleLaws.{rules-are}
 use Rattle.rule.specs.declared.rules.Rules.{Rules}
 use Rattle.ledger.specs.Runs.{Plan, World, world, runFine, answered}
+use Rattle.ledger.specs.Flows.{shut}
 use Rattle.ledger.specs.Record.{roomSlots, newestRecord}
 use Rattle.ledger.specs.After.{worldAfter}
 use Rattle.ledger.specs.TakeBack.{restorable, backRows, backNumber, takenBack}
 use Rattle.ledger.specs.Engine.{Seen, seenOf, outcome, lookRows, engine, stateOf}
 use Rattle.ledger.proofs.Bridge.{refused-stays, back-bridge, step-bridge}
-use Rattle.ledger.proofs.EngineLaws.{engine-laws}
+use Rattle.ledger.proofs.EngineLaws.{Looks, seen-look, engine-laws}
 use Rattle.ledger.specs.declared.runs.Run.{Run}
 use Rattle.ledger.specs.declared.runs.Answer.the-variants.{Done}
 use Rattle.flood.specs.Drops.{Given}
 use Rattle.flood.specs.Step.{stepMoves}
 use Rattle.flood.specs.Refusals.{runChecks, stepNumber, stepped, floodRule}
-use Rattle.flood.specs.Run.{Ended, ended, goOn, runFrom, runTo, freshNumber, freshRun, Freshens}
+use Rattle.flood.specs.Run.{Ended, ended, goOn, runFrom, runTo, freshRows, freshNumber, freshRun, freshLasts, Freshens}
+use Rattle.flood.proofs.CheckLaws.{each-long}
+use Rattle.flood.proofs.FreshLaws.{fresh-sizes, fresh-slots}
 use Rattle.flood.proofs.RuleLaws.{flood-owed}
 use Rattle.flood.proofs.RunToLaws.{made-is, refused-is}
 use Rattle.demands.specs.Demand3.{Call, stepping, running, takingBack, afterCall, standAfter, Trail, start, called, series, alone, AllMade, Fresh, NeverMade, BackOfFresh, Demand3}
@@ -320,16 +329,72 @@ module _ (p : Plan) where
           go zero z e = omega (arith, look-passed z)
           go (suc n) z e = omega (arith, look-failed (some-number z), look-low)
 
-  -- what `fresh` answers is a fresh run
-  fresh-is : (r : Rules) (depths records before lasts : List ℕ) (u : Run) → Freshens p r records before (Done u) lasts → Fresh p (world depths lasts records u)
-  unfolding answered freshRun
-  fresh-is r depths records before lasts u a = go (freshNumber p r before records) (a .answer)
-    where
-      go : (n : ℕ) → Done u ≡ answered n (freshRun p r before records) → Fresh p (world depths lasts records u)
-      go zero e =
-          let same : u ≡ freshRun p r before records = cc in
-          record { kept-none = ap (λ (v : Run). v .kept) same; newest-last = ap (λ (v : Run). v .newest) same }
-      go (suc n) e = absurd (let z : _≡_ {A = ℕ} 0 1 = cc in omega arith)
+  -- ---- what `fresh` answers is a fresh run
+
+  module _ (r : Rules) (depths records before lasts : List ℕ) (u : Run) (a : Freshens p r records before (Done u) lasts) where
+    record Freshened : Type 0 where
+      number : freshNumber p r before records ≡ 0
+      run-is : u ≡ freshRun p r before records
+
+    freshened : Freshened
+    unfolding answered
+    freshened = go (freshNumber p r before records) refl (a .answer)
+      where
+        go : (n : ℕ) → freshNumber p r before records ≡ n → Done u ≡ answered n (freshRun p r before records) → Freshened
+        go zero z e = record { number = z; run-is = cc }
+        go (suc n) z e = absurd (let y : _≡_ {A = ℕ} 0 1 = cc in omega arith)
+
+    fresh-is : Fresh p (world depths lasts records u)
+    unfolding freshRun
+    fresh-is =
+        record {
+          kept-none = ap (λ (v : Run). v .kept) (freshened .run-is);
+          newest-last = ap (λ (v : Run). v .newest) (freshened .run-is);
+        }
+
+    -- the rows that it passed
+    tests-passed : Passed (freshRows p r before records)
+    unfolding freshNumber freshRows
+    tests-passed = refusal-passed (freshRows p r before records) tt (freshened .number)
+
+    abbrev f : World
+    f = world depths lasts records (freshRun p r before records)
+
+    lasts-cleared : lasts ≡ filled (squares (p .shape)) (shut p) (λ i. 0) before
+    unfolding freshLasts
+    lasts-cleared = a .lasts-are ∙ pick-true _ _ (eq-eqb _ _ (freshened .number))
+
+    looks-good : length depths ≡ squares (p .shape) → ((i : ℕ) → i < squares (p .shape) → shut p i ≡ false → getD depths i 0 ≤ mostDepth) →
+        Looks p (ringFine (roomSlots p records) (f .run .kept) (f .run .newest)) (seenOf f)
+    unfolding freshRows freshRun
+    looks-good long low =
+        let t = every-each _ (fresh-sizes p r before records (freshened .number)) in
+        let slots : roomSlots p records ≡ 0 → ⊥ = fresh-slots p r before records (freshened .number) in
+        let rules = rules-are r (t .1 .0) (tests-passed .1 .1 .0) in
+        let before-long : length before ≡ squares (p .shape) = each-long p before (t .1 .1 .1 .0) in
+        record {
+          shape-fine = t .0;
+          marks-long = each-long p (p .marks) (t .1 .1 .0);
+          depths-long = long;
+          lasts-long = ap length lasts-cleared ∙ (length-filled _ _ _ _ ∙ before-long);
+          marks-fine = tests-passed .1 .0;
+          depth-to = low;
+          last-to = λ i h e.
+              let z : getD lasts i 0 ≡ 0 = ap (λ (l : List ℕ). getD l i 0) lasts-cleared ∙ filled-in _ _ _ before i (omega arith) h e in
+              omega arith;
+          ring-fine = ring-fine _ _ _ (record { some = omega arith; kept-fits = omega arith; newest-below = omega arith });
+          clock-to = omega arith;
+          length-from = omega arith;
+          length-to = omega arith;
+          outflow-to = omega arith;
+        }
+
+    fresh-ten : length depths ≡ squares (p .shape) → ((i : ℕ) → i < squares (p .shape) → shut p i ≡ false → getD depths i 0 ≤ mostDepth) →
+        backNumber p (world depths lasts records u) ≡ 10
+    fresh-ten long low =
+        look-passed (world depths lasts records u) fresh-is
+        (subst (λ (v : Run). refusal (lookRows p (ringFine (roomSlots p records) (v .kept) (v .newest)) (seenOf (world depths lasts records v))) ≡ 0) (sym (freshened .run-is))
+        (seen-look p _ _ (looks-good long low)))
 
   pub demand-3 : Demand3 p
-  demand-3 = record { fresh-is = fresh-is; never-made = trials-never-made; back-of-fresh = back-of-fresh }
+  demand-3 = record { fresh-is = fresh-is; never-made = trials-never-made; back-of-fresh = back-of-fresh; fresh-ten = fresh-ten }

@@ -1,15 +1,19 @@
 -- The letter's demand 3: "a trial taken back was never made", in the flood's words.
 -- Assumes nothing.
 use mathlib.Core.Path.{_≡_}
+use mathlib.Core.Bool.{false}
 use mathlib.Core.List.{List, [], _∷_, _++_}
-use Prim.Native.Nat.{ℕ, _+_, _-_, _<_, max}
+use Prim.Native.Nat.{ℕ, _+_, _-_, _≤_, _<_, max}
 use lib.Dec.{eqb}
-use lib.ListN.{length, replicate, drop}
+use lib.ListN.{length, getD, replicate, drop}
 use Rattle.reckon.specs.Tests.{pick, refusal}
+use Rattle.reckon.specs.Ranges.{mostDepth}
 use Rattle.trials.specs.Ring.{slotAgo, ringFine}
 use Rattle.trials.specs.Room.{recordIn}
+use Rattle.grid.specs.Squares.{squares}
 use Rattle.rule.specs.declared.rules.Rules.{Rules}
 use Rattle.ledger.specs.Runs.{Plan, World, world}
+use Rattle.ledger.specs.Flows.{shut}
 use Rattle.ledger.specs.Record.{recordSize, roomSlots}
 use Rattle.ledger.specs.TakeBack.{backNumber, takenBack}
 use Rattle.ledger.specs.Engine.{seenOf, lookRows}
@@ -106,3 +110,7 @@ module _ (p : Plan) where
     pub fresh-is : (r : Rules) (depths records before lasts : List ℕ) (u : Run) → Freshens p r records before (Done u) lasts → Fresh (world depths lasts records u)
     pub never-made : (f : World) → Fresh f → (cs : List Call) → NeverMade f (series cs (start f))
     pub back-of-fresh : (f : World) → Fresh f → BackOfFresh f
+    -- after `fresh` only the depths remain to be good
+    pub fresh-ten : (r : Rules) (depths records before lasts : List ℕ) (u : Run) → Freshens p r records before (Done u) lasts →
+        length depths ≡ squares (p .shape) → ((i : ℕ) → i < squares (p .shape) → shut p i ≡ false → getD depths i 0 ≤ mostDepth) →
+        backNumber p (world depths lasts records u) ≡ 10
