@@ -12,7 +12,7 @@ use Rattle.reckon.specs.Tests.{pick, allBelow, refusal}
 use Rattle.reckon.specs.Lists.{filled}
 use Rattle.reckon.specs.Ranges.{mostDepth, waterFine}
 use Rattle.reckon.proofs.TestLaws.{pick-true, pick-false, pick-both, all-ext, refusal-both}
-use Rattle.reckon.proofs.ListLaws.{getD-tabulate, length-filled, filled-skipped, joined-ext, sum-ext}
+use Rattle.reckon.proofs.ListLaws.{getD-tabulate, length-filled, filled-in, filled-skipped, joined-ext, sum-ext}
 use Rattle.trials.specs.Ring.{slotAfter}
 use Rattle.trials.proofs.RingLaws.{fine-ring, ring-after}
 use Rattle.trials.proofs.RoomLaws.{read-stored}
@@ -21,7 +21,7 @@ use Rattle.grid.specs.Marks.{closed, exit, Alike}
 use Rattle.grid.proofs.SquareLaws.{opposite-small}
 use Rattle.grid.proofs.MarkLaws.{unless-closed, alike-same}
 use Rattle.rule.specs.Drops.{dropOff}
-use Rattle.rule.specs.Length.{candidatesOf}
+use Rattle.rule.specs.Length.{candidatesOf, lastsFor}
 use Rattle.rule.specs.Weighing.{weighed}
 use Rattle.rule.specs.Rules.{groundFine}
 use Rattle.rule.specs.declared.rules.Rules.{Rules}
@@ -39,10 +39,10 @@ use Rattle.flood.specs.Drops.{Ground, Given, ground, given, sideDrop, dropsOf}
 use Rattle.flood.specs.Step.{squareCandidates, candidates, leavesFor, addedFor, stepLength, stepLasts, stepMoves}
 use Rattle.flood.specs.Refusals.{groundsFine, checkRows, stepChecks, runChecks, ringOf, stepNumber, stepped}
 use Rattle.flood.specs.Run.{Ended, ended, goOn, runFrom, runTo, freshRows, freshNumber, freshRun, freshLasts}
-use Rattle.flood.proofs.CheckLaws.{checks-named, ring-is}
-use Rattle.flood.proofs.RuleLaws.{flood-walled}
+use Rattle.flood.proofs.CheckLaws.{checks-named, ready, ring-is}
+use Rattle.flood.proofs.RuleLaws.{leaves-open, flood-walled}
 use Rattle.flood.proofs.RunToLaws.{made-is}
-use Rattle.demands.specs.Demand2.{SameOpen, SameGiven, SameWater, SameWorld, SameRecord, SameBack, SameEnd, NoneDepends, NoneAltered, WallRule, Demand2}
+use Rattle.demands.specs.Demand2.{StepGives, SameOpen, SameGiven, SameWater, SameWorld, SameRecord, SameBack, SameEnd, NoneDepends, NoneAltered, WallRule, Demand2}
 
 or-ext : (b : Bool) {x y : Bool} → (b ≡ false → x ≡ y) → (b || x) ≡ (b || y)
 or-ext true f = refl
@@ -404,11 +404,28 @@ module _ (p : Plan) where
     unfolding runTo
     run-untouched w = on-untouched (refusal (runChecks p g end w)) 0 w _ (from-untouched (end - w .run .clock) 0 w)
 
-  -- the slot that a step writes
+  -- ---- a step that is made, and the slot that it writes
   module _ (g : Given) (w : World) (made : stepNumber p g w ≡ 0) where
     checked : refusal (stepChecks p g (ringOf p g w) (seenOf w)) ≡ 0
     unfolding stepNumber
     checked = refusal-both (stepChecks p g (ringOf p g w) (seenOf w)) _ (checks-named p g (ringOf p g w) (seenOf w)) made .0
+
+    -- it gives what the rule gives
+    step-gives : StepGives p g w
+    unfolding worldAfter newDepth remains newOutflow stepLength stepLasts
+    step-gives =
+        let flows = ready p g (ringOf p g w) (seenOf w) checked .flows in
+        let depths-long : length (w .depths) ≡ squares (p .shape) = flows .lies .sited .depths-long in
+        let lasts-long : length (w .lasts) ≡ squares (p .shape) = flows .lasts-long in
+        record {
+          transfers = λ i side e. leaves-open p (g .lie) (w .depths) (w .lasts) (stepLasts p g (seenOf w)) i side e;
+          depths = λ i h e. ap (λ (u : World). getD (u .depths) i 0) (made-is p g w made) ∙ filled-in _ _ _ (w .depths) i (omega arith) h e;
+          lasts = λ i h e. ap (λ (u : World). getD (u .lasts) i 0) (made-is p g w made) ∙ filled-in _ _ _ (w .lasts) i (omega arith) h e;
+          outflow = ap (λ (u : World). u .run .outflow) (made-is p g w made);
+          length-is = ap (λ (u : World). u .run .length) (made-is p g w made);
+          duration-is = ap (λ (u : World). lastsFor (g .lie .rules) (w .run .clock) (u .run .length)) (sym (made-is p g w made));
+          clock = ap (λ (u : World). u .run .clock) (made-is p g w made);
+        }
 
     newest-written : newestRecord p (stepped p g w) ≡ stepRecord p (stepMoves p g (seenOf w)) w
     unfolding newestRecord worldAfter roomSlots
@@ -453,4 +470,4 @@ module _ (p : Plan) where
       }
 
   pub demand-2 : Demand2 p
-  demand-2 = record { none-depends = none-depends; none-altered = none-altered; wall-rule = wall-rule }
+  demand-2 = record { step-gives = step-gives; none-depends = none-depends; none-altered = none-altered; wall-rule = wall-rule }

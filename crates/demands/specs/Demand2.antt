@@ -1,27 +1,62 @@
--- The letter's demand 2, of closed squares: "What a closed square holds is not altered, and no answer depends on it", and "walls that no
--- water enters". That each step gives what the published rule gives is what its contract says, of the definitions of document 01.
+-- The letter's demand 2: a step gives what the rule gives; "What a closed square holds is not altered, and no answer depends on it"; and
+-- "walls that no water enters".
 -- Assumes nothing.
 use mathlib.Core.Path.{_≡_}
 use mathlib.Core.Bool.{true, false}
 use mathlib.Core.List.{List}
-use Prim.Native.Nat.{ℕ, _<_}
+use Prim.Native.Nat.{ℕ, _+_, _-_, _<_}
 use lib.ListN.{length, getD}
 use Rattle.reckon.specs.Tests.{refusal}
 use Rattle.grid.specs.Squares.{squares, sides}
 use Rattle.grid.specs.Marks.{Alike}
+use Rattle.rule.specs.Length.{lengthAt, lastsFor}
+use Rattle.rule.specs.Weighing.{weighed}
 use Rattle.rule.specs.declared.rules.Rules.{Rules}
 use Rattle.ledger.specs.Runs.{Plan, World}
-use Rattle.ledger.specs.Flows.{shut}
+use Rattle.ledger.specs.Flows.{Leaves, shut, gone, came, offGrid}
 use Rattle.ledger.specs.Record.{squareWords, wordPlace, heldIn, lastedIn, newestRecord}
 use Rattle.ledger.specs.TakeBack.{backNumber, takenBack}
-use Rattle.ledger.specs.Engine.{Seen}
+use Rattle.ledger.specs.Engine.{Seen, seenOf}
 use Rattle.ledger.specs.Walls.{Walled, Goes, Untouched}
-use Rattle.flood.specs.Drops.{Given}
-use Rattle.flood.specs.Step.{stepMoves}
+use Rattle.flood.specs.Drops.{Given, dropsOf}
+use Rattle.flood.specs.Step.{candidates, addedFor, stepMoves}
 use Rattle.flood.specs.Refusals.{runChecks, stepNumber, stepped}
 use Rattle.flood.specs.Run.{Ended, runTo, freshNumber, freshRun, freshLasts}
 
 module _ (p : Plan) where
+  -- ---- "Each step gives exactly the depths, transfers, outflow and step length that the published weighted cellular automaton rule gives in
+  -- the whole-number form of document 01, all squares working from the water before the step"
+
+  module _ (g : Given) (w : World) where
+    abbrev amounts : Leaves
+    amounts = stepMoves p g (seenOf w) .leaves
+
+    abbrev duration : ℕ
+    duration = stepMoves p g (seenOf w) .lasts
+
+    -- of a step that is made
+    pub record StepGives : Type 0 where
+      -- the transfers of a square not closed: the weighing of its drops, both of the water before the step
+      pub transfers : (i side : ℕ) → shut p i ≡ false →
+          amounts i side
+          ≡ getD
+          (weighed (g .lie .rules) (getD (w .depths) i 0) (getD (w .lasts) i 0) (getD (g .lie .roughness) i 0) duration
+          (dropsOf p (g .lie .rules) (g .lie .beds) (w .depths) i))
+          side 0
+      -- "New depth = old − four leaving + what neighbours send + what is added"
+      pub depths : (i : ℕ) → i < squares (p .shape) → shut p i ≡ false →
+          getD (stepped p g w .depths) i 0
+          ≡ getD (w .depths) i 0 - gone amounts i + came p amounts i + addedFor p g (w .run .clock) (w .run .clock + duration) i
+      -- "P is then the sum of the four"
+      pub lasts : (i : ℕ) → i < squares (p .shape) → shut p i ≡ false → getD (stepped p g w .lasts) i 0 ≡ gone amounts i
+      -- "Water leaving the grid joins the outflow total"
+      pub outflow : stepped p g w .run .outflow ≡ w .run .outflow + offGrid p amounts
+      -- "when the clock is a multiple of U it is worked afresh .. the run holds it until the next such clock"
+      pub length-is : stepped p g w .run .length ≡ lengthAt (g .lie .rules) (w .run .clock) (w .run .length) (candidates p (g .lie) (w .depths))
+      -- "The step lasts the smaller of that length and the time to the next multiple of U"
+      pub duration-is : duration ≡ lastsFor (g .lie .rules) (w .run .clock) (stepped p g w .run .length)
+      pub clock : stepped p g w .run .clock ≡ w .run .clock + duration
+
   -- ---- what differs only in what closed squares hold
 
   -- two slices of as many numbers
@@ -100,6 +135,7 @@ module _ (p : Plan) where
     pub goes : (g : Given) (v : Seen) (i side : ℕ) → i < squares (p .shape) → side < sides → Goes p (stepMoves p g v .leaves) i side
 
   pub record Demand2 : Type 0 where
+    pub step-gives : (g : Given) (w : World) → stepNumber p g w ≡ 0 → StepGives g w
     pub none-depends : NoneDepends
     pub none-altered : NoneAltered
     pub wall-rule : WallRule
