@@ -1,30 +1,33 @@
 -- Demand 1 holds: each contract is an equation for all that a call gives, and a run is followed step by step.
 -- Assumes nothing.
-use mathlib.Core.Path.{_≡_, refl, sym, ap, _∙_}
-use mathlib.Core.List.{List}
+use mathlib.Core.Path.{_≡_, refl, sym, ap, _∙_, subst}
+use mathlib.Core.Bool.{Bool, true, false}
+use mathlib.Core.List.{List, [], _∷_, _++_}
 use Prim.Native.Nat.{ℕ, zero, suc, _-_, _≤_, _<_}
 use native.Mathlib.Decide.{decLt}
 use native.Mathlib.Omega.{arith}
+use lib.Dec.{T}
 use borrow.Author.Tests.{ne-eqb}
-use Rattle.reckon.specs.Tests.{refusal}
-use Rattle.reckon.proofs.TestLaws.{pick-false}
+use Rattle.reckon.specs.Tests.{pick, Row, _unless_, refusal, numbered}
+use Rattle.reckon.proofs.TestLaws.{not-both, pick-false, Passed, refusal-passed, refusal-here, refusal-later}
 use Rattle.reckon.proofs.RootLaws.{root-unique}
 use Rattle.rule.specs.declared.rules.Rules.{Rules}
 use Rattle.ledger.specs.Runs.{Plan, World, world}
 use Rattle.ledger.specs.Settle.{SettlesTo}
-use Rattle.ledger.specs.TakeBack.{TakesBack}
+use Rattle.ledger.specs.TakeBack.{TakesBack, backRows, backNumber}
+use Rattle.ledger.specs.After.{lateRows}
 use Rattle.ledger.specs.declared.runs.Answer.{Answer}
 use Rattle.ledger.specs.declared.settle.Settled.{Settled}
 use Rattle.ledger.proofs.Bridge.{refused-stays}
 use Rattle.flood.specs.Drops.{Given}
-use Rattle.flood.specs.Refusals.{runChecks, stepNumber, stepped, Steps}
-use Rattle.flood.specs.Run.{Ended, ended, runFrom, runTo, RunsTo, freshNumber, freshLasts, Freshens}
+use Rattle.flood.specs.Refusals.{checkRows, runChecks, stepNumber, stepped, Steps}
+use Rattle.flood.specs.Run.{Ended, ended, runFrom, runTo, RunsTo, freshRows, freshNumber, freshLasts, Freshens}
 use Rattle.flood.specs.Fill.{MakesStep}
 use Rattle.flood.specs.declared.run.Ran.{Ran}
 use Rattle.flood.proofs.CheckLaws.{run-checks-step}
 use Rattle.flood.proofs.RunToLaws.{Valid, refused-is, still-valid, clock-on, whole, run-ends, run-refused, run-steps, run-checked, run-passed}
 use Rattle.text.specs.Writing.{Wrote}
-use Rattle.demands.specs.Demand1.{One, ReckonDetermined, TrialsDetermined, GridDetermined, RuleDetermined, LedgerDetermined, FloodDetermined, TextDetermined, RefusalsLeave, stepsOn, StopsBefore, Demand1}
+use Rattle.demands.specs.Demand1.{FirstFails, here, later, TableSays, ExactlyWhen, One, ReckonDetermined, TrialsDetermined, GridDetermined, RuleDetermined, LedgerDetermined, FloodDetermined, TextDetermined, RefusalsLeave, stepsOn, StopsBefore, Demand1}
 
 -- ---- one outcome
 
@@ -191,6 +194,43 @@ text-determined =
 
 -- ---- refusals
 
+first-fails : (rows : List Row) → (refusal rows ≡ 0 → ⊥) → FirstFails rows (refusal rows)
+unfolding refusal
+first-fails [] d = absurd (d refl)
+first-fails (r ∷ rows) d = go (r .fine) refl (first-fails rows)
+  where
+    go : (b : Bool) → r .fine ≡ b → ((refusal rows ≡ 0 → ⊥) → FirstFails rows (refusal rows)) → FirstFails (r ∷ rows) (refusal (r ∷ rows))
+    go true e ih =
+        let q : refusal (r ∷ rows) ≡ refusal rows = refusal-later (r .number) rows e in
+        subst (λ (n : ℕ). FirstFails (r ∷ rows) n) (sym q) (later e (ih (λ z. d (q ∙ z))))
+    go false e ih = subst (λ (n : ℕ). FirstFails (r ∷ rows) n) (sym (refusal-here (r .number) rows e)) (here e)
+
+fails-first : {n : ℕ} {rows : List Row} → FirstFails rows n → refusal rows ≡ n
+fails-first (here {n} {fine} {rows} e) = refusal-here n rows e
+fails-first (later {n} {k} {fine} {rows} e x) = refusal-later k rows e ∙ fails-first x
+
+not-passed : {n : ℕ} {rows : List Row} → FirstFails rows n → Passed rows → ⊥
+not-passed (here e) h = not-both (h .0) e
+not-passed (later e x) h = not-passed x (h .1)
+
+table-says : (rows : List Row) → T (numbered rows) → TableSays rows (refusal rows)
+table-says rows t =
+    record {
+      refused = first-fails rows;
+      applies = λ n x. fails-first x;
+      never-none = λ x. not-passed x (refusal-passed rows t (fails-first x));
+    }
+
+exactly-when : (p : Plan) → ExactlyWhen p
+unfolding stepNumber checkRows lateRows backNumber backRows freshNumber freshRows
+exactly-when p =
+    record {
+      step = λ g w. table-says _ tt;
+      take-back = λ w. table-says _ tt;
+      fresh = λ r lasts records. table-says _ tt;
+      check = λ g end w. table-says _ tt;
+    }
+
 refusals-leave : (p : Plan) → RefusalsLeave p
 unfolding freshLasts
 refusals-leave p =
@@ -284,6 +324,7 @@ demand-1 =
       ledger = ledger-determined;
       flood = flood-determined;
       text = text-determined;
+      exactly-when = exactly-when;
       refusals-leave = refusals-leave;
       run-stops = run-stops;
     }

@@ -1,10 +1,10 @@
 -- The letter's demand 1: every contract leaves one outcome for every input; a refusal leaves all as it was; a run stops before the step refused.
 -- Assumes nothing.
 use mathlib.Core.Path.{_≡_}
-use mathlib.Core.Bool.{Bool}
-use mathlib.Core.List.{List}
+use mathlib.Core.Bool.{Bool, true, false}
+use mathlib.Core.List.{List, _∷_, _++_}
 use Prim.Native.Nat.{ℕ, zero, suc, _≤_, _<_}
-use Rattle.reckon.specs.Tests.{refusal}
+use Rattle.reckon.specs.Tests.{Row, _unless_, refusal}
 use Rattle.reckon.specs.Numbers.{Lesser, Greater, PartOf}
 use Rattle.reckon.specs.Numbers as Numbers
 use Rattle.reckon.specs.Ranges.{WaterFine}
@@ -23,13 +23,16 @@ use Rattle.rule.specs.declared.rules.Rules.{Rules}
 use Rattle.ledger.specs.Runs.{Plan, World, world, RunFine}
 use Rattle.ledger.specs.Record.{SizeOf, HeldBefore, Lasted, Leaving, LastBefore, AddedBy, GoneFrom, SentTo, CameTo, OffFrom, HeadPut, SquarePut, ClosedPut}
 use Rattle.ledger.specs.Settle.{SettlesTo}
-use Rattle.ledger.specs.TakeBack.{OneEach, WatersJudged, TakesBack, backNumber, takenBack}
+use Rattle.ledger.specs.TakeBack.{OneEach, WatersJudged, TakesBack, backRows, backNumber, takenBack}
+use Rattle.ledger.specs.After.{lateRows}
+use Rattle.ledger.specs.Engine.{seenOf}
 use Rattle.ledger.specs.declared.runs.Run.{Run}
 use Rattle.ledger.specs.declared.runs.Answer.{Answer}
 use Rattle.ledger.specs.declared.settle.Settled.{Settled}
 use Rattle.flood.specs.Drops.{Given}
-use Rattle.flood.specs.Refusals.{runChecks, stepNumber, stepped, Steps, Checks}
-use Rattle.flood.specs.Run.{Ended, ended, runTo, RunsTo, freshNumber, freshLasts, Freshens}
+use Rattle.flood.specs.Refusals.{ringOf, stepChecks, runChecks, stepNumber, stepped, Steps, Checks}
+use Rattle.flood.specs.Run.{Ended, ended, runTo, RunsTo, freshRows, freshNumber, freshLasts, Freshens}
+use Rattle.flood.specs.Step.{stepMoves}
 use Rattle.flood.specs.Fill.{MakesStep}
 use Rattle.flood.specs.declared.run.Ran.{Ran}
 use Rattle.text.specs.Reading.{ByteIs, WordAt, FieldAt, FieldsAt, RestOfLine, LineOf, NextLine, LineCount}
@@ -147,6 +150,26 @@ pub record TextDetermined : Type 0 where
   pub put-fields : (values : List ℕ) (at : ℕ) (room : List ℕ) → One {Out = ℕ × List ℕ} (λ o. PutFields values at room (o .1) (o .0))
   pub put-line : (word values : List ℕ) (at : ℕ) (room : List ℕ) → One {Out = ℕ × List ℕ} (λ o. PutLine word values at room (o .1) (o .0))
 
+-- ---- "A refusal gives one number from the table in document 01, exactly when that table says"
+
+-- "the first that applies is given": a row applies where its test fails
+pub data FirstFails : List Row → ℕ → Type 0 where
+  here : {n : ℕ} {fine : Bool} {rows : List Row} → fine ≡ false → FirstFails (n unless fine ∷ rows) n
+  later : {n k : ℕ} {fine : Bool} {rows : List Row} → fine ≡ true → FirstFails rows n → FirstFails (k unless fine ∷ rows) n
+
+-- a call's number, 0 for none, is that of the first row that applies
+pub record TableSays (rows : List Row) (number : ℕ) : Type 0 where
+  pub refused : (number ≡ 0 → ⊥) → FirstFails rows number
+  pub applies : (n : ℕ) → FirstFails rows n → number ≡ n
+  pub never-none : FirstFails rows 0 → ⊥
+
+pub record ExactlyWhen (p : Plan) : Type 0 where
+  pub step : (g : Given) (w : World) → TableSays (stepChecks p g (ringOf p g w) (seenOf w) ++ lateRows p (stepMoves p g (seenOf w)) w) (stepNumber p g w)
+  pub take-back : (w : World) → TableSays (backRows p w) (backNumber p w)
+  pub fresh : (r : Rules) (lasts records : List ℕ) → TableSays (freshRows p r lasts records) (freshNumber p r lasts records)
+  -- a run before its first step, and `check`
+  pub check : (g : Given) (end : ℕ) (w : World) → TableSays (runChecks p g end w) (refusal (runChecks p g end w))
+
 -- ---- "the run and everything lent stay as they were"
 
 pub record RefusalsLeave (p : Plan) : Type 0 where
@@ -183,5 +206,6 @@ pub record Demand1 : Type 0 where
   pub ledger : LedgerDetermined
   pub flood : FloodDetermined
   pub text : TextDetermined
+  pub exactly-when : (p : Plan) → ExactlyWhen p
   pub refusals-leave : (p : Plan) → RefusalsLeave p
   pub run-stops : (p : Plan) (g : Given) (end : ℕ) (w : World) → refusal (runChecks p g end w) ≡ 0 → StopsBefore p g end w (runTo p g end w)
