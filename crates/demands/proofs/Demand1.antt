@@ -2,13 +2,13 @@
 -- Assumes nothing.
 use mathlib.Core.Path.{_≡_, refl, sym, ap, _∙_, subst}
 use mathlib.Core.Bool.{Bool, true, false}
-use mathlib.Core.List.{List, [], _∷_, _++_}
+use mathlib.Core.List.{List, [], _∷_}
 use Prim.Native.Nat.{ℕ, zero, suc, _-_, _≤_, _<_}
 use native.Mathlib.Decide.{decLt}
 use native.Mathlib.Omega.{arith}
 use lib.Dec.{T}
 use borrow.Author.Tests.{ne-eqb}
-use Rattle.reckon.specs.Tests.{pick, Row, _unless_, refusal, numbered}
+use Rattle.reckon.specs.Tests.{Row, refusal, numbered}
 use Rattle.reckon.proofs.TestLaws.{not-both, pick-false, Passed, refusal-passed, refusal-here, refusal-later}
 use Rattle.reckon.proofs.RootLaws.{root-unique}
 use Rattle.rule.specs.declared.rules.Rules.{Rules}
@@ -21,7 +21,7 @@ use Rattle.ledger.specs.declared.settle.Settled.{Settled}
 use Rattle.ledger.proofs.Bridge.{refused-stays}
 use Rattle.flood.specs.Drops.{Given}
 use Rattle.flood.specs.Refusals.{checkRows, runChecks, stepNumber, stepped, Steps}
-use Rattle.flood.specs.Run.{Ended, ended, runFrom, runTo, RunsTo, freshRows, freshNumber, freshLasts, Freshens}
+use Rattle.flood.specs.Run.{runTo, RunsTo, freshRows, freshNumber, freshLasts, Freshens}
 use Rattle.flood.specs.Fill.{MakesStep}
 use Rattle.flood.specs.declared.run.Ran.{Ran}
 use Rattle.flood.proofs.CheckLaws.{run-checks-step}

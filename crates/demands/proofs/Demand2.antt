@@ -11,18 +11,17 @@ use lib.ListN.{length, getD, List·getD-eq-default}
 use Rattle.reckon.specs.Tests.{pick, allBelow, refusal}
 use Rattle.reckon.specs.Lists.{filled}
 use Rattle.reckon.specs.Ranges.{mostDepth, waterFine}
-use Rattle.reckon.proofs.TestLaws.{pick-true, pick-false, pick-both, all-ext, refusal-both}
+use Rattle.reckon.proofs.TestLaws.{pick-both, all-ext, refusal-both}
 use Rattle.reckon.proofs.ListLaws.{getD-tabulate, length-filled, filled-in, filled-skipped, joined-ext, sum-ext}
 use Rattle.trials.specs.Ring.{slotAfter}
 use Rattle.trials.proofs.RingLaws.{fine-ring, ring-after}
 use Rattle.trials.proofs.RoomLaws.{read-stored}
 use Rattle.grid.specs.Squares.{squares, within, beside, opposite}
-use Rattle.grid.specs.Marks.{closed, exit, Alike}
+use Rattle.grid.specs.Marks.{exit}
 use Rattle.grid.proofs.SquareLaws.{opposite-small}
-use Rattle.grid.proofs.MarkLaws.{unless-closed, alike-same}
+use Rattle.grid.proofs.MarkLaws.{unless-closed}
 use Rattle.rule.specs.Drops.{dropOff}
-use Rattle.rule.specs.Length.{candidatesOf, lastsFor}
-use Rattle.rule.specs.Weighing.{weighed}
+use Rattle.rule.specs.Length.{lastsFor}
 use Rattle.rule.specs.Rules.{groundFine}
 use Rattle.rule.specs.declared.rules.Rules.{Rules}
 use Rattle.ledger.specs.Runs.{Plan, World, world}
@@ -30,12 +29,12 @@ use Rattle.ledger.specs.Flows.{shut, gone, sent, came, offSide, offSquare, offG
 use Rattle.ledger.specs.Record.{squareWords, recordSize, wordPlace, newestRecord, leavesIn, lastIn, addedIn, squareRecord, recordOf, roomSlots}
 use Rattle.ledger.specs.After.{Moves, remains, newDepth, depthsFit, newOutflow, lateRows, stepRecord, worldAfter}
 use Rattle.ledger.specs.TakeBack.{oneEach, watersFine, timesFine, heldAndGone, cameAndAdded, depthBefore, squareRestorable, restorable, worldBefore, backRows, backNumber, takenBack}
-use Rattle.ledger.specs.Engine.{Seen, seenOf}
+use Rattle.ledger.specs.Engine.{seenOf}
 use Rattle.ledger.specs.Walls.{Untouched}
 use Rattle.ledger.proofs.ReadBack.{step-long, closed-read}
 use Rattle.ledger.proofs.Walls.{goes-where, after-untouched, back-untouched}
 use Rattle.ledger.specs.declared.runs.Run.{Run}
-use Rattle.flood.specs.Drops.{Ground, Given, ground, given, sideDrop, dropsOf}
+use Rattle.flood.specs.Drops.{Given, ground, given, sideDrop, dropsOf}
 use Rattle.flood.specs.Step.{squareCandidates, candidates, leavesFor, addedFor, stepLength, stepLasts, stepMoves}
 use Rattle.flood.specs.Refusals.{groundsFine, checkRows, stepChecks, runChecks, ringOf, stepNumber, stepped}
 use Rattle.flood.specs.Run.{Ended, ended, goOn, runFrom, runTo, freshRows, freshNumber, freshRun, freshLasts}

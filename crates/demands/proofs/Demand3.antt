@@ -1,9 +1,9 @@
 -- Demand 3 holds: call by call a series of the flood is one of the ledger's engine, of which it is proved for any rule of steps.
 -- Assumes nothing.
-use mathlib.Core.Path.{_≡_, refl, sym, ap, ap₂, _∙_, subst}
+use mathlib.Core.Path.{_≡_, refl, sym, ap, _∙_, subst}
 use mathlib.Core.Bool.{Bool, true, false, not}
 use mathlib.Core.List.{List, [], _∷_, _++_}
-use Prim.Native.Nat.{ℕ, zero, suc, _+_, _-_, _≤_, _<_, max}
+use Prim.Native.Nat.{ℕ, zero, suc, _-_, _≤_, _<_, max}
 use native.Mathlib.Omega.{arith}
 use lib.Dec.{eqb, ltb}
 use lib.ListN.{length, getD, replicate, drop}
@@ -41,7 +41,7 @@ use Rattle.flood.proofs.CheckLaws.{each-long}
 use Rattle.flood.proofs.FreshLaws.{fresh-sizes, fresh-slots}
 use Rattle.flood.proofs.RuleLaws.{flood-owed}
 use Rattle.flood.proofs.RunToLaws.{made-is, refused-is}
-use Rattle.demands.specs.Demand3.{Call, stepping, running, takingBack, afterCall, standAfter, Trail, start, called, series, alone, AllMade, Fresh, NeverMade, BackOfFresh, Demand3}
+use Rattle.demands.specs.Demand3.{Call, stepping, running, takingBack, standAfter, Trail, start, called, series, alone, AllMade, Fresh, NeverMade, BackOfFresh, Demand3}
 
 some-number : {n k : ℕ} → n ≡ suc k → n ≡ 0 → ⊥
 some-number e z = omega arith

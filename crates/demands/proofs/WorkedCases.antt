@@ -1,6 +1,6 @@
 -- The worked cases marked P, by computation.
 -- Assumes nothing.
-use mathlib.Core.Path.{_≡_, refl}
+use mathlib.Core.Path.{refl}
 use mathlib.Core.List.{List, [], _∷_, _++_}
 use Rattle.reckon.specs.Tests.{pick, every, allBelow, refusal}
 use Rattle.reckon.specs.Lists.{tabulate, filled, joined, placed, sumBelow}

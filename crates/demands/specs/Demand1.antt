@@ -38,8 +38,6 @@ use Rattle.flood.specs.declared.run.Ran.{Ran}
 use Rattle.text.specs.Reading.{ByteIs, WordAt, FieldAt, FieldsAt, RestOfLine, LineOf, NextLine, LineCount}
 use Rattle.text.specs.Reading as Reading
 use Rattle.text.specs.Writing.{PutByte, PutWord, PutNumber, PutField, PutFields, PutLine}
-use Rattle.text.specs.declared.reading.Number.{Number}
-use Rattle.text.specs.declared.reading.Fields.{Fields}
 
 -- ---- "Every call ends and does nothing undefined": what it gives is determined
 

@@ -21,7 +21,7 @@ use Rattle.ledger.specs.declared.runs.Run.{Run}
 use Rattle.ledger.specs.declared.runs.Answer.the-variants.{Done}
 use Rattle.flood.specs.Drops.{Given}
 use Rattle.flood.specs.Refusals.{stepNumber, stepped}
-use Rattle.flood.specs.Run.{Ended, runTo, Freshens}
+use Rattle.flood.specs.Run.{runTo, Freshens}
 
 -- "any series of steps and take-backs .. a run to a clock counts as the steps it made": each step and run with its own heights, tables and rules
 pub data Call : Type 0 where

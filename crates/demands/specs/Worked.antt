@@ -10,7 +10,7 @@ use Rattle.ledger.specs.Record.{recordSize}
 use Rattle.ledger.specs.TakeBack.{backNumber, takenBack}
 use Rattle.flood.specs.Drops.{Given, given, ground}
 use Rattle.flood.specs.Refusals.{stepNumber, stepped}
-use Rattle.flood.specs.Run.{Ended, runTo, freshRun}
+use Rattle.flood.specs.Run.{runTo, freshRun}
 
 -- one row of squares, with beds of 0 and roughness 100, by the sheet's rules and without rain or inflow
 abbrev row : List ℕ → Plan
