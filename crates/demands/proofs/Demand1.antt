@@ -1,4 +1,4 @@
--- Demand 1 holds: each contract is an equation for all that a call gives, and a run is followed step by step.
+-- Demand 1 holds: each contract is an equation for all that a call gives, a table is read row by row, and a run is followed step by step.
 -- Assumes nothing.
 use mathlib.Core.Path.{_≡_, refl, sym, ap, _∙_, subst}
 use mathlib.Core.Bool.{Bool, true, false}

@@ -1,4 +1,5 @@
--- The letter's demand 1: every contract leaves one outcome for every input; a refusal leaves all as it was; a run stops before the step refused.
+-- The letter's demand 1: every contract leaves one outcome for every input; a call is refused exactly when the table says, and then all is
+-- as it was; a run stops before the step refused.
 -- Assumes nothing.
 use mathlib.Core.Path.{_≡_}
 use mathlib.Core.Bool.{Bool, true, false}
@@ -22,32 +23,32 @@ use Rattle.rule.specs.Weighing.{Weighs}
 use Rattle.rule.specs.declared.rules.Rules.{Rules}
 use Rattle.ledger.specs.Runs.{Plan, World, world, RunFine}
 use Rattle.ledger.specs.Record.{SizeOf, HeldBefore, Lasted, Leaving, LastBefore, AddedBy, GoneFrom, SentTo, CameTo, OffFrom, HeadPut, SquarePut, ClosedPut}
+use Rattle.ledger.specs.After.{lateRows}
 use Rattle.ledger.specs.Settle.{SettlesTo}
 use Rattle.ledger.specs.TakeBack.{OneEach, WatersJudged, TakesBack, backRows, backNumber, takenBack}
-use Rattle.ledger.specs.After.{lateRows}
 use Rattle.ledger.specs.Engine.{seenOf}
 use Rattle.ledger.specs.declared.runs.Run.{Run}
 use Rattle.ledger.specs.declared.runs.Answer.{Answer}
 use Rattle.ledger.specs.declared.settle.Settled.{Settled}
 use Rattle.flood.specs.Drops.{Given}
+use Rattle.flood.specs.Step.{stepMoves}
 use Rattle.flood.specs.Refusals.{ringOf, stepChecks, runChecks, stepNumber, stepped, Steps, Checks}
 use Rattle.flood.specs.Run.{Ended, ended, runTo, RunsTo, freshRows, freshNumber, freshLasts, Freshens}
-use Rattle.flood.specs.Step.{stepMoves}
 use Rattle.flood.specs.Fill.{MakesStep}
 use Rattle.flood.specs.declared.run.Ran.{Ran}
 use Rattle.text.specs.Reading.{ByteIs, WordAt, FieldAt, FieldsAt, RestOfLine, LineOf, NextLine, LineCount}
 use Rattle.text.specs.Reading as Reading
 use Rattle.text.specs.Writing.{PutByte, PutWord, PutNumber, PutField, PutFields, PutLine}
 
--- ---- "Every call ends and does nothing undefined": what it gives is determined
+-- ---- "Every call ends and does nothing undefined" is what the check proves of each function; and what it gives is determined
 
 -- any two outcomes that a contract allows are equal
 abbrev pub One : {Out : Type 0} → (Out → Type 0) → Type 0
 One {Out} allowed = (a b : Out) → allowed a → allowed b → a ≡ b
 
--- A field for each public function of a crate, over the relation that its contract names. What a call hands back comes first, then each
--- slice that it was lent to write, in the order of its parameters. A function that asks for something is determined where it is asked
--- too much as well.
+-- A field for each public function of a crate, over the very relation that its contract names. What a call hands back comes first, then
+-- each slice that it was lent to write, in the order of its parameters. Nothing is assumed of the inputs, also where a function asks for
+-- something.
 
 pub record ReckonDetermined : Type 0 where
   pub lesser : (a b : ℕ) → One (Lesser a b)
