@@ -3,7 +3,8 @@
 use mathlib.Core.Path.{_≡_, refl, ap, ap₂, _∙_}
 use mathlib.Core.Bool.{Bool, true, false, _&&_, _||_, not}
 use mathlib.Core.List.{List, [], _∷_, _++_}
-use Prim.Native.Nat.{ℕ, zero, suc, _+_, _*_}
+use Prim.Native.Nat.{ℕ, zero, suc, _+_, _*_, _<_}
+use native.Mathlib.Omega.{arith}
 use lib.Dec.{eqb, leb}
 use lib.ListN.{length, getD}
 use Rattle.reckon.specs.Tests.{pick, every, Row, _unless_, refusal}
@@ -11,8 +12,9 @@ use Rattle.reckon.specs.Ranges.{mostDepth}
 use Rattle.reckon.proofs.TestLaws.{all-ext}
 use Rattle.reckon.proofs.ListLaws.{tabulate-ext}
 use Rattle.trials.specs.Ring.{slotsIn}
-use Rattle.grid.specs.Squares.{north, east, south, west, squares, squareAt, within, beside, opposite, shapeFine}
+use Rattle.grid.specs.Squares.{north, east, south, west, squares, sides, squareAt, within, beside, opposite, shapeFine}
 use Rattle.grid.specs.Marks.{Alike, marksFine}
+use Rattle.grid.proofs.SquareLaws.{opposite-small}
 use Rattle.grid.proofs.MarkLaws.{unless-closed}
 use Rattle.grid.proofs.MaskLaws.{mask-alike}
 use Rattle.ledger.specs.declared.runs.Run.{Run}
@@ -36,7 +38,7 @@ pub record AlikeDepths (p : Plan) (a b : List ℕ) : Type 0 where
 pub record AlikeRecords (p : Plan) (a b : List ℕ) : Type 0 where
   pub held : heldIn a ≡ heldIn b
   pub lasted : lastedIn a ≡ lastedIn b
-  pub leaves : (i side : ℕ) → shut p i ≡ false → leavesIn a i side ≡ leavesIn b i side
+  pub leaves : (i side : ℕ) → side < sides → shut p i ≡ false → leavesIn a i side ≡ leavesIn b i side
 
 -- ---- refusals
 
@@ -88,12 +90,12 @@ module _ (p : Plan) {a b : List ℕ} (h : AlikeDepths p a b) where
 
 module _ (p : Plan) (D : ℕ) {d e r s : List ℕ} (h : AlikeDepths p d e) (g : AlikeRecords p r s) where
   -- through a side of a square that is not closed
-  through-alike : (i side : ℕ) → shut p i ≡ false → throughSide p d r i side ≡ throughSide p e s i side
+  through-alike : (i side : ℕ) → side < sides → shut p i ≡ false → throughSide p d r i side ≡ throughSide p e s i side
   unfolding throughSide outThrough nearDepth sent
-  through-alike i side o =
+  through-alike i side l o =
       let j = beside (p .shape) i side in
-      let out = ap (λ (x : ℕ). pick (within (p .shape) j && shut p j) 0 x) (g .leaves i side o) in
-      let back = unless-closed (p .marks) j 0 (g .leaves j (opposite side)) in
+      let out = ap (λ (x : ℕ). pick (within (p .shape) j && shut p j) 0 x) (g .leaves i side l o) in
+      let back = unless-closed (p .marks) j 0 (g .leaves j (opposite side) (opposite-small side)) in
       let own = h .alike .at i o in
       let near = ap (λ (x : ℕ). pick (shut p j) x (getD d j 0)) own ∙ unless-closed (p .marks) j (getD e i 0) (h .alike .at j) in
       λ k. record { out = out k; back = back k; deep = own k + near k }
@@ -101,10 +103,10 @@ module _ (p : Plan) (D : ℕ) {d e r s : List ℕ} (h : AlikeDepths p d e) (g : 
   open-alike : (number i : ℕ) → shut p i ≡ false → seenBy number p D d r i ≡ seenBy number p D e s i
   unfolding seenBy allStill arrowBy
   open-alike number i o =
-      let n = through-alike i north o in
-      let ea = through-alike i east o in
-      let so = through-alike i south o in
-      let we = through-alike i west o in
+      let n = through-alike i north (omega arith) o in
+      let ea = through-alike i east (omega arith) o in
+      let so = through-alike i south (omega arith) o in
+      let we = through-alike i west (omega arith) o in
       let l = g .lasted in
       λ k.
       sighted number (shut p i) (eqb (h .alike .at i o k) 0) (every (netNone (n k) ∷ netNone (ea k) ∷ netNone (so k) ∷ netNone (we k) ∷ []))

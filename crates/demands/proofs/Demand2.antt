@@ -1,0 +1,485 @@
+-- Demand 2 holds: what leaves a square goes by squares not closed alone, so it is the same function of square and side, and all above follows.
+-- Assumes nothing.
+use mathlib.Core.Path.{_≡_, refl, sym, ap, ap₂, _∙_, subst}
+use mathlib.Core.Bool.{Bool, true, false, _||_}
+use mathlib.Core.List.{List, [], _∷_, _++_}
+use Prim.Native.Nat.{ℕ, zero, suc, _+_, _-_, _<_}
+use native.Mathlib.Decide.{decLt}
+use native.Mathlib.Omega.{arith}
+use lib.Dec.{eqb, leb, ltb}
+use lib.ListN.{length, getD, List·getD-eq-default}
+use Rattle.reckon.specs.Tests.{pick, allBelow, refusal}
+use Rattle.reckon.specs.Lists.{filled}
+use Rattle.reckon.specs.Ranges.{mostDepth, waterFine}
+use Rattle.reckon.proofs.TestLaws.{pick-both, all-ext, refusal-both}
+use Rattle.reckon.proofs.ListLaws.{getD-tabulate, length-filled, filled-in, filled-skipped, joined-ext, sum-ext}
+use Rattle.trials.specs.Ring.{slotAfter}
+use Rattle.trials.proofs.RingLaws.{fine-ring, ring-after}
+use Rattle.trials.proofs.RoomLaws.{read-stored}
+use Rattle.grid.specs.Squares.{squares, within, beside, opposite}
+use Rattle.grid.specs.Marks.{exit}
+use Rattle.grid.proofs.SquareLaws.{opposite-small}
+use Rattle.grid.proofs.MarkLaws.{unless-closed}
+use Rattle.rule.specs.Drops.{dropOff}
+use Rattle.rule.specs.Length.{lastsFor}
+use Rattle.rule.specs.Rules.{groundFine}
+use Rattle.rule.specs.declared.rules.Rules.{Rules}
+use Rattle.ledger.specs.Runs.{Plan, World, world}
+use Rattle.ledger.specs.Flows.{shut, gone, sent, came, offSide, offSquare, offGrid}
+use Rattle.ledger.specs.Record.{squareWords, recordSize, wordPlace, newestRecord, leavesIn, lastIn, addedIn, squareRecord, recordOf, roomSlots}
+use Rattle.ledger.specs.After.{Moves, remains, newDepth, depthsFit, newOutflow, lateRows, stepRecord, worldAfter}
+use Rattle.ledger.specs.TakeBack.{oneEach, watersFine, timesFine, heldAndGone, cameAndAdded, depthBefore, squareRestorable, restorable, worldBefore, backRows, backNumber, takenBack}
+use Rattle.ledger.specs.Engine.{seenOf}
+use Rattle.ledger.specs.Walls.{Untouched}
+use Rattle.ledger.proofs.ReadBack.{step-long, closed-read}
+use Rattle.ledger.proofs.Walls.{goes-where, after-untouched, back-untouched}
+use Rattle.ledger.specs.declared.runs.Run.{Run}
+use Rattle.flood.specs.Drops.{Given, ground, given, sideDrop, dropsOf}
+use Rattle.flood.specs.Step.{squareCandidates, candidates, leavesFor, addedFor, stepLength, stepLasts, stepMoves}
+use Rattle.flood.specs.Refusals.{groundsFine, checkRows, stepChecks, runChecks, ringOf, stepNumber, stepped}
+use Rattle.flood.specs.Run.{Ended, ended, goOn, runFrom, runTo, freshRows, freshNumber, freshRun, freshLasts}
+use Rattle.sight.specs.Arrows.{view, seenAt}
+use Rattle.sight.proofs.Alike.{AlikeDepths, AlikeRecords, arrow-alike, wet-alike}
+use Rattle.flood.proofs.CheckLaws.{checks-named, ready, ring-is}
+use Rattle.flood.proofs.RuleLaws.{leaves-open, flood-walled}
+use Rattle.flood.proofs.RunToLaws.{made-is}
+use Rattle.demands.specs.Demand2.{StepGives, SameOpen, SameGiven, SameWater, SameWorld, SameRecord, SameBack, SameEnd, NoneDepends, NoneAltered, WallRule, Demand2}
+
+or-ext : (b : Bool) {x y : Bool} → (b ≡ false → x ≡ y) → (b || x) ≡ (b || y)
+or-ext true f = refl
+or-ext false f = f refl
+
+-- two choices by one test are related as their sides are
+pick-two : {A : Type 0} (R : A → A → Type 0) (b : Bool) {a c a′ c′ : A} → R a a′ → R c c′ → R (pick b a c) (pick b a′ c′)
+unfolding pick
+pick-two R true x y = x
+pick-two R false x y = y
+
+module _ (p : Plan) where
+  -- ---- lists
+
+  one-each-same : {a b : List ℕ} → SameOpen p a b → oneEach p a ≡ oneEach p b
+  unfolding oneEach
+  one-each-same s = ap (λ (n : ℕ). eqb n (squares (p .shape))) (s .long)
+
+  -- rooms filled alike where they are filled
+  filled-same : {a b : List ℕ} (n : ℕ) (f g : ℕ → ℕ) → SameOpen p a b → ((i : ℕ) → shut p i ≡ false → f i ≡ g i) →
+      SameOpen p (filled n (shut p) f a) (filled n (shut p) g b)
+  unfolding filled
+  filled-same {a} {b} n f g s e =
+      record {
+        long = length-filled n (shut p) f a ∙ (s .long ∙ sym (length-filled n (shut p) g b));
+        alike = record { at = λ i q. go i q (decLt i (length a)) };
+      }
+    where
+      either : (i : ℕ) (c : Bool) → shut p i ≡ false → pick c (getD a i 0) (f i) ≡ pick c (getD b i 0) (g i)
+      either i c q = ap₂ (pick c) (s .alike .at i q) (e i q)
+
+      go : (i : ℕ) → shut p i ≡ false → Dec (i < length a) → getD (filled n (shut p) f a) i 0 ≡ getD (filled n (shut p) g b) i 0
+      go i q (yes l) =
+          getD-tabulate (length a) _ i l
+          ∙ (either i (leb n i || shut p i) q ∙ sym (getD-tabulate (length b) _ i (omega (arith, s .long))))
+      go i q (no l) =
+          List·getD-eq-default (filled n (shut p) f a) 0 (omega (arith, length-filled n (shut p) f a))
+          ∙ sym (List·getD-eq-default (filled n (shut p) g b) 0 (omega (arith, length-filled n (shut p) g b, s .long)))
+
+  waters-same : {a b c d : List ℕ} → SameOpen p a b → SameOpen p c d → watersFine p a c ≡ watersFine p b d
+  unfolding watersFine
+  waters-same x y = all-ext _ _ _ (λ i h. or-ext (shut p i) (λ e. ap₂ waterFine (x .alike .at i e) (y .alike .at i e)))
+
+  -- ---- the step, with all else of the one put beside what closed squares hold of the other
+
+  module _ (r : Rules) {beds beds′ depths depths′ : List ℕ} (B : SameOpen p beds beds′) (D : SameOpen p depths depths′) where
+    drop-same : (i side : ℕ) → shut p i ≡ false → sideDrop p r beds depths i side ≡ sideDrop p r beds′ depths′ i side
+    unfolding sideDrop
+    drop-same i side e =
+        ap₂ (pick (within (p .shape) (beside (p .shape) i side)))
+        (unless-closed (p .marks) (beside (p .shape) i side) 0
+        (λ q. ap₂ _-_ (ap₂ _+_ (B .alike .at i e) (D .alike .at i e)) (ap₂ _+_ (B .alike .at _ q) (D .alike .at _ q))))
+        (ap (λ (d : ℕ). pick (exit (p .marks) i) (dropOff r d) 0) (D .alike .at i e))
+
+    drops-same : (i : ℕ) → shut p i ≡ false → dropsOf p r beds depths i ≡ dropsOf p r beds′ depths′ i
+    unfolding dropsOf
+    drops-same i e = rw (drop-same i 0 e, drop-same i 1 e, drop-same i 2 e, drop-same i 3 e)
+
+    module _ {rough rough′ : List ℕ} (K : SameOpen p rough rough′) where
+      candidates-same : candidates p (ground r beds rough) depths ≡ candidates p (ground r beds′ rough′) depths′
+      unfolding candidates squareCandidates
+      candidates-same =
+          joined-ext (squares (p .shape)) _ _
+          (λ i h. unless-closed (p .marks) i [] (λ e. rw (D .alike .at i e, K .alike .at i e, drops-same i e)))
+
+      leaves-same : {lasts lasts′ : List ℕ} → SameOpen p lasts lasts′ → (ms i side : ℕ) →
+          leavesFor p (ground r beds rough) depths lasts ms i side ≡ leavesFor p (ground r beds′ rough′) depths′ lasts′ ms i side
+      unfolding leavesFor
+      leaves-same L ms i side =
+          unless-closed (p .marks) i 0 (λ e. rw (D .alike .at i e, L .alike .at i e, K .alike .at i e, drops-same i e))
+
+      grounds-same : groundsFine p (ground r beds rough) ≡ groundsFine p (ground r beds′ rough′)
+      unfolding groundsFine
+      grounds-same = all-ext _ _ _ (λ i h. or-ext (shut p i) (λ e. ap₂ groundFine (B .alike .at i e) (K .alike .at i e)))
+
+  -- a step whose amounts are known
+  module _ (m : Moves) (w : World) {depths′ lasts′ : List ℕ} (D : SameOpen p (w .depths) depths′) (L : SameOpen p (w .lasts) lasts′) where
+    abbrev other : World
+    other = world depths′ lasts′ (w .records) (w .run)
+
+    new-same : (i : ℕ) → shut p i ≡ false → newDepth p m w i ≡ newDepth p m other i
+    unfolding newDepth remains
+    new-same i e = rw (D .alike .at i e)
+
+    fits-same : depthsFit p m w ≡ depthsFit p m other
+    unfolding depthsFit
+    fits-same = all-ext _ _ _ (λ i h. or-ext (shut p i) (λ e. ap (λ (d : ℕ). leb d mostDepth) (new-same i e)))
+
+    late-same : lateRows p m w ≡ lateRows p m other
+    unfolding lateRows newOutflow
+    late-same = rw fits-same
+
+    record-same : stepRecord p m w ≡ stepRecord p m other
+    unfolding stepRecord recordOf squareRecord
+    record-same =
+        ap (λ (l : List ℕ). w .run .length ∷ m .lasts ∷ l)
+        (joined-ext (squares (p .shape)) _ _ (λ i h. unless-closed (p .marks) i _ (λ e. rw (L .alike .at i e))))
+
+    after-same : SameWorld p (worldAfter p m w) (worldAfter p m other)
+    unfolding worldAfter newOutflow
+    after-same =
+        record {
+          water =
+              record {
+                depths = filled-same (squares (p .shape)) _ _ D new-same;
+                lasts = filled-same (squares (p .shape)) _ _ L (λ i e. refl);
+                run = refl;
+              };
+          records = rw record-same;
+        }
+
+  module _ (g : Given) (w : World) {beds′ rough′ depths′ lasts′ : List ℕ} (B : SameOpen p (g .lie .beds) beds′) (K : SameOpen p (g .lie .roughness) rough′)
+      (D : SameOpen p (w .depths) depths′) (L : SameOpen p (w .lasts) lasts′) where
+    abbrev g′ : Given
+    g′ = given (ground (g .lie .rules) beds′ rough′) (g .rain) (g .inflow)
+
+    abbrev w′ : World
+    w′ = world depths′ lasts′ (w .records) (w .run)
+
+    checks-same : (five ring : Bool) → checkRows p g five ring (seenOf w) ≡ checkRows p g′ five ring (seenOf w′)
+    unfolding checkRows
+    checks-same five ring =
+        rw (one-each-same B, one-each-same K, one-each-same D, one-each-same L, grounds-same (g .lie .rules) B D K, waters-same D L)
+
+    length-same : stepLength p g (seenOf w) ≡ stepLength p g′ (seenOf w′)
+    unfolding stepLength
+    length-same = rw (candidates-same (g .lie .rules) B D K)
+
+    lasts-same : stepLasts p g (seenOf w) ≡ stepLasts p g′ (seenOf w′)
+    unfolding stepLasts
+    lasts-same = rw length-same
+
+    moves-same : stepMoves p g (seenOf w) ≡ stepMoves p g′ (seenOf w′)
+    unfolding addedFor
+    moves-same =
+        λ j.
+        record {
+          leaves = λ i side. leaving i side j;
+          added = addedFor p g (w .run .clock) (w .run .clock + lasts-same j);
+          lasts = lasts-same j;
+          length = length-same j;
+        }
+      where
+        leaving : (i side : ℕ) → stepMoves p g (seenOf w) .leaves i side ≡ stepMoves p g′ (seenOf w′) .leaves i side
+        leaving i side =
+            leaves-same (g .lie .rules) B D K L (stepLasts p g (seenOf w)) i side
+            ∙ ap (λ (ms : ℕ). leavesFor p (g′ .lie) depths′ lasts′ ms i side) lasts-same
+
+    number-same : stepNumber p g w ≡ stepNumber p g′ w′
+    unfolding stepNumber
+    number-same =
+        ap refusal
+        (ap₂ _++_ (checks-same _ _)
+        (late-same (stepMoves p g (seenOf w)) w D L ∙ ap (λ (m : Moves). lateRows p m w′) moves-same))
+
+    stepped-same : SameWorld p (stepped p g w) (stepped p g′ w′)
+    unfolding stepped
+    stepped-same =
+        subst (λ (n : ℕ). SameWorld p (stepped p g w) (pick (eqb n 0) (worldAfter p (stepMoves p g′ (seenOf w′)) w′) w′)) number-same
+        (subst (λ (m : Moves). SameWorld p (stepped p g w) (pick (eqb (stepNumber p g w) 0) (worldAfter p m w′) w′)) moves-same
+        (pick-two (SameWorld p) (eqb (stepNumber p g w) 0) (after-same (stepMoves p g (seenOf w)) w D L)
+        (record { water = record { depths = D; lasts = L; run = refl }; records = refl })))
+
+    run-checks-same : (end : ℕ) → refusal (runChecks p g end w) ≡ refusal (runChecks p g′ end w′)
+    run-checks-same end = ap refusal (checks-same _ _)
+
+  -- ---- each call
+
+  -- what holds of the one put beside the other holds of both
+  module _ {g h : Given} {w v : World} (G : SameGiven p g h) (W : SameWorld p w v) (P : Given → World → Type 0) where
+    abbrev mixed : Given
+    mixed = given (ground (g .lie .rules) (h .lie .beds) (h .lie .roughness)) (g .rain) (g .inflow)
+
+    beside-other : P mixed (world (v .depths) (v .lasts) (w .records) (w .run)) → P h v
+    beside-other x =
+        subst (λ (k : Given). P k v)
+        (λ j. given (ground (G .rules j) (h .lie .beds) (h .lie .roughness)) (G .rain j) (G .inflow j))
+        (subst (λ (u : World). P mixed u) (λ j. world (v .depths) (v .lasts) (W .records j) (W .water .run j)) x)
+
+  step-same : (g h : Given) (w v : World) → SameGiven p g h → SameWorld p w v →
+      (stepNumber p g w ≡ stepNumber p h v) × SameWorld p (stepped p g w) (stepped p h v)
+  step-same g h w v G W =
+      beside-other G W (λ k u. (stepNumber p g w ≡ stepNumber p k u) × SameWorld p (stepped p g w) (stepped p k u))
+      (number-same g w (G .beds) (G .roughness) (W .water .depths) (W .water .lasts), stepped-same g w (G .beds) (G .roughness) (W .water .depths) (W .water .lasts))
+
+  check-same : (g h : Given) (end : ℕ) (w v : World) → SameGiven p g h → SameWorld p w v → refusal (runChecks p g end w) ≡ refusal (runChecks p h end v)
+  check-same g h end w v G W =
+      beside-other G W (λ k u. refusal (runChecks p g end w) ≡ refusal (runChecks p k end u))
+      (run-checks-same g w (G .beds) (G .roughness) (W .water .depths) (W .water .lasts) end)
+
+  -- a run: step by step
+  module _ (g h : Given) (end : ℕ) (G : SameGiven p g h) where
+    going-same : (n made : ℕ) {w v : World} {e f : Ended} → SameWorld p w v → SameEnd p e f → SameEnd p (goOn n made w e) (goOn n made v f)
+    unfolding goOn
+    going-same zero made W E = E
+    going-same (suc n) made W E = record { number = refl; steps = refl; world = W }
+
+    from-same : (most made : ℕ) (w v : World) → SameWorld p w v → SameEnd p (runFrom p g end most made w) (runFrom p h end most made v)
+    unfolding runFrom
+    from-same zero made w v W = record { number = refl; steps = refl; world = W }
+    from-same (suc most) made w v W =
+        let s = step-same g h w v G W in
+        let rest : Ended = runFrom p h end most (suc made) (stepped p h v) in
+        subst (λ (b : Bool). SameEnd p (runFrom p g end (suc most) made w) (pick b (goOn (stepNumber p h v) made v rest) (ended 0 made v)))
+        (ap (λ (u : Run). ltb (u .clock) end) (W .water .run))
+        (subst (λ (n : ℕ). SameEnd p (runFrom p g end (suc most) made w) (pick (ltb (w .run .clock) end) (goOn n made v rest) (ended 0 made v))) (s .0)
+        (pick-two (SameEnd p) (ltb (w .run .clock) end) (going-same (stepNumber p g w) made W (from-same most (suc made) (stepped p g w) (stepped p h v) (s .1)))
+        (record { number = refl; steps = refl; world = W })))
+
+    run-same : (w v : World) → SameWorld p w v → SameEnd p (runTo p g end w) (runTo p h end v)
+    unfolding runTo
+    run-same w v W =
+        subst (λ (n : ℕ). SameEnd p (runTo p g end w) (goOn n 0 v (runFrom p h end (end - v .run .clock) 0 v))) (check-same g h end w v G W)
+        (subst (λ (u : Run). SameEnd p (runTo p g end w) (goOn (refusal (runChecks p g end w)) 0 v (runFrom p h end (end - u .clock) 0 v))) (W .water .run)
+        (going-same (refusal (runChecks p g end w)) 0 W (from-same (end - w .run .clock) 0 w v W)))
+
+  -- a take-back
+  module _ {a b : List ℕ} (R : SameRecord p a b) where
+    side-same : (i side : ℕ) → shut p i ≡ false → side < squareWords → leavesIn a i side ≡ leavesIn b i side
+    unfolding leavesIn
+    side-same i side e h = R .words i side e h
+
+    gone-same : (i : ℕ) → shut p i ≡ false → gone (leavesIn a) i ≡ gone (leavesIn b) i
+    unfolding gone
+    gone-same i e =
+        rw (side-same i 0 e (omega arith), side-same i 1 e (omega arith), side-same i 2 e (omega arith), side-same i 3 e (omega arith))
+
+    sent-same : (i side : ℕ) → sent p (leavesIn a) i side ≡ sent p (leavesIn b) i side
+    unfolding sent
+    sent-same i side =
+        unless-closed (p .marks) (beside (p .shape) i side) 0
+        (λ e. side-same (beside (p .shape) i side) (opposite side) e (omega (arith, opposite-small side)))
+
+    came-same : (i : ℕ) → came p (leavesIn a) i ≡ came p (leavesIn b) i
+    unfolding came
+    came-same i = rw (sent-same i 0, sent-same i 1, sent-same i 2, sent-same i 3)
+
+    off-same : offGrid p (leavesIn a) ≡ offGrid p (leavesIn b)
+    unfolding offGrid offSquare offSide
+    off-same =
+        sum-ext (squares (p .shape)) _ _
+        (λ i h. unless-closed (p .marks) i 0
+        (λ e. rw (side-same i 0 e (omega arith), side-same i 1 e (omega arith), side-same i 2 e (omega arith), side-same i 3 e (omega arith))))
+
+    last-same : (i : ℕ) → shut p i ≡ false → lastIn a i ≡ lastIn b i
+    unfolding lastIn
+    last-same i e = R .words i 4 e (omega arith)
+
+    added-same : (i : ℕ) → shut p i ≡ false → addedIn a i ≡ addedIn b i
+    unfolding addedIn
+    added-same i e = R .words i 5 e (omega arith)
+
+    module _ {w v : World} (W : SameWater p w v) where
+      held-same : (i : ℕ) → shut p i ≡ false → heldAndGone p w a i ≡ heldAndGone p v b i
+      unfolding heldAndGone
+      held-same i e = ap₂ _+_ (W .depths .alike .at i e) (gone-same i e)
+
+      coming-same : (i : ℕ) → shut p i ≡ false → cameAndAdded p w a i ≡ cameAndAdded p v b i
+      unfolding cameAndAdded
+      coming-same i e = ap₂ _+_ (came-same i) (added-same i e)
+
+      before-same : (i : ℕ) → shut p i ≡ false → depthBefore p w a i ≡ depthBefore p v b i
+      unfolding depthBefore
+      before-same i e = ap₂ _-_ (held-same i e) (coming-same i e)
+
+      squares-same : allBelow (squares (p .shape)) (squareRestorable p w a) ≡ allBelow (squares (p .shape)) (squareRestorable p v b)
+      unfolding squareRestorable
+      squares-same = all-ext _ _ _ (λ i h. or-ext (shut p i) (λ e. rw (last-same i e, coming-same i e, held-same i e, before-same i e)))
+
+      restorable-same : restorable p w a ≡ restorable p v b
+      unfolding restorable timesFine
+      restorable-same = rw (squares-same, R .held, R .lasted, off-same, ap (λ (u : Run). u .clock) (W .run), ap (λ (u : Run). u .outflow) (W .run))
+
+      world-same : roomSlots p (w .records) ≡ roomSlots p (v .records) → SameWater p (worldBefore p w a) (worldBefore p v b)
+      unfolding worldBefore
+      world-same k =
+          record {
+            depths = filled-same (squares (p .shape)) _ _ (W .depths) before-same;
+            lasts = filled-same (squares (p .shape)) _ _ (W .lasts) last-same;
+            run = rw (R .held, R .lasted, W .run, off-same, k);
+          }
+
+  module _ (w v : World) (S : SameBack p w v) where
+    slots-same : roomSlots p (w .records) ≡ roomSlots p (v .records)
+    unfolding roomSlots
+    slots-same = rw (S .room)
+
+    back-number-same : backNumber p w ≡ backNumber p v
+    unfolding backNumber backRows
+    back-number-same =
+        rw (
+          restorable-same (S .newest) (S .water),
+          one-each-same (S .water .depths),
+          one-each-same (S .water .lasts),
+          waters-same (S .water .depths) (S .water .lasts),
+          slots-same,
+          S .water .run,
+        )
+
+    taken-same : SameWater p (takenBack p w) (takenBack p v)
+    unfolding takenBack
+    taken-same =
+        rw (← back-number-same)
+        (pick-two (SameWater p) (eqb (backNumber p w) 0) (world-same (S .newest) (S .water) slots-same) (S .water))
+
+  -- a fresh run
+  module _ (r : Rules) (lasts others records : List ℕ) (L : SameOpen p lasts others) where
+    fresh-number-same : freshNumber p r lasts records ≡ freshNumber p r others records
+    unfolding freshNumber freshRows
+    fresh-number-same = rw (one-each-same L)
+
+    fresh-run-same : freshRun p r lasts records ≡ freshRun p r others records
+    unfolding freshRun
+    fresh-run-same = refl
+
+    fresh-lasts-same : SameOpen p (freshLasts p r lasts records) (freshLasts p r others records)
+    unfolding freshLasts
+    fresh-lasts-same =
+        rw (← fresh-number-same)
+        (pick-two (SameOpen p) (eqb (freshNumber p r lasts records) 0) (filled-same (squares (p .shape)) _ _ L (λ i e. refl)) L)
+
+  -- ---- arrows and wet rows
+
+  seen-depths : {a b : List ℕ} → SameOpen p a b → AlikeDepths p a b
+  seen-depths s = record { as-many = s .long; alike = s .alike }
+
+  seen-record : {a b : List ℕ} → SameRecord p a b → AlikeRecords p a b
+  unfolding leavesIn
+  seen-record s = record { held = s .held; lasted = s .lasted; leaves = λ i side l o. s .words i side o (omega arith) }
+
+  none-depends : NoneDepends p
+  none-depends =
+      record {
+        step = step-same;
+        run-to = λ g h end w v G W. run-same g h end G w v W;
+        take-back = λ w v S. (back-number-same w v S, taken-same w v S);
+        fresh = λ r lasts others records L.
+            (fresh-number-same r lasts others records L, fresh-run-same r lasts others records L, fresh-lasts-same r lasts others records L);
+        check = check-same;
+        arrow = λ D depths others room rest u row column d l r. arrow-alike p D room rest u row column (seen-depths d) l (seen-record r);
+        wet-rows = λ depths others least old a rows d x. wet-alike p (seen-depths d) x;
+      }
+
+  -- ---- closed squares stay as they were
+
+  stays : (w : World) → Untouched p w w
+  stays w = record { depth-stays = λ i e. refl; last-stays = λ i e. refl }
+
+  stays-on : {u v w : World} → Untouched p u v → Untouched p v w → Untouched p u w
+  stays-on a b = record { depth-stays = λ i e. b .depth-stays i e ∙ a .depth-stays i e; last-stays = λ i e. b .last-stays i e ∙ a .last-stays i e }
+
+  step-untouched : (g : Given) (w : World) → Untouched p w (stepped p g w)
+  unfolding stepped
+  step-untouched g w = pick-both (Untouched p w) _ (after-untouched p w (stepMoves p g (seenOf w))) (stays w)
+
+  module _ (g : Given) (end : ℕ) where
+    on-untouched : (n made : ℕ) (w : World) (e : Ended) → Untouched p w (e .world) → Untouched p w (goOn n made w e .world)
+    unfolding goOn
+    on-untouched zero made w e x = x
+    on-untouched (suc n) made w e x = stays w
+
+    from-untouched : (most made : ℕ) (w : World) → Untouched p w (runFrom p g end most made w .world)
+    unfolding runFrom
+    from-untouched zero made w = stays w
+    from-untouched (suc most) made w =
+        pick-both (λ (e : Ended). Untouched p w (e .world)) _
+        (on-untouched (stepNumber p g w) made w _ (stays-on (step-untouched g w) (from-untouched most (suc made) (stepped p g w)))) (stays w)
+
+    run-untouched : (w : World) → Untouched p w (runTo p g end w .world)
+    unfolding runTo
+    run-untouched w = on-untouched (refusal (runChecks p g end w)) 0 w _ (from-untouched (end - w .run .clock) 0 w)
+
+  -- ---- a step that is made, and the slot that it writes
+  module _ (g : Given) (w : World) (made : stepNumber p g w ≡ 0) where
+    checked : refusal (stepChecks p g (ringOf p g w) (seenOf w)) ≡ 0
+    unfolding stepNumber
+    checked = refusal-both (stepChecks p g (ringOf p g w) (seenOf w)) _ (checks-named p g (ringOf p g w) (seenOf w)) made .0
+
+    -- it gives what the rule gives
+    step-gives : StepGives p g w
+    unfolding worldAfter newDepth remains newOutflow stepLength stepLasts
+    step-gives =
+        let flows = ready p g (ringOf p g w) (seenOf w) checked .flows in
+        let depths-long : length (w .depths) ≡ squares (p .shape) = flows .lies .sited .depths-long in
+        let lasts-long : length (w .lasts) ≡ squares (p .shape) = flows .lasts-long in
+        record {
+          transfers = λ i side e. leaves-open p (g .lie) (w .depths) (w .lasts) (stepLasts p g (seenOf w)) i side e;
+          depths = λ i h e. ap (λ (u : World). getD (u .depths) i 0) (made-is p g w made) ∙ filled-in _ _ _ (w .depths) i (omega arith) h e;
+          lasts = λ i h e. ap (λ (u : World). getD (u .lasts) i 0) (made-is p g w made) ∙ filled-in _ _ _ (w .lasts) i (omega arith) h e;
+          outflow = ap (λ (u : World). u .run .outflow) (made-is p g w made);
+          length-is = ap (λ (u : World). u .run .length) (made-is p g w made);
+          duration-is = ap (λ (u : World). lastsFor (g .lie .rules) (w .run .clock) (u .run .length)) (sym (made-is p g w made));
+          clock = ap (λ (u : World). u .run .clock) (made-is p g w made);
+        }
+
+    newest-written : newestRecord p (stepped p g w) ≡ stepRecord p (stepMoves p g (seenOf w)) w
+    unfolding newestRecord worldAfter roomSlots
+    newest-written =
+        let ring = fine-ring _ _ _ (ring-is p g (ringOf p g w) (seenOf w) checked) in
+        rw (made-is p g w made)
+        (read-stored (recordSize p) (omega arith) (w .records) (slotAfter (roomSlots p (w .records)) (w .run .newest))
+        (stepRecord p (stepMoves p g (seenOf w)) w) (step-long p (stepMoves p g (seenOf w)) w) (ring-after ring .newest-below))
+
+    slot-zeros : (i word : ℕ) → i < squares (p .shape) → shut p i ≡ true → word < squareWords → getD (newestRecord p (stepped p g w)) (wordPlace i word) 0 ≡ 0
+    unfolding stepRecord
+    slot-zeros i word l e h = ap (λ (rec : List ℕ). getD rec (wordPlace i word) 0) newest-written ∙ closed-read p _ _ _ _ _ i l e word h
+
+  fresh-untouched : (r : Rules) (lasts records : List ℕ) (i : ℕ) → shut p i ≡ true → getD (freshLasts p r lasts records) i 0 ≡ getD lasts i 0
+  unfolding freshLasts
+  fresh-untouched r lasts records i e = pick-both (λ (l : List ℕ). getD l i 0 ≡ getD lasts i 0) _ (go (decLt i (length lasts))) refl
+    where
+      cleared : List ℕ
+      cleared = filled (squares (p .shape)) (shut p) (λ k. 0) lasts
+
+      go : Dec (i < length lasts) → getD cleared i 0 ≡ getD lasts i 0
+      go (yes l) = filled-skipped (squares (p .shape)) (shut p) (λ k. 0) lasts i l e
+      go (no l) =
+          List·getD-eq-default cleared 0 (omega (arith, length-filled (squares (p .shape)) (shut p) (λ k. 0) lasts))
+          ∙ sym (List·getD-eq-default lasts 0 (omega arith))
+
+  none-altered : NoneAltered p
+  none-altered =
+      record {
+        step = step-untouched;
+        run-to = run-untouched;
+        take-back = back-untouched p;
+        fresh = fresh-untouched;
+        slot = slot-zeros;
+      }
+
+  wall-rule : WallRule p
+  wall-rule =
+      record {
+        walled = λ g v. flood-walled p (g .lie) (v .depths) (v .lasts) (stepLasts p g v);
+        goes = λ g v i side h l. goes-where p _ i side h l (flood-walled p (g .lie) (v .depths) (v .lasts) (stepLasts p g v));
+      }
+
+  pub demand-2 : Demand2 p
+  demand-2 = record { step-gives = step-gives; none-depends = none-depends; none-altered = none-altered; wall-rule = wall-rule }

@@ -1,0 +1,151 @@
+-- The letter's demand 2: a step gives what the rule gives; "What a closed square holds is not altered, and no answer depends on it"; and
+-- "walls that no water enters".
+-- Assumes nothing.
+use mathlib.Core.Path.{_≡_}
+use mathlib.Core.Bool.{true, false}
+use mathlib.Core.List.{List}
+use Prim.Native.Nat.{ℕ, _+_, _-_, _<_}
+use lib.ListN.{length, getD}
+use Rattle.reckon.specs.Tests.{refusal}
+use Rattle.grid.specs.Squares.{squares, sides}
+use Rattle.grid.specs.Marks.{Alike}
+use Rattle.rule.specs.Length.{lengthAt, lastsFor}
+use Rattle.rule.specs.Weighing.{weighed}
+use Rattle.rule.specs.declared.rules.Rules.{Rules}
+use Rattle.ledger.specs.Runs.{Plan, World}
+use Rattle.ledger.specs.Flows.{Leaves, shut, gone, came, offGrid}
+use Rattle.ledger.specs.Record.{squareWords, wordPlace, heldIn, lastedIn, newestRecord}
+use Rattle.ledger.specs.TakeBack.{backNumber, takenBack}
+use Rattle.ledger.specs.Engine.{Seen, seenOf}
+use Rattle.ledger.specs.Walls.{Walled, Goes, Untouched}
+use Rattle.ledger.specs.declared.runs.Run.{Run}
+use Rattle.flood.specs.Drops.{Given, dropsOf}
+use Rattle.flood.specs.Step.{candidates, addedFor, stepMoves}
+use Rattle.flood.specs.Refusals.{runChecks, stepNumber, stepped}
+use Rattle.sight.specs.Arrows.{view, seenAt}
+use Rattle.sight.specs.WetRows.{WetRowed}
+use Rattle.sight.specs.declared.wet_rows.Wet.{Wet}
+use Rattle.flood.specs.Run.{Ended, runTo, freshNumber, freshRun, freshLasts}
+
+module _ (p : Plan) where
+  -- ---- "Each step gives exactly the depths, transfers, outflow and step length that the published weighted cellular automaton rule gives in
+  -- the whole-number form of document 01, all squares working from the water before the step"
+
+  module _ (g : Given) (w : World) where
+    abbrev amounts : Leaves
+    amounts = stepMoves p g (seenOf w) .leaves
+
+    abbrev duration : ℕ
+    duration = stepMoves p g (seenOf w) .lasts
+
+    -- of a step that is made
+    pub record StepGives : Type 0 where
+      -- the transfers of a square not closed: the weighing of its drops, both of the water before the step
+      pub transfers : (i side : ℕ) → shut p i ≡ false →
+          amounts i side
+          ≡ getD
+          (weighed (g .lie .rules) (getD (w .depths) i 0) (getD (w .lasts) i 0) (getD (g .lie .roughness) i 0) duration
+          (dropsOf p (g .lie .rules) (g .lie .beds) (w .depths) i))
+          side 0
+      -- "New depth = old − four leaving + what neighbours send + what is added"
+      pub depths : (i : ℕ) → i < squares (p .shape) → shut p i ≡ false →
+          getD (stepped p g w .depths) i 0
+          ≡ getD (w .depths) i 0 - gone amounts i + came p amounts i + addedFor p g (w .run .clock) (w .run .clock + duration) i
+      -- "P is then the sum of the four"
+      pub lasts : (i : ℕ) → i < squares (p .shape) → shut p i ≡ false → getD (stepped p g w .lasts) i 0 ≡ gone amounts i
+      -- "Water leaving the grid joins the outflow total"
+      pub outflow : stepped p g w .run .outflow ≡ w .run .outflow + offGrid p amounts
+      -- "when the clock is a multiple of U it is worked afresh .. the run holds it until the next such clock"
+      pub length-is : stepped p g w .run .length ≡ lengthAt (g .lie .rules) (w .run .clock) (w .run .length) (candidates p (g .lie) (w .depths))
+      -- "The step lasts the smaller of that length and the time to the next multiple of U"
+      pub duration-is : duration ≡ lastsFor (g .lie .rules) (w .run .clock) (stepped p g w .run .length)
+      pub clock : stepped p g w .run .clock ≡ w .run .clock + duration
+
+  -- ---- what differs only in what closed squares hold
+
+  -- two slices of as many numbers
+  pub record SameOpen (a b : List ℕ) : Type 0 where
+    pub long : length a ≡ length b
+    pub alike : Alike (p .marks) a b
+
+  -- heights, roughness, rules and tables
+  pub record SameGiven (g h : Given) : Type 0 where
+    pub beds : SameOpen (g .lie .beds) (h .lie .beds)
+    pub roughness : SameOpen (g .lie .roughness) (h .lie .roughness)
+    pub rules : g .lie .rules ≡ h .lie .rules
+    pub rain : g .rain ≡ h .rain
+    pub inflow : g .inflow ≡ h .inflow
+
+  -- depths, last leaving and run
+  pub record SameWater (w v : World) : Type 0 where
+    pub depths : SameOpen (w .depths) (v .depths)
+    pub lasts : SameOpen (w .lasts) (v .lasts)
+    pub run : w .run ≡ v .run
+
+  -- and the record room, number for number
+  pub record SameWorld (w v : World) : Type 0 where
+    pub water : SameWater w v
+    pub records : w .records ≡ v .records
+
+  -- two records: "A closed square's numbers in a record are never read"
+  pub record SameRecord (a b : List ℕ) : Type 0 where
+    pub held : heldIn a ≡ heldIn b
+    pub lasted : lastedIn a ≡ lastedIn b
+    pub words : (i word : ℕ) → shut p i ≡ false → word < squareWords → getD a (wordPlace i word) 0 ≡ getD b (wordPlace i word) 0
+
+  -- what a take-back is lent: of the record room only the newest record
+  pub record SameBack (w v : World) : Type 0 where
+    pub water : SameWater w v
+    pub room : length (w .records) ≡ length (v .records)
+    pub newest : SameRecord (newestRecord p w) (newestRecord p v)
+
+  -- how a run ended
+  pub record SameEnd (e f : Ended) : Type 0 where
+    pub number : e .number ≡ f .number
+    pub steps : e .steps ≡ f .steps
+    pub world : SameWorld (e .world) (f .world)
+
+  -- ---- "no answer depends on it"
+
+  -- the number, the run, the record written and the water of squares not closed are the same
+  pub record NoneDepends : Type 0 where
+    pub step : (g h : Given) (w v : World) → SameGiven g h → SameWorld w v →
+        (stepNumber p g w ≡ stepNumber p h v) × SameWorld (stepped p g w) (stepped p h v)
+    pub run-to : (g h : Given) (end : ℕ) (w v : World) → SameGiven g h → SameWorld w v → SameEnd (runTo p g end w) (runTo p h end v)
+    pub take-back : (w v : World) → SameBack w v → (backNumber p w ≡ backNumber p v) × SameWater (takenBack p w) (takenBack p v)
+    pub fresh : (r : Rules) (lasts others records : List ℕ) → SameOpen lasts others →
+        (freshNumber p r lasts records ≡ freshNumber p r others records)
+        × (freshRun p r lasts records ≡ freshRun p r others records)
+        × SameOpen (freshLasts p r lasts records) (freshLasts p r others records)
+    pub check : (g h : Given) (end : ℕ) (w v : World) → SameGiven g h → SameWorld w v → refusal (runChecks p g end w) ≡ refusal (runChecks p h end v)
+    -- an arrow is lent depths, the record room and the run
+    pub arrow : (D : ℕ) (depths others room rest : List ℕ) (u : Run) (row column : ℕ) → SameOpen depths others → length room ≡ length rest →
+        SameRecord (newestRecord p (view depths room u)) (newestRecord p (view others rest u)) →
+        seenAt p D (view depths room u) row column ≡ seenAt p D (view others rest u) row column
+    pub wet-rows : (depths others : List ℕ) (least : ℕ) (old : List ℕ) (a : Wet) (rows : List ℕ) → SameOpen depths others →
+        WetRowed p depths least old a rows → WetRowed p others least old a rows
+
+  -- ---- "What a closed square holds is not altered": bed and roughness are lent to no call for writing
+
+  pub record NoneAltered : Type 0 where
+    pub step : (g : Given) (w : World) → Untouched p w (stepped p g w)
+    pub run-to : (g : Given) (end : ℕ) (w : World) → Untouched p w (runTo p g end w .world)
+    pub take-back : (w : World) → Untouched p w (takenBack p w)
+    pub fresh : (r : Rules) (lasts records : List ℕ) (i : ℕ) → shut p i ≡ true → getD (freshLasts p r lasts records) i 0 ≡ getD lasts i 0
+    -- in the slot that a step writes: "A closed square gets six zeros"
+    pub slot : (g : Given) (w : World) → stepNumber p g w ≡ 0 → (i word : ℕ) → i < squares (p .shape) → shut p i ≡ true → word < squareWords →
+        getD (newestRecord p (stepped p g w)) (wordPlace i word) 0 ≡ 0
+
+  -- ---- "walls that no water enters"
+
+  -- whatever is given and seen: nothing goes through a side towards a closed square, a closed square sends nothing, and off the grid
+  -- water goes only from an exit; so all that leaves a square comes to a neighbour that is not closed, or leaves from an exit
+  pub record WallRule : Type 0 where
+    pub walled : (g : Given) (v : Seen) → Walled p (stepMoves p g v .leaves)
+    pub goes : (g : Given) (v : Seen) (i side : ℕ) → i < squares (p .shape) → side < sides → Goes p (stepMoves p g v .leaves) i side
+
+  pub record Demand2 : Type 0 where
+    pub step-gives : (g : Given) (w : World) → stepNumber p g w ≡ 0 → StepGives g w
+    pub none-depends : NoneDepends
+    pub none-altered : NoneAltered
+    pub wall-rule : WallRule
