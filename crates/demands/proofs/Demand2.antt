@@ -4,7 +4,7 @@ use mathlib.Core.Path.{_≡_, refl, sym, ap, ap₂, _∙_, subst}
 use mathlib.Core.Bool.{Bool, true, false, _||_}
 use mathlib.Core.List.{List, [], _∷_, _++_}
 use Prim.Native.Nat.{ℕ, zero, suc, _+_, _-_, _<_}
-use native.Mathlib.Decide.{decLt}
+use native.Mathlib.Decide.{decLt, ℕ-discrete}
 use native.Mathlib.Omega.{arith}
 use lib.Dec.{eqb, leb, ltb}
 use lib.ListN.{length, getD, List·getD-eq-default}
@@ -13,9 +13,10 @@ use Rattle.reckon.specs.Lists.{filled}
 use Rattle.reckon.specs.Ranges.{mostDepth, waterFine}
 use Rattle.reckon.proofs.TestLaws.{pick-both, all-ext, refusal-both}
 use Rattle.reckon.proofs.ListLaws.{getD-tabulate, length-filled, filled-in, filled-skipped, joined-ext, sum-ext}
-use Rattle.trials.specs.Ring.{slotAfter}
-use Rattle.trials.proofs.RingLaws.{fine-ring, ring-after}
-use Rattle.trials.proofs.RoomLaws.{read-stored}
+use Rattle.trials.specs.Ring.{slotsIn, slotAfter}
+use Rattle.trials.specs.Room.{recordIn, storedIn}
+use Rattle.trials.proofs.RingLaws.{Ring, fine-ring, ring-after, after-below}
+use Rattle.trials.proofs.RoomLaws.{length-stored, read-stored, read-other}
 use Rattle.grid.specs.Squares.{squares, within, beside, opposite}
 use Rattle.grid.specs.Marks.{exit}
 use Rattle.grid.proofs.SquareLaws.{opposite-small}
@@ -42,8 +43,8 @@ use Rattle.sight.specs.Arrows.{view, seenAt}
 use Rattle.sight.proofs.Alike.{AlikeDepths, AlikeRecords, arrow-alike, wet-alike}
 use Rattle.flood.proofs.CheckLaws.{checks-named, ready, ring-is}
 use Rattle.flood.proofs.RuleLaws.{leaves-open, flood-walled}
-use Rattle.flood.proofs.RunToLaws.{made-is}
-use Rattle.demands.specs.Demand2.{StepGives, SameOpen, SameGiven, SameWater, SameWorld, SameRecord, SameBack, SameEnd, NoneDepends, NoneAltered, WallRule, Demand2}
+use Rattle.flood.proofs.RunToLaws.{made-is, refused-is}
+use Rattle.demands.specs.Demand2.{StepGives, SameOpen, SameGiven, SameRecord, SameRoom, SameWorld, SameEnd, NoneDepends, NoneAltered, WallRule, Demand2}
 
 or-ext : (b : Bool) {x y : Bool} → (b ≡ false → x ≡ y) → (b || x) ≡ (b || y)
 or-ext true f = refl
@@ -87,6 +88,39 @@ module _ (p : Plan) where
   unfolding watersFine
   waters-same x y = all-ext _ _ _ (λ i h. or-ext (shut p i) (λ e. ap₂ waterFine (x .alike .at i e) (y .alike .at i e)))
 
+  -- ---- records and their room
+
+  record-itself : (a : List ℕ) → SameRecord p a a
+  record-itself a = record { held = refl; lasted = refl; words = λ i word e h. refl }
+
+  records-as : {a b a′ b′ : List ℕ} → a′ ≡ a → b′ ≡ b → SameRecord p a b → SameRecord p a′ b′
+  records-as {a} {b} {a′} {b′} x y s = subst (λ (l : List ℕ). SameRecord p l b′) (sym x) (subst (λ (l : List ℕ). SameRecord p a l) (sym y) s)
+
+  module _ {a b : List ℕ} (R : SameRoom p a b) where
+    slots-same : roomSlots p a ≡ roomSlots p b
+    unfolding roomSlots
+    slots-same = rw (R .long)
+
+    -- the same record stored in both
+    stored-same : (k : ℕ) (rec : List ℕ) → length rec ≡ recordSize p → k < roomSlots p a →
+        SameRoom p (storedIn (recordSize p) a k rec) (storedIn (recordSize p) b k rec)
+    unfolding roomSlots
+    stored-same k rec fits h = record { long = stored a h ∙ (R .long ∙ sym (stored b in-b)); slots = λ u. go u (ℕ-discrete u k) }
+      where
+        in-b : k < slotsIn (recordSize p) (length b)
+        in-b = rw (← R .long) h
+
+        stored : (room : List ℕ) → k < slotsIn (recordSize p) (length room) → length (storedIn (recordSize p) room k rec) ≡ length room
+        stored room l = length-stored (recordSize p) (omega arith) room k rec fits l
+
+        go : (u : ℕ) → Dec (u ≡ k) →
+            SameRecord p (recordIn (recordSize p) (storedIn (recordSize p) a k rec) u) (recordIn (recordSize p) (storedIn (recordSize p) b k rec) u)
+        go u (yes e) =
+            rw e
+            (records-as (read-stored (recordSize p) (omega arith) a k rec fits h) (read-stored (recordSize p) (omega arith) b k rec fits in-b) (record-itself rec))
+        go u (no d) =
+            records-as (read-other (recordSize p) (omega arith) a k rec fits h u d) (read-other (recordSize p) (omega arith) b k rec fits in-b u d) (R .slots u)
+
   -- ---- the step, with all else of the one put beside what closed squares hold of the other
 
   module _ (r : Rules) {beds beds′ depths depths′ : List ℕ} (B : SameOpen p beds beds′) (D : SameOpen p depths depths′) where
@@ -120,9 +154,10 @@ module _ (p : Plan) where
       grounds-same = all-ext _ _ _ (λ i h. or-ext (shut p i) (λ e. ap₂ groundFine (B .alike .at i e) (K .alike .at i e)))
 
   -- a step whose amounts are known
-  module _ (m : Moves) (w : World) {depths′ lasts′ : List ℕ} (D : SameOpen p (w .depths) depths′) (L : SameOpen p (w .lasts) lasts′) where
+  module _ (m : Moves) (w : World) {depths′ lasts′ records′ : List ℕ} (D : SameOpen p (w .depths) depths′) (L : SameOpen p (w .lasts) lasts′)
+      (R : SameRoom p (w .records) records′) where
     abbrev other : World
-    other = world depths′ lasts′ (w .records) (w .run)
+    other = world depths′ lasts′ records′ (w .run)
 
     new-same : (i : ℕ) → shut p i ≡ false → newDepth p m w i ≡ newDepth p m other i
     unfolding newDepth remains
@@ -142,31 +177,55 @@ module _ (p : Plan) where
         ap (λ (l : List ℕ). w .run .length ∷ m .lasts ∷ l)
         (joined-ext (squares (p .shape)) _ _ (λ i h. unless-closed (p .marks) i _ (λ e. rw (L .alike .at i e))))
 
-    after-same : SameWorld p (worldAfter p m w) (worldAfter p m other)
+    after-same : 0 < roomSlots p (w .records) → SameWorld p (worldAfter p m w) (worldAfter p m other)
     unfolding worldAfter newOutflow
-    after-same =
-        record {
-          water =
-              record {
-                depths = filled-same (squares (p .shape)) _ _ D new-same;
-                lasts = filled-same (squares (p .shape)) _ _ L (λ i e. refl);
-                run = refl;
-              };
-          records = rw record-same;
-        }
+    after-same some =
+        rw (← slots-same R, ← record-same)
+        (record {
+          depths = filled-same (squares (p .shape)) _ _ D new-same;
+          lasts = filled-same (squares (p .shape)) _ _ L (λ i e. refl);
+          records =
+              stored-same R (slotAfter (roomSlots p (w .records)) (w .run .newest)) (stepRecord p m w) (step-long p m w)
+              (after-below (roomSlots p (w .records)) (w .run .newest) some);
+          run = refl;
+        })
 
-  module _ (g : Given) (w : World) {beds′ rough′ depths′ lasts′ : List ℕ} (B : SameOpen p (g .lie .beds) beds′) (K : SameOpen p (g .lie .roughness) rough′)
-      (D : SameOpen p (w .depths) depths′) (L : SameOpen p (w .lasts) lasts′) where
+  -- a step that is made: it has a slot to write, and its record stands there
+  module _ (g : Given) (w : World) (made : stepNumber p g w ≡ 0) where
+    checked : refusal (stepChecks p g (ringOf p g w) (seenOf w)) ≡ 0
+    unfolding stepNumber
+    checked = refusal-both (stepChecks p g (ringOf p g w) (seenOf w)) _ (checks-named p g (ringOf p g w) (seenOf w)) made .0
+
+    ring : Ring (roomSlots p (w .records)) (w .run .kept) (w .run .newest)
+    ring = fine-ring _ _ _ (ring-is p g (ringOf p g w) (seenOf w) checked)
+
+    newest-written : newestRecord p (stepped p g w) ≡ stepRecord p (stepMoves p g (seenOf w)) w
+    unfolding newestRecord worldAfter roomSlots
+    newest-written =
+        rw (made-is p g w made)
+        (read-stored (recordSize p) (omega arith) (w .records) (slotAfter (roomSlots p (w .records)) (w .run .newest))
+        (stepRecord p (stepMoves p g (seenOf w)) w) (step-long p (stepMoves p g (seenOf w)) w) (ring-after ring .newest-below))
+
+  module _ (g : Given) (w : World) {beds′ rough′ depths′ lasts′ records′ : List ℕ} (B : SameOpen p (g .lie .beds) beds′)
+      (K : SameOpen p (g .lie .roughness) rough′) (D : SameOpen p (w .depths) depths′) (L : SameOpen p (w .lasts) lasts′) (R : SameRoom p (w .records) records′) where
     abbrev g′ : Given
     g′ = given (ground (g .lie .rules) beds′ rough′) (g .rain) (g .inflow)
 
     abbrev w′ : World
-    w′ = world depths′ lasts′ (w .records) (w .run)
+    w′ = world depths′ lasts′ records′ (w .run)
 
-    checks-same : (five ring : Bool) → checkRows p g five ring (seenOf w) ≡ checkRows p g′ five ring (seenOf w′)
+    checks-same : (five : Bool) → checkRows p g five (ringOf p g w) (seenOf w) ≡ checkRows p g′ five (ringOf p g′ w′) (seenOf w′)
     unfolding checkRows
-    checks-same five ring =
-        rw (one-each-same B, one-each-same K, one-each-same D, one-each-same L, grounds-same (g .lie .rules) B D K, waters-same D L)
+    checks-same five =
+        rw (
+          one-each-same B,
+          one-each-same K,
+          one-each-same D,
+          one-each-same L,
+          grounds-same (g .lie .rules) B D K,
+          waters-same D L,
+          slots-same R,
+        )
 
     length-same : stepLength p g (seenOf w) ≡ stepLength p g′ (seenOf w′)
     unfolding stepLength
@@ -196,19 +255,29 @@ module _ (p : Plan) where
     unfolding stepNumber
     number-same =
         ap refusal
-        (ap₂ _++_ (checks-same _ _)
-        (late-same (stepMoves p g (seenOf w)) w D L ∙ ap (λ (m : Moves). lateRows p m w′) moves-same))
+        (ap₂ _++_ (checks-same _)
+        (late-same (stepMoves p g (seenOf w)) w D L R ∙ ap (λ (m : Moves). lateRows p m w′) moves-same))
 
     stepped-same : SameWorld p (stepped p g w) (stepped p g′ w′)
-    unfolding stepped
-    stepped-same =
-        subst (λ (n : ℕ). SameWorld p (stepped p g w) (pick (eqb n 0) (worldAfter p (stepMoves p g′ (seenOf w′)) w′) w′)) number-same
-        (subst (λ (m : Moves). SameWorld p (stepped p g w) (pick (eqb (stepNumber p g w) 0) (worldAfter p m w′) w′)) moves-same
-        (pick-two (SameWorld p) (eqb (stepNumber p g w) 0) (after-same (stepMoves p g (seenOf w)) w D L)
-        (record { water = record { depths = D; lasts = L; run = refl }; records = refl })))
+    stepped-same = go (stepNumber p g w) refl
+      where
+        go : (n : ℕ) → stepNumber p g w ≡ n → SameWorld p (stepped p g w) (stepped p g′ w′)
+        go zero z =
+            rw (made-is p g w z, made-is p g′ w′ (sym number-same ∙ z))
+            (subst (λ (m : Moves). SameWorld p (worldAfter p (stepMoves p g (seenOf w)) w) (worldAfter p m w′)) moves-same
+            (after-same (stepMoves p g (seenOf w)) w D L R (ring g w z .some)))
+        go (suc n) z =
+            let d : stepNumber p g w ≡ 0 → ⊥ = λ y. omega (arith, sym z ∙ y) in
+            rw (refused-is p g w d, refused-is p g′ w′ (λ y. d (number-same ∙ y))) (record { depths = D; lasts = L; records = R; run = refl })
+
+    written-same : stepNumber p g w ≡ 0 → newestRecord p (stepped p g w) ≡ newestRecord p (stepped p g′ w′)
+    written-same z =
+        newest-written g w z
+        ∙ (record-same (stepMoves p g (seenOf w)) w D L R
+        ∙ (ap (λ (m : Moves). stepRecord p m w′) moves-same ∙ sym (newest-written g′ w′ (sym number-same ∙ z))))
 
     run-checks-same : (end : ℕ) → refusal (runChecks p g end w) ≡ refusal (runChecks p g′ end w′)
-    run-checks-same end = ap refusal (checks-same _ _)
+    run-checks-same end = ap refusal (checks-same _)
 
   -- ---- each call
 
@@ -217,22 +286,29 @@ module _ (p : Plan) where
     abbrev mixed : Given
     mixed = given (ground (g .lie .rules) (h .lie .beds) (h .lie .roughness)) (g .rain) (g .inflow)
 
-    beside-other : P mixed (world (v .depths) (v .lasts) (w .records) (w .run)) → P h v
+    beside-other : P mixed (world (v .depths) (v .lasts) (v .records) (w .run)) → P h v
     beside-other x =
         subst (λ (k : Given). P k v)
         (λ j. given (ground (G .rules j) (h .lie .beds) (h .lie .roughness)) (G .rain j) (G .inflow j))
-        (subst (λ (u : World). P mixed u) (λ j. world (v .depths) (v .lasts) (W .records j) (W .water .run j)) x)
+        (subst (λ (u : World). P mixed u) (λ j. world (v .depths) (v .lasts) (v .records) (W .run j)) x)
 
-  step-same : (g h : Given) (w v : World) → SameGiven p g h → SameWorld p w v →
-      (stepNumber p g w ≡ stepNumber p h v) × SameWorld p (stepped p g w) (stepped p h v)
-  step-same g h w v G W =
-      beside-other G W (λ k u. (stepNumber p g w ≡ stepNumber p k u) × SameWorld p (stepped p g w) (stepped p k u))
-      (number-same g w (G .beds) (G .roughness) (W .water .depths) (W .water .lasts), stepped-same g w (G .beds) (G .roughness) (W .water .depths) (W .water .lasts))
+  module _ (g h : Given) where
+    step-same : (w v : World) → SameGiven p g h → SameWorld p w v → (stepNumber p g w ≡ stepNumber p h v) × SameWorld p (stepped p g w) (stepped p h v)
+    step-same w v G W =
+        beside-other G W (λ k u. (stepNumber p g w ≡ stepNumber p k u) × SameWorld p (stepped p g w) (stepped p k u)) (
+          number-same g w (G .beds) (G .roughness) (W .depths) (W .lasts) (W .records),
+          stepped-same g w (G .beds) (G .roughness) (W .depths) (W .lasts) (W .records),
+        )
 
-  check-same : (g h : Given) (end : ℕ) (w v : World) → SameGiven p g h → SameWorld p w v → refusal (runChecks p g end w) ≡ refusal (runChecks p h end v)
-  check-same g h end w v G W =
-      beside-other G W (λ k u. refusal (runChecks p g end w) ≡ refusal (runChecks p k end u))
-      (run-checks-same g w (G .beds) (G .roughness) (W .water .depths) (W .water .lasts) end)
+    both-written : (w v : World) → SameGiven p g h → SameWorld p w v → stepNumber p g w ≡ 0 → newestRecord p (stepped p g w) ≡ newestRecord p (stepped p h v)
+    both-written w v G W z =
+        beside-other G W (λ k u. newestRecord p (stepped p g w) ≡ newestRecord p (stepped p k u))
+        (written-same g w (G .beds) (G .roughness) (W .depths) (W .lasts) (W .records) z)
+
+    check-same : (end : ℕ) (w v : World) → SameGiven p g h → SameWorld p w v → refusal (runChecks p g end w) ≡ refusal (runChecks p h end v)
+    check-same end w v G W =
+        beside-other G W (λ k u. refusal (runChecks p g end w) ≡ refusal (runChecks p k end u))
+        (run-checks-same g w (G .beds) (G .roughness) (W .depths) (W .lasts) (W .records) end)
 
   -- a run: step by step
   module _ (g h : Given) (end : ℕ) (G : SameGiven p g h) where
@@ -248,7 +324,7 @@ module _ (p : Plan) where
         let s = step-same g h w v G W in
         let rest : Ended = runFrom p h end most (suc made) (stepped p h v) in
         subst (λ (b : Bool). SameEnd p (runFrom p g end (suc most) made w) (pick b (goOn (stepNumber p h v) made v rest) (ended 0 made v)))
-        (ap (λ (u : Run). ltb (u .clock) end) (W .water .run))
+        (ap (λ (u : Run). ltb (u .clock) end) (W .run))
         (subst (λ (n : ℕ). SameEnd p (runFrom p g end (suc most) made w) (pick (ltb (w .run .clock) end) (goOn n made v rest) (ended 0 made v))) (s .0)
         (pick-two (SameEnd p) (ltb (w .run .clock) end) (going-same (stepNumber p g w) made W (from-same most (suc made) (stepped p g w) (stepped p h v) (s .1)))
         (record { number = refl; steps = refl; world = W })))
@@ -257,7 +333,7 @@ module _ (p : Plan) where
     unfolding runTo
     run-same w v W =
         subst (λ (n : ℕ). SameEnd p (runTo p g end w) (goOn n 0 v (runFrom p h end (end - v .run .clock) 0 v))) (check-same g h end w v G W)
-        (subst (λ (u : Run). SameEnd p (runTo p g end w) (goOn (refusal (runChecks p g end w)) 0 v (runFrom p h end (end - u .clock) 0 v))) (W .water .run)
+        (subst (λ (u : Run). SameEnd p (runTo p g end w) (goOn (refusal (runChecks p g end w)) 0 v (runFrom p h end (end - u .clock) 0 v))) (W .run)
         (going-same (refusal (runChecks p g end w)) 0 W (from-same (end - w .run .clock) 0 w v W)))
 
   -- a take-back
@@ -296,7 +372,7 @@ module _ (p : Plan) where
     unfolding addedIn
     added-same i e = R .words i 5 e (omega arith)
 
-    module _ {w v : World} (W : SameWater p w v) where
+    module _ {w v : World} (W : SameWorld p w v) where
       held-same : (i : ℕ) → shut p i ≡ false → heldAndGone p w a i ≡ heldAndGone p v b i
       unfolding heldAndGone
       held-same i e = ap₂ _+_ (W .depths .alike .at i e) (gone-same i e)
@@ -317,49 +393,48 @@ module _ (p : Plan) where
       unfolding restorable timesFine
       restorable-same = rw (squares-same, R .held, R .lasted, off-same, ap (λ (u : Run). u .clock) (W .run), ap (λ (u : Run). u .outflow) (W .run))
 
-      world-same : roomSlots p (w .records) ≡ roomSlots p (v .records) → SameWater p (worldBefore p w a) (worldBefore p v b)
+      world-same : SameWorld p (worldBefore p w a) (worldBefore p v b)
       unfolding worldBefore
-      world-same k =
+      world-same =
           record {
             depths = filled-same (squares (p .shape)) _ _ (W .depths) before-same;
             lasts = filled-same (squares (p .shape)) _ _ (W .lasts) last-same;
-            run = rw (R .held, R .lasted, W .run, off-same, k);
+            records = W .records;
+            run = rw (R .held, R .lasted, W .run, off-same, slots-same (W .records));
           }
 
-  module _ (w v : World) (S : SameBack p w v) where
-    slots-same : roomSlots p (w .records) ≡ roomSlots p (v .records)
-    unfolding roomSlots
-    slots-same = rw (S .room)
+  module _ (w v : World) (W : SameWorld p w v) where
+    newest-same : SameRecord p (newestRecord p w) (newestRecord p v)
+    unfolding newestRecord
+    newest-same = subst (λ (u : Run). SameRecord p (newestRecord p w) (recordIn (recordSize p) (v .records) (u .newest))) (W .run) (W .records .slots (w .run .newest))
 
     back-number-same : backNumber p w ≡ backNumber p v
     unfolding backNumber backRows
     back-number-same =
         rw (
-          restorable-same (S .newest) (S .water),
-          one-each-same (S .water .depths),
-          one-each-same (S .water .lasts),
-          waters-same (S .water .depths) (S .water .lasts),
-          slots-same,
-          S .water .run,
+          restorable-same newest-same W,
+          one-each-same (W .depths),
+          one-each-same (W .lasts),
+          waters-same (W .depths) (W .lasts),
+          slots-same (W .records),
+          W .run,
         )
 
-    taken-same : SameWater p (takenBack p w) (takenBack p v)
+    taken-same : SameWorld p (takenBack p w) (takenBack p v)
     unfolding takenBack
-    taken-same =
-        rw (← back-number-same)
-        (pick-two (SameWater p) (eqb (backNumber p w) 0) (world-same (S .newest) (S .water) slots-same) (S .water))
+    taken-same = rw (← back-number-same) (pick-two (SameWorld p) (eqb (backNumber p w) 0) (world-same newest-same W) W)
 
   -- a fresh run
-  module _ (r : Rules) (lasts others records : List ℕ) (L : SameOpen p lasts others) where
-    fresh-number-same : freshNumber p r lasts records ≡ freshNumber p r others records
+  module _ (r : Rules) (lasts others records rooms : List ℕ) (L : SameOpen p lasts others) (R : SameRoom p records rooms) where
+    fresh-number-same : freshNumber p r lasts records ≡ freshNumber p r others rooms
     unfolding freshNumber freshRows
-    fresh-number-same = rw (one-each-same L)
+    fresh-number-same = rw (one-each-same L, slots-same R)
 
-    fresh-run-same : freshRun p r lasts records ≡ freshRun p r others records
+    fresh-run-same : freshRun p r lasts records ≡ freshRun p r others rooms
     unfolding freshRun
-    fresh-run-same = refl
+    fresh-run-same = rw (slots-same R)
 
-    fresh-lasts-same : SameOpen p (freshLasts p r lasts records) (freshLasts p r others records)
+    fresh-lasts-same : SameOpen p (freshLasts p r lasts records) (freshLasts p r others rooms)
     unfolding freshLasts
     fresh-lasts-same =
         rw (← fresh-number-same)
@@ -378,10 +453,14 @@ module _ (p : Plan) where
   none-depends =
       record {
         step = step-same;
+        written = both-written;
         run-to = λ g h end w v G W. run-same g h end G w v W;
-        take-back = λ w v S. (back-number-same w v S, taken-same w v S);
-        fresh = λ r lasts others records L.
-            (fresh-number-same r lasts others records L, fresh-run-same r lasts others records L, fresh-lasts-same r lasts others records L);
+        take-back = λ w v W. (back-number-same w v W, taken-same w v W);
+        fresh = λ r lasts others records rooms L R. (
+          fresh-number-same r lasts others records rooms L R,
+          fresh-run-same r lasts others records rooms L R,
+          fresh-lasts-same r lasts others records rooms L R,
+        );
         check = check-same;
         arrow = λ D depths others room rest u row column d l r. arrow-alike p D room rest u row column (seen-depths d) l (seen-record r);
         wet-rows = λ depths others least old a rows d x. wet-alike p (seen-depths d) x;
@@ -418,15 +497,11 @@ module _ (p : Plan) where
 
   -- ---- a step that is made, and the slot that it writes
   module _ (g : Given) (w : World) (made : stepNumber p g w ≡ 0) where
-    checked : refusal (stepChecks p g (ringOf p g w) (seenOf w)) ≡ 0
-    unfolding stepNumber
-    checked = refusal-both (stepChecks p g (ringOf p g w) (seenOf w)) _ (checks-named p g (ringOf p g w) (seenOf w)) made .0
-
     -- it gives what the rule gives
     step-gives : StepGives p g w
     unfolding worldAfter newDepth remains newOutflow stepLength stepLasts
     step-gives =
-        let flows = ready p g (ringOf p g w) (seenOf w) checked .flows in
+        let flows = ready p g (ringOf p g w) (seenOf w) (checked g w made) .flows in
         let depths-long : length (w .depths) ≡ squares (p .shape) = flows .lies .sited .depths-long in
         let lasts-long : length (w .lasts) ≡ squares (p .shape) = flows .lasts-long in
         record {
@@ -439,17 +514,9 @@ module _ (p : Plan) where
           clock = ap (λ (u : World). u .run .clock) (made-is p g w made);
         }
 
-    newest-written : newestRecord p (stepped p g w) ≡ stepRecord p (stepMoves p g (seenOf w)) w
-    unfolding newestRecord worldAfter roomSlots
-    newest-written =
-        let ring = fine-ring _ _ _ (ring-is p g (ringOf p g w) (seenOf w) checked) in
-        rw (made-is p g w made)
-        (read-stored (recordSize p) (omega arith) (w .records) (slotAfter (roomSlots p (w .records)) (w .run .newest))
-        (stepRecord p (stepMoves p g (seenOf w)) w) (step-long p (stepMoves p g (seenOf w)) w) (ring-after ring .newest-below))
-
     slot-zeros : (i word : ℕ) → i < squares (p .shape) → shut p i ≡ true → word < squareWords → getD (newestRecord p (stepped p g w)) (wordPlace i word) 0 ≡ 0
     unfolding stepRecord
-    slot-zeros i word l e h = ap (λ (rec : List ℕ). getD rec (wordPlace i word) 0) newest-written ∙ closed-read p _ _ _ _ _ i l e word h
+    slot-zeros i word l e h = ap (λ (rec : List ℕ). getD rec (wordPlace i word) 0) (newest-written g w made) ∙ closed-read p _ _ _ _ _ i l e word h
 
   fresh-untouched : (r : Rules) (lasts records : List ℕ) (i : ℕ) → shut p i ≡ true → getD (freshLasts p r lasts records) i 0 ≡ getD lasts i 0
   unfolding freshLasts

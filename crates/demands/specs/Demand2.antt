@@ -7,6 +7,7 @@ use mathlib.Core.List.{List}
 use Prim.Native.Nat.{ℕ, _+_, _-_, _<_}
 use lib.ListN.{length, getD}
 use Rattle.reckon.specs.Tests.{refusal}
+use Rattle.trials.specs.Room.{recordIn}
 use Rattle.grid.specs.Squares.{squares, sides}
 use Rattle.grid.specs.Marks.{Alike}
 use Rattle.rule.specs.Length.{lengthAt, lastsFor}
@@ -14,7 +15,7 @@ use Rattle.rule.specs.Weighing.{weighed}
 use Rattle.rule.specs.declared.rules.Rules.{Rules}
 use Rattle.ledger.specs.Runs.{Plan, World}
 use Rattle.ledger.specs.Flows.{Leaves, shut, gone, came, offGrid}
-use Rattle.ledger.specs.Record.{squareWords, wordPlace, heldIn, lastedIn, newestRecord}
+use Rattle.ledger.specs.Record.{squareWords, recordSize, wordPlace, heldIn, lastedIn, newestRecord}
 use Rattle.ledger.specs.TakeBack.{backNumber, takenBack}
 use Rattle.ledger.specs.Engine.{Seen, seenOf}
 use Rattle.ledger.specs.Walls.{Walled, Goes, Untouched}
@@ -76,28 +77,23 @@ module _ (p : Plan) where
     pub rain : g .rain ≡ h .rain
     pub inflow : g .inflow ≡ h .inflow
 
-  -- depths, last leaving and run
-  pub record SameWater (w v : World) : Type 0 where
-    pub depths : SameOpen (w .depths) (v .depths)
-    pub lasts : SameOpen (w .lasts) (v .lasts)
-    pub run : w .run ≡ v .run
-
-  -- and the record room, number for number
-  pub record SameWorld (w v : World) : Type 0 where
-    pub water : SameWater w v
-    pub records : w .records ≡ v .records
-
   -- two records: "A closed square's numbers in a record are never read"
   pub record SameRecord (a b : List ℕ) : Type 0 where
     pub held : heldIn a ≡ heldIn b
     pub lasted : lastedIn a ≡ lastedIn b
     pub words : (i word : ℕ) → shut p i ≡ false → word < squareWords → getD a (wordPlace i word) 0 ≡ getD b (wordPlace i word) 0
 
-  -- what a take-back is lent: of the record room only the newest record
-  pub record SameBack (w v : World) : Type 0 where
-    pub water : SameWater w v
-    pub room : length (w .records) ≡ length (v .records)
-    pub newest : SameRecord (newestRecord p w) (newestRecord p v)
+  -- two record rooms, slot by slot
+  pub record SameRoom (a b : List ℕ) : Type 0 where
+    pub long : length a ≡ length b
+    pub slots : (u : ℕ) → SameRecord (recordIn (recordSize p) a u) (recordIn (recordSize p) b u)
+
+  -- depths, last leaving, records and run
+  pub record SameWorld (w v : World) : Type 0 where
+    pub depths : SameOpen (w .depths) (v .depths)
+    pub lasts : SameOpen (w .lasts) (v .lasts)
+    pub records : SameRoom (w .records) (v .records)
+    pub run : w .run ≡ v .run
 
   -- how a run ended
   pub record SameEnd (e f : Ended) : Type 0 where
@@ -107,16 +103,19 @@ module _ (p : Plan) where
 
   -- ---- "no answer depends on it"
 
-  -- the number, the run, the record written and the water of squares not closed are the same
+  -- the number and the run are the same, and so is afterwards all that is held, but for closed squares
   pub record NoneDepends : Type 0 where
     pub step : (g h : Given) (w v : World) → SameGiven g h → SameWorld w v →
         (stepNumber p g w ≡ stepNumber p h v) × SameWorld (stepped p g w) (stepped p h v)
+    -- the record that a step writes, number for number
+    pub written : (g h : Given) (w v : World) → SameGiven g h → SameWorld w v → stepNumber p g w ≡ 0 →
+        newestRecord p (stepped p g w) ≡ newestRecord p (stepped p h v)
     pub run-to : (g h : Given) (end : ℕ) (w v : World) → SameGiven g h → SameWorld w v → SameEnd (runTo p g end w) (runTo p h end v)
-    pub take-back : (w v : World) → SameBack w v → (backNumber p w ≡ backNumber p v) × SameWater (takenBack p w) (takenBack p v)
-    pub fresh : (r : Rules) (lasts others records : List ℕ) → SameOpen lasts others →
-        (freshNumber p r lasts records ≡ freshNumber p r others records)
-        × (freshRun p r lasts records ≡ freshRun p r others records)
-        × SameOpen (freshLasts p r lasts records) (freshLasts p r others records)
+    pub take-back : (w v : World) → SameWorld w v → (backNumber p w ≡ backNumber p v) × SameWorld (takenBack p w) (takenBack p v)
+    pub fresh : (r : Rules) (lasts others records rooms : List ℕ) → SameOpen lasts others → SameRoom records rooms →
+        (freshNumber p r lasts records ≡ freshNumber p r others rooms)
+        × (freshRun p r lasts records ≡ freshRun p r others rooms)
+        × SameOpen (freshLasts p r lasts records) (freshLasts p r others rooms)
     pub check : (g h : Given) (end : ℕ) (w v : World) → SameGiven g h → SameWorld w v → refusal (runChecks p g end w) ≡ refusal (runChecks p h end v)
     -- an arrow is lent depths, the record room and the run
     pub arrow : (D : ℕ) (depths others room rest : List ℕ) (u : Run) (row column : ℕ) → SameOpen depths others → length room ≡ length rest →
