@@ -33,7 +33,7 @@ pub record FilledOne (p : Plan) (o : Ground) (depths lasts added : List ℕ) (ms
       (weighed (o .rules) (getD depths i 0) (getD lasts i 0) (getD (o .roughness) i 0) ms (dropsOf p (o .rules) (o .beds) depths i))
       (getD lasts i 0) (getD added i 0) new
 
--- rows 1 to 6 pass, and the working rooms are of their sizes
+-- rows 1 to 6 pass
 pub record Passes (p : Plan) (g : Given) (w : World) : Type 0 where
   pub checked : refusal (stepChecks p g (ringOf p g w) (seenOf w)) ≡ 0
 
