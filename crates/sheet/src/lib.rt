@@ -5,6 +5,6 @@
 //   lines     each kind of line, with its fields
 //   rooms     lines into rooms
 pub mod answer;
-mod lines;
+pub mod lines;
 pub mod reading;
 mod rooms;

@@ -63,25 +63,25 @@ const INFLOW_SCRATCH: usize = 325;
 
 // What the text after line 1 says: the number of the first line that cannot be read, 0 for none; rules and end; where the cell lines and
 // the tables start, and how many rows they have.
-pub struct Body {
-    pub bad: usize,
-    pub rules: Rules,
-    pub end: u64,
-    pub cells_at: usize,
-    pub rain_at: usize,
-    pub rain_rows: usize,
-    pub inflow_at: usize,
-    pub inflow_rows: usize,
+pub(crate) struct Body {
+    pub(crate) bad: usize,
+    pub(crate) rules: Rules,
+    pub(crate) end: u64,
+    pub(crate) cells_at: usize,
+    pub(crate) rain_at: usize,
+    pub(crate) rain_rows: usize,
+    pub(crate) inflow_at: usize,
+    pub(crate) inflow_rows: usize,
 }
 
 // The lengths of the lent rooms.
-pub struct Sizes {
-    pub marks: usize,
-    pub beds: usize,
-    pub roughness: usize,
-    pub depths: usize,
-    pub rain: usize,
-    pub inflow: usize,
+pub(crate) struct Sizes {
+    pub(crate) marks: usize,
+    pub(crate) beds: usize,
+    pub(crate) roughness: usize,
+    pub(crate) depths: usize,
+    pub(crate) rain: usize,
+    pub(crate) inflow: usize,
 }
 
 // Refusal 1: shape and D are in range, and every room is large enough.
@@ -272,10 +272,10 @@ fn judge_body(
 }
 
 // The number and the line of a refusal, 0 for none, and what the text after line 1 says.
-pub struct Verdict {
-    pub number: u32,
-    pub line: usize,
-    pub body: Body,
+pub(crate) struct Verdict {
+    pub(crate) number: u32,
+    pub(crate) line: usize,
+    pub(crate) body: Body,
 }
 
 // Whether a text whose line 1 and rooms are good is refused: all other text, and then 2 to 5.

@@ -18,9 +18,9 @@ ghost use Rattle.sheet.specs.Inner.{CellsRead, RowsCounted};
 ghost use Rattle.sheet.specs.Sheet.{rowsRead, tableRows, cellsRooms};
 
 // How many lines were read, and where the line after them starts.
-pub struct Scan {
-    pub count: usize,
-    pub next: usize,
+pub(crate) struct Scan {
+    pub(crate) count: usize,
+    pub(crate) next: usize,
 }
 
 // What a line says of a square into the rooms: the mark, and bed, roughness and depth where it is not closed.

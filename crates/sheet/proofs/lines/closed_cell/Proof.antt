@@ -1,30 +1,32 @@
+-- `sheet::lines::closed_cell` meets its contract: the newline decides.
+-- Assumes nothing.
+use mathlib.Core.Path.{sym, _∙_}
+use native.Mathlib.Omega.{arith}
+use borrow.Author.Tests.{not-true, not-false}
 use borrow.Author.Needs.{needs}
+use Rattle.reckon.proofs.TestLaws.{pick-true, pick-false}
+use Rattle.text.specs.Reading.{newline}
+use Rattle.text.proofs.ReadingLaws.{byte-within}
+use Rattle.sheet.specs.Lines.{closedCell}
 use Rattle.sheet.proofs.lines.closed_cell.Statement.{statement}
 use Rattle.sheet.proofs.lines.closed_cell.Tie as tie
-use Rattle.sheet.proofs.lines.closed_cell.Reads as reads
-use Rattle.sheet.proofs.lines.closed_cell.Lts as lts
-use Rattle.sheet.proofs.lines.no_cell.Reads as no-cell-reads
-use Rattle.text.proofs.reading.byte_is.Reads as byte-is-reads
 
--- src/lines.rt:104:9
 byte-is-requires : tie.Need-byte-is-requires
 byte-is-requires c κs = search needs
 
--- src/lines.rt:105:9
 no-cell-requires : tie.Need-no-cell-requires
 no-cell-requires c κs = search needs
 
--- src/lines.rt:105:9
 returns : tie.Need-returns
-returns c = ?
+unfolding closedCell
+returns c = c .no-cell .ensures ∙ sym (pick-false _ _ (sym (c .before .before .byte-is .ensures) ∙ not-true _ (c .before .if1 .taken)))
 
--- src/lines.rt:113:15
 add-t5 : tie.Need-add-t5
-add-t5 c = ?
+add-t5 c = omega (arith, byte-within (c .before .before .before .args .text .now) (c .before .before .before .args .at) newline (sym (c .before .byte-is .ensures) ∙ not-false _ (c .if1 .left)))
 
--- src/lines.rt:101:1
 returns-2 : tie.Need-returns-2
-returns-2 c = ?
+unfolding closedCell
+returns-2 c = sym (pick-true _ _ (sym (c .before .byte-is .ensures) ∙ not-false _ (c .if1 .left)))
 
 pub closed-cell-spec : {M : Type 1} → statement M
 closed-cell-spec = tie.close (tie.spec byte-is-requires no-cell-requires returns add-t5 returns-2)

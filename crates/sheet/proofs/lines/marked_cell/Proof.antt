@@ -1,92 +1,81 @@
+-- `sheet::lines::marked_cell` meets its contract: the tab and the mark decide.
+-- Assumes nothing.
+use mathlib.Core.Path.{sym, _∙_}
+use Prim.Native.Nat.{_+_}
+use native.Mathlib.Omega.{arith}
+use borrow.Author.Tests.{not-true, not-false}
 use borrow.Author.Needs.{needs}
+use Rattle.reckon.proofs.TestLaws.{pick-true, pick-false}
+use Rattle.text.specs.Reading.{tab}
+use Rattle.text.proofs.ReadingLaws.{byte-within}
+use Rattle.sheet.specs.Lines.{markedCell, xLetter, oLetter, eLetter}
 use Rattle.sheet.proofs.lines.marked_cell.Statement.{statement}
 use Rattle.sheet.proofs.lines.marked_cell.Tie as tie
-use Rattle.sheet.proofs.lines.marked_cell.Reads as reads
-use Rattle.sheet.proofs.lines.marked_cell.Lts as lts
-use Rattle.sheet.proofs.lines.closed_cell.Reads as closed-cell-reads
-use Rattle.sheet.proofs.lines.no_cell.Reads as no-cell-reads
-use Rattle.sheet.proofs.lines.open_cell.Reads as open-cell-reads
-use Rattle.text.proofs.reading.byte_is.Reads as byte-is-reads
 
--- src/lines.rt:137:9
 byte-is-requires : tie.Need-byte-is-requires
 byte-is-requires c κs = search needs
 
--- src/lines.rt:138:9
 no-cell-requires : tie.Need-no-cell-requires
 no-cell-requires c κs = search needs
 
--- src/lines.rt:138:9
 returns : tie.Need-returns
-returns c = ?
+unfolding markedCell
+returns c = c .no-cell .ensures ∙ sym (pick-false _ _ (sym (c .before .before .byte-is .ensures) ∙ not-true _ (c .before .if1 .taken)))
 
--- src/lines.rt:140:22
 add-byte-is : tie.Need-add-byte-is
-add-byte-is c = ?
+add-byte-is c = omega (arith, byte-within (c .before .before .before .args .text .now) (c .before .before .before .args .at) tab (sym (c .before .byte-is .ensures) ∙ not-false _ (c .if1 .left)))
 
--- src/lines.rt:140:8
 byte-is-requires-2 : tie.Need-byte-is-requires-2
 byte-is-requires-2 c κs = search needs
 
--- src/lines.rt:141:34
 add-closed-cell : tie.Need-add-closed-cell
-add-closed-cell c = ?
+add-closed-cell c = omega (arith, byte-within (c .before .before .before .before .before .args .text .now) (c .before .before .before .before .before .args .at + 1) xLetter (sym (c .before .byte-is2 .ensures) ∙ c .if2 .taken))
 
--- src/lines.rt:141:9
 closed-cell-requires : tie.Need-closed-cell-requires
 closed-cell-requires c κs = search needs
 
--- src/lines.rt:141:9
 returns-2 : tie.Need-returns-2
-returns-2 c = ?
+unfolding markedCell
+returns-2 c = c .closed-cell .ensures ∙ sym (pick-true _ _ (sym (c .before .before .before .before .byte-is .ensures) ∙ not-false _ (c .before .before .before .if1 .left)) ∙ pick-true _ _ (sym (c .before .before .byte-is2 .ensures) ∙ c .before .if2 .taken))
 
--- src/lines.rt:143:22
 add-byte-is-2 : tie.Need-add-byte-is-2
-add-byte-is-2 c = ?
+add-byte-is-2 c = omega (arith, byte-within (c .before .before .before .before .before .args .text .now) (c .before .before .before .before .before .args .at) tab (sym (c .before .before .before .byte-is .ensures) ∙ not-false _ (c .before .before .if1 .left)))
 
--- src/lines.rt:143:8
 byte-is-requires-3 : tie.Need-byte-is-requires-3
 byte-is-requires-3 c κs = search needs
 
--- src/lines.rt:144:32
 add-open-cell : tie.Need-add-open-cell
-add-open-cell c = ?
+add-open-cell c = omega (arith, byte-within (c .before .before .before .before .before .before .before .args .text .now) (c .before .before .before .before .before .before .before .args .at + 1) oLetter (sym (c .before .byte-is3 .ensures) ∙ c .if3 .taken))
 
--- src/lines.rt:144:9
 open-cell-requires : tie.Need-open-cell-requires
 open-cell-requires c κs = search needs
 
--- src/lines.rt:144:9
 returns-3 : tie.Need-returns-3
-returns-3 c = ?
+unfolding markedCell
+returns-3 c = c .open-cell .ensures ∙ sym (pick-true _ _ (sym (c .before .before .before .before .before .before .byte-is .ensures) ∙ not-false _ (c .before .before .before .before .before .if1 .left)) ∙ (pick-false _ _ (sym (c .before .before .before .before .byte-is2 .ensures) ∙ c .before .before .before .if2 .left) ∙ pick-true _ _ (sym (c .before .before .byte-is3 .ensures) ∙ c .before .if3 .taken)))
 
--- src/lines.rt:146:22
 add-byte-is-3 : tie.Need-add-byte-is-3
-add-byte-is-3 c = ?
+add-byte-is-3 c = omega (arith, byte-within (c .before .before .before .before .before .before .before .args .text .now) (c .before .before .before .before .before .before .before .args .at) tab (sym (c .before .before .before .before .before .byte-is .ensures) ∙ not-false _ (c .before .before .before .before .if1 .left)))
 
--- src/lines.rt:146:8
 byte-is-requires-4 : tie.Need-byte-is-requires-4
 byte-is-requires-4 c κs = search needs
 
--- src/lines.rt:147:32
 add-open-cell-2 : tie.Need-add-open-cell-2
-add-open-cell-2 c = ?
+add-open-cell-2 c = omega (arith, byte-within (c .before .before .before .before .before .before .before .before .before .args .text .now) (c .before .before .before .before .before .before .before .before .before .args .at + 1) eLetter (sym (c .before .byte-is4 .ensures) ∙ c .if4 .taken))
 
--- src/lines.rt:147:9
 open-cell-requires-2 : tie.Need-open-cell-requires-2
 open-cell-requires-2 c κs = search needs
 
--- src/lines.rt:147:9
 returns-4 : tie.Need-returns-4
-returns-4 c = ?
+unfolding markedCell
+returns-4 c = c .open-cell2 .ensures ∙ sym (pick-true _ _ (sym (c .before .before .before .before .before .before .before .before .byte-is .ensures) ∙ not-false _ (c .before .before .before .before .before .before .before .if1 .left)) ∙ (pick-false _ _ (sym (c .before .before .before .before .before .before .byte-is2 .ensures) ∙ c .before .before .before .before .before .if2 .left) ∙ (pick-false _ _ (sym (c .before .before .before .before .byte-is3 .ensures) ∙ c .before .before .before .if3 .left) ∙ pick-true _ _ (sym (c .before .before .byte-is4 .ensures) ∙ c .before .if4 .taken))))
 
--- src/lines.rt:149:5
 no-cell-requires-2 : tie.Need-no-cell-requires-2
 no-cell-requires-2 c κs = search needs
 
--- src/lines.rt:134:1
 returns-5 : tie.Need-returns-5
-returns-5 c = ?
+unfolding markedCell
+returns-5 c = c .no-cell2 .ensures ∙ sym (pick-true _ _ (sym (c .before .before .before .before .before .before .before .before .byte-is .ensures) ∙ not-false _ (c .before .before .before .before .before .before .before .if1 .left)) ∙ (pick-false _ _ (sym (c .before .before .before .before .before .before .byte-is2 .ensures) ∙ c .before .before .before .before .before .if2 .left) ∙ (pick-false _ _ (sym (c .before .before .before .before .byte-is3 .ensures) ∙ c .before .before .before .if3 .left) ∙ pick-false _ _ (sym (c .before .before .byte-is4 .ensures) ∙ c .before .if4 .left))))
 
 pub marked-cell-spec : {M : Type 1} → statement M
 marked-cell-spec =
