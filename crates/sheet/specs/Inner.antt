@@ -16,7 +16,7 @@ use Rattle.sheet.specs.declared.reading.Verdict.{Verdict}
 pub record CellsRead (s : List ℕ) (p : ℕ) (shape : Shape) (r : Scan) (before after : Rooms) : Type 0 where
   pub count-is : r .count ≡ cellsRead s p shape
   pub next-is : r .next ≡ lineFrom s p (r .count)
-  pub rooms-are : after ≡ cellsFilled s p shape (r .count) before
+  pub rooms-are : after ≡ cellsFilled s p (shape .columns) (r .count) before
   pub passed : p + r .count ≤ r .next
 
 -- lines of a table counted from p on
@@ -39,7 +39,7 @@ pub record BodyIs (s : List ℕ) (b : Body) : Type 0 where
 pub record TextRead (s : List ℕ) (b : Body) (before after : Rooms) : Type 0 where
   pub bad-is : b .bad ≡ badLine s
   pub body-is : b .bad ≡ 0 → BodyIs s b
-  pub rooms-are : b .bad ≡ 0 → after ≡ cellsFilled s (cellsAt s) (shapeOf s) (squares (shapeOf s)) before
+  pub rooms-are : b .bad ≡ 0 → after ≡ cellsFilled s (cellsAt s) (shapeOf s .columns) (squares (shapeOf s)) before
 
 -- 12 where a line is bad, or else the number of the check that fails
 unfoldable pub numberOf : ℕ → ℕ → ℕ

@@ -31,12 +31,12 @@ use Rattle.sheet.specs.declared.reading.Sheet.the-variants.{Read, Refuse
 
 -- ---- lines one after the other
 
--- the cell line of square i, the first square's line being at p; how many can be read before the first that cannot
-abbrev pub cellFrom : List ℕ → ℕ → Shape → ℕ → CellLine
-cellFrom s p shape i = cellLine s (lineFrom s p i) (i / shape .columns) (i % shape .columns)
+-- the cell line of square i of a grid with so many columns, the first square's line being at p; how many can be read before the first that cannot
+abbrev pub cellFrom : List ℕ → ℕ → ℕ → ℕ → CellLine
+cellFrom s p columns i = cellLine s (lineFrom s p i) (i / columns) (i % columns)
 
 unfoldable pub cellsRead : List ℕ → ℕ → Shape → ℕ
-cellsRead s p shape = firstFailing (squares shape) (λ i. cellFrom s p shape i .found)
+cellsRead s p shape = firstFailing (squares shape) (λ i. cellFrom s p (shape .columns) i .found)
 
 -- line j of a table whose first line would be at p; how many there are (each has a byte or more)
 abbrev pub rowLine : List ℕ → ℕ → List ℕ → ℕ → ℕ → Fields
@@ -66,9 +66,6 @@ module _ (s : List ℕ) where
   -- "one `cell` a square in row order"
   abbrev pub cellsAt : ℕ
   cellsAt = lineFrom s 0 2
-
-  abbrev pub cellOf : ℕ → CellLine
-  cellOf i = cellFrom s cellsAt shapeOf i
 
   -- "then `rain` lines"
   abbrev pub rainAt : ℕ
@@ -120,17 +117,17 @@ abbrev pub cellsRooms : List ℕ → List ℕ → List ℕ → List ℕ → Room
 cellsRooms m b k d = rooms m b k d [] []
 
 -- "Each room is filled from its start; the rest of it stays": n squares' lines at p, the bed, roughness and depth of a closed square left
-module _ (s : List ℕ) (p : ℕ) (shape : Shape) where
+module _ (s : List ℕ) (p columns : ℕ) where
   abbrev pub closedFrom : ℕ → Bool
-  closedFrom i = eqb (cellFrom s p shape i .mark) 0
+  closedFrom i = eqb (cellFrom s p columns i .mark) 0
 
   unfoldable pub cellsFilled : ℕ → Rooms → Rooms
   cellsFilled n old =
       record {
-        marks = filled n (λ i. false) (λ i. cellFrom s p shape i .mark) (old .marks);
-        beds = filled n closedFrom (λ i. cellFrom s p shape i .bed) (old .beds);
-        roughness = filled n closedFrom (λ i. cellFrom s p shape i .roughness) (old .roughness);
-        depths = filled n closedFrom (λ i. cellFrom s p shape i .depth) (old .depths);
+        marks = filled n (λ i. false) (λ i. cellFrom s p columns i .mark) (old .marks);
+        beds = filled n closedFrom (λ i. cellFrom s p columns i .bed) (old .beds);
+        roughness = filled n closedFrom (λ i. cellFrom s p columns i .roughness) (old .roughness);
+        depths = filled n closedFrom (λ i. cellFrom s p columns i .depth) (old .depths);
         rain = old .rain;
         inflow = old .inflow;
       }
@@ -147,7 +144,7 @@ tablesFilled s old =
     }
 
 abbrev pub roomsFilled : List ℕ → Rooms → Rooms
-roomsFilled s old = tablesFilled s (cellsFilled s (cellsAt s) (shapeOf s) (squares (shapeOf s)) old)
+roomsFilled s old = tablesFilled s (cellsFilled s (cellsAt s) (shapeOf s .columns) (squares (shapeOf s)) old)
 
 -- "shape (1, also a lent room under one number a square, 192 for rain or 320 for inflow)"
 unfoldable pub roomsFine : Shape → Rules → Rooms → Bool
@@ -191,7 +188,7 @@ module _ (s : List ℕ) where
   noCells = replicate (squares (shapeOf s)) 0
 
   abbrev pub saidCells : Rooms
-  saidCells = cellsFilled s (cellsAt s) (shapeOf s) (squares (shapeOf s)) (cellsRooms noCells noCells noCells noCells)
+  saidCells = cellsFilled s (cellsAt s) (shapeOf s .columns) (squares (shapeOf s)) (cellsRooms noCells noCells noCells noCells)
 
   abbrev pub said : Rooms
   said =

@@ -108,9 +108,9 @@ pub(crate) fn count_rows(text: &[u8], at: usize, word: &[u8], width: usize) -> S
 }
 
 // The first numbers of a line into a room.
-fn put_row(values: [u32; 8], width: usize, at: usize, room: &mut [u32])
-    requires { ⌜ (width ≤ mostFields) × (at + width ≤ length (now room)) ⌝ }
-    ensures { λ _. ⌜ now (room .exit) ≡ placed (now (room .entry)) at (take width values) ⌝ }
+fn put_row(values: &[u32], width: usize, at: usize, room: &mut [u32])
+    requires { ⌜ (width ≤ length (now values)) × (at + width ≤ length (now room)) ⌝ }
+    ensures { λ _. ⌜ now (room .exit) ≡ placed (now (room .entry)) at (take width (now (values .entry))) ⌝ }
 {
     let mut k: usize = 0;
     while k < width {
@@ -138,7 +138,7 @@ pub(crate) fn fill_rows(
     while row < count {
         let line = line_of(text, next, word, width);
         let values = line.values;
-        put_row(values, width, used, room);
+        put_row(&values, width, used, room);
         next = line.next;
         used += width;
         row += 1;

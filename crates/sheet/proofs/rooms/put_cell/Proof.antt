@@ -1,64 +1,53 @@
+-- `sheet::rooms::put_cell` meets its contract: a closed square's other numbers stay.
+-- Assumes nothing.
+use mathlib.Core.Path.{refl, sym}
+use borrow.Author.Tests.{eq-eqb, ne-eqb}
 use borrow.Author.Needs.{needs}
+use Rattle.reckon.proofs.TestLaws.{pick-true, pick-false}
 use Rattle.sheet.proofs.rooms.put_cell.Statement.{statement}
 use Rattle.sheet.proofs.rooms.put_cell.Tie as tie
-use Rattle.sheet.proofs.rooms.put_cell.Reads as reads
-use Rattle.sheet.proofs.rooms.put_cell.Lts as lts
 
--- src/rooms.rt:41:5
 slice-write-marks : tie.Need-slice-write-marks
 slice-write-marks c = search needs
 
--- src/rooms.rt:43:9
 same-length : tie.Need-same-length
 same-length c = search needs
 
--- src/rooms.rt:43:9
 returns : tie.Need-returns
-returns c = ?
+returns c = let e = eq-eqb _ _ (c .if1 .taken) in (refl, sym (pick-true _ _ e), sym (pick-true _ _ e), sym (pick-true _ _ e))
 
--- src/rooms.rt:45:5
 mul-beds : tie.Need-mul-beds
 mul-beds c = search needs
 
--- src/rooms.rt:45:5
 slice-write-beds : tie.Need-slice-write-beds
 slice-write-beds c = search needs
 
--- src/rooms.rt:46:5
 mul-roughness : tie.Need-mul-roughness
 mul-roughness c = search needs
 
--- src/rooms.rt:46:5
 slice-write-roughness : tie.Need-slice-write-roughness
 slice-write-roughness c = search needs
 
--- src/rooms.rt:47:5
 mul-depths : tie.Need-mul-depths
 mul-depths c = search needs
 
--- src/rooms.rt:47:5
 slice-write-depths : tie.Need-slice-write-depths
 slice-write-depths c = search needs
 
--- src/rooms.rt:27:1
 same-length-2 : tie.Need-same-length-2
 same-length-2 c = search needs
 
--- src/rooms.rt:27:1
 same-length-3 : tie.Need-same-length-3
 same-length-3 c = search needs
 
--- src/rooms.rt:27:1
 same-length-4 : tie.Need-same-length-4
 same-length-4 c = search needs
 
--- src/rooms.rt:27:1
 same-length-5 : tie.Need-same-length-5
 same-length-5 c = search needs
 
--- src/rooms.rt:27:1
 returns-2 : tie.Need-returns-2
-returns-2 c = ?
+returns-2 c = let e = ne-eqb _ _ (c .if1 .left) in (refl, sym (pick-false _ _ e), sym (pick-false _ _ e), sym (pick-false _ _ e))
 
 pub put-cell-spec : {M : Type 1} → statement M
 put-cell-spec =

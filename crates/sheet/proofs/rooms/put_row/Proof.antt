@@ -1,57 +1,54 @@
+-- `sheet::rooms::put_row` meets its contract: the numbers so far stand in the room.
+-- Assumes nothing.
+use mathlib.Core.Path.{_≡_, ap, _∙_}
+use Prim.Native.Nat.{ℕ, _-_, _≤_}
+use native.Mathlib.Omega.{arith}
+use lib.ListN.{take}
+use Rattle.reckon.specs.Lists.{placed}
+use Rattle.sheet.proofs.RoomLaws.{row-none, row-put, row-length}
 use Rattle.sheet.proofs.rooms.put_row.Statement.{statement}
 use Rattle.sheet.proofs.rooms.put_row.Tie as tie
-use Rattle.sheet.proofs.rooms.put_row.Reads as reads
-use Rattle.sheet.proofs.rooms.put_row.Lts as lts
 
 abbrev Inv-loop : tie.InvT-loop
-Inv-loop width at room₀ values k₀ room k = ?
+Inv-loop values width at room₀ k₀ room k = (k ≤ width) × (room ≡ placed room₀ at (take k values))
 
 abbrev μ-loop : tie.MeasureT-loop
-μ-loop width at room₀ values k₀ room k = ?
+μ-loop values width at room₀ k₀ room k = width - k
 
--- src/rooms.rt:116:5
 loop-holds : tie.Need-loop-holds Inv-loop μ-loop
-loop-holds c = ?
+loop-holds c = (omega arith, row-none (c .args .room .now) (c .args .at) (c .args .values .now))
 
--- src/rooms.rt:117:24
 mul-room : tie.Need-mul-room Inv-loop μ-loop
-mul-room c = ?
+mul-room c = omega arith
 
--- src/rooms.rt:117:24
-array-read-room : tie.Need-array-read-room Inv-loop μ-loop
-array-read-room c = ?
+shared-slice-read-room : tie.Need-shared-slice-read-room Inv-loop μ-loop
+shared-slice-read-room c = omega arith
 
--- src/rooms.rt:117:14
 add-room : tie.Need-add-room Inv-loop μ-loop
-add-room c = ?
+add-room c = omega arith
 
--- src/rooms.rt:117:9
 mul-room-2 : tie.Need-mul-room-2 Inv-loop μ-loop
-mul-room-2 c = ?
+mul-room-2 c = omega arith
 
--- src/rooms.rt:117:9
 slice-write-room : tie.Need-slice-write-room Inv-loop μ-loop
-slice-write-room c = ?
+slice-write-room c = omega (arith, row-length (c .before .before .before .args .room .now) (c .before .before .before .args .at) (c .before .before .before .args .values .now) (c .before .before .loop .k) (omega arith) (c .before .before .loop .inv .1))
 
--- src/rooms.rt:118:9
 add-k : tie.Need-add-k Inv-loop μ-loop
-add-k c = ?
+add-k c = omega arith
 
--- src/rooms.rt:116:5
 loop-less : tie.Need-loop-less Inv-loop μ-loop
-loop-less c = ?
+loop-less c = omega arith
 
--- src/rooms.rt:116:5
 loop-again : tie.Need-loop-again Inv-loop μ-loop
-loop-again c = ?
+loop-again c = (omega arith, row-put (c .before .before .before .args .room .now) (c .before .before .before .args .at) (c .before .before .before .args .values .now) (c .before .before .loop .k) (omega arith) (omega arith) (omega arith) (c .before .before .loop .inv .1))
 
--- src/rooms.rt:111:1
 same-length : tie.Need-same-length Inv-loop μ-loop
-same-length c = ?
+same-length c = row-length (c .before .before .args .room .now) (c .before .before .args .at) (c .before .before .args .values .now) (c .before .loop .k) (omega arith) (c .before .loop .inv .1)
 
--- src/rooms.rt:111:1
 returns : tie.Need-returns Inv-loop μ-loop
-returns c = ?
+returns c =
+    let end : c .before .loop .k ≡ c .before .before .args .width = omega arith in
+    c .before .loop .inv .1 ∙ ap (λ (n : ℕ). placed (c .before .before .args .room .now) (c .before .before .args .at) (take n (c .before .before .args .values .now))) end
 
 pub put-row-spec : {M : Type 1} → statement M
 put-row-spec =
@@ -61,7 +58,7 @@ put-row-spec =
     μ-loop
     loop-holds
     mul-room
-    array-read-room
+    shared-slice-read-room
     add-room
     mul-room-2
     slice-write-room
