@@ -1,2 +1,4 @@
+pub mod JudgeLaws
 pub mod KindLaws
+pub mod ReadLaws
 pub mod RoomLaws

@@ -1,42 +1,43 @@
+-- `sheet::reading::judge` meets its contract: the rooms lent are a fresh run's.
+-- Assumes nothing.
+use mathlib.Core.Path.{sym}
+use mathlib.Core.List.{[]}
+use Prim.Native.Nat.{ℕ, _≤_}
+use native.Mathlib.Omega.{arith}
+use lib.ListN.{length-replicate}
+use lib.Seq.{length-take-le}
+use borrow.Author.Needs.{needs}
+use Rattle.ledger.specs.Runs.{plan}
+use Rattle.ledger.specs.Record.{recordSize}
+use Rattle.sheet.proofs.JudgeLaws.{zeros-are, judge-is}
 use Rattle.sheet.proofs.reading.judge.Statement.{statement}
 use Rattle.sheet.proofs.reading.judge.Tie as tie
-use Rattle.sheet.proofs.reading.judge.Reads as reads
-use Rattle.sheet.proofs.reading.judge.Lts as lts
-use Rattle.flood.proofs.checks.check.Reads as check-reads
-use Rattle.grid.proofs.squares.squares_of.Reads as squares-of-reads
-use Rattle.ledger.proofs.record.record_size.Reads as record-size-reads
 
--- src/reading.rt:200:9
 squares-of-requires : tie.Need-squares-of-requires
-squares-of-requires c κs = ?
+squares-of-requires c κs = (c .before .before .before .before .before .before .pre)
 
--- src/reading.rt:201:9
 record-size-requires : tie.Need-record-size-requires
-record-size-requires c κs = ?
+record-size-requires c κs = (c .before .before .before .before .before .before .before .pre)
 
--- src/reading.rt:220:9
 array-share-prefix-lasts : tie.Need-array-share-prefix-lasts
-array-share-prefix-lasts c = ?
+array-share-prefix-lasts c = omega (arith, c .before .squares-of .ensures, c .before .before .before .before .before .before .before .before .pre .few)
 
--- src/reading.rt:220:9
 slice-aggregate-check : tie.Need-slice-aggregate-check
-slice-aggregate-check c = ?
+slice-aggregate-check c = sym (length-take-le _ _ (omega (arith, c .before .before .squares-of .ensures, c .before .before .before .before .before .before .before .before .before .pre .few, length-replicate {A = ℕ} 4096 0)))
 
--- src/reading.rt:221:9
 array-share-prefix-records : tie.Need-array-share-prefix-records
-array-share-prefix-records c = ?
+array-share-prefix-records c = omega (arith, c .before .record-size .ensures, c .before .before .before .before .before .before .before .before .before .pre .few)
 
--- src/reading.rt:221:9
 slice-aggregate-check-2 : tie.Need-slice-aggregate-check-2
-slice-aggregate-check-2 c = ?
+slice-aggregate-check-2 c = sym (length-take-le _ _ (omega (arith, c .before .before .record-size .ensures, c .before .before .before .before .before .before .before .before .before .before .pre .few, length-replicate {A = ℕ} 24578 0)))
 
--- src/reading.rt:209:5
 check-requires : tie.Need-check-requires
-check-requires c κs = ?
+check-requires c κs = search needs
 
--- src/reading.rt:184:1
 returns : tie.Need-returns
-returns c = ?
+returns c =
+    let small : recordSize (plan (c .before .before .before .before .before .before .before .before .before .before .before .args .shape) []) ≤ 24578 = omega (arith, c .before .before .before .before .before .before .before .before .before .before .before .pre .few) in
+    judge-is _ _ _ _ (c .check .ensures) (zeros-are _ _ (c .before .before .before .before .squares-of .ensures) (c .before .before .before .before .before .before .before .before .before .before .before .pre .few)) (zeros-are _ _ (c .before .before .before .record-size .ensures) small)
 
 pub judge-spec : {M : Type 1} → statement M
 judge-spec =

@@ -1,55 +1,48 @@
+-- `sheet::reading::rooms_fine` meets its contract: each test decides where those before it hold.
+-- Assumes nothing.
+use mathlib.Core.Path.{refl, sym}
+use native.Mathlib.Omega.{arith}
+use borrow.Author.Tests.{le-leb, lt-leb}
 use borrow.Author.Needs.{needs}
+use Rattle.reckon.proofs.TestLaws.{every-fails}
+use Rattle.grid.specs.Squares.{squares}
+use Rattle.grid.proofs.SquareLaws.{ranges-of-fine}
+use Rattle.flood.proofs.CheckLaws.{fails-by, holds-by, every-decided}
 use Rattle.sheet.proofs.reading.rooms_fine.Statement.{statement}
 use Rattle.sheet.proofs.reading.rooms_fine.Tie as tie
-use Rattle.sheet.proofs.reading.rooms_fine.Reads as reads
-use Rattle.sheet.proofs.reading.rooms_fine.Lts as lts
-use Rattle.grid.proofs.squares.shape_fine.Reads as shape-fine-reads
-use Rattle.grid.proofs.squares.squares_of.Reads as squares-of-reads
-use Rattle.rule.proofs.rules.side_fine.Reads as side-fine-reads
 
--- src/reading.rt:91:9
 shape-fine-requires : tie.Need-shape-fine-requires
 shape-fine-requires c κs = search needs
 
--- src/reading.rt:92:9
 returns : tie.Need-returns
-returns c = ?
+returns c = sym (every-fails _ 0 (fails-by (c .before .shape-fine .ensures) (c .if1 .taken)))
 
--- src/reading.rt:94:9
 side-fine-requires : tie.Need-side-fine-requires
 side-fine-requires c κs = search needs
 
--- src/reading.rt:95:9
 returns-2 : tie.Need-returns-2
-returns-2 c = ?
+returns-2 c = sym (every-fails _ 1 (fails-by (c .before .side-fine .ensures) (c .if2 .taken)))
 
--- src/reading.rt:97:9
 squares-of-requires : tie.Need-squares-of-requires
-squares-of-requires c κs = ?
+squares-of-requires c κs = ranges-of-fine _ (holds-by (c .before .before .before .shape-fine .ensures) (c .before .before .if1 .left))
 
--- src/reading.rt:99:9
 returns-3 : tie.Need-returns-3
-returns-3 c = ?
+returns-3 c = sym (every-fails _ 2 (lt-leb (squares (c .before .before .before .before .before .before .before .args .shape)) (c .before .before .before .before .before .before .before .args .lent .marks) (omega (arith, c .if3 .taken, c .before .before .squares-of .ensures))))
 
--- src/reading.rt:102:9
 returns-4 : tie.Need-returns-4
-returns-4 c = ?
+returns-4 c = sym (every-fails _ 3 (lt-leb (squares (c .before .before .before .before .before .before .before .before .before .args .shape)) (c .before .before .before .before .before .before .before .before .before .args .lent .beds) (omega (arith, c .if4 .taken, c .before .before .before .before .squares-of .ensures))))
 
--- src/reading.rt:105:9
 returns-5 : tie.Need-returns-5
-returns-5 c = ?
+returns-5 c = sym (every-fails _ 4 (lt-leb (squares (c .before .before .before .before .before .before .before .before .before .before .before .args .shape)) (c .before .before .before .before .before .before .before .before .before .before .before .args .lent .roughness) (omega (arith, c .if5 .taken, c .before .before .before .before .before .before .squares-of .ensures))))
 
--- src/reading.rt:108:9
 returns-6 : tie.Need-returns-6
-returns-6 c = ?
+returns-6 c = sym (every-fails _ 5 (lt-leb (squares (c .before .before .before .before .before .before .before .before .before .before .before .before .before .args .shape)) (c .before .before .before .before .before .before .before .before .before .before .before .before .before .args .lent .depths) (omega (arith, c .if6 .taken, c .before .before .before .before .before .before .before .before .squares-of .ensures))))
 
--- src/reading.rt:111:9
 returns-7 : tie.Need-returns-7
-returns-7 c = ?
+returns-7 c = sym (every-fails _ 6 (lt-leb _ _ (c .if7 .taken)))
 
--- src/reading.rt:88:1
 returns-8 : tie.Need-returns-8
-returns-8 c = ?
+returns-8 c = every-decided _ 7 _ refl (λ t. ((holds-by (c .before .before .before .before .before .before .before .before .before .before .before .before .before .before .before .shape-fine .ensures) (c .before .before .before .before .before .before .before .before .before .before .before .before .before .before .if1 .left)), ((holds-by (c .before .before .before .before .before .before .before .before .before .before .before .before .before .side-fine .ensures) (c .before .before .before .before .before .before .before .before .before .before .before .before .if2 .left)), (le-leb (squares (c .before .before .before .before .before .before .before .before .before .before .before .before .before .before .before .before .args .shape)) (c .before .before .before .before .before .before .before .before .before .before .before .before .before .before .before .before .args .lent .marks) (omega (arith, c .before .before .before .before .before .before .before .before .before .if3 .left, c .before .before .before .before .before .before .before .before .before .before .before .squares-of .ensures)), (le-leb (squares (c .before .before .before .before .before .before .before .before .before .before .before .before .before .before .before .before .args .shape)) (c .before .before .before .before .before .before .before .before .before .before .before .before .before .before .before .before .args .lent .beds) (omega (arith, c .before .before .before .before .before .before .before .if4 .left, c .before .before .before .before .before .before .before .before .before .before .before .squares-of .ensures)), (le-leb (squares (c .before .before .before .before .before .before .before .before .before .before .before .before .before .before .before .before .args .shape)) (c .before .before .before .before .before .before .before .before .before .before .before .before .before .before .before .before .args .lent .roughness) (omega (arith, c .before .before .before .before .before .if5 .left, c .before .before .before .before .before .before .before .before .before .before .before .squares-of .ensures)), (le-leb (squares (c .before .before .before .before .before .before .before .before .before .before .before .before .before .before .before .before .args .shape)) (c .before .before .before .before .before .before .before .before .before .before .before .before .before .before .before .before .args .lent .depths) (omega (arith, c .before .before .before .if6 .left, c .before .before .before .before .before .before .before .before .before .before .before .squares-of .ensures)), (le-leb _ _ (c .before .if7 .left), (t, tt)))))))))
 
 pub rooms-fine-spec : {M : Type 1} → statement M
 rooms-fine-spec =
