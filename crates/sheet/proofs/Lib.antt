@@ -2,3 +2,4 @@ pub mod JudgeLaws
 pub mod KindLaws
 pub mod ReadLaws
 pub mod RoomLaws
+pub mod SheetLaws

@@ -171,6 +171,7 @@ module _
                   record {
                     rules-are = ap (λ (g : RunLine). g .rules) two-is;
                     end-is = ap (λ (g : RunLine). g .end) two-is;
+                    all-cells = sym (cells-are .count-is) ∙ all-cells;
                     cells-at-is = two-next;
                     rain-at-is = rain-at;
                     rain-rows-are = rain-are .count-is;

@@ -29,6 +29,7 @@ pub record RowsCounted (s : List ℕ) (p : ℕ) (word : List ℕ) (width : ℕ) 
 pub record BodyIs (s : List ℕ) (b : Body) : Type 0 where
   pub rules-are : b .rules ≡ lineTwo s .rules
   pub end-is : b .end ≡ lineTwo s .end
+  pub all-cells : cellsRead s (cellsAt s) (shapeOf s) ≡ squares (shapeOf s)
   pub cells-at-is : b .«cells_at» ≡ cellsAt s
   pub rain-at-is : b .«rain_at» ≡ rainAt s
   pub rain-rows-are : b .«rain_rows» ≡ rainRows s

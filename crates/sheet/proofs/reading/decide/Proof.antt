@@ -1,79 +1,71 @@
+-- `sheet::reading::decide` meets its contract: a bad line, or else the checks.
+-- Assumes nothing.
+use mathlib.Core.Path.{sym, ap, _∙_}
+use Prim.Native.Nat.{ℕ}
+use native.Mathlib.Omega.{arith}
+use lib.ListN.{length-replicate}
+use lib.Seq.{length-take-le}
 use borrow.Author.Needs.{needs}
+use Rattle.grid.specs.Squares.{squares}
+use Rattle.sheet.specs.declared.lines.GridLine.{GridLine}
+use Rattle.sheet.proofs.JudgeLaws.{said-from, decided-bad, decided-good}
 use Rattle.sheet.proofs.reading.decide.Statement.{statement}
 use Rattle.sheet.proofs.reading.decide.Tie as tie
-use Rattle.sheet.proofs.reading.decide.Reads as reads
-use Rattle.sheet.proofs.reading.decide.Lts as lts
-use Rattle.grid.proofs.squares.squares_of.Reads as squares-of-reads
-use Rattle.sheet.proofs.reading.judge_body.Reads as judge-body-reads
-use Rattle.sheet.proofs.reading.read_body.Reads as read-body-reads
 
--- src/reading.rt:293:9
 slice-aggregate-read-body : tie.Need-slice-aggregate-read-body
 slice-aggregate-read-body c = search needs
 
--- src/reading.rt:294:9
 slice-aggregate-read-body-2 : tie.Need-slice-aggregate-read-body-2
 slice-aggregate-read-body-2 c = search needs
 
--- src/reading.rt:295:9
 slice-aggregate-read-body-3 : tie.Need-slice-aggregate-read-body-3
 slice-aggregate-read-body-3 c = search needs
 
--- src/reading.rt:296:9
 slice-aggregate-read-body-4 : tie.Need-slice-aggregate-read-body-4
 slice-aggregate-read-body-4 c = search needs
 
--- src/reading.rt:290:9
 read-body-requires : tie.Need-read-body-requires
-read-body-requires c κs = search needs
+read-body-requires c κs = ((c .before .before .before .before .before .pre .0, c .before .before .before .before .before .pre .1, c .before .before .before .before .before .pre .2), (omega (arith, c .before .before .before .before .before .pre .2 .few, length-replicate {A = ℕ} 4096 0), omega (arith, c .before .before .before .before .before .pre .2 .few, length-replicate {A = ℕ} 4096 0), omega (arith, c .before .before .before .before .before .pre .2 .few, length-replicate {A = ℕ} 4096 0), omega (arith, c .before .before .before .before .before .pre .2 .few, length-replicate {A = ℕ} 4096 0)))
 
--- src/reading.rt:299:9
 returns : tie.Need-returns
-returns c = ?
+returns c = decided-bad (c .before .before .before .before .before .before .read-body .ensures) (c .if1 .taken)
 
--- src/reading.rt:306:9
 squares-of-requires : tie.Need-squares-of-requires
-squares-of-requires c κs = search needs
+squares-of-requires c κs = c .before .before .before .before .before .before .before .before .before .before .before .before .before .pre .2
 
--- src/reading.rt:311:9
 array-share-prefix-marks : tie.Need-array-share-prefix-marks
-array-share-prefix-marks c = search needs
+array-share-prefix-marks c = omega (arith, c .before .before .before .before .before .before .before .before .before .before .before .before .before .before .pre .2 .few, c .squares-of .ensures)
 
--- src/reading.rt:311:9
 slice-aggregate-judge-body : tie.Need-slice-aggregate-judge-body
-slice-aggregate-judge-body c = ?
+slice-aggregate-judge-body c = sym (length-take-le _ _ (omega (arith, c .before .before .before .before .before .before .before .before .before .before .before .before .before .before .before .pre .2 .few, c .before .squares-of .ensures, c .before .before .before .before .before .before .before .before .before .read-body .kept .1 .1 .0, length-replicate {A = ℕ} 4096 0)))
 
--- src/reading.rt:312:9
 array-share-prefix-beds : tie.Need-array-share-prefix-beds
-array-share-prefix-beds c = search needs
+array-share-prefix-beds c = omega (arith, c .before .before .before .before .before .before .before .before .before .before .before .before .before .before .before .pre .2 .few, c .before .squares-of .ensures)
 
--- src/reading.rt:312:9
 slice-aggregate-judge-body-2 : tie.Need-slice-aggregate-judge-body-2
-slice-aggregate-judge-body-2 c = ?
+slice-aggregate-judge-body-2 c = sym (length-take-le _ _ (omega (arith, c .before .before .before .before .before .before .before .before .before .before .before .before .before .before .before .before .pre .2 .few, c .before .before .squares-of .ensures, c .before .before .before .before .before .before .before .before .before .before .read-body .kept .1 .1 .1 .0, length-replicate {A = ℕ} 4096 0)))
 
--- src/reading.rt:313:9
 array-share-prefix-roughness : tie.Need-array-share-prefix-roughness
-array-share-prefix-roughness c = search needs
+array-share-prefix-roughness c = omega (arith, c .before .before .before .before .before .before .before .before .before .before .before .before .before .before .before .before .pre .2 .few, c .before .before .squares-of .ensures)
 
--- src/reading.rt:313:9
 slice-aggregate-judge-body-3 : tie.Need-slice-aggregate-judge-body-3
-slice-aggregate-judge-body-3 c = ?
+slice-aggregate-judge-body-3 c = sym (length-take-le _ _ (omega (arith, c .before .before .before .before .before .before .before .before .before .before .before .before .before .before .before .before .before .pre .2 .few, c .before .before .before .squares-of .ensures, c .before .before .before .before .before .before .before .before .before .before .before .read-body .kept .1 .1 .1 .1 .0, length-replicate {A = ℕ} 4096 0)))
 
--- src/reading.rt:314:9
 array-share-prefix-depths : tie.Need-array-share-prefix-depths
-array-share-prefix-depths c = search needs
+array-share-prefix-depths c = omega (arith, c .before .before .before .before .before .before .before .before .before .before .before .before .before .before .before .before .before .pre .2 .few, c .before .before .before .squares-of .ensures)
 
--- src/reading.rt:314:9
 slice-aggregate-judge-body-4 : tie.Need-slice-aggregate-judge-body-4
-slice-aggregate-judge-body-4 c = ?
+slice-aggregate-judge-body-4 c = sym (length-take-le _ _ (omega (arith, c .before .before .before .before .before .before .before .before .before .before .before .before .before .before .before .before .before .before .pre .2 .few, c .before .before .before .before .squares-of .ensures, c .before .before .before .before .before .before .before .before .before .before .before .before .read-body .kept .1 .1 .1 .1 .1 .0, length-replicate {A = ℕ} 4096 0)))
 
--- src/reading.rt:307:9
 judge-body-requires : tie.Need-judge-body-requires
-judge-body-requires c κs = ?
+judge-body-requires c κs =
+    let s = ap (λ (g : GridLine). g .shape) (c .before .before .before .before .before .before .before .before .before .before .before .before .before .before .before .before .before .before .pre .0) in
+    let n = ap squares s in (
+    (c .before .before .before .before .before .before .before .before .before .before .before .before .before .before .before .before .before .before .pre .2, s, c .before .before .before .before .before .before .before .before .before .before .before .before .read-body .ensures .body-is (c .before .before .before .before .before .before .if1 .left)),
+    said-from _ 4096 (c .before .before .before .before .squares-of .ensures ∙ n) (omega (arith, c .before .before .before .before .before .before .before .before .before .before .before .before .before .before .before .before .before .before .pre .2 .few, n)) (c .before .before .before .before .before .before .before .before .before .before .before .before .read-body .ensures .rooms-are (c .before .before .before .before .before .before .if1 .left)))
 
--- src/reading.rt:282:1
 returns-2 : tie.Need-returns-2
-returns-2 c = ?
+returns-2 c = decided-good (c .before .before .before .before .before .before .before .before .before .before .before .before .before .read-body .ensures) (c .before .before .before .before .before .before .before .if1 .left) (c .judge-body .ensures)
 
 pub decide-spec : {M : Type 1} → statement M
 decide-spec =
