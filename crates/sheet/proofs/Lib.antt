@@ -1,5 +1,6 @@
 pub mod JudgeLaws
 pub mod KindLaws
+pub mod PrintLaws
 pub mod ReadLaws
 pub mod RoomLaws
 pub mod SheetLaws

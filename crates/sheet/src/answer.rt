@@ -20,7 +20,7 @@ ghost use Rattle.grid.specs.Squares.{FineShape, squares};
 ghost use Rattle.ledger.specs.Runs.{plan, world};
 ghost use Rattle.flood.specs.Run.{ended};
 ghost use Rattle.text.specs.Writing.{Wrote, lineText};
-ghost use Rattle.sheet.specs.Sheet.{rooms};
+ghost use Rattle.sheet.specs.Sheet.{checksIn, noLasts, noRecords, rooms};
 ghost use Rattle.sheet.specs.Printed.{Prints, cellText, cellsText, endedText, meadowText, mostPrinted, mostSquares, refusedText, runText};
 
 // The bytes that always suffice for what is printed.
@@ -116,17 +116,17 @@ fn run_sheet(
     rain: &[u32],
     inflow: &[u32],
     depths: &mut [u32],
+    lasts: &mut [u32],
+    records: &mut [u32],
 ) -> usize
-    requires { ⌜ (FineShape (heading .shape)) × (squares (heading .shape) ≤ mostSquares) × (squares (heading .shape) ≡ length (now marks)) × (squares (heading .shape) ≡ length (now depths)) × (mostPrinted ≤ length (now out)) ⌝ }
+    requires { ⌜ (squares (heading .shape) ≤ mostSquares) × (mostPrinted ≤ length (now out)) ⌝ }
+    requires { ⌜ checksIn (heading .shape) (heading .rules) (rooms (now marks) (now beds) (now roughness) (now depths) (now rain) (now inflow)) (heading .end) ≡ 0 ⌝ }
+    requires { ⌜ (now lasts ≡ noLasts (heading .shape) (heading .rules) (rooms (now marks) (now beds) (now roughness) (now depths) (now rain) (now inflow))) × (now records ≡ noRecords (heading .shape) (heading .rules) (rooms (now marks) (now beds) (now roughness) (now depths) (now rain) (now inflow))) ⌝ }
     ensures { λ r. ⌜ Prints (runText heading (rooms (now (marks .entry)) (now (beds .entry)) (now (roughness .entry)) (now (depths .entry)) (now (rain .entry)) (now (inflow .entry)))) (now (out .entry)) (now (out .exit)) r ⌝ }
 {
-    let mut lasts = [0u32; SQUARE_ROOM];
-    let mut records = [0u32; RECORD_ROOM];
     let shape = heading.shape;
     let rules = heading.rules;
-    let squares = squares_of(shape);
-    let size = record_size(shape);
-    match fresh(shape, rules, marks, &mut lasts[..squares], &records[..size]) {
+    match fresh(shape, rules, marks, lasts, records) {
         Answer::Refused(number) => put_refused(out, number, 0),
         Answer::Done(run) => {
             let ran = run_to(
@@ -140,8 +140,8 @@ fn run_sheet(
                 rain,
                 inflow,
                 depths,
-                &mut lasts[..squares],
-                &mut records[..size],
+                lasts,
+                records,
             );
             put_ran(out, shape, marks, depths, ran)
         }
@@ -173,7 +173,10 @@ pub fn meadow_of(text: &[u8], out: &mut [u8; OUT_ROOM]) -> usize
     match sheet {
         Sheet::Refused(number, line) => put_refused(out, number, line),
         Sheet::Read(heading) => {
+            let mut lasts = [0u32; SQUARE_ROOM];
+            let mut records = [0u32; RECORD_ROOM];
             let squares = squares_of(heading.shape);
+            let size = record_size(heading.shape);
             let rain_end = 3 * heading.rain_rows;
             let inflow_end = 5 * heading.inflow_rows;
             run_sheet(
@@ -185,6 +188,8 @@ pub fn meadow_of(text: &[u8], out: &mut [u8; OUT_ROOM]) -> usize
                 &rain[..rain_end],
                 &inflow[..inflow_end],
                 &mut depths[..squares],
+                &mut lasts[..squares],
+                &mut records[..size],
             )
         }
     }

@@ -1,47 +1,51 @@
+-- `sheet::answer::put_squares` meets its contract: the lines so far stand at the start.
+-- Assumes nothing.
+use mathlib.Core.Path.{_≡_, subst}
+use Prim.Native.Nat.{ℕ, _-_, _≤_}
+use native.Mathlib.Omega.{arith}
+use borrow.Author.Needs.{needs}
+use Rattle.reckon.specs.Lists.{joined}
+use Rattle.grid.specs.Squares.{squares}
+use Rattle.ledger.specs.Runs.{plan}
+use Rattle.text.specs.Writing.{Wrote}
+use Rattle.text.proofs.WritingLaws.{wrote-length}
+use Rattle.sheet.specs.Printed.{cellText, cellsText}
+use Rattle.sheet.proofs.PrintLaws.{next-fits, so-far-fits, none-written, square-fits, square-written}
 use Rattle.sheet.proofs.answer.put_squares.Statement.{statement}
 use Rattle.sheet.proofs.answer.put_squares.Tie as tie
-use Rattle.sheet.proofs.answer.put_squares.Reads as reads
-use Rattle.sheet.proofs.answer.put_squares.Lts as lts
-use Rattle.grid.proofs.squares.squares_of.Reads as squares-of-reads
-use Rattle.sheet.proofs.answer.put_square.Reads as put-square-reads
 
 abbrev Inv-loop : tie.InvT-loop
-Inv-loop out₀ shape marks depths squares at₀ square₀ out at square = ?
+Inv-loop out₀ shape marks depths squares at₀ square₀ out at square = (square ≤ squares) × Wrote (joined square (cellText (plan shape marks) depths)) 0 out₀ out at
 
 abbrev μ-loop : tie.MeasureT-loop
-μ-loop out₀ shape marks depths squares at₀ square₀ out at square = ?
+μ-loop out₀ shape marks depths squares at₀ square₀ out at square = squares - square
 
--- src/answer.rt:75:9
 squares-of-requires : tie.Need-squares-of-requires Inv-loop μ-loop
-squares-of-requires c κs = ?
+squares-of-requires c κs = c .before .before .before .pre .0
 
--- src/answer.rt:78:5
 loop-holds : tie.Need-loop-holds Inv-loop μ-loop
-loop-holds c = ?
+loop-holds c = (omega arith, none-written _ _ _)
 
--- src/answer.rt:79:9
 put-square-requires : tie.Need-put-square-requires Inv-loop μ-loop
-put-square-requires c κs = ?
+put-square-requires c κs = ((c .before .before .before .before .before .before .before .pre .0, omega (arith, c .before .before .before .squares-of .ensures, c .before .before .before .before .before .before .before .pre .2), omega (arith, c .before .before .before .squares-of .ensures, c .before .before .before .before .before .before .before .pre .3)), square-fits (plan (c .before .before .before .before .before .before .before .args .shape) (c .before .before .before .before .before .before .before .args .marks .now)) (c .before .before .before .before .before .before .before .args .depths .now) (c .before .before .loop .square) (c .before .before .before .before .before .before .before .args .out .now) (next-fits (plan (c .before .before .before .before .before .before .before .args .shape) (c .before .before .before .before .before .before .before .args .marks .now)) (c .before .before .before .before .before .before .before .args .depths .now) (c .before .before .before .before .before .before .before .pre .1) (λ i. omega (arith, c .before .before .before .before .shared-slice-known2 .given i)) (c .before .before .loop .square) (c .before .before .before .before .before .before .before .args .out .now) (omega (arith, c .before .before .before .squares-of .ensures)) (c .before .before .before .before .before .before .before .pre .4)) (c .before .before .loop .inv .1))
 
--- src/answer.rt:80:9
 add-square : tie.Need-add-square Inv-loop μ-loop
-add-square c = ?
+add-square c = omega arith
 
--- src/answer.rt:78:5
 loop-less : tie.Need-loop-less Inv-loop μ-loop
-loop-less c = ?
+loop-less c = omega arith
 
--- src/answer.rt:78:5
 loop-again : tie.Need-loop-again Inv-loop μ-loop
-loop-again c = ?
+loop-again c = (omega arith, square-written (plan (c .before .before .before .before .before .before .before .before .before .before .args .shape) (c .before .before .before .before .before .before .before .before .before .before .args .marks .now)) (c .before .before .before .before .before .before .before .before .before .before .args .depths .now) (c .before .before .before .before .before .loop .square) (c .before .before .before .before .before .before .before .before .before .before .args .out .now) (next-fits (plan (c .before .before .before .before .before .before .before .before .before .before .args .shape) (c .before .before .before .before .before .before .before .before .before .before .args .marks .now)) (c .before .before .before .before .before .before .before .before .before .before .args .depths .now) (c .before .before .before .before .before .before .before .before .before .before .pre .1) (λ i. omega (arith, c .before .before .before .before .before .before .before .shared-slice-known2 .given i)) (c .before .before .before .before .before .loop .square) (c .before .before .before .before .before .before .before .before .before .before .args .out .now) (omega (arith, c .before .before .before .before .before .before .squares-of .ensures)) (c .before .before .before .before .before .before .before .before .before .before .pre .4)) (c .before .before .before .before .before .loop .inv .1) (c .before .before .put-square .ensures))
 
--- src/answer.rt:71:1
 same-length : tie.Need-same-length Inv-loop μ-loop
-same-length c = ?
+same-length c = wrote-length (so-far-fits (plan (c .before .before .before .before .before .before .args .shape) (c .before .before .before .before .before .before .args .marks .now)) (c .before .before .before .before .before .before .args .depths .now) (c .before .before .before .before .before .before .pre .1) (λ i. omega (arith, c .before .before .before .shared-slice-known2 .given i)) (c .before .loop .square) (c .before .before .before .before .before .before .args .out .now) (omega (arith, c .before .before .squares-of .ensures)) (c .before .before .before .before .before .before .pre .4)) (c .before .loop .inv .1)
 
--- src/answer.rt:71:1
 returns : tie.Need-returns Inv-loop μ-loop
-returns c = ?
+unfolding cellsText
+returns c =
+    let end : c .before .loop .square ≡ squares (c .before .before .before .before .before .before .args .shape) = omega (arith, c .before .before .squares-of .ensures) in
+    subst (λ (n : ℕ). Wrote (joined n (cellText (plan (c .before .before .before .before .before .before .args .shape) (c .before .before .before .before .before .before .args .marks .now)) (c .before .before .before .before .before .before .args .depths .now))) 0 (c .before .before .before .before .before .before .args .out .now) (c .before .loop .out) (c .before .loop .at)) end (c .before .loop .inv .1)
 
 pub put-squares-spec : {M : Type 1} → statement M
 put-squares-spec =
