@@ -54,12 +54,12 @@ take-put old new n e =
 
 -- ---- a fresh run's world
 
-one-slot : (shape : Shape) (r : Rules) (held : Rooms) → roomSlots (planIn shape r held) (noRecords shape r held) ≡ 1
+pub one-slot : (shape : Shape) (r : Rules) (held : Rooms) → roomSlots (planIn shape r held) (noRecords shape r held) ≡ 1
 unfolding roomSlots
 one-slot shape r held =
     ap (λ (k : ℕ). k / recordSize (planIn shape r held)) (length-replicate (recordSize (planIn shape r held)) 0) ∙ div-self (omega arith)
 
-world-same : {d l l′ c c′ : List ℕ} {u u′ : Run} → l ≡ l′ → c ≡ c′ → u ≡ u′ → world d l c u ≡ world d l′ c′ u′
+pub world-same : {d l l′ c c′ : List ℕ} {u u′ : Run} → l ≡ l′ → c ≡ c′ → u ≡ u′ → world d l c u ≡ world d l′ c′ u′
 world-same e f g = cc
 
 pub judge-is :

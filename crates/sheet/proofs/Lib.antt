@@ -1,6 +1,8 @@
 pub mod JudgeLaws
 pub mod KindLaws
+pub mod MeadowLaws
 pub mod PrintLaws
 pub mod ReadLaws
 pub mod RoomLaws
+pub mod RunLaws
 pub mod SheetLaws
