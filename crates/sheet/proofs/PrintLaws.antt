@@ -59,7 +59,7 @@ cell-short p depths i h g =
       arith,
       line-text-long cellWord (i / p .shape .columns ∷ i % p .shape .columns ∷ getD depths i 0 ∷ []),
       fields-text-short 9 (i / p .shape .columns ∷ i % p .shape .columns ∷ getD depths i 0 ∷ [])
-      (three-below (10 ^ 10) _ _ _ (omega (arith, div-le-self i (p .shape .columns))) (omega (arith, mod-le i (p .shape .columns))) (omega arith)),
+          (three-below (10 ^ 10) _ _ _ (omega (arith, div-le-self i (p .shape .columns))) (omega (arith, mod-le i (p .shape .columns))) (omega arith)),
     ))
 
 pub joined-short : (n k : ℕ) (f : ℕ → List ℕ) → ((i : ℕ) → i < n → length (f i) ≤ k) → length (joined n f) ≤ k * n

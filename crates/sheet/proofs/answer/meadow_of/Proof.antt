@@ -108,11 +108,13 @@ slice-aggregate-run-sheet-8 : tie.Need-slice-aggregate-run-sheet-8
 slice-aggregate-run-sheet-8 c = sym (length-take-le _ _ (omega (arith, c .before .before .before .before .before .before .before .before .before .before .before .record-size .ensures, meadow-few (c .before .before .before .before .before .before .before .before .before .before .before .before .before .before .before .before .before .before .before .before .before .before .before .before .before .before .before .before .before .before .before .args .text .now) (read-as (c .before .before .before .before .before .before .before .before .before .before .before .before .before .before .sheet2 .given .1) (c .before .before .before .before .before .before .before .before .before .before .before .before .before .before .before .before .before .before .before .before .before .before .read .ensures)), length-replicate {A = ℕ} 6146 0)))
 
 run-sheet-requires : tie.Need-run-sheet-requires
-run-sheet-requires c κs =
-    (
-    (meadow-few (c .before .before .before .before .before .before .before .before .before .before .before .before .before .before .before .before .before .before .before .before .before .before .before .before .before .before .before .before .before .before .before .args .text .now) (read-as (c .before .before .before .before .before .before .before .before .before .before .before .before .before .before .sheet2 .given .1) (c .before .before .before .before .before .before .before .before .before .before .before .before .before .before .before .before .before .before .before .before .before .before .read .ensures)), omega arith),
+run-sheet-requires c κs = (
+  (meadow-few (c .before .before .before .before .before .before .before .before .before .before .before .before .before .before .before .before .before .before .before .before .before .before .before .before .before .before .before .before .before .before .before .args .text .now) (read-as (c .before .before .before .before .before .before .before .before .before .before .before .before .before .before .sheet2 .given .1) (c .before .before .before .before .before .before .before .before .before .before .before .before .before .before .before .before .before .before .before .before .before .before .read .ensures)), omega arith),
+  (
     meadow-checks (c .before .before .before .before .before .before .before .before .before .before .before .before .before .before .before .before .before .before .before .before .before .before .before .before .before .before .before .before .before .before .before .args .text .now) (read-as (c .before .before .before .before .before .before .before .before .before .before .before .before .before .before .sheet2 .given .1) (c .before .before .before .before .before .before .before .before .before .before .before .before .before .before .before .before .before .before .before .before .before .before .read .ensures)) (c .before .before .before .before .before .before .before .before .before .before .before .before .squares-of .ensures),
-    (zeros-are _ _ (c .before .before .before .before .before .before .before .before .before .before .before .before .squares-of .ensures) (meadow-few (c .before .before .before .before .before .before .before .before .before .before .before .before .before .before .before .before .before .before .before .before .before .before .before .before .before .before .before .before .before .before .before .args .text .now) (read-as (c .before .before .before .before .before .before .before .before .before .before .before .before .before .before .sheet2 .given .1) (c .before .before .before .before .before .before .before .before .before .before .before .before .before .before .before .before .before .before .before .before .before .before .read .ensures))), zeros-are _ _ (c .before .before .before .before .before .before .before .before .before .before .before .record-size .ensures) (meadow-record (c .before .before .before .before .before .before .before .before .before .before .before .before .before .before .before .before .before .before .before .before .before .before .before .before .before .before .before .before .before .before .before .args .text .now) (read-as (c .before .before .before .before .before .before .before .before .before .before .before .before .before .before .sheet2 .given .1) (c .before .before .before .before .before .before .before .before .before .before .before .before .before .before .before .before .before .before .before .before .before .before .read .ensures)))))
+    (zeros-are _ _ (c .before .before .before .before .before .before .before .before .before .before .before .before .squares-of .ensures) (meadow-few (c .before .before .before .before .before .before .before .before .before .before .before .before .before .before .before .before .before .before .before .before .before .before .before .before .before .before .before .before .before .before .before .args .text .now) (read-as (c .before .before .before .before .before .before .before .before .before .before .before .before .before .before .sheet2 .given .1) (c .before .before .before .before .before .before .before .before .before .before .before .before .before .before .before .before .before .before .before .before .before .before .read .ensures))), zeros-are _ _ (c .before .before .before .before .before .before .before .before .before .before .before .record-size .ensures) (meadow-record (c .before .before .before .before .before .before .before .before .before .before .before .before .before .before .before .before .before .before .before .before .before .before .before .before .before .before .before .before .before .before .before .args .text .now) (read-as (c .before .before .before .before .before .before .before .before .before .before .before .before .before .before .sheet2 .given .1) (c .before .before .before .before .before .before .before .before .before .before .before .before .before .before .before .before .before .before .before .before .before .before .read .ensures)))),
+  ),
+)
 
 returns-2 : tie.Need-returns-2
 returns-2 c = meadow-refused (c .before .before .before .before .before .before .before .before .before .before .before .before .before .before .before .before .before .before .before .before .args .text .now) (read-as (c .before .before .before .sheet .given .1) (c .before .before .before .before .before .before .before .before .before .before .before .read .ensures)) (omega arith) (c .put-refused2 .ensures)

@@ -61,8 +61,9 @@ judge-body-requires : tie.Need-judge-body-requires
 judge-body-requires c κs =
     let s = ap (λ (g : GridLine). g .shape) (c .before .before .before .before .before .before .before .before .before .before .before .before .before .before .before .before .before .before .pre .0) in
     let n = ap squares s in (
-    (c .before .before .before .before .before .before .before .before .before .before .before .before .before .before .before .before .before .before .pre .2, s, c .before .before .before .before .before .before .before .before .before .before .before .before .read-body .ensures .body-is (c .before .before .before .before .before .before .if1 .left)),
-    said-from _ 4096 (c .before .before .before .before .squares-of .ensures ∙ n) (omega (arith, c .before .before .before .before .before .before .before .before .before .before .before .before .before .before .before .before .before .before .pre .2 .few, n)) (c .before .before .before .before .before .before .before .before .before .before .before .before .read-body .ensures .rooms-are (c .before .before .before .before .before .before .if1 .left)))
+      (c .before .before .before .before .before .before .before .before .before .before .before .before .before .before .before .before .before .before .pre .2, s, c .before .before .before .before .before .before .before .before .before .before .before .before .read-body .ensures .body-is (c .before .before .before .before .before .before .if1 .left)),
+      said-from _ 4096 (c .before .before .before .before .squares-of .ensures ∙ n) (omega (arith, c .before .before .before .before .before .before .before .before .before .before .before .before .before .before .before .before .before .before .pre .2 .few, n)) (c .before .before .before .before .before .before .before .before .before .before .before .before .read-body .ensures .rooms-are (c .before .before .before .before .before .before .if1 .left)),
+    )
 
 returns-2 : tie.Need-returns-2
 returns-2 c = decided-good (c .before .before .before .before .before .before .before .before .before .before .before .before .before .read-body .ensures) (c .before .before .before .before .before .before .before .if1 .left) (c .judge-body .ensures)

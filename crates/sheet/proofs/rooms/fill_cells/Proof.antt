@@ -47,12 +47,12 @@ returns : tie.Need-returns Inv-loop μ-loop
 returns c = filling-stop _ _ _ (c .before .before .before .before .loop .inv .1) (c .before .before .cell-line .ensures) (c .before .before .before .before .before .before .before .before .before .before .before .args .shape) refl (omega (arith, c .before .before .before .before .before .squares-of .ensures)) (not-true _ (c .if1 .taken))
 
 put-cell-requires : tie.Need-put-cell-requires Inv-loop μ-loop
-put-cell-requires c κs =
-    (
-    omega (arith, c .before .before .before .before .before .before .before .before .before .squares-of .ensures, c .before .before .before .before .before .before .before .before .before .before .before .before .before .before .before .pre .1 .0, long-marks _ _ _ (c .before .before .before .before .before .before .before .before .loop .inv .1)),
-    omega (arith, c .before .before .before .before .before .before .before .before .before .squares-of .ensures, c .before .before .before .before .before .before .before .before .before .before .before .before .before .before .before .pre .1 .1, long-beds _ _ _ (c .before .before .before .before .before .before .before .before .loop .inv .1)),
-    omega (arith, c .before .before .before .before .before .before .before .before .before .squares-of .ensures, c .before .before .before .before .before .before .before .before .before .before .before .before .before .before .before .pre .1 .2, long-roughness _ _ _ (c .before .before .before .before .before .before .before .before .loop .inv .1)),
-    omega (arith, c .before .before .before .before .before .before .before .before .before .squares-of .ensures, c .before .before .before .before .before .before .before .before .before .before .before .before .before .before .before .pre .1 .3, long-depths _ _ _ (c .before .before .before .before .before .before .before .before .loop .inv .1)))
+put-cell-requires c κs = (
+  omega (arith, c .before .before .before .before .before .before .before .before .before .squares-of .ensures, c .before .before .before .before .before .before .before .before .before .before .before .before .before .before .before .pre .1 .0, long-marks _ _ _ (c .before .before .before .before .before .before .before .before .loop .inv .1)),
+  omega (arith, c .before .before .before .before .before .before .before .before .before .squares-of .ensures, c .before .before .before .before .before .before .before .before .before .before .before .before .before .before .before .pre .1 .1, long-beds _ _ _ (c .before .before .before .before .before .before .before .before .loop .inv .1)),
+  omega (arith, c .before .before .before .before .before .before .before .before .before .squares-of .ensures, c .before .before .before .before .before .before .before .before .before .before .before .before .before .before .before .pre .1 .2, long-roughness _ _ _ (c .before .before .before .before .before .before .before .before .loop .inv .1)),
+  omega (arith, c .before .before .before .before .before .before .before .before .before .squares-of .ensures, c .before .before .before .before .before .before .before .before .before .before .before .before .before .before .before .pre .1 .3, long-depths _ _ _ (c .before .before .before .before .before .before .before .before .loop .inv .1)),
+)
 
 add-square : tie.Need-add-square Inv-loop μ-loop
 add-square c = omega arith
@@ -61,13 +61,13 @@ loop-less : tie.Need-loop-less Inv-loop μ-loop
 loop-less c = omega arith
 
 loop-again : tie.Need-loop-again Inv-loop μ-loop
-loop-again c =
-    (
-    omega arith,
-    filling-more _ _ _ (c .before .before .before .before .before .before .before .before .before .before .before .before .before .before .before .before .before .loop .inv .1) (c .before .before .before .before .before .before .before .before .before .before .before .before .before .before .before .cell-line .ensures) (not-false _ (c .before .before .before .before .before .before .before .before .before .before .before .before .before .if1 .left))
-    (omega (arith, c .before .before .before .before .before .before .before .before .before .before .before .before .before .before .before .before .before .before .squares-of .ensures, c .before .before .before .before .before .before .before .before .before .before .before .before .before .before .before .before .before .before .before .before .before .before .before .before .pre .1 .0)) (omega (arith, c .before .before .before .before .before .before .before .before .before .before .before .before .before .before .before .before .before .before .squares-of .ensures, c .before .before .before .before .before .before .before .before .before .before .before .before .before .before .before .before .before .before .before .before .before .before .before .before .pre .1 .1))
-    (omega (arith, c .before .before .before .before .before .before .before .before .before .before .before .before .before .before .before .before .before .before .squares-of .ensures, c .before .before .before .before .before .before .before .before .before .before .before .before .before .before .before .before .before .before .before .before .before .before .before .before .pre .1 .2)) (omega (arith, c .before .before .before .before .before .before .before .before .before .before .before .before .before .before .before .before .before .before .squares-of .ensures, c .before .before .before .before .before .before .before .before .before .before .before .before .before .before .before .before .before .before .before .before .before .before .before .before .pre .1 .3))
-    (record { marks = c .before .before .before .before .before .before .before .before .put-cell .ensures .0; beds = c .before .before .before .before .before .before .before .before .put-cell .ensures .1; roughness = c .before .before .before .before .before .before .before .before .put-cell .ensures .2; depths = c .before .before .before .before .before .before .before .before .put-cell .ensures .3 }))
+loop-again c = (
+  omega arith,
+  filling-more _ _ _ (c .before .before .before .before .before .before .before .before .before .before .before .before .before .before .before .before .before .loop .inv .1) (c .before .before .before .before .before .before .before .before .before .before .before .before .before .before .before .cell-line .ensures) (not-false _ (c .before .before .before .before .before .before .before .before .before .before .before .before .before .if1 .left))
+      (omega (arith, c .before .before .before .before .before .before .before .before .before .before .before .before .before .before .before .before .before .before .squares-of .ensures, c .before .before .before .before .before .before .before .before .before .before .before .before .before .before .before .before .before .before .before .before .before .before .before .before .pre .1 .0)) (omega (arith, c .before .before .before .before .before .before .before .before .before .before .before .before .before .before .before .before .before .before .squares-of .ensures, c .before .before .before .before .before .before .before .before .before .before .before .before .before .before .before .before .before .before .before .before .before .before .before .before .pre .1 .1))
+      (omega (arith, c .before .before .before .before .before .before .before .before .before .before .before .before .before .before .before .before .before .before .squares-of .ensures, c .before .before .before .before .before .before .before .before .before .before .before .before .before .before .before .before .before .before .before .before .before .before .before .before .pre .1 .2)) (omega (arith, c .before .before .before .before .before .before .before .before .before .before .before .before .before .before .before .before .before .before .squares-of .ensures, c .before .before .before .before .before .before .before .before .before .before .before .before .before .before .before .before .before .before .before .before .before .before .before .before .pre .1 .3))
+      (record { marks = c .before .before .before .before .before .before .before .before .put-cell .ensures .0; beds = c .before .before .before .before .before .before .before .before .put-cell .ensures .1; roughness = c .before .before .before .before .before .before .before .before .put-cell .ensures .2; depths = c .before .before .before .before .before .before .before .before .put-cell .ensures .3 }),
+)
 
 same-length-5 : tie.Need-same-length-5 Inv-loop μ-loop
 same-length-5 c = long-marks _ _ _ (c .before .loop .inv .1)

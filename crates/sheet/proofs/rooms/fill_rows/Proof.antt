@@ -39,12 +39,12 @@ loop-less : tie.Need-loop-less Inv-loop μ-loop
 loop-less c = omega arith
 
 loop-again : tie.Need-loop-again Inv-loop μ-loop
-loop-again c =
-    (
-    omega arith,
-    used-more _ _ (c .before .before .before .before .before .before .before .before .loop .inv .1),
-    row-more _ _ _ _ (c .before .before .before .before .before .before .before .before .before .before .before .before .pre .0 .0) (c .before .before .before .before .before .before .before .before .before .before .before .before .pre .0 .1) (c .before .before .before .before .before .before .before .before .loop .inv .2) (c .before .before .before .before .before .before .line-of .ensures) (row-read _ _ _ _ (c .before .before .before .before .before .before .before .before .loop .inv .2) (c .before .before .before .before .before .before .line-of .ensures) (omega (arith, c .before .before .before .before .before .before .before .before .before .before .before .before .pre .1 .0))),
-    table-more _ _ _ _ (c .before .before .before .before .before .before .before .before .before .before .before .before .pre .0 .0) _ _ (table-fits _ (c .before .before .before .before .before .before .before .loop-test .taken) (c .before .before .before .before .before .before .before .before .before .before .before .before .pre .1 .1)) (c .before .before .before .before .before .before .before .before .loop .inv .2 .here) (c .before .before .before .before .before .before .before .before .loop .inv .1) (c .before .before .before .before .before .before .before .before .loop .inv .3) (c .before .before .before .before .before .before .line-of .ensures) (c .before .before .put-row .ensures))
+loop-again c = (
+  omega arith,
+  used-more _ _ (c .before .before .before .before .before .before .before .before .loop .inv .1),
+  row-more _ _ _ _ (c .before .before .before .before .before .before .before .before .before .before .before .before .pre .0 .0) (c .before .before .before .before .before .before .before .before .before .before .before .before .pre .0 .1) (c .before .before .before .before .before .before .before .before .loop .inv .2) (c .before .before .before .before .before .before .line-of .ensures) (row-read _ _ _ _ (c .before .before .before .before .before .before .before .before .loop .inv .2) (c .before .before .before .before .before .before .line-of .ensures) (omega (arith, c .before .before .before .before .before .before .before .before .before .before .before .before .pre .1 .0))),
+  table-more _ _ _ _ (c .before .before .before .before .before .before .before .before .before .before .before .before .pre .0 .0) _ _ (table-fits _ (c .before .before .before .before .before .before .before .loop-test .taken) (c .before .before .before .before .before .before .before .before .before .before .before .before .pre .1 .1)) (c .before .before .before .before .before .before .before .before .loop .inv .2 .here) (c .before .before .before .before .before .before .before .before .loop .inv .1) (c .before .before .before .before .before .before .before .before .loop .inv .3) (c .before .before .before .before .before .before .line-of .ensures) (c .before .before .put-row .ensures),
+)
 
 same-length : tie.Need-same-length Inv-loop μ-loop
 same-length c = rows-length _ _ _ _ (c .before .before .before .before .before .pre .0 .0) _ (c .before .loop .inv .0) (c .before .before .before .before .before .pre .1 .1) (c .before .loop .inv .3)
