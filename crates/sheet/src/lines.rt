@@ -14,6 +14,13 @@ ghost use Prim.Native.Nat.{_+_, _<_};
 ghost use lib.ListN.{length};
 ghost use Rattle.sheet.specs.Lines.{closedCell, cellLine, gridLine, markedCell, noCell, openCell, runLine};
 
+// Marks.
+const CLOSED: u8 = 0;
+
+const OPEN: u8 = 1;
+
+const EXIT: u8 = 2;
+
 // Line 1: the shape, and of the rules the side D alone.
 pub struct GridLine {
     pub found: bool,
@@ -106,7 +113,7 @@ fn closed_cell(text: &[u8], at: usize) -> CellLine
     }
     CellLine {
         found: true,
-        mark: 0,
+        mark: CLOSED,
         bed: 0,
         roughness: 0,
         depth: 0,
@@ -141,10 +148,10 @@ fn marked_cell(text: &[u8], at: usize) -> CellLine
         return closed_cell(text, at + 2);
     }
     if byte_is(text, at + 1, b'o') {
-        return open_cell(text, at + 2, 1);
+        return open_cell(text, at + 2, OPEN);
     }
     if byte_is(text, at + 1, b'e') {
-        return open_cell(text, at + 2, 2);
+        return open_cell(text, at + 2, EXIT);
     }
     no_cell()
 }
