@@ -3,27 +3,32 @@
 use mathlib.Core.Path.{_≡_, refl, sym, ap, subst, _∙_}
 use mathlib.Core.Bool.{Bool, true, false, not, _||_}
 use mathlib.Core.List.{List, [], _∷_}
-use Prim.Native.Nat.{ℕ, _≤_, _<_}
+use Prim.Native.Nat.{ℕ, zero, suc, _-_, _≤_, _<_}
 use native.Mathlib.Omega.{arith}
 use lib.Dec.{eqb, leb}
 use lib.ListN.{length, getD, replicate, length-replicate, getD-replicate}
-use borrow.Author.Tests.{eq-eqb}
+use borrow.Author.Tests.{eq-eqb, le-leb, lt-ltb}
 use Rattle.reckon.specs.Tests.{pick, refusal}
 use Rattle.reckon.specs.Lists.{filled}
-use Rattle.reckon.proofs.TestLaws.{pick-true, pick-same, every-each, each-every, refusal-passed, passed-refusal}
+use Rattle.reckon.specs.Ranges.{mostDepth, lastClock, mostOutflow, waterFine}
+use Rattle.reckon.proofs.TestLaws.{pick-true, pick-same, or-right, or-of, every-each, each-every, all-at, all-of, refusal-passed, passed-refusal}
 use Rattle.reckon.proofs.ListLaws.{is-filled}
+use Rattle.trials.specs.Ring.{ringFine}
 use Rattle.grid.specs.Squares.{FineShape, squares}
 use Rattle.grid.specs.declared.squares.Shape.{Shape}
+use Rattle.rule.specs.Rules.{groundFine}
 use Rattle.rule.specs.declared.rules.Rules.{Rules}
 use Rattle.ledger.specs.Runs.{Plan, World, world, answered}
 use Rattle.ledger.specs.Flows.{shut}
 use Rattle.ledger.specs.Record.{roomSlots}
+use Rattle.ledger.specs.TakeBack.{oneEach, watersFine}
 use Rattle.ledger.specs.Engine.{seenOf}
 use Rattle.ledger.specs.declared.runs.Run.{Run}
 use Rattle.ledger.specs.declared.runs.Answer.{Answer}
 use Rattle.ledger.specs.declared.runs.Answer.the-variants.{Done, Refused}
 use Rattle.flood.specs.Ready.{Ready}
-use Rattle.flood.specs.Refusals.{checkRows, stepChecks, ringOf}
+use Rattle.flood.specs.Drops.{ground, given}
+use Rattle.flood.specs.Refusals.{groundsFine, checkRows, runChecks, stepChecks, ringOf}
 use Rattle.flood.specs.Run.{Ended, ended, runTo, freshRows, freshNumber, freshRun, freshLasts, Freshens}
 use Rattle.flood.proofs.CheckLaws.{ready, run-checks-step, checks-named}
 use Rattle.sheet.specs.Sheet.{Rooms, planIn, givenIn, noLasts, noRecords, startIn, checksIn}
@@ -111,3 +116,82 @@ run-printed h held {old = old} {new} {k = k} e l c u w =
     (e
     ∙ ap (runTo (planIn (h .shape) (h .rules) held) (givenIn (h .shape) (h .rules) held) (h .end)) (world-same l c u))
     w
+
+-- ---- a sheet that is read well passes rows 1 to 6 of a run
+
+-- rooms of one number a square that are alike where no square is closed
+pub record Handed (shape : Shape) (r : Rules) (held : Rooms) (beds roughness depths lasts records : List ℕ) : Type 0 where
+  pub beds-long : length beds ≡ squares shape
+  pub roughness-long : length roughness ≡ squares shape
+  pub depths-long : length depths ≡ squares shape
+  pub lasts-long : length lasts ≡ squares shape
+  pub beds-alike : (i : ℕ) → shut (planIn shape r held) i ≡ false → getD beds i 0 ≡ getD (held .beds) i 0
+  pub roughness-alike : (i : ℕ) → shut (planIn shape r held) i ≡ false → getD roughness i 0 ≡ getD (held .roughness) i 0
+  pub depths-alike : (i : ℕ) → shut (planIn shape r held) i ≡ false → getD depths i 0 ≡ getD (held .depths) i 0
+  pub lasts-none : (i : ℕ) → shut (planIn shape r held) i ≡ false → getD lasts i 0 ≡ 0
+  pub room-one : 1 ≤ roomSlots (planIn shape r held) records
+
+ring-fresh : (K : ℕ) → 1 ≤ K → ringFine K 0 (K - 1) ≡ true
+unfolding ringFine
+ring-fresh K h = each-every _ (lt-ltb 0 K (omega arith), (le-leb 0 K (omega arith), (lt-ltb (K - 1) K (omega arith), tt)))
+
+pub run-passes :
+    (shape : Shape) (r : Rules) (held : Rooms) (end : ℕ) → checksIn shape r held end ≡ 0 → (beds roughness depths lasts records : List ℕ) →
+    Handed shape r held beds roughness depths lasts records →
+    refusal
+    (runChecks (planIn shape r held) (given (ground r beds roughness) (held .rain) (held .inflow)) end
+    (world depths lasts records (freshRun (planIn shape r held) r lasts records))) ≡ 0
+unfolding checksIn checkRows freshRun oneEach watersFine waterFine groundsFine
+run-passes shape r held end e beds roughness depths lasts records g =
+    let rows = refusal-passed _ tt e in
+    let lent = every-each _ (rows .0) in
+    let lie = every-each _ (rows .1 .0) in
+    let fine = is-ready shape r held end e in
+    let p = planIn shape r held in
+    passed-refusal _ (
+      each-every _ (
+        lent .0,
+        (
+          lent .1 .0,
+          (
+            lent .1 .1 .0,
+            (
+              eq-eqb _ _ (g .beds-long),
+              (eq-eqb _ _ (g .roughness-long), (eq-eqb _ _ (g .depths-long), (eq-eqb _ _ (g .lasts-long), tt))),
+            ),
+          ),
+        ),
+      ),
+      (
+        each-every _ (
+          lie .0,
+          (
+            all-of _ _ (λ i l. or-of (shut p i) _ (λ s.
+            subst (λ (b : ℕ). groundFine b (getD roughness i 0) ≡ true) (sym (g .beds-alike i s))
+            (subst (λ (k : ℕ). groundFine (getD (held .beds) i 0) k ≡ true) (sym (g .roughness-alike i s))
+            (or-right (shut p i) _ (all-at _ _ (lie .1 .0) i l) s)))),
+            tt,
+          ),
+        ),
+        (
+          all-of _ _ (λ i l. or-of (shut p i) _ (λ s.
+          each-every _ (
+            le-leb _ _ (subst (λ (d : ℕ). d ≤ mostDepth) (sym (g .depths-alike i s)) (fine .flows .lies .depths-to i l s)),
+            (le-leb _ _ (subst (λ (d : ℕ). d ≤ mostDepth) (sym (g .lasts-none i s)) (omega arith)), tt),
+          ))),
+          (
+            rows .1 .1 .1 .0,
+            (
+              rows .1 .1 .1 .1 .0,
+              (
+                each-every _ (
+                  ring-fresh (roomSlots p records) (g .room-one),
+                  (le-leb 0 lastClock (omega arith), (every-each _ (rows .1 .1 .1 .1 .1 .0) .1 .1 .0, (every-each _ (rows .1 .1 .1 .1 .1 .0) .1 .1 .1 .0, (le-leb 0 mostOutflow (omega arith), tt)))),
+                ),
+                tt,
+              ),
+            ),
+          ),
+        ),
+      ),
+    )
