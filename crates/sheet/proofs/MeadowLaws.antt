@@ -6,13 +6,10 @@ use mathlib.Core.List.{List, [], _∷_}
 use Prim.Native.Nat.{ℕ, zero, suc, _*_, _≤_, _<_}
 use native.Mathlib.Omega.{arith}
 use lib.Dec.{leb}
-use lib.ListN.{length, getD, take, replicate, length-replicate}
-use lib.Seq.{ext-getD, getD-take, length-take-le}
+use lib.ListN.{length, take, replicate, length-replicate}
 use borrow.Author.Tests.{le-leb, lt-leb}
 use Rattle.reckon.specs.Tests.{pick}
-use Rattle.reckon.specs.Lists.{filled}
 use Rattle.reckon.proofs.TestLaws.{pick-true, pick-false}
-use Rattle.reckon.proofs.ListLaws.{length-filled, filled-in}
 use Rattle.grid.specs.Squares.{FineShape, squares}
 use Rattle.ledger.specs.Runs.{plan}
 use Rattle.ledger.specs.Record.{recordSize}
@@ -172,28 +169,3 @@ pub meadow-long :
 unfolding meadowText
 meadow-long s l {old} {new} {r} w =
     subst (λ (t : List ℕ). Prints t old new r) (sym (pick-false _ _ (lt-leb (length s) mostText l))) w
-
--- ---- a sheet that is read well, in rooms of any length
-
--- the numbers of squares not closed are the sheet's, whatever a room held before
-module _ (n : ℕ) (skipped : ℕ → Bool) (f : ℕ → ℕ) (old other : List ℕ) (i : ℕ) (l : i < n) (k : skipped i ≡ false) where
-  room-alike :
-      n ≤ length old → n ≤ length other → getD (take n (filled n skipped f old)) i 0 ≡ getD (filled n skipped f other) i 0
-  room-alike h g =
-      getD-take n (filled n skipped f old) i 0 l
-      ∙ (filled-in n skipped f old i (omega arith) l k ∙ sym (filled-in n skipped f other i (omega arith) l k))
-
--- marks are written everywhere
-marks-same :
-    (n : ℕ) (f : ℕ → ℕ) (old : List ℕ) → n ≤ length old →
-    take n (filled n (λ i. false) f old) ≡ filled n (λ i. false) f (replicate n 0)
-marks-same n f old h =
-    ext-getD 0 _ _ (long ∙ sym (length-filled n (λ i. false) f (replicate n 0) ∙ zeros))
-    (λ i l.
-    room-alike n (λ j. false) f old (replicate n 0) i (omega (arith, l, long)) refl h (omega (arith, zeros)))
-  where
-    zeros : length (replicate {A = ℕ} n 0) ≡ n
-    zeros = length-replicate n 0
-
-    long : length (take n (filled n (λ i. false) f old)) ≡ n
-    long = length-take-le n (filled n (λ i. false) f old) (omega (arith, h, length-filled n (λ i. false) f old))

@@ -167,18 +167,18 @@ run-passes shape r held end e beds roughness depths lasts records g =
           lie .0,
           (
             all-of _ _ (λ i l. or-of (shut p i) _ (λ s.
-            subst (λ (b : ℕ). groundFine b (getD roughness i 0) ≡ true) (sym (g .beds-alike i s))
-            (subst (λ (k : ℕ). groundFine (getD (held .beds) i 0) k ≡ true) (sym (g .roughness-alike i s))
-            (or-right (shut p i) _ (all-at _ _ (lie .1 .0) i l) s)))),
+                subst (λ (b : ℕ). groundFine b (getD roughness i 0) ≡ true) (sym (g .beds-alike i s))
+                (subst (λ (k : ℕ). groundFine (getD (held .beds) i 0) k ≡ true) (sym (g .roughness-alike i s))
+                (or-right (shut p i) _ (all-at _ _ (lie .1 .0) i l) s)))),
             tt,
           ),
         ),
         (
           all-of _ _ (λ i l. or-of (shut p i) _ (λ s.
-          each-every _ (
-            le-leb _ _ (subst (λ (d : ℕ). d ≤ mostDepth) (sym (g .depths-alike i s)) (fine .flows .lies .depths-to i l s)),
-            (le-leb _ _ (subst (λ (d : ℕ). d ≤ mostDepth) (sym (g .lasts-none i s)) (omega arith)), tt),
-          ))),
+              each-every _ (
+                le-leb _ _ (subst (λ (d : ℕ). d ≤ mostDepth) (sym (g .depths-alike i s)) (fine .flows .lies .depths-to i l s)),
+                (le-leb _ _ (subst (λ (d : ℕ). d ≤ mostDepth) (sym (g .lasts-none i s)) (omega arith)), tt),
+              ))),
           (
             rows .1 .1 .1 .0,
             (
