@@ -1,13 +1,12 @@
 -- Laws of the checks of a sheet: a fresh run's world, tables with a row too many, and what a passed check says.
 -- Assumes nothing.
-use mathlib.Core.Path.{_≡_, refl, sym, ap, subst, _∙_}
+use mathlib.Core.Path.{_≡_, refl, sym, ap, _∙_}
 use mathlib.Core.Bool.{Bool, true, false, _&&_}
 use mathlib.Core.List.{List, [], _∷_, _++_}
 use Prim.Native.Nat.{ℕ, zero, suc, _+_, _-_, _*_, _/_, _≤_, _<_, min}
 use native.Mathlib.Nat.{not-suc-le-zero, le-of-suc-le-suc, div-self, mul-div-cancel-left}
 use native.Mathlib.Decide.{decLt}
 use native.Mathlib.Omega.{arith}
-use lib.Dec.{leb}
 use lib.ListN.{length, getD, take, drop, replicate, length-replicate}
 use lib.Seq.{ext-getD, getD-take, length-take-le, take-append-le, take-length}
 use borrow.Author.Tests.{lt-leb}
@@ -17,14 +16,13 @@ use Rattle.reckon.specs.Ranges.{mostRain, mostLitres}
 use Rattle.reckon.specs.Tables.{rainKind, inflowKind, tableFine}
 use Rattle.reckon.proofs.TestLaws.{every-fails}
 use Rattle.reckon.proofs.ListLaws.{length-filled, filled-in, filled-skipped}
-use Rattle.grid.specs.Squares.{FineShape, squares}
+use Rattle.grid.specs.Squares.{squares}
 use Rattle.grid.specs.Marks.{inflowSquaresFine}
 use Rattle.grid.specs.declared.squares.Shape.{Shape}
 use Rattle.rule.specs.declared.rules.Rules.{Rules}
-use Rattle.ledger.specs.Runs.{Plan, World, plan, world}
+use Rattle.ledger.specs.Runs.{World, world}
 use Rattle.ledger.specs.Record.{recordSize, roomSlots}
 use Rattle.ledger.specs.declared.runs.Run.{Run}
-use Rattle.flood.specs.Drops.{Given, ground, given}
 use Rattle.flood.specs.Refusals.{checkRows, runChecks}
 use Rattle.flood.specs.Run.{freshRun}
 use Rattle.text.specs.Reading.{mostFields}
@@ -32,7 +30,6 @@ use Rattle.sheet.specs.Lines.{rainWord, inflowWord}
 use Rattle.sheet.specs.Sheet.{Rooms, rooms, cellsRooms, planIn, givenIn, noLasts, noRecords, checksIn, rowsRead, tableRows, lineTwo, shapeOf, cellsAt, rainAt, rainRows, inflowAt, inflowRows, badLine, cellsFilled, saidCells, checksOf}
 use Rattle.sheet.specs.Inner.{BodyIs, TextRead, Decided, numberOf}
 use Rattle.sheet.specs.declared.reading.Body.{Body}
-use Rattle.sheet.specs.declared.reading.Verdict.{Verdict}
 use Rattle.sheet.proofs.RoomLaws.{table-long}
 
 -- ---- rooms of zeros

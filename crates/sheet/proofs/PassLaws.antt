@@ -28,7 +28,7 @@ use Rattle.sheet.specs.declared.reading.Heading.{Heading}
 use Rattle.sheet.proofs.JudgeLaws.{table-taken}
 use Rattle.sheet.proofs.SheetLaws.{rooms-cells}
 use Rattle.sheet.proofs.MeadowLaws.{Well}
-use Rattle.sheet.proofs.RunLaws.{Handed, run-passes}
+use Rattle.sheet.proofs.RunLaws.{run-passes}
 
 -- the numbers of squares not closed are the sheet's, whatever a room held before
 module _ (n : ℕ) (skipped : ℕ → Bool) (f : ℕ → ℕ) (old other : List ℕ) (i : ℕ) (l : i < n) (k : skipped i ≡ false) where

@@ -1,24 +1,22 @@
 -- Laws of what is printed: how long it can get, and one piece after another.
 -- Assumes nothing.
-use mathlib.Core.Path.{_≡_, refl, sym, ap, subst, _∙_}
-use mathlib.Core.Bool.{Bool, true, false}
+use mathlib.Core.Path.{_≡_, sym, ap, subst, _∙_}
+use mathlib.Core.Bool.{true, false}
 use mathlib.Core.List.{List, [], _∷_, _++_}
 use Prim.Native.Nat.{ℕ, zero, suc, _+_, _*_, _/_, _%_, _^_, _≤_, _<_}
 use native.Mathlib.Nat.{not-suc-le-zero, le-of-suc-le-suc, div-le-self, mod-le, mul-suc}
 use native.Mathlib.Omega.{arith}
-use lib.Dec.{eqb}
 use lib.ListN.{length, getD, length-append}
 use borrow.Author.Tests.{eq-eqb, ne-eqb}
-use Rattle.reckon.specs.Tests.{pick}
 use Rattle.reckon.specs.Lists.{joined, placed}
 use Rattle.reckon.proofs.TestLaws.{pick-true, pick-false, pick-both}
 use Rattle.reckon.proofs.ListLaws.{joined-none, joined-more}
 use Rattle.grid.specs.Squares.{squares}
-use Rattle.ledger.specs.Runs.{Plan, World, plan, world}
+use Rattle.ledger.specs.Runs.{Plan, World, world}
 use Rattle.ledger.specs.Flows.{shut}
 use Rattle.ledger.specs.declared.runs.Run.{Run}
-use Rattle.flood.specs.Run.{Ended, ended}
-use Rattle.text.specs.Writing.{fieldsText, lineText, Wrote}
+use Rattle.flood.specs.Run.{ended}
+use Rattle.text.specs.Writing.{lineText, Wrote}
 use Rattle.text.proofs.WritingLaws.{fields-text-short, line-text-long, placed-none, wrote-both, wrote-length}
 use Rattle.sheet.specs.Lines.{cellWord}
 use Rattle.sheet.specs.Printed.{mostPrinted, mostSquares, refusedWord, outWord, stepsWord, clockWord, refusedText, cellText, cellsText, madeText, endedText, Prints}

@@ -1,22 +1,21 @@
 -- Laws of a sheet's text: each line starts where the one before it ends, so that the first bad line is the one at which reading stops.
 -- Assumes nothing.
 use mathlib.Core.Path.{_≡_, refl, sym, ap, subst, _∙_}
-use mathlib.Core.Bool.{Bool, true, false}
-use mathlib.Core.List.{List, [], _∷_}
-use Prim.Native.Nat.{ℕ, zero, suc, _+_, _≤_, _<_}
+use mathlib.Core.Bool.{true, false}
+use mathlib.Core.List.{List}
+use Prim.Native.Nat.{ℕ, _+_, _≤_, _<_}
 use native.Mathlib.Omega.{arith}
 use lib.Dec.{leb}
 use lib.ListN.{length}
 use borrow.Author.Tests.{le-leb, lt-leb}
-use Rattle.reckon.specs.Tests.{pick, refusal, _unless_}
-use Rattle.reckon.proofs.TestLaws.{not-both, refusal-here, refusal-later, passed-refusal, failing-le}
+use Rattle.reckon.specs.Tests.{pick}
+use Rattle.reckon.proofs.TestLaws.{refusal-here, refusal-later, passed-refusal, failing-le}
 use Rattle.grid.specs.Squares.{squares}
-use Rattle.grid.specs.declared.squares.Shape.{Shape}
-use Rattle.text.specs.Reading.{nextLine, lineFrom, lineOf}
+use Rattle.text.specs.Reading.{nextLine, lineFrom}
 use Rattle.text.specs.Writing.{plain}
 use Rattle.sheet.specs.Lines.{gridWord, runWord, rainWord, inflowWord, gridLine, runLine, asGrid, asRun}
-use Rattle.sheet.specs.Sheet.{Rooms, lineOne, lineTwo, shapeOf, cellsAt, cellsRead, rainAt, rainRows, inflowAt, inflowRows, afterAll, badLine, cellsFilled}
-use Rattle.sheet.specs.Inner.{CellsRead, RowsCounted, BodyIs, TextRead}
+use Rattle.sheet.specs.Sheet.{Rooms, lineTwo, shapeOf, cellsAt, cellsRead, rainAt, inflowAt, afterAll, badLine, cellsFilled}
+use Rattle.sheet.specs.Inner.{CellsRead, RowsCounted, TextRead}
 use Rattle.sheet.specs.declared.lines.GridLine.{GridLine}
 use Rattle.sheet.specs.declared.lines.RunLine.{RunLine}
 use Rattle.sheet.specs.declared.rooms.Scan.{Scan}

@@ -2,8 +2,8 @@
 -- Assumes nothing.
 use mathlib.Core.Path.{_≡_, refl, sym, ap, subst, _∙_}
 use mathlib.Core.Bool.{Bool, true, false}
-use mathlib.Core.List.{List, [], _∷_, _++_}
-use Prim.Native.Nat.{ℕ, zero, suc, _+_, _*_, _/_, _%_, _≤_, _<_}
+use mathlib.Core.List.{List, [], _∷_}
+use Prim.Native.Nat.{ℕ, _+_, _*_, _/_, _%_, _≤_, _<_}
 use native.Mathlib.Nat.{not-suc-le-zero, mul-suc, mul-le-mul-left}
 use native.Mathlib.Numerals.{add-one}
 use native.Mathlib.Decide.{ℕ-discrete}
@@ -13,8 +13,8 @@ use lib.ListN.{length, getD, set, take, length-take}
 use lib.Seq.{length-take-le, take-suc}
 use borrow.Author.Count.{below-more}
 use Rattle.reckon.specs.Tests.{pick, firstFailing}
-use Rattle.reckon.specs.Lists.{filled, joined, placed, tabulate}
-use Rattle.reckon.proofs.TestLaws.{not-both, pick-true, pick-false, no-more, failing-at, failing-none, failing-before}
+use Rattle.reckon.specs.Lists.{filled, placed}
+use Rattle.reckon.proofs.TestLaws.{not-both, pick-false, no-more, failing-at, failing-none, failing-before}
 use Rattle.reckon.proofs.ListLaws.{length-tabulate, length-filled, filled-none, filled-store, filled-keep, joined-none, joined-more, length-joined, length-placed}
 use Rattle.grid.specs.Squares.{squares}
 use Rattle.grid.specs.declared.squares.Shape.{Shape}
@@ -28,7 +28,6 @@ use Rattle.sheet.specs.Lines.{cellLine}
 use Rattle.sheet.specs.Sheet.{Rooms, cellFrom, cellsRead, rowLine, rowsRead, tableRows, cellsRooms, closedFrom, cellsFilled}
 use Rattle.sheet.specs.Inner.{CellsRead, RowsCounted}
 use Rattle.sheet.specs.declared.lines.CellLine.{CellLine}
-use Rattle.sheet.specs.declared.rooms.Scan.{Scan}
 use Rattle.sheet.proofs.KindLaws.{Lined, lined-next, lined-forth, lined-inside, row-lined, cell-ends}
 
 -- ---- lines that were read one after the other

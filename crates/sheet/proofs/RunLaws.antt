@@ -1,15 +1,14 @@
 -- Laws of the run of a sheet: its checks passed, so the fresh run is made and starts from nothing.
 -- Assumes nothing.
 use mathlib.Core.Path.{_≡_, refl, sym, ap, subst, _∙_}
-use mathlib.Core.Bool.{Bool, true, false, not, _||_}
-use mathlib.Core.List.{List, [], _∷_}
-use Prim.Native.Nat.{ℕ, zero, suc, _-_, _≤_, _<_}
+use mathlib.Core.Bool.{true, false, not, _||_}
+use mathlib.Core.List.{List}
+use Prim.Native.Nat.{ℕ, _-_, _≤_}
 use native.Mathlib.Omega.{arith}
 use lib.Dec.{eqb, leb}
-use lib.ListN.{length, getD, replicate, length-replicate, getD-replicate}
+use lib.ListN.{length, getD, length-replicate, getD-replicate}
 use borrow.Author.Tests.{eq-eqb, le-leb, lt-ltb}
 use Rattle.reckon.specs.Tests.{pick, refusal}
-use Rattle.reckon.specs.Lists.{filled}
 use Rattle.reckon.specs.Ranges.{mostDepth, lastClock, mostOutflow, waterFine}
 use Rattle.reckon.proofs.TestLaws.{pick-true, pick-same, or-right, or-of, every-each, each-every, all-at, all-of, refusal-passed, passed-refusal}
 use Rattle.reckon.proofs.ListLaws.{is-filled}
@@ -18,7 +17,7 @@ use Rattle.grid.specs.Squares.{FineShape, squares}
 use Rattle.grid.specs.declared.squares.Shape.{Shape}
 use Rattle.rule.specs.Rules.{groundFine}
 use Rattle.rule.specs.declared.rules.Rules.{Rules}
-use Rattle.ledger.specs.Runs.{Plan, World, world, answered}
+use Rattle.ledger.specs.Runs.{world, answered}
 use Rattle.ledger.specs.Flows.{shut}
 use Rattle.ledger.specs.Record.{roomSlots}
 use Rattle.ledger.specs.TakeBack.{oneEach, watersFine}
@@ -29,7 +28,7 @@ use Rattle.ledger.specs.declared.runs.Answer.the-variants.{Done, Refused}
 use Rattle.flood.specs.Ready.{Ready}
 use Rattle.flood.specs.Drops.{ground, given}
 use Rattle.flood.specs.Refusals.{groundsFine, checkRows, runChecks, stepChecks, ringOf}
-use Rattle.flood.specs.Run.{Ended, ended, runTo, freshRows, freshNumber, freshRun, freshLasts, Freshens}
+use Rattle.flood.specs.Run.{Ended, runTo, freshRows, freshNumber, freshRun, freshLasts, Freshens}
 use Rattle.flood.proofs.CheckLaws.{ready, run-checks-step, checks-named}
 use Rattle.sheet.specs.Sheet.{Rooms, planIn, givenIn, noLasts, noRecords, startIn, checksIn}
 use Rattle.sheet.specs.Printed.{endedText, runText, Prints}

@@ -1,17 +1,15 @@
 -- Laws of the answer to a sheet: each refusal in its order, and a sheet that is read well.
 -- Assumes nothing.
 use mathlib.Core.Path.{_≡_, refl, sym, ap, subst, _∙_}
-use mathlib.Core.Bool.{Bool, true, false}
-use mathlib.Core.List.{List, [], _∷_}
-use Prim.Native.Nat.{ℕ, zero, suc, _*_, _/_, _≤_, _<_}
+use mathlib.Core.Bool.{true, false}
+use mathlib.Core.List.{List}
+use Prim.Native.Nat.{ℕ, zero, suc, _/_, _≤_, _<_}
 use native.Mathlib.Nat.{mul-div-cancel-left}
 use native.Mathlib.Omega.{arith}
-use lib.Dec.{leb}
 use lib.ListN.{length}
 use borrow.Author.Tests.{leb-true}
-use Rattle.reckon.specs.Tests.{pick, every}
 use Rattle.reckon.specs.Lists.{placed}
-use Rattle.reckon.specs.Tables.{rainKind, inflowKind, tableFine}
+use Rattle.reckon.specs.Tables.{tableFine}
 use Rattle.reckon.proofs.TestLaws.{pick-true, pick-false, every-each}
 use Rattle.grid.specs.Squares.{FineShape, squares}
 use Rattle.grid.specs.declared.squares.Shape.{Shape}
@@ -20,14 +18,11 @@ use Rattle.rule.specs.declared.rules.Rules.{Rules}
 use Rattle.flood.proofs.CheckLaws.{ready, run-checks-step}
 use Rattle.text.specs.Reading.{mostFields}
 use Rattle.sheet.specs.Lines.{rainWord, inflowWord, gridLine}
-use Rattle.sheet.specs.Sheet.{Rooms, rooms, cellsRooms, roomsFine, lineOne, lineTwo, shapeOf, cellsAt, rainAt, rainRows, rainTable, inflowAt, inflowRows, inflowTable, badLine, cellsRead, cellsFilled, tablesFilled, roomsFilled, tableRows, said, checksIn, checksOf, headingOf, judged, sheetOf, roomsAfter, Reads}
-use Rattle.sheet.specs.Inner.{CellsRead, BodyIs, Decided, numberOf}
+use Rattle.sheet.specs.Sheet.{Rooms, rooms, cellsRooms, roomsFine, lineOne, lineTwo, shapeOf, cellsAt, rainAt, rainRows, inflowAt, inflowRows, badLine, cellsRead, cellsFilled, tablesFilled, roomsFilled, tableRows, checksIn, checksOf, headingOf, judged, sheetOf, roomsAfter, Reads}
+use Rattle.sheet.specs.Inner.{CellsRead, Decided, numberOf}
 use Rattle.sheet.specs.declared.lines.GridLine.{GridLine}
 use Rattle.sheet.specs.declared.rooms.Scan.{Scan}
-use Rattle.sheet.specs.declared.reading.Body.{Body}
 use Rattle.sheet.specs.declared.reading.Verdict.{Verdict}
-use Rattle.sheet.specs.declared.reading.Heading.{Heading}
-use Rattle.sheet.specs.declared.reading.Sheet.{Sheet}
 use Rattle.sheet.specs.declared.reading.Sheet.the-variants.{Read, Refused}
 use Rattle.sheet.proofs.RoomLaws.{table-long}
 

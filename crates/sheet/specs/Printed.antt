@@ -1,6 +1,5 @@
 -- Document 01, "The sheet and its program": what `meadow` prints of a text.
 -- Assumes nothing.
-use mathlib.Core.Path.{_≡_}
 use mathlib.Core.List.{List, [], _∷_, _++_}
 use Prim.Native.Nat.{ℕ, _/_, _%_, _≤_}
 use lib.Dec.{eqb, leb}

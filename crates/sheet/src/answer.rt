@@ -1,5 +1,9 @@
 // What `meadow` prints of a text: the whole program short of its input and output.
 use crate::reading::Heading;
+use crate::reading::INFLOW_ROOM;
+use crate::reading::INFLOW_WIDTH;
+use crate::reading::RAIN_ROOM;
+use crate::reading::RAIN_WIDTH;
 use crate::reading::Sheet;
 use crate::reading::read;
 use flood::fresh::fresh;
@@ -159,8 +163,8 @@ pub fn meadow_of(text: &[u8], out: &mut [u8; OUT_ROOM]) -> usize
     let mut beds = [0u32; SQUARE_ROOM];
     let mut roughness = [0u32; SQUARE_ROOM];
     let mut depths = [0u32; SQUARE_ROOM];
-    let mut rain = [0u32; 192];
-    let mut inflow = [0u32; 320];
+    let mut rain = [0u32; RAIN_ROOM];
+    let mut inflow = [0u32; INFLOW_ROOM];
     let sheet = read(
         text,
         &mut marks,
@@ -177,8 +181,8 @@ pub fn meadow_of(text: &[u8], out: &mut [u8; OUT_ROOM]) -> usize
             let mut records = [0u32; RECORD_ROOM];
             let squares = squares_of(heading.shape);
             let size = record_size(heading.shape);
-            let rain_end = 3 * heading.rain_rows;
-            let inflow_end = 5 * heading.inflow_rows;
+            let rain_end = RAIN_WIDTH * heading.rain_rows;
+            let inflow_end = INFLOW_WIDTH * heading.inflow_rows;
             run_sheet(
                 out,
                 heading,

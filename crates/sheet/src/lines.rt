@@ -10,8 +10,7 @@ use text::reading::line_of;
 use text::reading::rest_of_line;
 use text::reading::word_at;
 ghost use mathlib.Core.Path.{_≡_};
-ghost use Prim.Native.Nat.{_+_, _<_};
-ghost use lib.ListN.{length};
+ghost use Prim.Native.Nat.{_+_};
 ghost use Rattle.sheet.specs.Lines.{closedCell, cellLine, gridLine, markedCell, noCell, openCell, runLine};
 
 // Marks.

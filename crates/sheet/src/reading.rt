@@ -20,10 +20,9 @@ ghost use mathlib.Core.List.{[], _∷_};
 ghost use Prim.Native.Nat.{_*_, _+_, _≤_, min};
 ghost use lib.Dec.{leb};
 ghost use lib.ListN.{length};
-ghost use Rattle.reckon.specs.Tests.{every, refusal};
+ghost use Rattle.reckon.specs.Tests.{every};
 ghost use Rattle.grid.specs.Squares.{FineShape, shapeFine, squares};
 ghost use Rattle.rule.specs.Rules.{sideFine};
-ghost use Rattle.ledger.specs.Runs.{plan};
 ghost use Rattle.sheet.specs.Lines.{gridLine};
 ghost use Rattle.sheet.specs.Inner.{BodyIs, Decided, TextRead};
 ghost use Rattle.sheet.specs.Sheet.{Reads, cellsRooms, checksIn, checksOf, rooms, saidCells, shapeOf};
@@ -44,13 +43,13 @@ pub enum Sheet {
 }
 
 // The numbers of a row of each table, and those that its room must have.
-const RAIN_WIDTH: usize = 3;
+pub(crate) const RAIN_WIDTH: usize = 3;
 
-const INFLOW_WIDTH: usize = 5;
+pub(crate) const INFLOW_WIDTH: usize = 5;
 
-const RAIN_ROOM: usize = 192;
+pub(crate) const RAIN_ROOM: usize = 192;
 
-const INFLOW_ROOM: usize = 320;
+pub(crate) const INFLOW_ROOM: usize = 320;
 
 // The numbers of the largest grid, and of its record; those of one row too many in each table.
 const SQUARE_ROOM: usize = 4_096;

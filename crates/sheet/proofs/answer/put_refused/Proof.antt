@@ -1,6 +1,5 @@
 -- `sheet::answer::put_refused` meets its contract: the line is short.
 -- Assumes nothing.
-use Prim.Native.Nat.{_<_, _^_}
 use native.Mathlib.Omega.{arith}
 use borrow.Author.Needs.{needs}
 use Rattle.sheet.specs.Printed.{refusedText}

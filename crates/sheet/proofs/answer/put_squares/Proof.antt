@@ -3,7 +3,6 @@
 use mathlib.Core.Path.{_≡_, subst}
 use Prim.Native.Nat.{ℕ, _-_, _≤_}
 use native.Mathlib.Omega.{arith}
-use borrow.Author.Needs.{needs}
 use Rattle.reckon.specs.Lists.{joined}
 use Rattle.grid.specs.Squares.{squares}
 use Rattle.ledger.specs.Runs.{plan}

@@ -1,7 +1,6 @@
 -- `sheet::answer::run_sheet` meets its contract: the checks have passed, so the fresh run is made.
 -- Assumes nothing.
-use mathlib.Core.Path.{refl, sym, _∙_}
-use native.Mathlib.Omega.{arith}
+use mathlib.Core.Path.{sym, _∙_}
 use borrow.Author.Needs.{needs}
 use Rattle.sheet.specs.Sheet.{rooms}
 use Rattle.sheet.proofs.RunLaws.{run-shape, run-marks, run-depths, starts, starts-lasts, never-refused, same-run, run-printed}

@@ -1,8 +1,7 @@
 -- `sheet::reading::read` meets its contract: each refusal in its order, and then the rooms are filled.
 -- Assumes nothing.
-use mathlib.Core.Bool.{true, false}
-use mathlib.Core.Path.{_≡_, refl, sym, ap, _∙_}
-use Prim.Native.Nat.{ℕ, _≤_}
+use mathlib.Core.Bool.{true}
+use mathlib.Core.Path.{_≡_, refl}
 use native.Mathlib.Omega.{arith}
 use borrow.Author.Tests.{not-true, not-false}
 use borrow.Author.Needs.{needs}

@@ -1,13 +1,9 @@
 -- `sheet::rooms::count_rows` meets its contract: each line passed is one of the table.
 -- Assumes nothing.
-use mathlib.Core.Bool.{true}
-use mathlib.Core.Path.{_≡_}
 use Prim.Native.Nat.{_-_, _≤_}
 use native.Mathlib.Omega.{arith}
 use lib.ListN.{length}
 use borrow.Author.Tests.{not-true, not-false}
-use Rattle.text.specs.Reading.{mostFields}
-use Rattle.text.specs.Writing.{plain}
 use Rattle.sheet.specs.Sheet.{rowLine}
 use Rattle.sheet.proofs.RoomLaws.{Passed, passed-none, row-more, row-forth, rows-stop, rows-end}
 use Rattle.sheet.proofs.rooms.count_rows.Statement.{statement}

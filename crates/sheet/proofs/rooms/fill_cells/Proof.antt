@@ -1,7 +1,7 @@
 -- `sheet::rooms::fill_cells` meets its contract: the rooms are filled with the lines passed.
 -- Assumes nothing.
-use mathlib.Core.Path.{refl, sym, _∙_}
-use Prim.Native.Nat.{_-_, _≤_, _<_}
+use mathlib.Core.Path.{refl}
+use Prim.Native.Nat.{_-_, _≤_}
 use native.Mathlib.Omega.{arith}
 use borrow.Author.Tests.{not-true, not-false}
 use borrow.Author.Needs.{needs}
