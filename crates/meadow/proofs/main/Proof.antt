@@ -1,0 +1,60 @@
+-- `meadow::main` is safe and ends: what is read lies in the text's room, and what is printed in the room for it.
+-- Assumes nothing.
+use mathlib.Core.Path.{sym}
+use Prim.Native.Nat.{ℕ}
+use native.Mathlib.Omega.{arith}
+use lib.ListN.{length-replicate}
+use lib.Seq.{length-take-le}
+use borrow.Author.Needs.{needs}
+use Rattle.meadow.proofs.main.Statement.{statement}
+use Rattle.meadow.proofs.main.Tie as tie
+
+slice-aggregate-read-full : tie.Need-slice-aggregate-read-full
+slice-aggregate-read-full c = search needs
+
+read-full-requires : tie.Need-read-full-requires
+read-full-requires c κs = search needs
+
+array-share-prefix-text : tie.Need-array-share-prefix-text
+array-share-prefix-text c = search needs
+
+slice-aggregate-meadow-of : tie.Need-slice-aggregate-meadow-of
+slice-aggregate-meadow-of c = search needs
+
+meadow-of-requires : tie.Need-meadow-of-requires
+meadow-of-requires c κs = search needs
+
+array-share-prefix-out : tie.Need-array-share-prefix-out
+array-share-prefix-out c = omega (arith, c .meadow-of .ensures .fits, c .meadow-of .ensures .wrote .next)
+
+slice-aggregate-write-all : tie.Need-slice-aggregate-write-all
+slice-aggregate-write-all c =
+    sym
+    (length-take-le _ (c .before .meadow-of .last .1 .0)
+    (omega (
+      arith,
+      c .before .meadow-of .ensures .fits,
+      c .before .meadow-of .ensures .wrote .next,
+      c .before .meadow-of .kept .1 .0,
+      length-replicate {A = ℕ} 40960 0,
+    )))
+
+write-all-requires : tie.Need-write-all-requires
+write-all-requires c κs = search needs
+
+returns : tie.Need-returns
+returns c = search needs
+
+pub main-spec : {M : Type 1} → statement M
+main-spec =
+    tie.close
+    (tie.spec
+    slice-aggregate-read-full
+    read-full-requires
+    array-share-prefix-text
+    slice-aggregate-meadow-of
+    meadow-of-requires
+    array-share-prefix-out
+    slice-aggregate-write-all
+    write-all-requires
+    returns)

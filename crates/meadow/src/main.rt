@@ -1,0 +1,14 @@
+// Reads a sheet from standard input, runs it to its end, and writes the water that it leaves, or its refusal.
+use sheet::answer::OUT_ROOM;
+use sheet::answer::meadow_of;
+
+// One byte more than are taken, so that a text that is too long is seen to be.
+const TEXT_ROOM: usize = 65_537;
+
+fn main() {
+    let mut text = [0u8; TEXT_ROOM];
+    let got = io::read_full(0, &mut text);
+    let mut out = [0u8; OUT_ROOM];
+    let length = meadow_of(&text[..got], &mut out);
+    io::write_all(1, &out[..length]);
+}

@@ -1,0 +1,181 @@
+-- Laws of the answer to a sheet: each refusal in its order, and a sheet that is read well.
+-- Assumes nothing.
+use mathlib.Core.Path.{_≡_, refl, sym, ap, subst, _∙_}
+use mathlib.Core.Bool.{true, false}
+use mathlib.Core.List.{List}
+use Prim.Native.Nat.{ℕ, zero, suc, _/_, _≤_, _<_}
+use native.Mathlib.Nat.{mul-div-cancel-left}
+use native.Mathlib.Omega.{arith}
+use lib.ListN.{length}
+use borrow.Author.Tests.{leb-true}
+use Rattle.reckon.specs.Lists.{placed}
+use Rattle.reckon.specs.Tables.{tableFine}
+use Rattle.reckon.proofs.TestLaws.{pick-true, pick-false, every-each}
+use Rattle.grid.specs.Squares.{FineShape, squares}
+use Rattle.grid.specs.declared.squares.Shape.{Shape}
+use Rattle.grid.proofs.SquareLaws.{ranges-of-fine}
+use Rattle.rule.specs.declared.rules.Rules.{Rules}
+use Rattle.flood.proofs.CheckLaws.{ready, run-checks-step}
+use Rattle.text.specs.Reading.{mostFields}
+use Rattle.sheet.specs.Lines.{rainWord, inflowWord, gridLine}
+use Rattle.sheet.specs.Sheet.{Rooms, rooms, cellsRooms, roomsFine, lineOne, lineTwo, shapeOf, cellsAt, rainAt, rainRows, inflowAt, inflowRows, badLine, cellsRead, cellsFilled, tablesFilled, roomsFilled, tableRows, checksIn, checksOf, headingOf, judged, sheetOf, roomsAfter, Reads}
+use Rattle.sheet.specs.Inner.{CellsRead, Decided, numberOf}
+use Rattle.sheet.specs.declared.lines.GridLine.{GridLine}
+use Rattle.sheet.specs.declared.rooms.Scan.{Scan}
+use Rattle.sheet.specs.declared.reading.Verdict.{Verdict}
+use Rattle.sheet.specs.declared.reading.Sheet.the-variants.{Read, Refused}
+use Rattle.sheet.proofs.RoomLaws.{table-long}
+
+-- ---- what fine rooms and passed checks say
+
+module _ (shape : Shape) (r : Rules) (lent : Rooms) (f : roomsFine shape r lent ≡ true) where
+  pub rooms-shape : FineShape shape
+  unfolding roomsFine
+  rooms-shape = ranges-of-fine shape (every-each _ f .0)
+
+  pub rooms-cells :
+      (squares shape ≤ length (lent .marks)) × (squares shape ≤ length (lent .beds)) × (squares shape ≤ length (lent .roughness)) ×
+      (squares shape ≤ length (lent .depths))
+  unfolding roomsFine
+  rooms-cells =
+      let t = every-each _ f in
+      (leb-true _ _ (t .1 .1 .0), leb-true _ _ (t .1 .1 .1 .0), leb-true _ _ (t .1 .1 .1 .1 .0), leb-true _ _ (t .1 .1 .1 .1 .1 .0))
+
+  pub rooms-tables : (192 ≤ length (lent .rain)) × (320 ≤ length (lent .inflow))
+  unfolding roomsFine
+  rooms-tables =
+      let t = every-each _ f in
+      (leb-true 192 (length (lent .rain)) (t .1 .1 .1 .1 .1 .1 .0), leb-true 320 (length (lent .inflow)) (t .1 .1 .1 .1 .1 .1 .1 .0))
+
+rows-few :
+    (s : List ℕ) (p : ℕ) (word : List ℕ) (width rows lead most : ℕ) → width ≤ mostFields → 0 < width →
+    tableFine (record { width = width; lead = lead; most = most }) (tableRows s p word width rows) ≡ true → rows ≤ 64
+unfolding tableFine
+rows-few s p word width rows lead most few some e =
+    let n : length (tableRows s p word width rows) / width ≡ rows =
+    ap (λ (k : ℕ). k / width) (table-long s p word width few rows) ∙ mul-div-cancel-left rows some in
+    omega (arith, n, leb-true (length (tableRows s p word width rows) / width) 64 (every-each _ e .1 .0))
+
+module _ (s : List ℕ) (e : checksOf s ≡ 0) where
+  pub rain-few : rainRows s ≤ 64
+  unfolding checksIn
+  rain-few =
+      rows-few s (rainAt s) rainWord 3 (rainRows s) 0 1_000_000 (omega arith) (omega arith)
+      (ready _ _ _ _ (run-checks-step _ _ (lineTwo s .end) _ e) .waters .rain)
+
+  pub inflow-few : inflowRows s ≤ 64
+  unfolding checksIn
+  inflow-few =
+      rows-few s (inflowAt s) inflowWord 5 (inflowRows s) 2 100_000 (omega arith) (omega arith)
+      (ready _ _ _ _ (run-checks-step _ _ (lineTwo s .end) _ e) .waters .inflow)
+
+-- ---- what was read again, into the rooms that are lent
+
+rooms-same :
+    {m m′ b b′ k k′ d d′ r r′ i i′ : List ℕ} → m ≡ m′ → b ≡ b′ → k ≡ k′ → d ≡ d′ → r ≡ r′ → i ≡ i′ →
+    rooms m b k d r i ≡ rooms m′ b′ k′ d′ r′ i′
+rooms-same e f g h a c = cc
+
+table-same :
+    (s word : List ℕ) (width : ℕ) {p q n k : ℕ} → p ≡ q → n ≡ k → tableRows s p word width n ≡ tableRows s q word width k
+table-same s word width e f = cc
+
+filled-same :
+    (s : List ℕ) {p q : ℕ} {shape shape′ : Shape} {scan : Scan} {before after : Rooms} → p ≡ q → shape ≡ shape′ →
+    cellsRead s q shape′ ≡ squares shape′ → CellsRead s p shape scan before after →
+    after ≡ cellsFilled s q (shape′ .columns) (squares shape′) before
+filled-same s {p} {q} {shape} {shape′} {scan} {before} {after} e f n c =
+    let d : CellsRead s q shape′ scan before after =
+    subst (λ (k : ℕ). CellsRead s k shape′ scan before after) e (subst (λ (h : Shape). CellsRead s p h scan before after) f c) in
+    d .rooms-are ∙ ap (λ (k : ℕ). cellsFilled s q (shape′ .columns) k before) (d .count-is ∙ n)
+
+-- ---- the refusals
+
+module _ (s : List ℕ) {top : GridLine} (e : top ≡ gridLine s) (old : Rooms) where
+  pub refused-first : top .found ≡ false → Reads s old (Refused 12 1) old
+  unfolding sheetOf roomsAfter
+  refused-first f = record { answer = sym (pick-false _ _ (subst (λ (g : GridLine). g .found ≡ false) e f)); rooms-are = refl }
+
+  module _ (t : top .found ≡ true) where
+    found-one : lineOne s .found ≡ true
+    found-one = subst (λ (g : GridLine). g .found ≡ true) e t
+
+    pub refused-rooms : roomsFine (top .shape) (top .rules) old ≡ false → Reads s old (Refused 1 0) old
+    unfolding sheetOf roomsAfter
+    refused-rooms f =
+        record {
+          answer =
+              sym
+              (pick-true _ _ found-one
+              ∙ pick-false _ _ (subst (λ (g : GridLine). roomsFine (g .shape) (g .rules) old ≡ false) e f));
+          rooms-are = refl;
+        }
+
+    module _ (f : roomsFine (top .shape) (top .rules) old ≡ true) {v : Verdict} (d : Decided s v) where
+      by-judged : sheetOf s old ≡ judged (badLine s) (checksOf s) (headingOf s)
+      unfolding sheetOf
+      by-judged =
+          pick-true _ _ found-one ∙ pick-true _ _ (subst (λ (g : GridLine). roomsFine (g .shape) (g .rules) old ≡ true) e f)
+
+      pub refused-verdict : (v .number ≡ 0 → ⊥) → Reads s old (Refused (v .number) (v .line)) old
+      unfolding roomsAfter judged numberOf
+      refused-verdict n =
+          record { answer = go (badLine s) (checksOf s) (d .line-is) (d .number-is) ∙ sym by-judged; rooms-are = refl }
+        where
+          go :
+              (bad check : ℕ) → v .line ≡ bad → v .number ≡ numberOf bad check →
+              Refused (v .number) (v .line) ≡ judged bad check (headingOf s)
+          go (suc bad) check p q = rw (p, q)
+          go zero zero p q = absurd (n q)
+          go zero (suc check) p q = rw (p, q)
+
+      module _ (z : v .number ≡ 0) where
+        pub no-bad : badLine s ≡ 0
+        unfolding numberOf
+        no-bad = go (badLine s) (d .number-is)
+          where
+            go : (bad : ℕ) → v .number ≡ numberOf bad (checksOf s) → bad ≡ 0
+            go zero q = refl
+            go (suc bad) q = absurd (omega (arith, q, z))
+
+        pub no-check : checksOf s ≡ 0
+        unfolding numberOf
+        no-check = sym (d .number-is ∙ ap (λ (k : ℕ). numberOf k (checksOf s)) no-bad) ∙ z
+
+        pub read-well :
+            {scan : Scan} {m b k dd m′ b′ k′ dd′ r r′ i i′ : List ℕ} → old ≡ rooms m b k dd r i →
+            CellsRead s (v .body .«cells_at») (top .shape) scan (cellsRooms m b k dd) (cellsRooms m′ b′ k′ dd′) →
+            r′ ≡ placed r 0 (tableRows s (v .body .«rain_at») rainWord 3 (v .body .«rain_rows»)) →
+            i′ ≡ placed i 0 (tableRows s (v .body .«inflow_at») inflowWord 5 (v .body .«inflow_rows»)) →
+            Reads s old
+            (Read
+            (record {
+              shape = top .shape;
+              rules = v .body .rules;
+              end = v .body .end;
+              «rain_rows» = v .body .«rain_rows»;
+              «inflow_rows» = v .body .«inflow_rows»;
+            }))
+            (rooms m′ b′ k′ dd′ r′ i′)
+        unfolding roomsAfter judged headingOf cellsFilled tablesFilled
+        read-well {scan} {m} {b} {k} {dd} {m′} {b′} {k′} {dd′} {r} {r′} {i} {i′} o c p q =
+            let body = d .body-is z in
+            let cells : cellsRooms m′ b′ k′ dd′ ≡ cellsFilled s (cellsAt s) (shapeOf s .columns) (squares (shapeOf s)) (cellsRooms m b k dd) =
+            filled-same s (body .cells-at-is) (ap (λ (g : GridLine). g .shape) e) (body .all-cells) c in
+            record {
+              answer =
+                  heading-same (ap (λ (g : GridLine). g .shape) e) (body .rules-are) (body .end-is) (body .rain-rows-are) (body .inflow-rows-are)
+                  ∙ sym (by-judged ∙ rw (no-bad, no-check));
+              rooms-are =
+                  subst (λ (x : Rooms). rooms m′ b′ k′ dd′ r′ i′ ≡ roomsFilled s x) (sym o)
+                  (rooms-same (ap (λ (x : Rooms). x .marks) cells) (ap (λ (x : Rooms). x .beds) cells)
+                  (ap (λ (x : Rooms). x .roughness) cells) (ap (λ (x : Rooms). x .depths) cells)
+                  (p ∙ ap (placed r 0) (table-same s rainWord 3 (body .rain-at-is) (body .rain-rows-are)))
+                  (q ∙ ap (placed i 0) (table-same s inflowWord 5 (body .inflow-at-is) (body .inflow-rows-are))));
+            }
+          where
+            heading-same :
+                {a a′ : Shape} {u u′ : Rules} {h h′ x x′ y y′ : ℕ} → a ≡ a′ → u ≡ u′ → h ≡ h′ → x ≡ x′ → y ≡ y′ →
+                Read (record { shape = a; rules = u; end = h; «rain_rows» = x; «inflow_rows» = y }) ≡
+                Read (record { shape = a′; rules = u′; end = h′; «rain_rows» = x′; «inflow_rows» = y′ })
+            heading-same e f g h i = cc

@@ -1,0 +1,61 @@
+-- `sheet::answer::put_square` meets its contract: a closed square has no line.
+-- Assumes nothing.
+use mathlib.Core.Path.{sym, ap, _∙_}
+use Prim.Native.Nat.{_/_, _%_}
+use native.Mathlib.Omega.{arith}
+use lib.ListN.{length}
+use borrow.Author.Needs.{needs}
+use Rattle.ledger.specs.Runs.{plan}
+use Rattle.sheet.specs.Lines.{cellWord}
+use Rattle.sheet.proofs.PrintLaws.{closed-written, open-text, written-as, line-as}
+use Rattle.sheet.proofs.answer.put_square.Statement.{statement}
+use Rattle.sheet.proofs.answer.put_square.Tie as tie
+
+is-closed-requires : tie.Need-is-closed-requires
+is-closed-requires c κs = search needs
+
+returns : tie.Need-returns
+returns c = closed-written _ _ _ (sym (c .before .is-closed .ensures) ∙ c .if1 .taken)
+
+div-t11 : tie.Need-div-t11
+div-t11 c = omega (arith, c .before .before .before .before .before .pre .0 .0 .columns-low)
+
+rem-t13 : tie.Need-rem-t13
+rem-t13 c = omega (arith, c .before .before .before .before .before .pre .0 .0 .columns-low)
+
+number-requires : tie.Need-number-requires
+number-requires c κs = search needs
+
+slice-aggregate-put-line : tie.Need-slice-aggregate-put-line
+slice-aggregate-put-line c = search needs
+
+slice-aggregate-put-line-2 : tie.Need-slice-aggregate-put-line-2
+slice-aggregate-put-line-2 c = search needs
+
+put-line-requires : tie.Need-put-line-requires
+put-line-requires c κs =
+    let e = open-text (plan (c .before .before .before .before .before .before .before .before .before .args .shape) (c .before .before .before .before .before .before .before .before .before .args .marks .now)) (c .before .before .before .before .before .before .before .before .before .args .depths .now) (c .before .before .before .before .before .before .before .before .before .args .square) (sym (c .before .before .before .before .before .is-closed .ensures) ∙ c .before .before .before .before .if1 .left) in
+    let h = line-as cellWord (c .before .before .before .before .before .before .before .before .before .args .square / c .before .before .before .before .before .before .before .before .before .args .shape .columns) (c .before .before .before .before .before .before .before .before .before .args .square % c .before .before .before .before .before .before .before .before .before .args .shape .columns) (c .before .before .before .number .ensures) e in omega (arith, ap length h, c .before .before .before .before .before .before .before .before .before .pre .1)
+
+same-length : tie.Need-same-length
+same-length c = search needs
+
+returns-2 : tie.Need-returns-2
+returns-2 c =
+    let e = open-text (plan (c .before .before .before .before .before .before .before .before .before .before .before .before .args .shape) (c .before .before .before .before .before .before .before .before .before .before .before .before .args .marks .now)) (c .before .before .before .before .before .before .before .before .before .before .before .before .args .depths .now) (c .before .before .before .before .before .before .before .before .before .before .before .before .args .square) (sym (c .before .before .before .before .before .before .before .before .is-closed .ensures) ∙ c .before .before .before .before .before .before .before .if1 .left) in
+    written-as (line-as cellWord (c .before .before .before .before .before .before .before .before .before .before .before .before .args .square / c .before .before .before .before .before .before .before .before .before .before .before .before .args .shape .columns) (c .before .before .before .before .before .before .before .before .before .before .before .before .args .square % c .before .before .before .before .before .before .before .before .before .before .before .before .args .shape .columns) (c .before .before .before .before .before .before .number .ensures) e) (c .before .before .put-line .ensures)
+
+pub put-square-spec : {M : Type 1} → statement M
+put-square-spec =
+    tie.close
+    (tie.spec
+    is-closed-requires
+    returns
+    div-t11
+    rem-t13
+    number-requires
+    slice-aggregate-put-line
+    slice-aggregate-put-line-2
+    put-line-requires
+    same-length
+    returns-2)

@@ -1,0 +1,47 @@
+-- `sheet::lines::grid_line` meets its contract: the fields read are handed on.
+-- Assumes nothing.
+use borrow.Author.Needs.{needs}
+use Rattle.sheet.proofs.KindLaws.{grid-is}
+use Rattle.sheet.proofs.lines.grid_line.Statement.{statement}
+use Rattle.sheet.proofs.lines.grid_line.Tie as tie
+
+slice-aggregate-line-of : tie.Need-slice-aggregate-line-of
+slice-aggregate-line-of c = search needs
+
+line-of-requires : tie.Need-line-of-requires
+line-of-requires c κs = search needs
+
+slice-aggregate-number : tie.Need-slice-aggregate-number
+slice-aggregate-number c = search needs
+
+number-requires : tie.Need-number-requires
+number-requires c κs = search needs
+
+slice-aggregate-number-2 : tie.Need-slice-aggregate-number-2
+slice-aggregate-number-2 c = search needs
+
+number-requires-2 : tie.Need-number-requires-2
+number-requires-2 c κs = search needs
+
+slice-aggregate-number-3 : tie.Need-slice-aggregate-number-3
+slice-aggregate-number-3 c = search needs
+
+number-requires-3 : tie.Need-number-requires-3
+number-requires-3 c κs = search needs
+
+returns : tie.Need-returns
+returns c = grid-is _ (c .before .before .before .before .before .before .before .line-of .ensures) (c .before .before .before .before .number .ensures) (c .before .before .number2 .ensures) (c .number3 .ensures)
+
+pub grid-line-spec : {M : Type 1} → statement M
+grid-line-spec =
+    tie.close
+    (tie.spec
+    slice-aggregate-line-of
+    line-of-requires
+    slice-aggregate-number
+    number-requires
+    slice-aggregate-number-2
+    number-requires-2
+    slice-aggregate-number-3
+    number-requires-3
+    returns)

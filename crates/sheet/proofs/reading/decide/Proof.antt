@@ -1,0 +1,91 @@
+-- `sheet::reading::decide` meets its contract: a bad line, or else the checks.
+-- Assumes nothing.
+use mathlib.Core.Path.{sym, ap, _∙_}
+use Prim.Native.Nat.{ℕ}
+use native.Mathlib.Omega.{arith}
+use lib.ListN.{length-replicate}
+use lib.Seq.{length-take-le}
+use borrow.Author.Needs.{needs}
+use Rattle.grid.specs.Squares.{squares}
+use Rattle.sheet.specs.declared.lines.GridLine.{GridLine}
+use Rattle.sheet.proofs.JudgeLaws.{said-from, decided-bad, decided-good}
+use Rattle.sheet.proofs.reading.decide.Statement.{statement}
+use Rattle.sheet.proofs.reading.decide.Tie as tie
+
+slice-aggregate-read-body : tie.Need-slice-aggregate-read-body
+slice-aggregate-read-body c = search needs
+
+slice-aggregate-read-body-2 : tie.Need-slice-aggregate-read-body-2
+slice-aggregate-read-body-2 c = search needs
+
+slice-aggregate-read-body-3 : tie.Need-slice-aggregate-read-body-3
+slice-aggregate-read-body-3 c = search needs
+
+slice-aggregate-read-body-4 : tie.Need-slice-aggregate-read-body-4
+slice-aggregate-read-body-4 c = search needs
+
+read-body-requires : tie.Need-read-body-requires
+read-body-requires c κs = ((c .before .before .before .before .before .pre .0, c .before .before .before .before .before .pre .1, c .before .before .before .before .before .pre .2), (omega (arith, c .before .before .before .before .before .pre .2 .few, length-replicate {A = ℕ} 4096 0), omega (arith, c .before .before .before .before .before .pre .2 .few, length-replicate {A = ℕ} 4096 0), omega (arith, c .before .before .before .before .before .pre .2 .few, length-replicate {A = ℕ} 4096 0), omega (arith, c .before .before .before .before .before .pre .2 .few, length-replicate {A = ℕ} 4096 0)))
+
+returns : tie.Need-returns
+returns c = decided-bad (c .before .before .before .before .before .before .read-body .ensures) (c .if1 .taken)
+
+squares-of-requires : tie.Need-squares-of-requires
+squares-of-requires c κs = c .before .before .before .before .before .before .before .before .before .before .before .before .before .pre .2
+
+array-share-prefix-marks : tie.Need-array-share-prefix-marks
+array-share-prefix-marks c = omega (arith, c .before .before .before .before .before .before .before .before .before .before .before .before .before .before .pre .2 .few, c .squares-of .ensures)
+
+slice-aggregate-judge-body : tie.Need-slice-aggregate-judge-body
+slice-aggregate-judge-body c = sym (length-take-le _ _ (omega (arith, c .before .before .before .before .before .before .before .before .before .before .before .before .before .before .before .pre .2 .few, c .before .squares-of .ensures, c .before .before .before .before .before .before .before .before .before .read-body .kept .1 .1 .0, length-replicate {A = ℕ} 4096 0)))
+
+array-share-prefix-beds : tie.Need-array-share-prefix-beds
+array-share-prefix-beds c = omega (arith, c .before .before .before .before .before .before .before .before .before .before .before .before .before .before .before .pre .2 .few, c .before .squares-of .ensures)
+
+slice-aggregate-judge-body-2 : tie.Need-slice-aggregate-judge-body-2
+slice-aggregate-judge-body-2 c = sym (length-take-le _ _ (omega (arith, c .before .before .before .before .before .before .before .before .before .before .before .before .before .before .before .before .pre .2 .few, c .before .before .squares-of .ensures, c .before .before .before .before .before .before .before .before .before .before .read-body .kept .1 .1 .1 .0, length-replicate {A = ℕ} 4096 0)))
+
+array-share-prefix-roughness : tie.Need-array-share-prefix-roughness
+array-share-prefix-roughness c = omega (arith, c .before .before .before .before .before .before .before .before .before .before .before .before .before .before .before .before .pre .2 .few, c .before .before .squares-of .ensures)
+
+slice-aggregate-judge-body-3 : tie.Need-slice-aggregate-judge-body-3
+slice-aggregate-judge-body-3 c = sym (length-take-le _ _ (omega (arith, c .before .before .before .before .before .before .before .before .before .before .before .before .before .before .before .before .before .pre .2 .few, c .before .before .before .squares-of .ensures, c .before .before .before .before .before .before .before .before .before .before .before .read-body .kept .1 .1 .1 .1 .0, length-replicate {A = ℕ} 4096 0)))
+
+array-share-prefix-depths : tie.Need-array-share-prefix-depths
+array-share-prefix-depths c = omega (arith, c .before .before .before .before .before .before .before .before .before .before .before .before .before .before .before .before .before .pre .2 .few, c .before .before .before .squares-of .ensures)
+
+slice-aggregate-judge-body-4 : tie.Need-slice-aggregate-judge-body-4
+slice-aggregate-judge-body-4 c = sym (length-take-le _ _ (omega (arith, c .before .before .before .before .before .before .before .before .before .before .before .before .before .before .before .before .before .before .pre .2 .few, c .before .before .before .before .squares-of .ensures, c .before .before .before .before .before .before .before .before .before .before .before .before .read-body .kept .1 .1 .1 .1 .1 .0, length-replicate {A = ℕ} 4096 0)))
+
+judge-body-requires : tie.Need-judge-body-requires
+judge-body-requires c κs =
+    let s = ap (λ (g : GridLine). g .shape) (c .before .before .before .before .before .before .before .before .before .before .before .before .before .before .before .before .before .before .pre .0) in
+    let n = ap squares s in (
+      (c .before .before .before .before .before .before .before .before .before .before .before .before .before .before .before .before .before .before .pre .2, s, c .before .before .before .before .before .before .before .before .before .before .before .before .read-body .ensures .body-is (c .before .before .before .before .before .before .if1 .left)),
+      said-from _ 4096 (c .before .before .before .before .squares-of .ensures ∙ n) (omega (arith, c .before .before .before .before .before .before .before .before .before .before .before .before .before .before .before .before .before .before .pre .2 .few, n)) (c .before .before .before .before .before .before .before .before .before .before .before .before .read-body .ensures .rooms-are (c .before .before .before .before .before .before .if1 .left)),
+    )
+
+returns-2 : tie.Need-returns-2
+returns-2 c = decided-good (c .before .before .before .before .before .before .before .before .before .before .before .before .before .read-body .ensures) (c .before .before .before .before .before .before .before .if1 .left) (c .judge-body .ensures)
+
+pub decide-spec : {M : Type 1} → statement M
+decide-spec =
+    tie.close
+    (tie.spec
+    slice-aggregate-read-body
+    slice-aggregate-read-body-2
+    slice-aggregate-read-body-3
+    slice-aggregate-read-body-4
+    read-body-requires
+    returns
+    squares-of-requires
+    array-share-prefix-marks
+    slice-aggregate-judge-body
+    array-share-prefix-beds
+    slice-aggregate-judge-body-2
+    array-share-prefix-roughness
+    slice-aggregate-judge-body-3
+    array-share-prefix-depths
+    slice-aggregate-judge-body-4
+    judge-body-requires
+    returns-2)

@@ -1,0 +1,4 @@
+pub mod Inner
+pub mod Lines
+pub mod Printed
+pub mod Sheet

@@ -1,0 +1,116 @@
+-- Document 01, "The sheet and its program": the kinds of line. What the fields of each are stands here and nowhere else.
+-- Assumes nothing.
+use mathlib.Core.Bool.{true, false}
+use mathlib.Core.List.{List, [], _∷_}
+use Prim.Native.Nat.{ℕ, _+_}
+use lib.Dec.{eqb}
+use lib.ListN.{length, getD}
+use Rattle.reckon.specs.Tests.{pick}
+use Rattle.rule.specs.declared.rules.Rules.{Rules}
+use Rattle.text.specs.Reading.{tab, newline, isByte, wordAt, fieldsAt, restOfLine, lineOf}
+use Rattle.text.specs.declared.reading.Fields.{Fields}
+use Rattle.sheet.specs.declared.lines.GridLine.{GridLine}
+use Rattle.sheet.specs.declared.lines.RunLine.{RunLine}
+use Rattle.sheet.specs.declared.lines.CellLine.{CellLine}
+
+-- the words that lines begin with
+abbrev pub gridWord : List ℕ
+gridWord = 103 ∷ 114 ∷ 105 ∷ 100 ∷ []
+
+abbrev pub runWord : List ℕ
+runWord = 114 ∷ 117 ∷ 110 ∷ []
+
+abbrev pub cellWord : List ℕ
+cellWord = 99 ∷ 101 ∷ 108 ∷ 108 ∷ []
+
+abbrev pub rainWord : List ℕ
+rainWord = 114 ∷ 97 ∷ 105 ∷ 110 ∷ []
+
+abbrev pub inflowWord : List ℕ
+inflowWord = 105 ∷ 110 ∷ 102 ∷ 108 ∷ 111 ∷ 119 ∷ []
+
+-- "`grid` rows columns D": the shape, and of the rules D alone
+unfoldable pub asGrid : Fields → GridLine
+asGrid f =
+    record {
+      found = f .found;
+      shape = record { rows = getD (f .values) 0 0; columns = getD (f .values) 1 0 };
+      rules = record { «square_side» = getD (f .values) 2 0; tolerance = 0; shortest = 0; longest = 0; update = 0 };
+      next = f .next;
+    }
+
+unfoldable pub gridLine : List ℕ → GridLine
+gridLine s = asGrid (lineOf s 0 gridWord 3)
+
+-- "`run` q shortest longest U end"; D is told by line 1
+unfoldable pub asRun : Rules → Fields → RunLine
+asRun r f =
+    record {
+      found = f .found;
+      rules =
+          record {
+            «square_side» = r .«square_side»;
+            tolerance = getD (f .values) 0 0;
+            shortest = getD (f .values) 1 0;
+            longest = getD (f .values) 2 0;
+            update = getD (f .values) 3 0;
+          };
+      end = getD (f .values) 4 0;
+      next = f .next;
+    }
+
+unfoldable pub runLine : List ℕ → ℕ → Rules → RunLine
+runLine s p r = asRun r (lineOf s p runWord 5)
+
+-- a line that is no square's
+unfoldable pub noCell : CellLine
+noCell = record { found = false; mark = 0; bed = 0; roughness = 0; depth = 0; next = 0 }
+
+-- "an `x` line ends after its mark"
+unfoldable pub closedCell : List ℕ → ℕ → CellLine
+closedCell s p =
+    pick (isByte s p newline) (record { found = true; mark = 0; bed = 0; roughness = 0; depth = 0; next = p + 1 }) noCell
+
+-- "bed, roughness, depth"
+unfoldable pub asOpen : ℕ → Fields → CellLine
+asOpen mark f =
+    record {
+      found = f .found;
+      mark = mark;
+      bed = getD (f .values) 0 0;
+      roughness = getD (f .values) 1 0;
+      depth = getD (f .values) 2 0;
+      next = f .next;
+    }
+
+unfoldable pub openCell : List ℕ → ℕ → ℕ → CellLine
+openCell s p mark = asOpen mark (restOfLine s p 3)
+
+-- "mark `x`, `o` or `e`", after its tab; "mark: 0 closed, 1 open, 2 exit"
+abbrev pub xLetter : ℕ
+xLetter = 120
+
+abbrev pub oLetter : ℕ
+oLetter = 111
+
+abbrev pub eLetter : ℕ
+eLetter = 101
+
+unfoldable pub markedCell : List ℕ → ℕ → CellLine
+markedCell s p =
+    pick (isByte s p tab)
+    (pick (isByte s (p + 1) xLetter) (closedCell s (p + 2))
+    (pick (isByte s (p + 1) oLetter) (openCell s (p + 2) 1) (pick (isByte s (p + 1) eLetter) (openCell s (p + 2) 2) noCell)))
+    noCell
+
+-- "row, column (from 0)": those of the square whose line it is
+unfoldable pub placedCell : List ℕ → ℕ → ℕ → Fields → CellLine
+placedCell s row column f =
+    pick (f .found)
+    (pick (eqb (getD (f .values) 0 0) row) (pick (eqb (getD (f .values) 1 0) column) (markedCell s (f .next)) noCell) noCell)
+    noCell
+
+-- "`cell` .. row, column (from 0), mark, bed, roughness, depth"
+unfoldable pub cellLine : List ℕ → ℕ → ℕ → ℕ → CellLine
+cellLine s p row column =
+    pick (wordAt s p cellWord) (placedCell s row column (fieldsAt s (p + length cellWord) 2)) noCell
