@@ -130,7 +130,7 @@ pub record Handed (shape : Shape) (r : Rules) (held : Rooms) (beds roughness dep
   pub lasts-none : (i : ℕ) → shut (planIn shape r held) i ≡ false → getD lasts i 0 ≡ 0
   pub room-one : 1 ≤ roomSlots (planIn shape r held) records
 
-ring-fresh : (K : ℕ) → 1 ≤ K → ringFine K 0 (K - 1) ≡ true
+pub ring-fresh : (K : ℕ) → 1 ≤ K → ringFine K 0 (K - 1) ≡ true
 unfolding ringFine
 ring-fresh K h = each-every _ (lt-ltb 0 K (omega arith), (le-leb 0 K (omega arith), (lt-ltb (K - 1) K (omega arith), tt)))
 
