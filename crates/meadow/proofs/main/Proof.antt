@@ -1,10 +1,11 @@
 -- `meadow::main` is safe and ends: what is read lies in the text's room, and what is printed in the room for it.
 -- Assumes nothing.
-use mathlib.Core.Path.{sym}
+use mathlib.Core.Path.{_≡_, _∙_, sym}
 use Prim.Native.Nat.{ℕ}
 use native.Mathlib.Omega.{arith}
-use lib.ListN.{length-replicate}
+use lib.ListN.{length, length-replicate}
 use lib.Seq.{length-take-le}
+use Rattle.text.proofs.WritingLaws.{wrote-length}
 use borrow.Author.Needs.{needs}
 use Rattle.meadow.proofs.main.Statement.{statement}
 use Rattle.meadow.proofs.main.Tie as tie
@@ -25,18 +26,23 @@ meadow-of-requires : tie.Need-meadow-of-requires
 meadow-of-requires c κs = search needs
 
 array-share-prefix-out : tie.Need-array-share-prefix-out
-array-share-prefix-out c = omega (arith, c .meadow-of .ensures .fits, c .meadow-of .ensures .wrote .next)
+array-share-prefix-out c =
+    let k : length (c .meadow-of .last .1 .0) ≡ 40960 =
+    wrote-length (omega (arith, c .meadow-of .ensures .fits, length-replicate {A = ℕ} 40960 0)) (c .meadow-of .ensures .wrote) ∙ length-replicate {A = ℕ} 40960 0 in
+    omega (arith, c .meadow-of .ensures .fits, c .meadow-of .ensures .wrote .next, k)
 
 slice-aggregate-write-all : tie.Need-slice-aggregate-write-all
 slice-aggregate-write-all c =
+    let k : length (c .before .meadow-of .last .1 .0) ≡ 40960 =
+    wrote-length (omega (arith, c .before .meadow-of .ensures .fits, length-replicate {A = ℕ} 40960 0)) (c .before .meadow-of .ensures .wrote)
+    ∙ length-replicate {A = ℕ} 40960 0 in
     sym
     (length-take-le _ (c .before .meadow-of .last .1 .0)
     (omega (
       arith,
       c .before .meadow-of .ensures .fits,
       c .before .meadow-of .ensures .wrote .next,
-      c .before .meadow-of .kept .1 .0,
-      length-replicate {A = ℕ} 40960 0,
+      k,
     )))
 
 write-all-requires : tie.Need-write-all-requires
