@@ -29,5 +29,12 @@ head -c 65537 /dev/zero | tr '\0' '0' >"$room/more.sheet"
 printf 'refused\t12\t0\n' >"$room/more.out"
 compare "$room/more.sheet" "$room/more.out"
 
+# what is stored beside the samples, worked again outside Rattle
+if command -v python3 >/dev/null; then
+    python3 tests/samples.py || failed=$((failed + 1))
+else
+    echo "samples: no python3 here, so the samples are not worked again"
+fi
+
 echo "samples: $ran sheets, $failed failed"
 [ "$failed" -eq 0 ]
