@@ -31,7 +31,9 @@ use Rattle.sight.specs.Arrows.{earlyRows, arrowRows, arrowNumber}
 use Rattle.sight.specs.WetRows.{WetRowed, wetRefusals, wetNumber}
 use Rattle.sight.specs.declared.wet_rows.Wet.{Wet}
 use Rattle.text.specs.Writing.{Wrote}
-use Rattle.demands.specs.Demand1.{FirstFails, here, later, TableSays, ExactlyWhen, One, ReckonDetermined, TrialsDetermined, GridDetermined, RuleDetermined, LedgerDetermined, FloodDetermined, SightDetermined, TextDetermined, RefusalsLeave, stepsOn, StopsBefore, Demand1}
+use Rattle.sheet.specs.Sheet.{Rooms, Reads, roomsAfter}
+use Rattle.sheet.specs.declared.reading.Sheet.{Sheet}
+use Rattle.demands.specs.Demand1.{FirstFails, here, later, TableSays, ExactlyWhen, One, ReckonDetermined, TrialsDetermined, GridDetermined, RuleDetermined, LedgerDetermined, FloodDetermined, SightDetermined, TextDetermined, SheetDetermined, RefusalsLeave, stepsOn, StopsBefore, Demand1}
 
 -- ---- one outcome
 
@@ -80,6 +82,12 @@ run-one a b x y =
 
 wet-one : {p : Plan} {depths : List ℕ} {least : ℕ} {old : List ℕ} → One {Out = Wet × List ℕ} (λ o. WetRowed p depths least old (o .0) (o .1))
 wet-one a b x y = λ j. ((x .answer ∙ sym (y .answer)) j, (x .rows-are ∙ sym (y .rows-are)) j)
+
+read-one : {text : List ℕ} {before : Rooms} → One {Out = Sheet × Rooms} (λ o. Reads text before (o .0) (o .1))
+read-one {text} {before} a b x y =
+    let answers = x .answer ∙ sym (y .answer) in
+    let filled = x .rooms-are ∙ (ap (λ (z : Sheet). roomsAfter text z before) answers ∙ sym (y .rooms-are)) in
+    λ j. (answers j, filled j)
 
 -- ---- crate by crate
 
@@ -208,6 +216,9 @@ text-determined =
       put-fields = λ values at room. written;
       put-line = λ word values at room. written;
     }
+
+sheet-determined : SheetDetermined
+sheet-determined = record { read = λ text before. read-one; meadow-of = λ text old a b x y. written a b (x .wrote) (y .wrote) }
 
 -- ---- refusals
 
@@ -345,6 +356,7 @@ demand-1 =
       flood = flood-determined;
       sight = sight-determined;
       text = text-determined;
+      sheet = sheet-determined;
       exactly-when = exactly-when;
       refusals-leave = refusals-leave;
       run-stops = run-stops;

@@ -43,6 +43,9 @@ use Rattle.sight.specs.declared.wet_rows.Wet.{Wet}
 use Rattle.text.specs.Reading.{ByteIs, WordAt, FieldAt, FieldsAt, RestOfLine, LineOf, NextLine, LineCount}
 use Rattle.text.specs.Reading as Reading
 use Rattle.text.specs.Writing.{PutByte, PutWord, PutNumber, PutField, PutFields, PutLine}
+use Rattle.sheet.specs.Sheet.{Rooms, Reads}
+use Rattle.sheet.specs.Printed.{Prints, meadowText}
+use Rattle.sheet.specs.declared.reading.Sheet.{Sheet}
 
 -- ---- "Every call ends and does nothing undefined" is what the check proves of each function; and what it gives is determined
 
@@ -160,6 +163,11 @@ pub record TextDetermined : Type 0 where
   pub put-fields : (values : List ℕ) (at : ℕ) (room : List ℕ) → One {Out = ℕ × List ℕ} (λ o. PutFields values at room (o .1) (o .0))
   pub put-line : (word values : List ℕ) (at : ℕ) (room : List ℕ) → One {Out = ℕ × List ℕ} (λ o. PutLine word values at room (o .1) (o .0))
 
+-- what `read` leaves in its six rooms stands together
+pub record SheetDetermined : Type 0 where
+  pub read : (text : List ℕ) (before : Rooms) → One {Out = Sheet × Rooms} (λ o. Reads text before (o .0) (o .1))
+  pub meadow-of : (text old : List ℕ) → One {Out = ℕ × List ℕ} (λ o. Prints (meadowText text) old (o .1) (o .0))
+
 -- ---- "A refusal gives one number from the table in document 01, exactly when that table says"
 
 -- "the first that applies is given": a row applies where its test fails
@@ -221,6 +229,7 @@ pub record Demand1 : Type 0 where
   pub flood : FloodDetermined
   pub sight : SightDetermined
   pub text : TextDetermined
+  pub sheet : SheetDetermined
   pub exactly-when : (p : Plan) → ExactlyWhen p
   pub refusals-leave : (p : Plan) → RefusalsLeave p
   pub run-stops : (p : Plan) (g : Given) (end : ℕ) (w : World) → refusal (runChecks p g end w) ≡ 0 → StopsBefore p g end w (runTo p g end w)
