@@ -1,10 +1,10 @@
 #!/usr/bin/env python3
-"""Works the sample sheets again in plain integers, by the steps of worked.py, and compares with what is stored beside each."""
+"""Works the sample sheets again in plain integers, by document_01.py, and compares with what is stored beside each."""
 import glob
 import os
 import sys
 
-from worked import Meadow
+from document_01 import Meadow
 
 SAMPLES = os.path.join(os.path.dirname(os.path.abspath(__file__)), "..", "samples")
 MARKS = {"x": 0, "o": 1, "e": 2}

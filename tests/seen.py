@@ -1,5 +1,5 @@
 #!/usr/bin/env python3
-"""Arrows and wet rows of document 01 on the meadow of crates/seen, over the steps of worked.py.
+"""Arrows and wet rows of document 01 on the meadow of crates/seen, by document_01.py.
 
 seen.py --check compares what they give with crates/seen/stdout and fails on a difference; seen.py alone prints it. The refusals of that
 file are the numbers that document 01's table gives to what the program lends.
@@ -8,7 +8,7 @@ import os
 import struct
 import sys
 
-from worked import MOST_DEPTH, Meadow
+from document_01 import MOST_DEPTH, Meadow
 
 STORED = os.path.join(os.path.dirname(os.path.abspath(__file__)), "..", "crates", "seen", "stdout")
 SIDE = 1
