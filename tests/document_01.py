@@ -107,28 +107,11 @@ class Meadow:
         return found
 
     def leaving(self, i, ms):
-        side, d, drops = self.rules[0], self.depths[i], self.drops(i)
-        positive = [v for v in drops if v > 0]
-        if d == 0 or not positive:
-            return [0, 0, 0, 0]
-        least, greatest = min(positive), max(positive)
-        weights = sum(drops) + least
-        manning = height(d) * math.isqrt(100 * greatest // side) // (10 * self.roughness[i])
-        v = min(math.isqrt(981 * d // 100), manning)
-        m = v * ms * d // (side * 1_000_000)
-        total = min(d, m * weights // greatest, least + self.lasts[i])
-        return [total * drop // weights for drop in drops]
+        return weigh(self.rules[0], self.depths[i], self.lasts[i], self.roughness[i], ms, self.drops(i))
 
     def fresh_length(self):
         side, q, shortest, longest, _ = self.rules
-        found = []
-        for i in self.standing():
-            d = self.depths[i]
-            if d > 0:
-                for v in self.drops(i):
-                    if v > q * 100 * side:
-                        s = math.isqrt(100 * v // side)
-                        found.append(50_000 * side * side * self.roughness[i] * s // (d * height(d)))
+        found = [c for i in self.standing() for c in candidates(side, q, self.depths[i], self.roughness[i], self.drops(i))]
         return max(shortest, min(longest, min(found))) if found else longest
 
     def added_by(self, i, t):
@@ -236,3 +219,25 @@ def height(d):
     while (h + 1) ** 3 <= d * d:
         h += 1
     return h
+
+
+def weigh(side, d, last, k, ms, drops):
+    """The four transfers of a square."""
+    positive = [v for v in drops if v > 0]
+    if d == 0 or not positive:
+        return [0, 0, 0, 0]
+    least, greatest = min(positive), max(positive)
+    weights = sum(drops) + least
+    manning = height(d) * math.isqrt(100 * greatest // side) // (10 * k)
+    v = min(math.isqrt(981 * d // 100), manning)
+    m = v * ms * d // (side * 1_000_000)
+    total = min(d, m * weights // greatest, least + last)
+    return [total * drop // weights for drop in drops]
+
+
+def candidates(side, q, d, k, drops):
+    """The step lengths that a square's sides ask for."""
+    if d == 0:
+        return []
+    steep = [v for v in drops if v > q * 100 * side]
+    return [50_000 * side * side * k * math.isqrt(100 * v // side) // (d * height(d)) for v in steep]

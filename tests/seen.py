@@ -1,16 +1,14 @@
 #!/usr/bin/env python3
 """Arrows and wet rows of document 01 on the meadow of crates/seen, by document_01.py.
 
-seen.py --check compares what they give with crates/seen/stdout and fails on a difference; seen.py alone prints it. The refusals of that
-file are the numbers that document 01's table gives to what the program lends.
+seen.py writes crates/seen/stdout; seen.py --check compares it and fails on a difference. The refusals of that file are
+the numbers that document 01's table gives to what the program lends.
 """
-import os
 import struct
-import sys
 
 from document_01 import MOST_DEPTH, Meadow
+from stored import hold
 
-STORED = os.path.join(os.path.dirname(os.path.abspath(__file__)), "..", "crates", "seen", "stdout")
 SIDE = 1
 REFUSALS = ["arrow"] + [f"refused {n}" for n in (1, 1, 2, 3, 6, 10, 11)]
 REFUSALS += ["wet rows"] + [f"wet refused {n} rows 7 7 7" for n in (1, 2, 3, 5)]
@@ -90,17 +88,5 @@ def lines():
     return found + ["a take-back"] + first
 
 
-def main():
-    text = "".join(line + "\n" for line in lines())
-    if "--check" not in sys.argv:
-        sys.stdout.write(text)
-        return 0
-    with open(STORED) as stored:
-        if stored.read() != text:
-            print("seen: crates/seen/stdout is not what document 01 gives", file=sys.stderr)
-            return 1
-    return 0
-
-
 if __name__ == "__main__":
-    sys.exit(main())
+    hold("seen", lines())

@@ -4,17 +4,15 @@
 worked.py writes crates/worked/stdout; worked.py --check compares it and fails on a difference.
 """
 import copy
-import os
-import sys
 
 from document_01 import LAST_CLOCK, MOST_OUTFLOW, Meadow, Refused
+from stored import hold
 
-STORED = os.path.join(os.path.dirname(os.path.abspath(__file__)), "..", "crates", "worked", "stdout")
 OUT = []
 
 
 def say(*words):
-    OUT.append(" ".join(str(w) for w in words) + "\n")
+    OUT.append(" ".join(str(w) for w in words))
 
 
 def run_words(m):
@@ -178,15 +176,7 @@ def main():
         columns(n)
     for case in depth_limit, one_record, refusals, refused_midway, three_records, changing:
         case()
-    text = "".join(OUT)
-    if sys.argv[1:] == ["--check"]:
-        with open(STORED, encoding="ascii") as f:
-            if f.read() != text:
-                sys.exit("worked: the stored output is not what document 01 gives")
-        print(f"worked: {len(OUT)} lines as document 01 gives them")
-        return
-    with open(STORED, "w", encoding="ascii") as f:
-        f.write(text)
+    hold("worked", OUT)
 
 
 if __name__ == "__main__":
