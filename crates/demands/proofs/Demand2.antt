@@ -30,14 +30,14 @@ use Rattle.ledger.specs.Flows.{shut, gone, sent, came, offSide, offSquare, offG
 use Rattle.ledger.specs.Record.{squareWords, recordSize, wordPlace, newestRecord, leavesIn, lastIn, addedIn, squareRecord, recordOf, roomSlots}
 use Rattle.ledger.specs.After.{Moves, remains, newDepth, depthsFit, newOutflow, lateRows, stepRecord, worldAfter}
 use Rattle.ledger.specs.TakeBack.{oneEach, watersFine, timesFine, heldAndGone, cameAndAdded, depthBefore, squareRestorable, restorable, worldBefore, backRows, backNumber, takenBack}
-use Rattle.ledger.specs.Engine.{seenOf}
+use Rattle.ledger.specs.Engine.{seenOf, ringOf}
 use Rattle.ledger.specs.Walls.{Untouched}
 use Rattle.ledger.proofs.ReadBack.{step-long, closed-read}
 use Rattle.ledger.proofs.Walls.{goes-where, after-untouched, back-untouched}
 use Rattle.ledger.specs.declared.runs.Run.{Run}
 use Rattle.flood.specs.Drops.{Given, ground, given, sideDrop, dropsOf}
 use Rattle.flood.specs.Step.{squareCandidates, candidates, leavesFor, addedFor, stepLength, stepLasts, stepMoves}
-use Rattle.flood.specs.Refusals.{groundsFine, checkRows, stepChecks, runChecks, ringOf, stepNumber, stepped}
+use Rattle.flood.specs.Refusals.{groundsFine, checkRows, stepChecks, runChecks, stepNumber, stepped}
 use Rattle.flood.specs.Run.{Ended, ended, goOn, runFrom, runTo, freshRows, freshNumber, freshRun, freshLasts}
 use Rattle.sight.specs.Arrows.{view, seenAt}
 use Rattle.sight.proofs.Alike.{AlikeDepths, AlikeRecords, arrow-alike, wet-alike}
@@ -192,12 +192,12 @@ module _ (p : Plan) where
 
   -- a step that is made: it has a slot to write, and its record stands there
   module _ (g : Given) (w : World) (made : stepNumber p g w ≡ 0) where
-    checked : refusal (stepChecks p g (ringOf p g w) (seenOf w)) ≡ 0
+    checked : refusal (stepChecks p g (ringOf p w) (seenOf w)) ≡ 0
     unfolding stepNumber
-    checked = refusal-both (stepChecks p g (ringOf p g w) (seenOf w)) _ (checks-named p g (ringOf p g w) (seenOf w)) made .0
+    checked = refusal-both (stepChecks p g (ringOf p w) (seenOf w)) _ (checks-named p g (ringOf p w) (seenOf w)) made .0
 
     ring : Ring (roomSlots p (w .records)) (w .run .kept) (w .run .newest)
-    ring = fine-ring _ _ _ (ring-is p g (ringOf p g w) (seenOf w) checked)
+    ring = fine-ring _ _ _ (ring-is p g (ringOf p w) (seenOf w) checked)
 
     newest-written : newestRecord p (stepped p g w) ≡ stepRecord p (stepMoves p g (seenOf w)) w
     unfolding newestRecord worldAfter roomSlots
@@ -214,7 +214,7 @@ module _ (p : Plan) where
     abbrev w′ : World
     w′ = world depths′ lasts′ records′ (w .run)
 
-    checks-same : (five : Bool) → checkRows p g five (ringOf p g w) (seenOf w) ≡ checkRows p g′ five (ringOf p g′ w′) (seenOf w′)
+    checks-same : (five : Bool) → checkRows p g five (ringOf p w) (seenOf w) ≡ checkRows p g′ five (ringOf p w′) (seenOf w′)
     unfolding checkRows
     checks-same five =
         rw (
@@ -501,7 +501,7 @@ module _ (p : Plan) where
     step-gives : StepGives p g w
     unfolding worldAfter newDepth remains newOutflow stepLength stepLasts
     step-gives =
-        let flows = ready p g (ringOf p g w) (seenOf w) (checked g w made) .flows in
+        let flows = ready p g (ringOf p w) (seenOf w) (checked g w made) .flows in
         let depths-long : length (w .depths) ≡ squares (p .shape) = flows .lies .sited .depths-long in
         let lasts-long : length (w .lasts) ≡ squares (p .shape) = flows .lasts-long in
         record {

@@ -29,7 +29,7 @@ use Rattle.ledger.specs.Record.{roomSlots, newestRecord}
 use Rattle.ledger.specs.After.{worldAfter}
 use Rattle.ledger.specs.TakeBack.{restorable, backRows, backNumber, takenBack}
 use Rattle.ledger.specs.Engine.{Seen, seenOf, outcome, lookRows, engine, stateOf}
-use Rattle.ledger.proofs.Bridge.{refused-stays, back-bridge, step-bridge}
+use Rattle.ledger.proofs.Bridge.{outcome-then, refused-stays, back-bridge, step-bridge}
 use Rattle.ledger.proofs.EngineLaws.{Looks, seen-look, engine-laws}
 use Rattle.ledger.specs.declared.runs.Run.{Run}
 use Rattle.ledger.specs.declared.runs.Answer.the-variants.{Done}
@@ -53,11 +53,6 @@ same-number zero zero a b e = refl
 same-number zero (suc m) a b e = absurd (not-done (sym e))
 same-number (suc n) zero a b e = absurd (not-done e)
 same-number (suc n) (suc m) a b e = cc
-
-outcome-then : {A B : Type 0} (n : ℕ) (a : A) (f : A → B) → andThen (outcome n a) (λ x. done (f x)) ≡ outcome n (f a)
-unfolding outcome andThen
-outcome-then zero a f = refl
-outcome-then (suc n) a f = refl
 
 module _ (p : Plan) where
   abbrev E : Engine

@@ -27,13 +27,13 @@ use Rattle.ledger.specs.Record.{SizeOf, HeldBefore, Lasted, Leaving, LastBefore
 use Rattle.ledger.specs.After.{lateRows}
 use Rattle.ledger.specs.Settle.{SettlesTo}
 use Rattle.ledger.specs.TakeBack.{OneEach, WatersJudged, TimesJudged, TakesBack, backRows, backNumber, takenBack}
-use Rattle.ledger.specs.Engine.{seenOf}
+use Rattle.ledger.specs.Engine.{seenOf, ringOf}
 use Rattle.ledger.specs.declared.runs.Run.{Run}
 use Rattle.ledger.specs.declared.runs.Answer.{Answer}
 use Rattle.ledger.specs.declared.settle.Settled.{Settled}
 use Rattle.flood.specs.Drops.{Given}
 use Rattle.flood.specs.Step.{stepMoves}
-use Rattle.flood.specs.Refusals.{ringOf, stepChecks, runChecks, stepNumber, stepped, Steps, Checks}
+use Rattle.flood.specs.Refusals.{stepChecks, runChecks, stepNumber, stepped, Steps, Checks}
 use Rattle.flood.specs.Run.{Ended, ended, runTo, RunsTo, freshRows, freshNumber, freshLasts, Freshens}
 use Rattle.flood.specs.Fill.{MakesStep}
 use Rattle.flood.specs.declared.run.Ran.{Ran}
@@ -182,7 +182,7 @@ pub record TableSays (rows : List Row) (number : ℕ) : Type 0 where
   pub never-none : FirstFails rows 0 → ⊥
 
 pub record ExactlyWhen (p : Plan) : Type 0 where
-  pub step : (g : Given) (w : World) → TableSays (stepChecks p g (ringOf p g w) (seenOf w) ++ lateRows p (stepMoves p g (seenOf w)) w) (stepNumber p g w)
+  pub step : (g : Given) (w : World) → TableSays (stepChecks p g (ringOf p w) (seenOf w) ++ lateRows p (stepMoves p g (seenOf w)) w) (stepNumber p g w)
   pub take-back : (w : World) → TableSays (backRows p w) (backNumber p w)
   pub fresh : (r : Rules) (lasts records : List ℕ) → TableSays (freshRows p r lasts records) (freshNumber p r lasts records)
   -- a run before its first step, and `check`

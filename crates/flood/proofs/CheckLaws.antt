@@ -21,11 +21,11 @@ use Rattle.rule.proofs.RuleLaws.{rules-are, ground-is}
 use Rattle.ledger.specs.Runs.{Plan, World, plan, runFine}
 use Rattle.ledger.specs.Flows.{shut}
 use Rattle.ledger.specs.TakeBack.{Watered, oneEach, watersFine}
-use Rattle.ledger.specs.Engine.{Seen, seenOf, lookRows}
+use Rattle.ledger.specs.Engine.{Seen, seenOf, lookRows, ringOf}
 use Rattle.ledger.specs.declared.runs.Run.{Run}
 use Rattle.flood.specs.Drops.{Given}
 use Rattle.flood.specs.Ready.{Ready}
-use Rattle.flood.specs.Refusals.{groundsFine, endFine, checkRows, stepChecks, ringOf, runChecks}
+use Rattle.flood.specs.Refusals.{groundsFine, endFine, checkRows, stepChecks, runChecks}
 
 -- ---- what a call's answer says of the test that it is
 
@@ -295,12 +295,12 @@ module _ (p : Plan) (g : Given) (ring : Bool) (v : Seen) where
 -- ---- a run to an end
 
 module _ (p : Plan) (g : Given) (end : ℕ) (w : World) (e : refusal (runChecks p g end w) ≡ 0) where
-  run-tests : Tested p g (every (rulesFine (g .lie .rules) ∷ endFine (g .lie .rules) end ∷ [])) (ringOf p g w) (seenOf w)
-  run-tests = tested p g _ (ringOf p g w) (seenOf w) e
+  run-tests : Tested p g (every (rulesFine (g .lie .rules) ∷ endFine (g .lie .rules) end ∷ [])) (ringOf p w) (seenOf w)
+  run-tests = tested p g _ (ringOf p w) (seenOf w) e
 
-  pub run-checks-step : refusal (stepChecks p g (ringOf p g w) (seenOf w)) ≡ 0
+  pub run-checks-step : refusal (stepChecks p g (ringOf p w) (seenOf w)) ≡ 0
   run-checks-step =
-      passes p g (rulesFine (g .lie .rules)) (ringOf p g w) (seenOf w)
+      passes p g (rulesFine (g .lie .rules)) (ringOf p w) (seenOf w)
       (record {
         given-fine = run-tests .given-fine;
         seen-fine = run-tests .seen-fine;

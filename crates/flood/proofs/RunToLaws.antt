@@ -19,12 +19,12 @@ use Rattle.trials.proofs.RoomLaws.{slots-stored}
 use Rattle.ledger.specs.Runs.{Plan, World}
 use Rattle.ledger.specs.Record.{recordSize, roomSlots}
 use Rattle.ledger.specs.After.{lateRows, stepRecord, worldAfter}
-use Rattle.ledger.specs.Engine.{seenOf}
+use Rattle.ledger.specs.Engine.{seenOf, ringOf}
 use Rattle.ledger.proofs.ReadBack.{step-long}
 use Rattle.ledger.proofs.EngineLaws.{look-seen, valid-after}
 use Rattle.flood.specs.Drops.{Given}
 use Rattle.flood.specs.Step.{stepLasts, stepMoves}
-use Rattle.flood.specs.Refusals.{ringOf, stepChecks, runChecks, stepNumber, stepped, floodRule}
+use Rattle.flood.specs.Refusals.{stepChecks, runChecks, stepNumber, stepped, floodRule}
 use Rattle.flood.specs.Run.{Ended, ended, goOn, runFrom, runTo}
 use Rattle.flood.specs.Fill.{MakesStep}
 use Rattle.flood.proofs.CheckLaws.{ready, ring-is, checks-named, checks-after}
@@ -32,7 +32,7 @@ use Rattle.flood.proofs.RuleLaws.{flood-owed, step-lasts-from}
 
 -- rows 1 to 6 pass
 abbrev pub Valid : Plan → Given → World → Type 0
-Valid p g w = refusal (stepChecks p g (ringOf p g w) (seenOf w)) ≡ 0
+Valid p g w = refusal (stepChecks p g (ringOf p w) (seenOf w)) ≡ 0
 
 -- ---- one step
 
@@ -47,14 +47,14 @@ module _ (p : Plan) (g : Given) (w : World) where
 
   late-passed : stepNumber p g w ≡ 0 → refusal (lateRows p (stepMoves p g (seenOf w)) w) ≡ 0
   unfolding stepNumber
-  late-passed e = refusal-both (stepChecks p g (ringOf p g w) (seenOf w)) _ (checks-named p g (ringOf p g w) (seenOf w)) e .1
+  late-passed e = refusal-both (stepChecks p g (ringOf p w) (seenOf w)) _ (checks-named p g (ringOf p w) (seenOf w)) e .1
 
   module _ (ok : Valid p g w) (made : stepNumber p g w ≡ 0) where
     abbrev after : World
     after = worldAfter p (stepMoves p g (seenOf w)) w
 
     old-ring : Ring (roomSlots p (w .records)) (w .run .kept) (w .run .newest)
-    old-ring = fine-ring _ _ _ (ring-is p g (ringOf p g w) (seenOf w) ok)
+    old-ring = fine-ring _ _ _ (ring-is p g (ringOf p w) (seenOf w) ok)
 
     slots-same : roomSlots p (after .records) ≡ roomSlots p (w .records)
     unfolding worldAfter roomSlots
@@ -62,16 +62,16 @@ module _ (p : Plan) (g : Given) (w : World) where
         slots-stored (recordSize p) (omega arith) (w .records) (slotAfter (roomSlots p (w .records)) (w .run .newest))
         (stepRecord p (stepMoves p g (seenOf w)) w) (step-long p (stepMoves p g (seenOf w)) w) (ring-after old-ring .newest-below)
 
-    new-ring : ringOf p g after ≡ true
+    new-ring : ringOf p after ≡ true
     unfolding worldAfter
     new-ring = rw slots-same (ring-fine _ _ _ (ring-after old-ring))
 
     -- a valid world stays valid
     pub still-valid : Valid p g (stepped p g w)
     still-valid =
-        let seen = look-seen p true (seenOf after) (valid-after p (floodRule p) (flood-owed p) (ringOf p g w) g w ok (late-passed made)) in
+        let seen = look-seen p true (seenOf after) (valid-after p (floodRule p) (flood-owed p) (ringOf p w) g w ok (late-passed made)) in
         rw (made-is made)
-        (checks-after p g (ringOf p g w) (ringOf p g after) (seenOf w) (seenOf after) ok new-ring
+        (checks-after p g (ringOf p w) (ringOf p after) (seenOf w) (seenOf after) ok new-ring
         (record {
           depths-long = seen .depths-long;
           lasts-long = seen .lasts-long;
@@ -89,7 +89,7 @@ module _ (p : Plan) (g : Given) (w : World) where
     clock-after = ap (λ (x : World). x .run .clock) (made-is made)
 
     pub clock-on : w .run .clock < stepped p g w .run .clock
-    clock-on = omega (arith, clock-after, step-lasts-from p g (seenOf w) (ready p g (ringOf p g w) (seenOf w) ok))
+    clock-on = omega (arith, clock-after, step-lasts-from p g (seenOf w) (ready p g (ringOf p w) (seenOf w) ok))
 
 -- ---- the run
 

@@ -21,7 +21,7 @@ use Rattle.ledger.specs.Flows.{shut, gone, came}
 use Rattle.ledger.specs.Record.{recordSize, roomSlots, leavesIn, lastedIn}
 use Rattle.ledger.specs.After.{Moves, remains, newDepth, depthsFit, newOutflow, lateRows, stepRecord, worldAfter}
 use Rattle.ledger.specs.Settle.{settleNumber, settled, written, Settles, SettlesTo}
-use Rattle.ledger.specs.Engine.{Seen, seenOf}
+use Rattle.ledger.specs.Engine.{Seen, seenOf, ringOf}
 use Rattle.ledger.proofs.ReadBack.{step-long, step-lasted, step-gone, settled-is, late-settled}
 use Rattle.flood.specs.Drops.{Given}
 use Rattle.flood.specs.Step.{addedFor, leavesFor, stepLength, stepLasts, stepMoves}
@@ -30,12 +30,12 @@ use Rattle.flood.specs.Ready.{Ready}
 use Rattle.rule.specs.Rules.{rulesFine}
 use Rattle.ledger.specs.declared.runs.Answer.the-variants.{Done, Refused}
 use Rattle.ledger.proofs.RunLaws.{answered-done, answered-refused}
-use Rattle.flood.specs.Refusals.{ringOf, checkRows, stepChecks, stepNumber, stepped, Steps}
+use Rattle.flood.specs.Refusals.{checkRows, stepChecks, stepNumber, stepped, Steps}
 use Rattle.flood.specs.Fill.{MakesStep, Passes}
 use Rattle.flood.proofs.CheckLaws.{ready, ring-is, checks-named}
 use Rattle.flood.proofs.RuleLaws.{covered, step-length-to}
 
-module _ (p : Plan) (g : Given) (w : World) (passed : refusal (stepChecks p g (ringOf p g w) (seenOf w)) ≡ 0) where
+module _ (p : Plan) (g : Given) (w : World) (passed : refusal (stepChecks p g (ringOf p w) (seenOf w)) ≡ 0) where
   abbrev v : Seen
   v = seenOf w
 
@@ -46,12 +46,12 @@ module _ (p : Plan) (g : Given) (w : World) (passed : refusal (stepChecks p g (r
   clock = w .run .clock
 
   pub is-ready : Ready p g v
-  is-ready = ready p g (ringOf p g w) v passed
+  is-ready = ready p g (ringOf p w) v passed
 
   -- the checks pass, so that the late rows decide
   number-late : stepNumber p g w ≡ refusal (lateRows p m w)
   unfolding stepNumber
-  number-late = refusal-second (stepChecks p g (ringOf p g w) v) (lateRows p m w) (checks-named p g (ringOf p g w) v) passed
+  number-late = refusal-second (stepChecks p g (ringOf p w) v) (lateRows p m w) (checks-named p g (ringOf p w) v) passed
 
   -- a refused step leaves the world as it was
   refused-by : {n : ℕ} → (n ≡ 0 → ⊥) → n ≡ stepNumber p g w → MakesStep p g w n w
@@ -87,7 +87,7 @@ module _ (p : Plan) (g : Given) (w : World) (passed : refusal (stepChecks p g (r
     settles {rec} {held} e l =
         let r = is-ready in
         let marks-long = r .waters .marks-long in
-        let ring = fine-ring (roomSlots p (w .records)) (w .run .kept) (w .run .newest) (ring-is p g (ringOf p g w) v passed) in
+        let ring = fine-ring (roomSlots p (w .records)) (w .run .kept) (w .run .newest) (ring-is p g (ringOf p w) v passed) in
         rw (e, l)
         (record {
           fine = r .waters .fine;
@@ -122,11 +122,11 @@ module _ (p : Plan) (g : Given) (w : World) (passed : refusal (stepChecks p g (r
 module _ (p : Plan) (g : Given) (w : World) where
   -- rows 1 to 6 refuse
   pub step-checked :
-      {five : Bool} {n : ℕ} → five ≡ rulesFine (g .lie .rules) → n ≡ refusal (checkRows p g five (ringOf p g w) (seenOf w)) → (n ≡ 0 → ⊥) →
+      {five : Bool} {n : ℕ} → five ≡ rulesFine (g .lie .rules) → n ≡ refusal (checkRows p g five (ringOf p w) (seenOf w)) → (n ≡ 0 → ⊥) →
       Steps p g w (Refused n) (w .depths) (w .lasts) (w .records)
   unfolding stepNumber stepped
   step-checked {five} {n} f e d =
-      let r : n ≡ refusal (stepChecks p g (ringOf p g w) (seenOf w)) = e ∙ ap (λ (b : Bool). refusal (checkRows p g b (ringOf p g w) (seenOf w))) f in
+      let r : n ≡ refusal (stepChecks p g (ringOf p w) (seenOf w)) = e ∙ ap (λ (b : Bool). refusal (checkRows p g b (ringOf p w) (seenOf w))) f in
       let number-is : n ≡ stepNumber p g w = r ∙ sym (first (λ z. d (r ∙ z))) in
       let stays : stepped p g w ≡ w = refused-stays (λ z. d (number-is ∙ z)) in
       record {
@@ -136,15 +136,15 @@ module _ (p : Plan) (g : Given) (w : World) where
         records-are = sym (ap (λ (x : World). x .records) stays);
       }
     where
-      first : (refusal (stepChecks p g (ringOf p g w) (seenOf w)) ≡ 0 → ⊥) → stepNumber p g w ≡ refusal (stepChecks p g (ringOf p g w) (seenOf w))
-      first z = refusal-first (stepChecks p g (ringOf p g w) (seenOf w)) _ (checks-named p g (ringOf p g w) (seenOf w)) z
+      first : (refusal (stepChecks p g (ringOf p w) (seenOf w)) ≡ 0 → ⊥) → stepNumber p g w ≡ refusal (stepChecks p g (ringOf p w) (seenOf w))
+      first z = refusal-first (stepChecks p g (ringOf p w) (seenOf w)) _ (checks-named p g (ringOf p w) (seenOf w)) z
 
       refused-stays : (stepNumber p g w ≡ 0 → ⊥) → stepped p g w ≡ w
       refused-stays z = pick-false _ _ (ne-eqb _ _ z)
 
   -- they pass: what the inner step gives
-  pub passes-checks : {five : Bool} {n : ℕ} → five ≡ rulesFine (g .lie .rules) → n ≡ refusal (checkRows p g five (ringOf p g w) (seenOf w)) → n ≡ 0 → Passes p g w
-  passes-checks f e z = record { checked = sym (ap (λ (b : Bool). refusal (checkRows p g b (ringOf p g w) (seenOf w))) f) ∙ (sym e ∙ z) }
+  pub passes-checks : {five : Bool} {n : ℕ} → five ≡ rulesFine (g .lie .rules) → n ≡ refusal (checkRows p g five (ringOf p w) (seenOf w)) → n ≡ 0 → Passes p g w
+  passes-checks f e z = record { checked = sym (ap (λ (b : Bool). refusal (checkRows p g b (ringOf p w) (seenOf w))) f) ∙ (sym e ∙ z) }
 
   module _ {n : ℕ} {after : World} (m : MakesStep p g w n after) where
     pub step-refused : (n ≡ 0 → ⊥) → Steps p g w (Refused n) (after .depths) (after .lasts) (after .records)

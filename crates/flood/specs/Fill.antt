@@ -12,10 +12,10 @@ use Rattle.rule.specs.Weighing.{weighed}
 use Rattle.ledger.specs.Runs.{Plan, World}
 use Rattle.ledger.specs.Flows.{shut}
 use Rattle.ledger.specs.Record.{recordSize, SquarePut, ClosedPut}
-use Rattle.ledger.specs.Engine.{seenOf}
+use Rattle.ledger.specs.Engine.{seenOf, ringOf}
 use Rattle.flood.specs.Drops.{Ground, Given, dropsOf}
 use Rattle.flood.specs.Ready.{Flows}
-use Rattle.flood.specs.Refusals.{ringOf, stepChecks, stepNumber, stepped}
+use Rattle.flood.specs.Refusals.{stepChecks, stepNumber, stepped}
 
 -- the ground and the water are lent whole and in range, and so are the added amounts and a record of its size
 pub record Fills (p : Plan) (o : Ground) (depths lasts added : List ℕ) (ms : ℕ) (rec : List ℕ) : Type 0 where
@@ -35,7 +35,7 @@ pub record FilledOne (p : Plan) (o : Ground) (depths lasts added : List ℕ) (ms
 
 -- rows 1 to 6 pass
 pub record Passes (p : Plan) (g : Given) (w : World) : Type 0 where
-  pub checked : refusal (stepChecks p g (ringOf p g w) (seenOf w)) ≡ 0
+  pub checked : refusal (stepChecks p g (ringOf p w) (seenOf w)) ≡ 0
 
 -- ---- what the public inner step gives
 

@@ -10,17 +10,15 @@ use lib.ListN.{getD}
 use Rattle.reckon.specs.Tests.{pick, every, allBelow, Row, _unless_, refusal}
 use Rattle.reckon.specs.Ranges.{mostLength, lastClock, mostOutflow}
 use Rattle.reckon.specs.Tables.{rainKind, inflowKind, tableFine}
-use Rattle.trials.specs.Ring.{ringFine}
 use Rattle.grid.specs.Squares.{squares, shapeFine}
 use Rattle.grid.specs.Marks.{marksFine, inflowSquaresFine}
 use Rattle.rule.specs.Rules.{sideFine, groundFine, rulesFine}
 use Rattle.rule.specs.declared.rules.Rules.{Rules}
 use Rattle.ledger.specs.Runs.{Plan, World, answered}
 use Rattle.ledger.specs.Flows.{shut}
-use Rattle.ledger.specs.Record.{roomSlots}
 use Rattle.ledger.specs.After.{lateRows, worldAfter}
 use Rattle.ledger.specs.TakeBack.{oneEach, watersFine}
-use Rattle.ledger.specs.Engine.{Seen, seenOf, StepRule}
+use Rattle.ledger.specs.Engine.{Seen, seenOf, ringOf, StepRule}
 use Rattle.ledger.specs.declared.runs.Answer.{Answer}
 use Rattle.flood.specs.Drops.{Ground, Given}
 use Rattle.flood.specs.Step.{stepMoves}
@@ -65,19 +63,15 @@ module _ (p : Plan) (g : Given) where
   abbrev pub stepChecks : Bool → Seen → List Row
   stepChecks ring v = checkRows (rulesFine (g .lie .rules)) ring v
 
-  -- whether K, kept and newest of a world are in range
-  abbrev pub ringOf : World → Bool
-  ringOf w = ringFine (roomSlots p (w .records)) (w .run .kept) (w .run .newest)
-
   -- rows 1 to 6 of a run to an end
   abbrev pub runChecks : ℕ → World → List Row
-  runChecks end w = checkRows (every (rulesFine (g .lie .rules) ∷ endFine (g .lie .rules) end ∷ [])) (ringOf w) (seenOf w)
+  runChecks end w = checkRows (every (rulesFine (g .lie .rules) ∷ endFine (g .lie .rules) end ∷ [])) (ringOf p w) (seenOf w)
 
   -- ---- the step
 
   -- the first number of the table that applies, 0 for none
   unfoldable pub stepNumber : World → ℕ
-  stepNumber w = refusal (stepChecks (ringOf w) (seenOf w) ++ lateRows p (stepMoves p g (seenOf w)) w)
+  stepNumber w = refusal (stepChecks (ringOf p w) (seenOf w) ++ lateRows p (stepMoves p g (seenOf w)) w)
 
   -- "with the run as it was and every lent slice as it was", or the world after the step
   unfoldable pub stepped : World → World

@@ -31,9 +31,9 @@ ghost use Rattle.rule.specs.declared.rules.Rules as Declared;
 ghost use Rattle.ledger.specs.Runs.{plan, world};
 ghost use Rattle.ledger.specs.Record.{roomSlots};
 ghost use Rattle.ledger.specs.TakeBack.{oneEach};
-ghost use Rattle.ledger.specs.Engine.{seenOf};
+ghost use Rattle.ledger.specs.Engine.{seenOf, ringOf};
 ghost use Rattle.flood.specs.Drops.{given, ground};
-ghost use Rattle.flood.specs.Refusals.{Checks, checkRows, endFine, groundsFine, ringOf};
+ghost use Rattle.flood.specs.Refusals.{Checks, checkRows, endFine, groundsFine};
 
 // Refusal 2 for the ground of one square.
 fn ground_ok(marks: &[u8], beds: &[u32], roughness: &[u32], square: usize) -> bool
@@ -153,7 +153,7 @@ pub(crate) fn checked(
     lasts: &[u32],
     records: &[u32],
 ) -> u32
-    ensures { λ r. ⌜ r ≡ refusal (checkRows (plan shape (now (marks .entry))) (given (ground rules (now (beds .entry)) (now (roughness .entry))) (now (rain .entry)) (now (inflow .entry))) five (ringOf (plan shape (now (marks .entry))) (given (ground rules (now (beds .entry)) (now (roughness .entry))) (now (rain .entry)) (now (inflow .entry))) (world (now (depths .entry)) (now (lasts .entry)) (now (records .entry)) run)) (seenOf (world (now (depths .entry)) (now (lasts .entry)) (now (records .entry)) run))) ⌝ }
+    ensures { λ r. ⌜ r ≡ refusal (checkRows (plan shape (now (marks .entry))) (given (ground rules (now (beds .entry)) (now (roughness .entry))) (now (rain .entry)) (now (inflow .entry))) five (ringOf (plan shape (now (marks .entry))) (world (now (depths .entry)) (now (lasts .entry)) (now (records .entry)) run)) (seenOf (world (now (depths .entry)) (now (lasts .entry)) (now (records .entry)) run))) ⌝ }
 {
     if !lent_fine(shape, rules, marks, beds, roughness, depths, lasts) {
         return 1;

@@ -9,19 +9,15 @@ use lib.Dec.{eqb}
 use borrow.Author.Tests.{eq-eqb, ne-eqb}
 use Rattle.reckon.specs.Tests.{pick, Row, _unless_, refusal}
 use Rattle.reckon.proofs.TestLaws.{pick-true, pick-false, refusal-first, refusal-second, refusal-here, refusal-later}
-use Rattle.trials.specs.Ring.{slotBefore, ringFine}
+use Rattle.trials.specs.Ring.{slotBefore}
 use Rattle.trials.specs.Series.{Outcome, Engine, State, refused, done, andThen, looked, fromRecord, restored, stepped, step, takeBack}
 use Rattle.trials.proofs.StepLaws.{not-done}
 use Rattle.ledger.specs.Runs.{Plan, World, runFine}
 use Rattle.ledger.specs.Record.{roomSlots, newestRecord}
 use Rattle.ledger.specs.After.{Moves, remains, newDepth, depthsFit, newOutflow, lateRows, stepRecord, worldAfter}
 use Rattle.ledger.specs.TakeBack.{restorable, worldBefore, backRows, backNumber, takenBack}
-use Rattle.ledger.specs.Engine.{Seen, seenOf, bare, StepRule, outcome, lookRows, madeNumber, engine, stateOf}
+use Rattle.ledger.specs.Engine.{Seen, seenOf, ringOf, bare, StepRule, outcome, lookRows, madeNumber, engine, stateOf}
 use Rattle.ledger.proofs.EngineLaws.{restorable-bare, before-bare}
-
--- whether K, kept and newest of a world are in range
-abbrev pub ringOf : Plan → World → Bool
-ringOf p w = ringFine (roomSlots p (w .records)) (w .run .kept) (w .run .newest)
 
 outcome-none : {A : Type 0} {n : ℕ} (a : A) → n ≡ 0 → outcome n a ≡ done a
 unfolding outcome
@@ -31,7 +27,7 @@ outcome-some : {A : Type 0} {n : ℕ} (k : ℕ) (a : A) → n ≡ suc k → outc
 unfolding outcome
 outcome-some k a e = rw e
 
-outcome-then : {A B : Type 0} (n : ℕ) (a : A) (f : A → B) → andThen (outcome n a) (λ x. done (f x)) ≡ outcome n (f a)
+pub outcome-then : {A B : Type 0} (n : ℕ) (a : A) (f : A → B) → andThen (outcome n a) (λ x. done (f x)) ≡ outcome n (f a)
 unfolding outcome andThen
 outcome-then zero a f = refl
 outcome-then (suc n) a f = refl

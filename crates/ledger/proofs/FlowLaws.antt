@@ -1,9 +1,9 @@
 -- Laws of amounts: a side's case decides what was sent or went off the grid; and sums of 32-bit words stay far below 64 bits.
 -- Assumes nothing.
-use mathlib.Core.Path.{_≡_, refl, sym, ap, ap₂, _∙_}
+use mathlib.Core.Path.{_≡_, sym, ap, ap₂, _∙_}
 use mathlib.Core.Bool.{true, false}
 use mathlib.Core.List.{List}
-use Prim.Native.Nat.{ℕ, zero, suc, _+_, _-_, _*_, _≤_, _<_}
+use Prim.Native.Nat.{ℕ, _+_, _*_, _≤_, _<_}
 use native.Mathlib.Nat.{mul-le-mul-right}
 use native.Mathlib.Omega.{arith}
 use lib.ListN.{length, getD}
@@ -11,25 +11,11 @@ use borrow.Author.Tests.{lt-ltb, le-ltb}
 use Rattle.reckon.specs.Lists.{sumBelow}
 use Rattle.reckon.proofs.TestLaws.{pick-true, pick-false, pick-both}
 use Rattle.reckon.proofs.ListLaws.{sum-le}
-use Rattle.grid.specs.Squares.{north, east, south, west, sides, squares, within, beside, opposite, FineShape}
+use Rattle.grid.specs.Squares.{north, east, south, west, squares, within, beside, opposite, FineShape}
 use Rattle.grid.proofs.MarkLaws.{closed-past}
 use Rattle.ledger.specs.Runs.{Plan}
 use Rattle.ledger.specs.Flows.{Leaves, fourSides, shut, gone, sent, came, offSide, offSquare, offGrid}
 use Rattle.ledger.specs.Record.{wordPlace, addedWord, leavesIn, addedIn}
-
-pub opposite-low : (side : ℕ) → side < south → side + south ≡ opposite side
-unfolding opposite
-opposite-low zero h = refl
-opposite-low (suc zero) h = refl
-opposite-low (suc (suc side)) h = absurd (omega arith)
-
-pub opposite-high : (side : ℕ) → south ≤ side → side < sides → side - south ≡ opposite side
-unfolding opposite
-opposite-high zero h l = absurd (omega arith)
-opposite-high (suc zero) h l = absurd (omega arith)
-opposite-high (suc (suc zero)) h l = refl
-opposite-high (suc (suc (suc zero))) h l = refl
-opposite-high (suc (suc (suc (suc side)))) h l = absurd (omega arith)
 
 pub four-sides : (f : ℕ → ℕ) {a b c d : ℕ} → a ≡ f north → b ≡ f east → c ≡ f south → d ≡ f west → a + b + c + d ≡ fourSides f
 four-sides f p q r s = rw (p, q, r, s)

@@ -8,6 +8,7 @@ use lib.Dec.{T, leb}
 use lib.ListN.{getD}
 use Rattle.reckon.specs.Tests.{pick, every, Row, _unless_, refusal, numbered}
 use Rattle.reckon.specs.Ranges.{mostLength, lastClock, mostOutflow}
+use Rattle.trials.specs.Ring.{ringFine}
 use Rattle.trials.specs.Room.{recordIn, storedIn}
 use Rattle.trials.specs.Series.{Outcome, refused, done, Engine, State}
 use Rattle.grid.specs.Squares.{squares, shapeFine}
@@ -28,6 +29,10 @@ pub record Seen : Type 0 where
 
 abbrev pub seenOf : World → Seen
 seenOf w = record { depths = w .depths; lasts = w .lasts; clock = w .run .clock; length = w .run .length; outflow = w .run .outflow }
+
+-- whether K, kept and newest of a world are in range
+abbrev pub ringOf : Plan → World → Bool
+ringOf p w = ringFine (roomSlots p (w .records)) (w .run .kept) (w .run .newest)
 
 abbrev pub worldOf : Seen → List ℕ → ℕ → ℕ → World
 worldOf v records kept newest =

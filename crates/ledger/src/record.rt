@@ -5,7 +5,7 @@ ghost use Prim.Native.Nat.{_+_, _<_, _^_, _≤_};
 ghost use lib.ListN.{getD, length};
 ghost use Rattle.reckon.specs.Lists.{placed};
 ghost use Rattle.reckon.specs.Ranges.{mostLength};
-ghost use Rattle.grid.specs.Squares.{FineShape, Stands, east, north, opposite, sides, south, west};
+ghost use Rattle.grid.specs.Squares.{FineShape, Stands, east, north, sides, south, west};
 ghost use Rattle.ledger.specs.Runs.{plan};
 ghost use Rattle.ledger.specs.Flows.{offSide};
 ghost use Rattle.ledger.specs.Record.{AddedBy, CameTo, ClosedPut, GoneFrom, HeadPut, HeldBefore, LastBefore, Lasted, Leaving, OffFrom, Recorded, SentTo, SizeOf, SquarePut, addedWord, headWords, lastWord, leavesIn, squareWords, wordPlace};
@@ -16,6 +16,7 @@ use grid::squares::SOUTH;
 use grid::squares::Shape;
 use grid::squares::WEST;
 use grid::squares::beside_on;
+use grid::squares::opposite_side;
 use grid::squares::squares_of;
 use reckon::numbers::number;
 
@@ -108,18 +109,6 @@ pub fn gone_from(rec: &[u32], square: usize) -> u64
         + leaving(rec, square, WEST)
 }
 
-// The side of a neighbour that lies towards the own square.
-fn opposite_of(side: usize) -> usize
-    requires { ⌜ side < sides ⌝ }
-    ensures { λ r. ⌜ r ≡ opposite side ⌝ }
-{
-    if side < SOUTH {
-        side + SOUTH
-    } else {
-        side - SOUTH
-    }
-}
-
 // What the neighbour on a side sent: nothing where there is none, or a closed one.
 pub fn sent_to(
     shape: Shape,
@@ -141,7 +130,7 @@ pub fn sent_to(
     if is_closed(marks, at) {
         return 0;
     }
-    leaving(rec, at, opposite_of(side))
+    leaving(rec, at, opposite_side(side))
 }
 
 // What the neighbours sent.

@@ -21,13 +21,13 @@ use Rattle.ledger.specs.Runs.{world, answered}
 use Rattle.ledger.specs.Flows.{shut}
 use Rattle.ledger.specs.Record.{roomSlots}
 use Rattle.ledger.specs.TakeBack.{oneEach, watersFine}
-use Rattle.ledger.specs.Engine.{seenOf}
+use Rattle.ledger.specs.Engine.{seenOf, ringOf}
 use Rattle.ledger.specs.declared.runs.Run.{Run}
 use Rattle.ledger.specs.declared.runs.Answer.{Answer}
 use Rattle.ledger.specs.declared.runs.Answer.the-variants.{Done, Refused}
 use Rattle.flood.specs.Ready.{Ready}
 use Rattle.flood.specs.Drops.{ground, given}
-use Rattle.flood.specs.Refusals.{groundsFine, checkRows, runChecks, stepChecks, ringOf}
+use Rattle.flood.specs.Refusals.{groundsFine, checkRows, runChecks, stepChecks}
 use Rattle.flood.specs.Run.{Ended, runTo, freshRows, freshNumber, freshRun, freshLasts, Freshens}
 use Rattle.flood.proofs.CheckLaws.{ready, run-checks-step, checks-named}
 use Rattle.sheet.specs.Sheet.{Rooms, planIn, givenIn, noLasts, noRecords, startIn, checksIn}
@@ -38,7 +38,7 @@ use Rattle.sheet.proofs.JudgeLaws.{one-slot, world-same}
 module _ (shape : Shape) (r : Rules) (held : Rooms) (end : ℕ) (e : checksIn shape r held end ≡ 0) where
   step-zero :
       refusal
-      (stepChecks (planIn shape r held) (givenIn shape r held) (ringOf (planIn shape r held) (givenIn shape r held) (startIn shape r held))
+      (stepChecks (planIn shape r held) (givenIn shape r held) (ringOf (planIn shape r held) (startIn shape r held))
       (seenOf (startIn shape r held))) ≡ 0
   unfolding checksIn
   step-zero = run-checks-step _ _ end _ e
@@ -58,7 +58,7 @@ module _ (shape : Shape) (r : Rules) (held : Rooms) (end : ℕ) (e : checksIn sh
   fresh-zero : freshNumber (planIn shape r held) r (noLasts shape r held) (noRecords shape r held) ≡ 0
   unfolding freshNumber freshRows checkRows
   fresh-zero =
-      let rows = refusal-passed _ (checks-named (planIn shape r held) (givenIn shape r held) (ringOf (planIn shape r held) (givenIn shape r held) (startIn shape r held)) (seenOf (startIn shape r held))) step-zero in
+      let rows = refusal-passed _ (checks-named (planIn shape r held) (givenIn shape r held) (ringOf (planIn shape r held) (startIn shape r held)) (seenOf (startIn shape r held))) step-zero in
       let lent = every-each _ (rows .0) in
       let slots : not (eqb (roomSlots (planIn shape r held) (noRecords shape r held)) 0) ≡ true = rw (one-slot shape r held) in
       passed-refusal _ (

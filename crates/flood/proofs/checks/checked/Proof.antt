@@ -10,9 +10,9 @@ use Rattle.reckon.specs.Tests.{Row, refusal}
 use Rattle.reckon.proofs.TestLaws.{each-every, every-fails, refusal-here, refusal-later, passed-refusal}
 use Rattle.ledger.specs.Runs.{plan, runFine, world}
 use Rattle.ledger.specs.Record.{roomSlots}
-use Rattle.ledger.specs.Engine.{seenOf}
+use Rattle.ledger.specs.Engine.{seenOf, ringOf}
 use Rattle.flood.specs.Drops.{given, ground}
-use Rattle.flood.specs.Refusals.{checkRows, ringOf}
+use Rattle.flood.specs.Refusals.{checkRows}
 use Rattle.flood.proofs.CheckLaws.{fails-by, holds-by, lent-fine, lent-marked, lent-ground, lent-water, run-fine-by}
 use Rattle.flood.proofs.checks.checked.Statement.{statement}
 use Rattle.flood.proofs.checks.checked.Tie as tie
@@ -24,7 +24,7 @@ rows s =
     let p = plan (a .shape) (a .marks .now) in
     let g = given (ground (a .rules) (a .beds .now) (a .roughness .now)) (a .rain .now) (a .inflow .now) in
     let w = world (a .depths .now) (a .lasts .now) (a .records .now) (a .run) in
-    checkRows p g (a .five) (ringOf p g w) (seenOf w)
+    checkRows p g (a .five) (ringOf p w) (seenOf w)
 
 -- its first k rows do not apply
 abbrev Past : ℕ → tie.Start → Type 0

@@ -32,15 +32,15 @@ returns-2 c =
     sent-closed (plan (start .args .shape) (start .args .marks .now)) (leavesIn (start .args .rec .now)) (start .args .square)
     (start .args .side) (c .before .before .before .before .beside-on .ensures) (sym (c .before .is-closed .ensures) ∙ c .if2 .taken)
 
-opposite-of-requires : tie.Need-opposite-of-requires
-opposite-of-requires c κs = search needs
+opposite-side-requires : tie.Need-opposite-side-requires
+opposite-side-requires c κs = search needs
 
 leaving-requires : tie.Need-leaving-requires
 leaving-requires c κs =
     let start = c .before .before .before .before .before .before .before .before in
     omega (
       arith,
-      c .opposite-of .ensures,
+      c .opposite-side .ensures,
       opposite-small (start .args .side),
       c .before .before .before .before .squares-of .ensures,
       c .before .before .before .if1 .left,
@@ -52,7 +52,7 @@ returns-3 c =
     let start = c .before .before .before .before .before .before .before .before .before in
     c .leaving .ensures ∙ sent-open (plan (start .args .shape) (start .args .marks .now)) (leavesIn (start .args .rec .now))
     (start .args .square) (start .args .side) (c .before .before .before .before .before .before .beside-on .ensures)
-    (sym (c .before .before .before .is-closed .ensures) ∙ c .before .before .if2 .left) (c .before .opposite-of .ensures)
+    (sym (c .before .before .before .is-closed .ensures) ∙ c .before .before .if2 .left) (c .before .opposite-side .ensures)
 
 pub sent-to-spec : {M : Type 1} → statement M
 sent-to-spec =
@@ -63,6 +63,6 @@ sent-to-spec =
     returns
     is-closed-requires
     returns-2
-    opposite-of-requires
+    opposite-side-requires
     leaving-requires
     returns-3)
