@@ -33,7 +33,7 @@ use Rattle.sight.specs.declared.wet_rows.Wet.{Wet}
 use Rattle.text.specs.Writing.{Wrote}
 use Rattle.sheet.specs.Sheet.{Rooms, Reads, roomsAfter}
 use Rattle.sheet.specs.declared.reading.Sheet.{Sheet}
-use Rattle.demands.specs.Demand1.{FirstFails, here, later, TableSays, ExactlyWhen, One, ReckonDetermined, TrialsDetermined, GridDetermined, RuleDetermined, LedgerDetermined, FloodDetermined, SightDetermined, TextDetermined, SheetDetermined, RefusalsLeave, stepsOn, StopsBefore, Demand1}
+use Rattle.demands.specs.Demand1.{FirstFails, here, later, TableSays, ExactlyWhen, One, ReckonDetermined, TrialsDetermined, GridDetermined, RuleDetermined, LedgerDetermined, FloodDetermined, SightDetermined, TextDetermined, SheetDetermined, ExportsDetermined, RefusalsLeave, stepsOn, StopsBefore, Demand1}
 
 -- ---- one outcome
 
@@ -220,6 +220,49 @@ text-determined =
 sheet-determined : SheetDetermined
 sheet-determined = record { read = λ text before. read-one; meadow-of = λ text old a b x y. written a b (x .wrote) (y .wrote) }
 
+exports-determined : ExportsDetermined
+exports-determined =
+    record {
+      fresh =
+          λ p r records before old a b x y.
+          (λ j. ((x .number-is ∙ sym (y .number-is)) j, ((x .lasts-are ∙ sym (y .lasts-are)) j, (x .run-is ∙ sym (y .run-is)) j)));
+      step =
+          λ p g w old a b x y.
+          (λ j. (
+            (x .number-is ∙ sym (y .number-is)) j,
+            (
+              (x .depths-are ∙ sym (y .depths-are)) j,
+              ((x .lasts-are ∙ sym (y .lasts-are)) j, ((x .records-are ∙ sym (y .records-are)) j, (x .run-is ∙ sym (y .run-is)) j)),
+            ),
+          ));
+      run-to =
+          λ p g end w old a b x y.
+          (λ j. (
+            (x .number-is ∙ sym (y .number-is)) j,
+            (
+              (x .depths-are ∙ sym (y .depths-are)) j,
+              ((x .lasts-are ∙ sym (y .lasts-are)) j, ((x .records-are ∙ sym (y .records-are)) j, (x .run-is ∙ sym (y .run-is)) j)),
+            ),
+          ));
+      take-back =
+          λ p w old a b x y.
+          (λ j. (
+            (x .number-is ∙ sym (y .number-is)) j,
+            ((x .depths-are ∙ sym (y .depths-are)) j, ((x .lasts-are ∙ sym (y .lasts-are)) j, (x .run-is ∙ sym (y .run-is)) j)),
+          ));
+      arrow = λ p D w row column old a b x y. (λ j. ((x .number-is ∙ sym (y .number-is)) j, (x .speeds-are ∙ sym (y .speeds-are)) j));
+      wet-rows =
+          λ p depths least old-rows old-count a b x y.
+          (λ j. ((x .number-is ∙ sym (y .number-is)) j, ((x .rows-are ∙ sym (y .rows-are)) j, (x .count-is ∙ sym (y .count-is)) j)));
+      read-sheet =
+          λ text before old-heading old-line a b x y.
+          (λ j. (
+            (x .number-is ∙ sym (y .number-is)) j,
+            ((x .rooms-are ∙ sym (y .rooms-are)) j, ((x .heading-is ∙ sym (y .heading-is)) j, (x .line-is ∙ sym (y .line-is)) j)),
+          ));
+      meadow = λ text old a b x y. (λ j. ((x .long-is ∙ sym (y .long-is)) j, (x .out-is ∙ sym (y .out-is)) j));
+    }
+
 -- ---- refusals
 
 first-fails : (rows : List Row) → (refusal rows ≡ 0 → ⊥) → FirstFails rows (refusal rows)
@@ -357,6 +400,7 @@ demand-1 =
       sight = sight-determined;
       text = text-determined;
       sheet = sheet-determined;
+      exports = exports-determined;
       exactly-when = exactly-when;
       refusals-leave = refusals-leave;
       run-stops = run-stops;

@@ -6,6 +6,7 @@ use mathlib.Core.Bool.{Bool, true, false}
 use mathlib.Core.List.{List, _∷_, _++_}
 use Prim.Native.Nat.{ℕ, zero, suc, _≤_, _<_}
 use lib.ListN.{length}
+use lib.Ieee.{Float}
 use Rattle.reckon.specs.Tests.{Row, _unless_, refusal}
 use Rattle.reckon.specs.Numbers.{Lesser, Greater, PartOf}
 use Rattle.reckon.specs.Numbers as Numbers
@@ -46,6 +47,9 @@ use Rattle.text.specs.Writing.{PutByte, PutWord, PutNumber, PutField, PutFields
 use Rattle.sheet.specs.Sheet.{Rooms, Reads}
 use Rattle.sheet.specs.Printed.{Prints, meadowText}
 use Rattle.sheet.specs.declared.reading.Sheet.{Sheet}
+use Rattle.exports.specs.Steps.{ExportsFresh, ExportsStep, ExportsRun, ExportsBack}
+use Rattle.exports.specs.Sights.{ExportsArrow, ExportsWet}
+use Rattle.exports.specs.Sheets.{ExportsRead, ExportsMeadow}
 
 -- ---- "Every call ends and does nothing undefined" is what the check proves of each function; and what it gives is determined
 
@@ -168,6 +172,24 @@ pub record SheetDetermined : Type 0 where
   pub read : (text : List ℕ) (before : Rooms) → One {Out = Sheet × Rooms} (λ o. Reads text before (o .0) (o .1))
   pub meadow-of : (text old : List ℕ) → One {Out = ℕ × List ℕ} (λ o. Prints (meadowText text) old (o .1) (o .0))
 
+-- what other languages call
+pub record ExportsDetermined : Type 0 where
+  pub fresh : (p : Plan) (r : Rules) (records before old : List ℕ) →
+      One {Out = ℕ × (List ℕ × List ℕ)} (λ o. ExportsFresh p r records before old (o .0) (o .1 .0) (o .1 .1))
+  pub step : (p : Plan) (g : Given) (w : World) (old : List ℕ) →
+      One {Out = ℕ × (List ℕ × (List ℕ × (List ℕ × List ℕ)))} (λ o. ExportsStep p g w old (o .0) (o .1 .0) (o .1 .1 .0) (o .1 .1 .1 .0) (o .1 .1 .1 .1))
+  pub run-to : (p : Plan) (g : Given) (end : ℕ) (w : World) (old : List ℕ) →
+      One {Out = ℕ × (List ℕ × (List ℕ × (List ℕ × List ℕ)))} (λ o. ExportsRun p g end w old (o .0) (o .1 .0) (o .1 .1 .0) (o .1 .1 .1 .0) (o .1 .1 .1 .1))
+  pub take-back : (p : Plan) (w : World) (old : List ℕ) →
+      One {Out = ℕ × (List ℕ × (List ℕ × List ℕ))} (λ o. ExportsBack p w old (o .0) (o .1 .0) (o .1 .1 .0) (o .1 .1 .1))
+  pub arrow : (p : Plan) (D : ℕ) (w : World) (row column : ℕ) (old : List Float) →
+      One {Out = ℕ × List Float} (λ o. ExportsArrow p D w row column old (o .0) (o .1))
+  pub wet-rows : (p : Plan) (depths : List ℕ) (least : ℕ) (old-rows old-count : List ℕ) →
+      One {Out = ℕ × (List ℕ × List ℕ)} (λ o. ExportsWet p depths least old-rows old-count (o .0) (o .1 .0) (o .1 .1))
+  pub read-sheet : (text : List ℕ) (before : Rooms) (old-heading old-line : List ℕ) →
+      One {Out = ℕ × (Rooms × (List ℕ × List ℕ))} (λ o. ExportsRead text before old-heading old-line (o .0) (o .1 .0) (o .1 .1 .0) (o .1 .1 .1))
+  pub meadow : (text old : List ℕ) → One {Out = ℕ × List ℕ} (λ o. ExportsMeadow text old (o .0) (o .1))
+
 -- ---- "A refusal gives one number from the table in document 01, exactly when that table says"
 
 -- "the first that applies is given": a row applies where its test fails
@@ -230,6 +252,7 @@ pub record Demand1 : Type 0 where
   pub sight : SightDetermined
   pub text : TextDetermined
   pub sheet : SheetDetermined
+  pub exports : ExportsDetermined
   pub exactly-when : (p : Plan) → ExactlyWhen p
   pub refusals-leave : (p : Plan) → RefusalsLeave p
   pub run-stops : (p : Plan) (g : Given) (end : ℕ) (w : World) → refusal (runChecks p g end w) ≡ 0 → StopsBefore p g end w (runTo p g end w)

@@ -1,0 +1,4 @@
+pub mod AnswerLaws
+pub mod SheetLaws
+pub mod SightLaws
+pub mod StepLaws

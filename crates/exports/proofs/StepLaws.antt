@@ -1,0 +1,165 @@
+-- What the exported steps give follows from what the calls below give: a number with a run, or with all as it was.
+-- Assumes nothing.
+use mathlib.Core.Path.{_≡_, refl, sym, ap, _∙_}
+use mathlib.Core.Bool.{true, false}
+use mathlib.Core.List.{List}
+use Prim.Native.Nat.{ℕ}
+use lib.Dec.{eqb}
+use lib.ListN.{length}
+use borrow.Author.Tests.{ne-eqb, eq-eqb}
+use Rattle.reckon.specs.Tests.{pick}
+use Rattle.reckon.specs.Lists.{filled}
+use Rattle.reckon.proofs.TestLaws.{pick-true, pick-false}
+use Rattle.grid.specs.Squares.{squares}
+use Rattle.rule.specs.declared.rules.Rules.{Rules}
+use Rattle.ledger.specs.Runs.{Plan, World, world, answered}
+use Rattle.ledger.specs.Record.{newestRecord}
+use Rattle.ledger.specs.Flows.{shut}
+use Rattle.ledger.specs.After.{worldAfter}
+use Rattle.ledger.specs.Engine.{seenOf}
+use Rattle.ledger.specs.TakeBack.{TakesBack, backNumber, takenBack, worldBefore}
+use Rattle.ledger.specs.declared.runs.Answer.{Answer}
+use Rattle.flood.specs.Drops.{Given}
+use Rattle.flood.specs.Step.{stepMoves}
+use Rattle.flood.specs.Refusals.{Steps, stepNumber, stepped}
+use Rattle.flood.specs.Run.{Ended, ended, runTo, RunsTo, Freshens, freshNumber, freshRun, freshLasts}
+use Rattle.flood.specs.declared.run.Ran.{Ran}
+use Rattle.exports.specs.Answers.{runSize, ranSize, numberIf, runNumbers, answerNumber, answerRun, ranRun}
+use Rattle.exports.specs.Steps.{unlessRefused, freshGives, ExportsFresh, stepGives, ExportsStep, backGives, ExportsBack, ranSized, ranEnd, ExportsRun}
+use Rattle.exports.proofs.AnswerLaws.{sized-number, unsized-number, refused-leaves, chosen-twice, number-answered, run-answered}
+
+-- ---- a fresh run
+
+module _ (p : Plan) (r : Rules) (records before old : List ℕ) where
+  pub fresh-unsized : (length old ≡ runSize → ⊥) → ExportsFresh p r records before old 1 before old
+  fresh-unsized d =
+      let one : freshGives p r records before old ≡ 1 = unsized-number _ (ne-eqb (length old) runSize d) in
+      record {
+        number-is = sym one;
+        lasts-are = sym (refused-leaves (freshLasts p r before records) before one);
+        run-is = sym (refused-leaves (runNumbers (freshRun p r before records)) old one);
+      }
+
+  fresh-stays : unlessRefused (freshNumber p r before records) (freshLasts p r before records) before ≡ freshLasts p r before records
+  unfolding freshLasts unlessRefused
+  fresh-stays =
+      chosen-twice (λ (l : List ℕ). l) (eqb (freshNumber p r before records) 0) (filled (squares (p .shape)) (shut p) (λ i. 0) before) before
+
+  module _ {a : Answer} {number : ℕ} {lasts run : List ℕ} where
+    pub fresh-told :
+        length old ≡ runSize → Freshens p r records before a lasts → (number ≡ answerNumber a) × (run ≡ answerRun a old) →
+        ExportsFresh p r records before old number lasts run
+    fresh-told h f t =
+        let gives : freshGives p r records before old ≡ freshNumber p r before records = sized-number (eq-eqb (length old) runSize h) in
+        record {
+          number-is = t .0 ∙ (ap answerNumber (f .answer) ∙ (number-answered (freshNumber p r before records) (freshRun p r before records) ∙ sym gives));
+          lasts-are = f .lasts-are ∙ (sym fresh-stays ∙ ap (λ (n : ℕ). unlessRefused n (freshLasts p r before records) before) (sym gives));
+          run-is =
+              t .1
+              ∙ (ap (λ (z : Answer). answerRun z old) (f .answer)
+              ∙ (run-answered (freshNumber p r before records) (freshRun p r before records) old
+              ∙ ap (λ (n : ℕ). unlessRefused n (runNumbers (freshRun p r before records)) old) (sym gives)));
+        }
+
+-- ---- a step
+
+module _ (p : Plan) (g : Given) (w : World) (old : List ℕ) where
+  pub step-unsized : (length old ≡ runSize → ⊥) → ExportsStep p g w old 1 (w .depths) (w .lasts) (w .records) old
+  step-unsized d =
+      let one : stepGives p g w old ≡ 1 = unsized-number _ (ne-eqb (length old) runSize d) in
+      record {
+        number-is = sym one;
+        depths-are = sym (refused-leaves (stepped p g w .depths) (w .depths) one);
+        lasts-are = sym (refused-leaves (stepped p g w .lasts) (w .lasts) one);
+        records-are = sym (refused-leaves (stepped p g w .records) (w .records) one);
+        run-is = sym (refused-leaves (runNumbers (stepped p g w .run)) old one);
+      }
+
+  step-stays : (f : World → List ℕ) → unlessRefused (stepNumber p g w) (f (stepped p g w)) (f w) ≡ f (stepped p g w)
+  unfolding stepped unlessRefused
+  step-stays f = chosen-twice f (eqb (stepNumber p g w) 0) (worldAfter p (stepMoves p g (seenOf w)) w) w
+
+  module _ {a : Answer} {number : ℕ} {depths lasts records run : List ℕ} where
+    pub step-told :
+        length old ≡ runSize → Steps p g w a depths lasts records → (number ≡ answerNumber a) × (run ≡ answerRun a old) →
+        ExportsStep p g w old number depths lasts records run
+    step-told h f t =
+        let gives : stepGives p g w old ≡ stepNumber p g w = sized-number (eq-eqb (length old) runSize h) in
+        let stays : (x : World → List ℕ) → x (stepped p g w) ≡ unlessRefused (stepGives p g w old) (x (stepped p g w)) (x w) =
+        λ x. sym (step-stays x) ∙ ap (λ (n : ℕ). unlessRefused n (x (stepped p g w)) (x w)) (sym gives) in
+        record {
+          number-is = t .0 ∙ (ap answerNumber (f .answer) ∙ (number-answered (stepNumber p g w) (stepped p g w .run) ∙ sym gives));
+          depths-are = f .depths-are ∙ stays (λ (z : World). z .depths);
+          lasts-are = f .lasts-are ∙ stays (λ (z : World). z .lasts);
+          records-are = f .records-are ∙ stays (λ (z : World). z .records);
+          run-is =
+              t .1
+              ∙ (ap (λ (z : Answer). answerRun z old) (f .answer)
+              ∙ (run-answered (stepNumber p g w) (stepped p g w .run) old
+              ∙ ap (λ (n : ℕ). unlessRefused n (runNumbers (stepped p g w .run)) old) (sym gives)));
+        }
+
+-- ---- a take-back
+
+module _ (p : Plan) (w : World) (old : List ℕ) where
+  pub back-unsized : (length old ≡ runSize → ⊥) → ExportsBack p w old 1 (w .depths) (w .lasts) old
+  back-unsized d =
+      let one : backGives p w old ≡ 1 = unsized-number _ (ne-eqb (length old) runSize d) in
+      record {
+        number-is = sym one;
+        depths-are = sym (refused-leaves (takenBack p w .depths) (w .depths) one);
+        lasts-are = sym (refused-leaves (takenBack p w .lasts) (w .lasts) one);
+        run-is = sym (refused-leaves (runNumbers (takenBack p w .run)) old one);
+      }
+
+  back-stays : (f : World → List ℕ) → unlessRefused (backNumber p w) (f (takenBack p w)) (f w) ≡ f (takenBack p w)
+  unfolding takenBack unlessRefused
+  back-stays f = chosen-twice f (eqb (backNumber p w) 0) (worldBefore p w (newestRecord p w)) w
+
+  module _ {a : Answer} {number : ℕ} {depths lasts run : List ℕ} where
+    pub back-told :
+        length old ≡ runSize → TakesBack p w a depths lasts → (number ≡ answerNumber a) × (run ≡ answerRun a old) →
+        ExportsBack p w old number depths lasts run
+    back-told h f t =
+        let gives : backGives p w old ≡ backNumber p w = sized-number (eq-eqb (length old) runSize h) in
+        let stays : (x : World → List ℕ) → x (takenBack p w) ≡ unlessRefused (backGives p w old) (x (takenBack p w)) (x w) =
+        λ x. sym (back-stays x) ∙ ap (λ (n : ℕ). unlessRefused n (x (takenBack p w)) (x w)) (sym gives) in
+        record {
+          number-is = t .0 ∙ (ap answerNumber (f .answer) ∙ (number-answered (backNumber p w) (takenBack p w .run) ∙ sym gives));
+          depths-are = f .depths-are ∙ stays (λ (z : World). z .depths);
+          lasts-are = f .lasts-are ∙ stays (λ (z : World). z .lasts);
+          run-is =
+              t .1
+              ∙ (ap (λ (z : Answer). answerRun z old) (f .answer)
+              ∙ (run-answered (backNumber p w) (takenBack p w .run) old
+              ∙ ap (λ (n : ℕ). unlessRefused n (runNumbers (takenBack p w .run)) old) (sym gives)));
+        }
+
+-- ---- a run to an end
+
+module _ (p : Plan) (g : Given) (end : ℕ) (w : World) (old : List ℕ) where
+  pub run-unsized : (length old ≡ ranSize → ⊥) → ExportsRun p g end w old 1 (w .depths) (w .lasts) (w .records) old
+  run-unsized d =
+      let unfit = ne-eqb (length old) ranSize d in
+      record {
+        number-is = sym (unsized-number _ unfit);
+        depths-are = sym (pick-false _ _ unfit);
+        lasts-are = sym (pick-false _ _ unfit);
+        records-are = sym (pick-false _ _ unfit);
+        run-is = sym (pick-false _ _ unfit);
+      }
+
+  module _ {a : Ran} {number : ℕ} {depths lasts records run : List ℕ} where
+    pub run-told :
+        length old ≡ ranSize → RunsTo p g end w a depths lasts records →
+        (number ≡ a .refused) × (run ≡ ranRun (a .refused) (a .run) (a .steps) old) → ExportsRun p g end w old number depths lasts records run
+    run-told h f t =
+        let fits : ranSized p g end w old ≡ true = eq-eqb (length old) ranSize h in
+        let e = f .ends in
+        record {
+          number-is = t .0 ∙ (ap (λ (z : Ended). z .number) e ∙ sym (sized-number fits));
+          depths-are = ap (λ (z : Ended). z .world .depths) e ∙ sym (pick-true _ _ fits);
+          lasts-are = ap (λ (z : Ended). z .world .lasts) e ∙ sym (pick-true _ _ fits);
+          records-are = ap (λ (z : Ended). z .world .records) e ∙ sym (pick-true _ _ fits);
+          run-is = t .1 ∙ (ap (λ (z : Ended). ranRun (z .number) (z .world .run) (z .steps) old) e ∙ sym (pick-true _ _ fits));
+        }

@@ -1,0 +1,68 @@
+-- `exports::answers::put_heading` meets its contract: ten stores fill a slice of ten.
+-- Assumes nothing.
+use native.Mathlib.Omega.{arith}
+use lib.ListN.{length-set}
+use Rattle.exports.proofs.AnswerLaws.{ten-stored}
+use borrow.Author.Needs.{needs}
+use Rattle.exports.proofs.answers.put_heading.Statement.{statement}
+use Rattle.exports.proofs.answers.put_heading.Tie as tie
+
+slice-write-room : tie.Need-slice-write-room
+slice-write-room c = search needs
+
+slice-write-room-2 : tie.Need-slice-write-room-2
+slice-write-room-2 c = search needs
+
+slice-write-room-3 : tie.Need-slice-write-room-3
+slice-write-room-3 c = search needs
+
+slice-write-room-4 : tie.Need-slice-write-room-4
+slice-write-room-4 c = search needs
+
+slice-write-room-5 : tie.Need-slice-write-room-5
+slice-write-room-5 c =
+    simp length-set (omega arith)
+
+slice-write-room-6 : tie.Need-slice-write-room-6
+slice-write-room-6 c =
+    simp length-set (omega arith)
+
+slice-write-room-7 : tie.Need-slice-write-room-7
+slice-write-room-7 c =
+    simp length-set (omega arith)
+
+slice-write-room-8 : tie.Need-slice-write-room-8
+slice-write-room-8 c =
+    simp length-set (omega arith)
+
+slice-write-room-9 : tie.Need-slice-write-room-9
+slice-write-room-9 c =
+    simp length-set (omega arith)
+
+slice-write-room-10 : tie.Need-slice-write-room-10
+slice-write-room-10 c =
+    simp length-set (omega arith)
+
+same-length : tie.Need-same-length
+same-length c = search needs
+
+returns : tie.Need-returns
+returns c =
+    ten-stored (c .before .before .args .room .now) _ _ _ _ _ _ _ _ _ _ (c .before .before .pre)
+
+pub put-heading-spec : {M : Type 1} → statement M
+put-heading-spec =
+    tie.close
+    (tie.spec
+    slice-write-room
+    slice-write-room-2
+    slice-write-room-3
+    slice-write-room-4
+    slice-write-room-5
+    slice-write-room-6
+    slice-write-room-7
+    slice-write-room-8
+    slice-write-room-9
+    slice-write-room-10
+    same-length
+    returns)

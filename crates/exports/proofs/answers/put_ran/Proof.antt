@@ -1,0 +1,48 @@
+-- `exports::answers::put_ran` meets its contract: six stores fill a slice of six.
+-- Assumes nothing.
+use native.Mathlib.Omega.{arith}
+use lib.ListN.{length-set}
+use Rattle.exports.proofs.AnswerLaws.{six-stored}
+use borrow.Author.Needs.{needs}
+use Rattle.exports.proofs.answers.put_ran.Statement.{statement}
+use Rattle.exports.proofs.answers.put_ran.Tie as tie
+
+slice-write-room : tie.Need-slice-write-room
+slice-write-room c = search needs
+
+slice-write-room-2 : tie.Need-slice-write-room-2
+slice-write-room-2 c = search needs
+
+slice-write-room-3 : tie.Need-slice-write-room-3
+slice-write-room-3 c = search needs
+
+slice-write-room-4 : tie.Need-slice-write-room-4
+slice-write-room-4 c = search needs
+
+slice-write-room-5 : tie.Need-slice-write-room-5
+slice-write-room-5 c =
+    simp length-set (omega arith)
+
+slice-write-room-6 : tie.Need-slice-write-room-6
+slice-write-room-6 c =
+    simp length-set (omega arith)
+
+same-length : tie.Need-same-length
+same-length c = search needs
+
+returns : tie.Need-returns
+returns c =
+    six-stored (c .args .room .now) _ _ _ _ _ _ (c .pre)
+
+pub put-ran-spec : {M : Type 1} → statement M
+put-ran-spec =
+    tie.close
+    (tie.spec
+    slice-write-room
+    slice-write-room-2
+    slice-write-room-3
+    slice-write-room-4
+    slice-write-room-5
+    slice-write-room-6
+    same-length
+    returns)

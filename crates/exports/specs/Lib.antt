@@ -1,0 +1,4 @@
+pub mod Answers
+pub mod Sheets
+pub mod Sights
+pub mod Steps

@@ -1,0 +1,118 @@
+// The flow arrow of a square, and the wet rows with their count.
+use crate::answers::COUNT_NUMBERS;
+use crate::answers::NOT_ITS_SIZE;
+use crate::answers::SPEED_NUMBERS;
+use grid::squares::Shape;
+use ledger::runs::Run;
+use sight::arrows::Sight;
+use sight::arrows::arrow;
+use sight::wet_rows::Wet;
+use sight::wet_rows::wet_rows;
+ghost use mathlib.Core.Path.{_≡_};
+ghost use lib.ListN.{length};
+ghost use Rattle.ledger.specs.Runs.{plan};
+ghost use Rattle.sight.specs.Arrows.{view};
+ghost use Rattle.exports.specs.Steps.{runOf, shapeOf};
+ghost use Rattle.exports.specs.Sights.{ExportsArrow, ExportsWet, countIn, sightNumber, speedsIn, wetNumberOf};
+
+// What is seen where nothing is refused: a moving square's speeds have been written; the others are past every refusal's number.
+const MOVING: u32 = 0;
+
+const CLOSED: u32 = 101;
+
+const DRY: u32 = 102;
+
+const STILL: u32 = 103;
+
+// A sight's number; a moving square's speeds, east and north in m/s, go into the slice.
+fn tell_sight(sight: Sight, speeds: &mut [f64]) -> u32
+    requires { ⌜ length (now speeds) ≡ 2 ⌝ }
+    ensures { λ r. ⌜ (r ≡ sightNumber sight) × (now (speeds .exit) ≡ speedsIn sight (now (speeds .entry))) ⌝ }
+{
+    match sight {
+        Sight::Refused(number) => number,
+        Sight::Closed => CLOSED,
+        Sight::Dry => DRY,
+        Sight::Still => STILL,
+        Sight::Moving(arrow) => {
+            speeds[0] = arrow.east;
+            speeds[1] = arrow.north;
+            MOVING
+        }
+    }
+}
+
+// The flow arrow of the square in a row and a column, after the newest step kept.
+#[no_mangle]
+pub extern "C" fn flood_arrow(
+    rows: usize,
+    columns: usize,
+    square_side: u64,
+    clock: u64,
+    length: u64,
+    outflow: u64,
+    kept: usize,
+    newest: usize,
+    marks: &[u8],
+    depths: &[u32],
+    records: &[u32],
+    row: usize,
+    column: usize,
+    speeds: &mut [f64],
+) -> u32
+    ensures { λ r. ⌜ ExportsArrow (plan (shapeOf rows columns) (now (marks .entry))) «square_side» (view (now (depths .entry)) (now (records .entry)) (runOf clock length outflow kept newest)) row column (now (speeds .entry)) r (now (speeds .exit)) ⌝ }
+{
+    if speeds.len() != SPEED_NUMBERS {
+        return NOT_ITS_SIZE;
+    }
+    let shape = Shape {
+        rows: rows,
+        columns: columns,
+    };
+    let run = Run {
+        clock: clock,
+        length: length,
+        outflow: outflow,
+        kept: kept,
+        newest: newest,
+    };
+    let sight = arrow(shape, square_side, run, marks, depths, records, row, column);
+    tell_sight(sight, speeds)
+}
+
+// An answer's number; a count goes into the slice.
+fn tell_wet(wet: Wet, count: &mut [u64]) -> u32
+    requires { ⌜ length (now count) ≡ 1 ⌝ }
+    ensures { λ r. ⌜ (r ≡ wetNumberOf wet) × (now (count .exit) ≡ countIn wet (now (count .entry))) ⌝ }
+{
+    match wet {
+        Wet::Refused(number) => number,
+        Wet::Count(squares) => {
+            count[0] = squares;
+            0
+        }
+    }
+}
+
+// The wet rows, and their count.
+#[no_mangle]
+pub extern "C" fn flood_wet_rows(
+    rows: usize,
+    columns: usize,
+    marks: &[u8],
+    depths: &[u32],
+    wet_depth: u32,
+    wet: &mut [u64],
+    count: &mut [u64],
+) -> u32
+    ensures { λ r. ⌜ ExportsWet (plan (shapeOf rows columns) (now (marks .entry))) (now (depths .entry)) «wet_depth» (now (wet .entry)) (now (count .entry)) r (now (wet .exit)) (now (count .exit)) ⌝ }
+{
+    if count.len() != COUNT_NUMBERS {
+        return NOT_ITS_SIZE;
+    }
+    let shape = Shape {
+        rows: rows,
+        columns: columns,
+    };
+    tell_wet(wet_rows(shape, marks, depths, wet_depth, wet), count)
+}
