@@ -7,9 +7,9 @@ use native.Mathlib.Nat.{mul-le-mul, mul-le-mul-right, suc-mul, zero-mod, mod-lt,
 use native.Mathlib.Decide.{decLe, decLt, ℕ-discrete}
 use native.Mathlib.Omega.{arith}
 use lib.Dec.{ltb}
-use borrow.Author.Tests.{leb-true, le-leb, lt-leb, lt-ltb, le-ltb, eq-eqb, ne-eqb}
+use borrow.Author.Tests.{not-false, ltb-true, leb-true, le-leb, lt-leb, lt-ltb, le-ltb, eq-eqb, ne-eqb}
 use Rattle.reckon.specs.Tests.{every}
-use Rattle.reckon.proofs.TestLaws.{pick-true, pick-false, pick-both, every-each, each-every, all-of, all-fails}
+use Rattle.reckon.proofs.TestLaws.{pick-true, pick-false, pick-both, every-each, each-every, all-at, all-of, all-fails}
 use Rattle.grid.specs.declared.squares.Shape.{Shape}
 use Rattle.grid.specs.Squares.{longest, mostSquares, north, east, south, west, sides, squares, squareAt, beside, opposite, onRim, shapeFine, FineShape, Stands, NextColumn}
 
@@ -236,3 +236,42 @@ inner s {i} h n e so w (suc zero) l = rw (east-some s i {side = east} refl e) (e
 inner s {i} h n e so w (suc (suc zero)) l = rw (south-some s i {side = south} refl so) so
 inner s {i} h n e so w (suc (suc (suc zero))) l = rw (west-some s i {side = west} refl w) (omega arith)
 inner s {i} h n e so w (suc (suc (suc (suc _)))) l = absurd (omega arith)
+
+-- ---- the neighbours of a square that is not on the rim
+
+module _ (s : Shape) (i : ℕ) (off : onRim s i ≡ false) where
+  pub each-within : (side : ℕ) → side < sides → beside s i side < squares s
+  unfolding onRim
+  each-within side h = ltb-true _ _ (all-at sides (λ k. ltb (beside s i k) (squares s)) (not-false _ off) side h)
+
+  pub north-within : s .columns ≤ i
+  north-within = go (decLe (s .columns) i)
+    where
+      go : Dec (s .columns ≤ i) → s .columns ≤ i
+      go (yes b) = b
+      go (no b) = absurd (omega (arith, each-within north (omega arith), north-none s i {side = north} refl (omega arith)))
+
+  pub east-within : (i + 1) % s .columns ≡ 0 → ⊥
+  east-within z = omega (arith, each-within east (omega arith), east-none s i {side = east} refl z)
+
+  pub south-within : i + s .columns < squares s
+  south-within = go (decLt (i + s .columns) (squares s))
+    where
+      go : Dec (i + s .columns < squares s) → i + s .columns < squares s
+      go (yes b) = b
+      go (no b) = absurd (omega (arith, each-within south (omega arith), south-none s i {side = south} refl (omega arith)))
+
+  pub west-within : i % s .columns ≡ 0 → ⊥
+  west-within z = omega (arith, each-within west (omega arith), west-none s i {side = west} refl z)
+
+  pub north-is : i - s .columns ≡ beside s i north
+  north-is = sym (north-some s i {side = north} refl north-within)
+
+  pub east-is : i + 1 ≡ beside s i east
+  east-is = sym (east-some s i {side = east} refl east-within)
+
+  pub south-is : i + s .columns ≡ beside s i south
+  south-is = sym (south-some s i {side = south} refl south-within)
+
+  pub west-is : i - 1 ≡ beside s i west
+  west-is = sym (west-some s i {side = west} refl west-within)

@@ -1,17 +1,20 @@
 -- Laws of amounts: a side's case decides what was sent or went off the grid; and sums of 32-bit words stay far below 64 bits.
 -- Assumes nothing.
-use mathlib.Core.Path.{_≡_, sym, ap, ap₂, _∙_}
+use mathlib.Core.Path.{_≡_, refl, sym, ap, ap₂, _∙_}
 use mathlib.Core.Bool.{true, false}
 use mathlib.Core.List.{List}
-use Prim.Native.Nat.{ℕ, _+_, _*_, _≤_, _<_}
+use Prim.Native.Nat.{ℕ, _+_, _-_, _*_, _≤_, _<_}
 use native.Mathlib.Nat.{mul-le-mul-right}
 use native.Mathlib.Omega.{arith}
 use lib.ListN.{length, getD}
 use borrow.Author.Tests.{lt-ltb, le-ltb}
+use Rattle.reckon.specs.Tests.{pick}
 use Rattle.reckon.specs.Lists.{sumBelow}
-use Rattle.reckon.proofs.TestLaws.{pick-true, pick-false, pick-both}
+use Rattle.reckon.proofs.TestLaws.{pick-true, pick-false, pick-same, pick-both}
 use Rattle.reckon.proofs.ListLaws.{sum-le}
-use Rattle.grid.specs.Squares.{north, east, south, west, squares, within, beside, opposite, FineShape}
+use Rattle.grid.specs.Squares.{north, east, south, west, sides, squares, within, beside, opposite, onRim, FineShape}
+use Rattle.grid.proofs.SquareLaws.{each-within, north-is, east-is, south-is, west-is}
+use Rattle.grid.specs.Marks.{closed}
 use Rattle.grid.proofs.MarkLaws.{closed-past}
 use Rattle.ledger.specs.Runs.{Plan}
 use Rattle.ledger.specs.Flows.{Leaves, fourSides, shut, gone, sent, came, offSide, offSquare, offGrid}
@@ -28,13 +31,9 @@ module _ (p : Plan) (out : Leaves) (i side : ℕ) {at : ℕ} (e : at ≡ beside 
   unfolding sent
   sent-none l h = sym (pick-true _ _ (closed-past (p .marks) (beside (p .shape) i side) (omega arith)))
 
-  pub sent-closed : shut p at ≡ true → 0 ≡ sent p out i side
+  pub sent-some : {side′ : ℕ} → side′ ≡ opposite side → pick (shut p at) 0 (out at side′) ≡ sent p out i side
   unfolding sent
-  sent-closed h = sym (pick-true _ _ (ap (shut p) (sym e) ∙ h))
-
-  pub sent-open : shut p at ≡ false → {side′ : ℕ} → side′ ≡ opposite side → out at side′ ≡ sent p out i side
-  unfolding sent
-  sent-open h o = ap₂ out e o ∙ sym (pick-false _ _ (ap (shut p) (sym e) ∙ h))
+  sent-some o = ap₂ (λ (j k : ℕ). pick (shut p j) 0 (out j k)) e o
 
   pub off-inside : at < squares (p .shape) → 0 ≡ offSide p out i side
   unfolding offSide
@@ -43,6 +42,31 @@ module _ (p : Plan) (out : Leaves) (i side : ℕ) {at : ℕ} (e : at ≡ beside 
   pub off-beyond : squares (p .shape) ≤ at → out i side ≡ offSide p out i side
   unfolding offSide
   off-beyond h = sym (pick-false _ _ (le-ltb (beside (p .shape) i side) (squares (p .shape)) (omega arith)))
+
+-- ---- a square that is not on the rim
+
+module _ (p : Plan) (out : Leaves) (i : ℕ) (off : onRim (p .shape) i ≡ false) where
+  -- all four neighbours are there
+  pub came-four :
+      {n e s w : ℕ} → n ≡ pick (shut p (i - p .shape .columns)) 0 (out (i - p .shape .columns) south) →
+      e ≡ pick (shut p (i + 1)) 0 (out (i + 1) west) → s ≡ pick (shut p (i + p .shape .columns)) 0 (out (i + p .shape .columns) north) →
+      w ≡ pick (shut p (i - 1)) 0 (out (i - 1) east) → n + e + s + w ≡ came p out i
+  unfolding came opposite
+  came-four a b c d =
+      four-sides (sent p out i) (a ∙ sent-some p out i north (north-is (p .shape) i off) refl)
+      (b ∙ sent-some p out i east (east-is (p .shape) i off) refl) (c ∙ sent-some p out i south (south-is (p .shape) i off) refl)
+      (d ∙ sent-some p out i west (west-is (p .shape) i off) refl)
+
+  -- so that nothing goes off the grid
+  pub off-none : 0 ≡ offSquare p out i
+  unfolding offSquare
+  off-none =
+      let within : (side : ℕ) → side < sides → 0 ≡ offSide p out i side =
+      λ side h. off-inside p out i side refl (each-within (p .shape) i off side h) in
+      sym
+      (ap (λ (k : ℕ). pick (shut p i) 0 k)
+      (sym (four-sides (offSide p out i) (within north (omega arith)) (within east (omega arith)) (within south (omega arith)) (within west (omega arith))))
+      ∙ pick-same (shut p i) 0)
 
 -- ---- sums of words
 
@@ -67,6 +91,10 @@ module _ (rec : List ℕ) (words : (k : ℕ) → getD rec k 0 < 4294967296) wher
   pub gone-small : (i : ℕ) → gone (leavesIn rec) i ≤ fourWords
   unfolding gone
   gone-small i = four-small (leavesIn rec i) (leaving-small i)
+
+  -- what a square sent, nothing where it is closed
+  pub from-small : (marks : List ℕ) (i side : ℕ) → pick (closed marks i) 0 (leavesIn rec i side) ≤ word
+  from-small marks i side = pick-both (λ (k : ℕ). k ≤ word) _ (omega arith) (leaving-small i side)
 
   module _ (p : Plan) where
     pub sent-small : (i side : ℕ) → sent p (leavesIn rec) i side ≤ word

@@ -1,11 +1,14 @@
 // The record of a step: its words read and written by name, and the amounts that they give. Only this file knows a word's place.
 ghost use mathlib.Core.Path.{_≡_};
+ghost use mathlib.Core.Bool.{false};
 ghost use mathlib.Core.List.{[], _∷_};
 ghost use Prim.Native.Nat.{_+_, _<_, _^_, _≤_};
 ghost use lib.ListN.{getD, length};
+ghost use Rattle.reckon.specs.Tests.{pick};
 ghost use Rattle.reckon.specs.Lists.{placed};
 ghost use Rattle.reckon.specs.Ranges.{mostLength};
-ghost use Rattle.grid.specs.Squares.{FineShape, Stands, east, north, sides, south, west};
+ghost use Rattle.grid.specs.Squares.{FineShape, Stands, east, north, onRim, sides, south, squares, west};
+ghost use Rattle.grid.specs.Marks.{closed};
 ghost use Rattle.ledger.specs.Runs.{plan};
 ghost use Rattle.ledger.specs.Flows.{offSide};
 ghost use Rattle.ledger.specs.Record.{AddedBy, CameTo, ClosedPut, GoneFrom, HeadPut, HeldBefore, LastBefore, Lasted, Leaving, OffFrom, Recorded, SentTo, SizeOf, SquarePut, addedWord, headWords, lastWord, leavesIn, squareWords, wordPlace};
@@ -16,6 +19,7 @@ use grid::squares::SOUTH;
 use grid::squares::Shape;
 use grid::squares::WEST;
 use grid::squares::beside_on;
+use grid::squares::on_rim;
 use grid::squares::opposite_side;
 use grid::squares::squares_of;
 use reckon::numbers::number;
@@ -109,6 +113,17 @@ pub fn gone_from(rec: &[u32], square: usize) -> u64
         + leaving(rec, square, WEST)
 }
 
+// What the square at a place sent through a side: nothing where it is closed.
+fn sent_from(marks: &[u8], rec: &[u32], at: usize, side: usize) -> u64
+    requires { ⌜ (at < length (now marks)) × (wordPlace at side < length (now rec)) ⌝ }
+    ensures { λ r. ⌜ r ≡ pick (closed (now (marks .entry)) at) 0 (leavesIn (now (rec .entry)) at side) ⌝ }
+{
+    if is_closed(marks, at) {
+        return 0;
+    }
+    leaving(rec, at, side)
+}
+
 // What the neighbour on a side sent: nothing where there is none, or a closed one.
 pub fn sent_to(
     shape: Shape,
@@ -127,10 +142,21 @@ pub fn sent_to(
     if squares_of(shape) <= at {
         return 0;
     }
-    if is_closed(marks, at) {
-        return 0;
-    }
-    leaving(rec, at, opposite_side(side))
+    sent_from(marks, rec, at, opposite_side(side))
+}
+
+// What the neighbours of a square that is not on the rim sent: all four are there, so that no side is tested.
+fn came_within(shape: Shape, marks: &[u8], rec: &[u32], square: usize) -> u64
+    requires { ⌜ Recorded (plan shape (now marks)) (now rec) ⌝ }
+    requires { ⌜ (square < squares shape) × (onRim shape square ≡ false) ⌝ }
+    ensures { λ r. ⌜ CameTo (plan shape (now (marks .entry))) (now (rec .entry)) square r ⌝ }
+{
+    let columns = shape.columns;
+    let north = sent_from(marks, rec, square - columns, SOUTH);
+    let east = sent_from(marks, rec, square + 1, WEST);
+    let south = sent_from(marks, rec, square + columns, NORTH);
+    let west = sent_from(marks, rec, square - 1, EAST);
+    north + east + south + west
 }
 
 // What the neighbours sent.
@@ -139,6 +165,9 @@ pub fn came_to(shape: Shape, marks: &[u8], rec: &[u32], square: usize, column: u
     requires { ⌜ Stands shape square column ⌝ }
     ensures { λ r. ⌜ CameTo (plan shape (now (marks .entry))) (now (rec .entry)) square r ⌝ }
 {
+    if !on_rim(shape, square, column) {
+        return came_within(shape, marks, rec, square);
+    }
     let north = sent_to(shape, marks, rec, square, column, NORTH);
     let east = sent_to(shape, marks, rec, square, column, EAST);
     let south = sent_to(shape, marks, rec, square, column, SOUTH);
@@ -173,6 +202,9 @@ pub fn off_from(shape: Shape, marks: &[u8], rec: &[u32], square: usize, column: 
     ensures { λ r. ⌜ OffFrom (plan shape (now (marks .entry))) (now (rec .entry)) square r ⌝ }
 {
     if is_closed(marks, square) {
+        return 0;
+    }
+    if !on_rim(shape, square, column) {
         return 0;
     }
     let north = off_side(shape, marks, rec, square, column, NORTH);

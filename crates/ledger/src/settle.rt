@@ -37,7 +37,7 @@ pub struct Settled {
     pub run: Run,
 }
 
-// A square's new depth.
+// A square's new depth. A dry square has sent nothing.
 fn new_depth(
     shape: Shape,
     marks: &[u8],
@@ -50,8 +50,13 @@ fn new_depth(
     requires { ⌜ (Stands shape square column) × (closed (now marks) square ≡ false) ⌝ }
     ensures { λ r. ⌜ r ≡ depthBy (plan shape (now (marks .entry))) (now (rec .entry)) (now (depths .entry)) square ⌝ }
 {
-    let remains = number(depths, square) - gone_from(rec, square);
-    remains + came_to(shape, marks, rec, square, column) + added_by(rec, square)
+    let gains = came_to(shape, marks, rec, square, column) + added_by(rec, square);
+    let depth = number(depths, square);
+    if depth == 0 {
+        return gains;
+    }
+    let remains = depth - gone_from(rec, square);
+    remains + gains
 }
 
 // Puts a square's new depth, or its old one if it is closed, into the working room, unless the new depth is above the most.

@@ -1,11 +1,11 @@
--- `ledger::record::sent_to` meets its contract: no neighbour, a closed one, or one that sent.
+-- `ledger::record::sent_to` meets its contract: no neighbour, or one that sent what it sent.
 -- Assumes nothing.
-use mathlib.Core.Path.{sym, _∙_}
+use mathlib.Core.Path.{_∙_}
 use native.Mathlib.Omega.{arith}
 use Rattle.grid.proofs.SquareLaws.{opposite-small}
 use Rattle.ledger.specs.Runs.{plan}
 use Rattle.ledger.specs.Record.{leavesIn}
-use Rattle.ledger.proofs.FlowLaws.{sent-none, sent-closed, sent-open}
+use Rattle.ledger.proofs.FlowLaws.{sent-none, sent-some}
 use borrow.Author.Needs.{needs}
 use Rattle.ledger.proofs.record.sent_to.Statement.{statement}
 use Rattle.ledger.proofs.record.sent_to.Tie as tie
@@ -23,36 +23,18 @@ returns c =
     (start .args .side) (c .before .before .beside-on .ensures) (start .pre .0 .marks-long)
     (omega (arith, c .before .squares-of .ensures, c .if1 .taken))
 
-is-closed-requires : tie.Need-is-closed-requires
-is-closed-requires c κs = search needs
+opposite-side-requires : tie.Need-opposite-side-requires
+opposite-side-requires c κs = search needs
+
+sent-from-requires : tie.Need-sent-from-requires
+sent-from-requires c κs =
+    let start = c .before .before .before .before .before .before in
+    omega (arith, c .opposite-side .ensures, opposite-small (start .args .side), c .before .before .squares-of .ensures, c .before .if1 .left, start .pre .0 .record-long, start .pre .0 .marks-long)
 
 returns-2 : tie.Need-returns-2
 returns-2 c =
     let start = c .before .before .before .before .before .before .before in
-    sent-closed (plan (start .args .shape) (start .args .marks .now)) (leavesIn (start .args .rec .now)) (start .args .square)
-    (start .args .side) (c .before .before .before .before .beside-on .ensures) (sym (c .before .is-closed .ensures) ∙ c .if2 .taken)
-
-opposite-side-requires : tie.Need-opposite-side-requires
-opposite-side-requires c κs = search needs
-
-leaving-requires : tie.Need-leaving-requires
-leaving-requires c κs =
-    let start = c .before .before .before .before .before .before .before .before in
-    omega (
-      arith,
-      c .opposite-side .ensures,
-      opposite-small (start .args .side),
-      c .before .before .before .before .squares-of .ensures,
-      c .before .before .before .if1 .left,
-      start .pre .0 .record-long,
-    )
-
-returns-3 : tie.Need-returns-3
-returns-3 c =
-    let start = c .before .before .before .before .before .before .before .before .before in
-    c .leaving .ensures ∙ sent-open (plan (start .args .shape) (start .args .marks .now)) (leavesIn (start .args .rec .now))
-    (start .args .square) (start .args .side) (c .before .before .before .before .before .before .beside-on .ensures)
-    (sym (c .before .before .before .is-closed .ensures) ∙ c .before .before .if2 .left) (c .before .opposite-side .ensures)
+    c .sent-from .ensures ∙ sent-some (plan (start .args .shape) (start .args .marks .now)) (leavesIn (start .args .rec .now)) (start .args .square) (start .args .side) (c .before .before .before .before .beside-on .ensures) (c .before .opposite-side .ensures)
 
 pub sent-to-spec : {M : Type 1} → statement M
 sent-to-spec =
@@ -61,8 +43,6 @@ sent-to-spec =
     beside-on-requires
     squares-of-requires
     returns
-    is-closed-requires
-    returns-2
     opposite-side-requires
-    leaving-requires
-    returns-3)
+    sent-from-requires
+    returns-2)

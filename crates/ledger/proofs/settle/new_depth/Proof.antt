@@ -1,4 +1,4 @@
--- `ledger::settle::new_depth` meets its contract: what remains, what came and what is added; the last two are few words.
+-- `ledger::settle::new_depth` meets its contract: what remains, what came and what is added; a dry square had nothing to send.
 -- Assumes nothing.
 use native.Mathlib.Omega.{arith}
 use Rattle.ledger.specs.Runs.{plan}
@@ -8,76 +8,56 @@ use borrow.Author.Needs.{needs}
 use Rattle.ledger.proofs.settle.new_depth.Statement.{statement}
 use Rattle.ledger.proofs.settle.new_depth.Tie as tie
 
-number-requires : tie.Need-number-requires
-number-requires c κs =
-    let start = c .before .before .before in
-    omega (arith, start .pre .0 .depths-long, start .pre .1 .0 .inside)
-
-gone-from-requires : tie.Need-gone-from-requires
-gone-from-requires c κs =
-    let start = c .before .before .before .before in
-    omega (arith, start .pre .0 .recorded .record-long, start .pre .1 .0 .inside)
-
-sub-remains : tie.Need-sub-remains
-sub-remains c =
-    let start = c .before .before .before .before .before in
-    omega (
-      arith,
-      c .before .number .ensures,
-      c .gone-from .ensures,
-      start .pre .0 .covered (start .args .square) (start .pre .1 .0 .inside) (start .pre .1 .1),
-    )
-
 came-to-requires : tie.Need-came-to-requires
 came-to-requires c κs = search needs
 
-add-result : tie.Need-add-result
-add-result c =
-    let start = c .before .before .before .before .before .before in
-    omega (
-      arith,
-      c .before .before .number .ensures,
-      c .before .before .before .shared-slice-known3 .given (start .args .square),
-      c .came-to .ensures,
-      came-small (start .args .rec .now) (λ k. c .before .before .before .before .shared-slice-known2 .given k .fits)
-          (plan (start .args .shape) (start .args .marks .now)) (start .args .square),
-    )
-
 added-by-requires : tie.Need-added-by-requires
 added-by-requires c κs =
-    let start = c .before .before .before .before .before .before in
-    omega (arith, start .pre .0 .recorded .record-long, start .pre .1 .0 .inside)
+    let start = c .before .before .before .before in omega (arith, start .pre .0 .recorded .record-long, start .pre .1 .0 .inside)
 
-add-result-2 : tie.Need-add-result-2
-add-result-2 c =
-    let start = c .before .before .before .before .before .before .before in
-    let at-shared-slice-known2 = c .before .before .before .before .before in
-    omega (
-      arith,
-      c .before .before .before .number .ensures,
-      c .before .before .before .before .shared-slice-known3 .given (start .args .square),
-      c .before .came-to .ensures,
-      came-small (start .args .rec .now) (λ k. at-shared-slice-known2 .shared-slice-known2 .given k .fits)
-          (plan (start .args .shape) (start .args .marks .now)) (start .args .square),
-      c .added-by .ensures,
-      added-small (start .args .rec .now) (λ k. at-shared-slice-known2 .shared-slice-known2 .given k .fits) (start .args .square),
-    )
+add-gains : tie.Need-add-gains
+add-gains c =
+    let start = c .before .before .before .before .before in
+    omega (arith, c .before .came-to .ensures, came-small (start .args .rec .now) (λ k. c .before .before .before .shared-slice-known2 .given k .fits) (plan (start .args .shape) (start .args .marks .now)) (start .args .square), c .added-by .ensures, added-small (start .args .rec .now) (λ k. c .before .before .before .shared-slice-known2 .given k .fits) (start .args .square))
+
+number-requires : tie.Need-number-requires
+number-requires c κs =
+    let start = c .before .before .before .before .before in omega (arith, start .pre .0 .depths-long, start .pre .1 .0 .inside)
 
 returns : tie.Need-returns
 unfolding newDepth remains
 returns c =
-    rw
-    (c .before .before .before .number .ensures, c .before .before .gone-from .ensures, c .before .came-to .ensures, c .added-by .ensures)
+    omega (arith, c .before .number .ensures, c .if1 .taken, c .before .before .before .came-to .ensures, c .before .before .added-by .ensures)
+
+gone-from-requires : tie.Need-gone-from-requires
+gone-from-requires c κs =
+    let start = c .before .before .before .before .before .before .before in omega (arith, start .pre .0 .recorded .record-long, start .pre .1 .0 .inside)
+
+sub-remains : tie.Need-sub-remains
+sub-remains c =
+    let start = c .before .before .before .before .before .before .before .before in
+    omega (arith, c .before .before .number .ensures, c .gone-from .ensures, start .pre .0 .covered (start .args .square) (start .pre .1 .0 .inside) (start .pre .1 .1))
+
+add-result : tie.Need-add-result
+add-result c =
+    let start = c .before .before .before .before .before .before .before .before in
+    omega (arith, c .before .before .number .ensures, c .before .before .before .before .before .shared-slice-known3 .given (start .args .square), c .before .before .before .before .came-to .ensures, came-small (start .args .rec .now) (λ k. c .before .before .before .before .before .before .shared-slice-known2 .given k .fits) (plan (start .args .shape) (start .args .marks .now)) (start .args .square), c .before .before .before .added-by .ensures, added-small (start .args .rec .now) (λ k. c .before .before .before .before .before .before .shared-slice-known2 .given k .fits) (start .args .square))
+
+returns-2 : tie.Need-returns-2
+unfolding newDepth remains
+returns-2 c =
+    omega (arith, c .before .before .number .ensures, c .gone-from .ensures, c .before .before .before .before .came-to .ensures, c .before .before .before .added-by .ensures)
 
 pub new-depth-spec : {M : Type 1} → statement M
 new-depth-spec =
     tie.close
     (tie.spec
+    came-to-requires
+    added-by-requires
+    add-gains
     number-requires
+    returns
     gone-from-requires
     sub-remains
-    came-to-requires
     add-result
-    added-by-requires
-    add-result-2
-    returns)
+    returns-2)

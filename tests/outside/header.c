@@ -1,0 +1,55 @@
+/* Calls every function of flood.h from C on document 01's own sheet, and compares with what that document works by hand. */
+#include <stdio.h>
+#include <string.h>
+
+#include "../../crates/exports/flood.h"
+
+static int failed = 0;
+
+static void expect(const char *what, uint64_t got, uint64_t wanted)
+{
+    if (got == wanted)
+        return;
+    printf("header: %s is %llu and should be %llu\n", what, (unsigned long long)got, (unsigned long long)wanted);
+    failed = 1;
+}
+
+int main(void)
+{
+    const char *sheet = "grid\t1\t2\t1\nrun\t100\t1000\t1000\t1000\t1000\n"
+                        "cell\t0\t0\to\t0\t100\t1000\ncell\t0\t1\to\t0\t100\t0\n";
+    const char *answer = "cell\t0\t0\t969\ncell\t0\t1\t31\nout\t0\nsteps\t1\nclock\t1000\n";
+    const uint8_t *text = (const uint8_t *)sheet;
+    uint8_t marks[2] = {9, 9};
+    uint32_t beds[2], roughness[2], depths[2], lasts[2] = {7, 7}, rain[192], inflow[320], records[14] = {0};
+    uint64_t heading[FLOOD_HEADING_NUMBERS], line[FLOOD_LINE_NUMBERS], run[FLOOD_RUN_NUMBERS], ran[FLOOD_RAN_NUMBERS];
+    uint64_t wet[1], count[FLOOD_COUNT_NUMBERS];
+    double speeds[FLOOD_SPEED_NUMBERS];
+    static uint8_t out[FLOOD_OUT_ROOM];
+
+    expect("read", flood_read_sheet(text, strlen(sheet), marks, 2, beds, 2, roughness, 2, depths, 2, rain, 192, inflow, 320, heading, 10, line, 1), 0);
+    expect("columns", heading[1], 2);
+    expect("end", heading[7], 1000);
+    expect("fresh", flood_fresh(1, 2, 1, 100, 1000, 1000, 1000, marks, 2, lasts, 2, records, 14, run, 5), 0);
+    expect("last leaving", lasts[0] + lasts[1], 0);
+    expect("step", flood_step(1, 2, 1, 100, 1000, 1000, 1000, run[0], run[1], run[2], run[3], run[4], marks, 2, beds, 2, roughness, 2, rain, 0, inflow, 0, depths, 2, lasts, 2, records, 14, run, 5), 0);
+    expect("west depth", depths[0], 969);
+    expect("east depth", depths[1], 31);
+    expect("clock", run[0], 1000);
+    expect("arrow", flood_arrow(1, 2, 1, run[0], run[1], run[2], run[3], run[4], marks, 2, depths, 2, records, 14, 0, 0, speeds, 2), FLOOD_MOVING);
+    expect("east speed as rounded once", speeds[0] == 62000.0 / 1000000.0, 1);
+    expect("wet rows", flood_wet_rows(1, 2, marks, 2, depths, 2, 100, wet, 1, count, 1), 0);
+    expect("wet mask", wet[0], 1);
+    expect("wet count", count[0], 1);
+    expect("take-back", flood_take_back(1, 2, run[0], run[1], run[2], run[3], run[4], marks, 2, depths, 2, lasts, 2, records, 14, run, 5), 0);
+    expect("depth before", depths[0], 1000);
+    expect("run of a wrong size", flood_fresh(1, 2, 1, 100, 1000, 1000, 1000, marks, 2, lasts, 2, records, 14, run, 4), 1);
+    expect("run to an end", flood_run_to(1, 2, 1, 100, 1000, 1000, 1000, run[0], run[1], run[2], run[3], run[4], 2000, marks, 2, beds, 2, roughness, 2, rain, 0, inflow, 0, depths, 2, lasts, 2, records, 14, ran, 6), 0);
+    expect("steps", ran[5], 2);
+    expect("west depth after two", depths[0], 941);
+    expect("printed", flood_meadow(text, strlen(sheet), out, sizeof out), strlen(answer));
+    expect("as document 01 prints it", memcmp(out, answer, strlen(answer)), 0);
+    if (!failed)
+        printf("header: C calls each of the 8 functions as flood.h declares them\n");
+    return failed;
+}
