@@ -10,7 +10,7 @@ use native.Mathlib.Decide.{ℕ-discrete}
 use native.Mathlib.Omega.{arith}
 use lib.Dec.{leb, eqb}
 use lib.ListN.{length, getD, set, length-set}
-use lib.Seq.{ext-getD, getD-set-same, getD-set-other}
+use lib.Seq.{ext-getD, getD-set-same, getD-set-other, set-getD}
 use borrow.Author.Tests.{eqb-true, eq-eqb, leb-true, le-leb, lt-leb, not-true, not-false, ltb-true}
 use Rattle.reckon.specs.Tests.{pick, every, allBelow}
 use Rattle.reckon.specs.Lists.{filled}
@@ -29,6 +29,43 @@ use Rattle.ledger.specs.Flows.{shut}
 use Rattle.flood.specs.Added.{amountAt, unreached, rowSquare, tables, addedFits, Rained, RainedAll, PouredRow, PouredAll, Pours, Between, Wetted}
 use Rattle.flood.specs.Drops.{Given}
 use Rattle.flood.specs.Step.{addedFor}
+
+-- ---- the rain of one square
+
+or-none : (b : Bool) → (b || false) ≡ b
+or-none true = refl
+or-none false = refl
+
+or-all : (b : Bool) → (b || true) ≡ true
+or-all true = refl
+or-all false = refl
+
+-- a closed square's own number stored again is no change
+stored-unless : (b : Bool) (l : List ℕ) (i x : ℕ) → set l i (pick b (getD l i 0) x) ≡ pick b l (set l i x)
+unfolding pick
+stored-unless true l i x = set-getD l i 0
+stored-unless false l i x = refl
+
+module _ {marks : List ℕ} {rain i : ℕ} (old : List ℕ) (shut-is : Bool) where
+  pub rain-too-deep : mostDepth < rain → shut-is ≡ closed marks i → Rained marks rain i old shut-is old
+  rain-too-deep h e =
+      record {
+        fits-is = e ∙ (sym (or-none (closed marks i)) ∙ ap (λ (b : Bool). closed marks i || b) (sym (lt-leb rain mostDepth h)));
+        stored = λ t. sym (pick-true old (set old i rain) (sym e ∙ t));
+        long = refl;
+      }
+
+  pub rain-stored :
+      {x : ℕ} → rain ≤ mostDepth → shut-is ≡ closed marks i → x ≡ pick shut-is (getD old i 0) rain → Rained marks rain i old true (set old i x)
+  rain-stored {x} h e v =
+      record {
+        fits-is = sym (ap (λ (b : Bool). closed marks i || b) (le-leb rain mostDepth h) ∙ or-all (closed marks i));
+        stored =
+            λ t.
+            ap (set old i) v
+            ∙ (stored-unless shut-is old i rain ∙ ap (λ (b : Bool). pick b old (set old i rain)) e);
+        long = length-set old i x;
+      }
 
 -- ---- rain, square by square
 

@@ -10,6 +10,7 @@ use rule::rules::Rules;
 ghost use mathlib.Core.Path.{_≡_};
 ghost use Prim.Native.Nat.{_/_, _<_};
 ghost use lib.ListN.{length};
+ghost use Rattle.reckon.specs.Tests.{pick};
 ghost use Rattle.grid.specs.Squares.{squares};
 ghost use Rattle.ledger.specs.Runs.{plan};
 ghost use Rattle.flood.specs.Added.{Between, PouredAll, PouredRow, Pours, Rained, RainedAll, Wetted, tables};
@@ -17,18 +18,23 @@ ghost use Rattle.flood.specs.Added.{Between, PouredAll, PouredRow, Pours
 // The numbers of an inflow row.
 const INFLOW_WORDS: usize = 5;
 
+// The old number of a closed square, else the new one: a choice and not a branch, so that a walk over all squares is quick.
+fn unless_closed(closed: bool, new: u32, old: u32) -> u32
+    ensures { λ r. ⌜ r ≡ pick closed old new ⌝ }
+{
+    if closed { old } else { new }
+}
+
 // Stores the rain at a square that is not closed, unless it is more than a square can hold.
 fn rain_square(marks: &[u8], rain: u64, square: usize, room: &mut [u32]) -> bool
     requires { ⌜ (square < length (now marks)) × (square < length (now room)) ⌝ }
     ensures { λ r. ⌜ Rained (now (marks .entry)) rain square (now (room .entry)) r (now (room .exit)) ⌝ }
 {
-    if is_closed(marks, square) {
-        return true;
-    }
+    let closed = is_closed(marks, square);
     if (MOST_DEPTH as u64) < rain {
-        return false;
+        return closed;
     }
-    room[square] = rain as u32;
+    room[square] = unless_closed(closed, rain as u32, room[square]);
     true
 }
 

@@ -146,7 +146,7 @@ pub fn sent_to(
 }
 
 // What the neighbours of a square that is not on the rim sent: all four are there, so that no side is tested.
-fn came_within(shape: Shape, marks: &[u8], rec: &[u32], square: usize) -> u64
+pub(crate) fn came_within(shape: Shape, marks: &[u8], rec: &[u32], square: usize) -> u64
     requires { ⌜ Recorded (plan shape (now marks)) (now rec) ⌝ }
     requires { ⌜ (square < squares shape) × (onRim shape square ≡ false) ⌝ }
     ensures { λ r. ⌜ CameTo (plan shape (now (marks .entry))) (now (rec .entry)) square r ⌝ }
@@ -165,9 +165,6 @@ pub fn came_to(shape: Shape, marks: &[u8], rec: &[u32], square: usize, column: u
     requires { ⌜ Stands shape square column ⌝ }
     ensures { λ r. ⌜ CameTo (plan shape (now (marks .entry))) (now (rec .entry)) square r ⌝ }
 {
-    if !on_rim(shape, square, column) {
-        return came_within(shape, marks, rec, square);
-    }
     let north = sent_to(shape, marks, rec, square, column, NORTH);
     let east = sent_to(shape, marks, rec, square, column, EAST);
     let south = sent_to(shape, marks, rec, square, column, SOUTH);

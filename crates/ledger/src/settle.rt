@@ -2,7 +2,7 @@
 // Nothing lent but the working room is written before both are decided.
 ghost use mathlib.Core.Path.{_≡_};
 ghost use mathlib.Core.Bool.{false};
-ghost use Prim.Native.Nat.{_<_, _≤_};
+ghost use Prim.Native.Nat.{_+_, _<_, _≤_};
 ghost use lib.ListN.{length, set};
 ghost use Rattle.reckon.specs.Tests.{pick};
 ghost use Rattle.reckon.specs.Lists.{filled};
@@ -10,14 +10,15 @@ ghost use Rattle.reckon.specs.Ranges.{mostDepth};
 ghost use Rattle.grid.specs.Squares.{Stands, squares, west};
 ghost use Rattle.grid.specs.Marks.{closed};
 ghost use Rattle.ledger.specs.Runs.{plan, world};
-ghost use Rattle.ledger.specs.Flows.{gone};
-ghost use Rattle.ledger.specs.Record.{leavesIn, wordPlace};
+ghost use Rattle.ledger.specs.Flows.{came, gone};
+ghost use Rattle.ledger.specs.Record.{Recorded, addedIn, leavesIn, wordPlace};
 ghost use Rattle.ledger.specs.After.{newOutflow};
 ghost use Rattle.ledger.specs.Settle.{GatheredAll, GatheredOne, Gathers, Settles, SettlesTo, SmallLeaving, depthBy, depthsBy, movesIn, written};
 use crate::record::Found;
 use crate::record::UNFIT;
 use crate::record::added_by;
 use crate::record::came_to;
+use crate::record::came_within;
 use crate::record::gone_from;
 use crate::record::lasted;
 use crate::record::off_from;
@@ -26,6 +27,7 @@ use crate::runs::Run;
 use grid::marks::is_closed;
 use grid::squares::Shape;
 use grid::squares::next_column;
+use grid::squares::on_rim;
 use grid::squares::squares_of;
 use reckon::numbers::number;
 use reckon::ranges::MOST_DEPTH;
@@ -35,6 +37,18 @@ use reckon::ranges::MOST_OUTFLOW;
 pub struct Settled {
     pub refused: u32,
     pub run: Run,
+}
+
+// What a square gains: from its neighbours, which are all there unless it is on the rim, and what is added.
+fn gains(shape: Shape, marks: &[u8], rec: &[u32], square: usize, column: usize) -> u64
+    requires { ⌜ Recorded (plan shape (now marks)) (now rec) ⌝ }
+    requires { ⌜ Stands shape square column ⌝ }
+    ensures { λ r. ⌜ r ≡ came (plan shape (now (marks .entry))) (leavesIn (now (rec .entry))) square + addedIn (now (rec .entry)) square ⌝ }
+{
+    if on_rim(shape, square, column) {
+        return came_to(shape, marks, rec, square, column) + added_by(rec, square);
+    }
+    came_within(shape, marks, rec, square) + added_by(rec, square)
 }
 
 // A square's new depth. A dry square has sent nothing.
@@ -50,13 +64,13 @@ fn new_depth(
     requires { ⌜ (Stands shape square column) × (closed (now marks) square ≡ false) ⌝ }
     ensures { λ r. ⌜ r ≡ depthBy (plan shape (now (marks .entry))) (now (rec .entry)) (now (depths .entry)) square ⌝ }
 {
-    let gains = came_to(shape, marks, rec, square, column) + added_by(rec, square);
+    let gained = gains(shape, marks, rec, square, column);
     let depth = number(depths, square);
     if depth == 0 {
-        return gains;
+        return gained;
     }
     let remains = depth - gone_from(rec, square);
-    remains + gains
+    remains + gained
 }
 
 // Puts a square's new depth, or its old one if it is closed, into the working room, unless the new depth is above the most.

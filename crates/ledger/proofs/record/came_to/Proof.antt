@@ -1,8 +1,6 @@
--- `ledger::record::came_to` meets its contract: what the four sides sent is summed, and off the rim no side is missing.
+-- `ledger::record::came_to` meets its contract: what the four sides sent is summed.
 -- Assumes nothing.
-use mathlib.Core.Path.{sym, _∙_}
 use native.Mathlib.Omega.{arith}
-use borrow.Author.Tests.{not-true}
 use Rattle.grid.specs.Squares.{north, east, south, west}
 use Rattle.ledger.specs.Runs.{plan}
 use Rattle.ledger.specs.Flows.{sent, came}
@@ -11,18 +9,6 @@ use Rattle.ledger.proofs.FlowLaws.{four-sides, sent-small}
 use borrow.Author.Needs.{needs}
 use Rattle.ledger.proofs.record.came_to.Statement.{statement}
 use Rattle.ledger.proofs.record.came_to.Tie as tie
-
-on-rim-requires : tie.Need-on-rim-requires
-on-rim-requires c κs = search needs
-
-came-within-requires : tie.Need-came-within-requires
-came-within-requires c κs =
-    let start = c .before .before .before .before in
-    (start .pre .0, (start .pre .1 .inside, sym (c .before .on-rim .ensures) ∙ not-true _ (c .if1 .taken)))
-
-returns : tie.Need-returns
-returns c =
-    c .came-within .ensures
 
 sent-to-requires : tie.Need-sent-to-requires
 sent-to-requires c κs = search needs
@@ -38,35 +24,70 @@ sent-to-requires-4 c κs = search needs
 
 add-result : tie.Need-add-result
 add-result c =
-    let start = c .before .before .before .before .before .before .before .before in
-    let small = sent-small (start .args .rec .now) (λ k. c .before .before .before .before .before .before .shared-slice-known2 .given k .fits) (plan (start .args .shape) (start .args .marks .now)) (start .args .square) in
-    omega (arith, c .before .before .before .sent-to .ensures, c .before .before .sent-to2 .ensures, c .before .sent-to3 .ensures, c .sent-to4 .ensures, small north, small east, small south, small west)
+    let start = c .before .before .before .before .before .before in
+    let small =
+    sent-small (start .args .rec .now) (λ k. c .before .before .before .before .shared-slice-known2 .given k .fits)
+    (plan (start .args .shape) (start .args .marks .now)) (start .args .square) in
+    omega (
+      arith,
+      c .before .before .before .sent-to .ensures,
+      c .before .before .sent-to2 .ensures,
+      c .before .sent-to3 .ensures,
+      c .sent-to4 .ensures,
+      small north,
+      small east,
+      small south,
+      small west,
+    )
 
 add-result-2 : tie.Need-add-result-2
 add-result-2 c =
-    let start = c .before .before .before .before .before .before .before .before in
-    let small = sent-small (start .args .rec .now) (λ k. c .before .before .before .before .before .before .shared-slice-known2 .given k .fits) (plan (start .args .shape) (start .args .marks .now)) (start .args .square) in
-    omega (arith, c .before .before .before .sent-to .ensures, c .before .before .sent-to2 .ensures, c .before .sent-to3 .ensures, c .sent-to4 .ensures, small north, small east, small south, small west)
+    let start = c .before .before .before .before .before .before in
+    let small =
+    sent-small (start .args .rec .now) (λ k. c .before .before .before .before .shared-slice-known2 .given k .fits)
+    (plan (start .args .shape) (start .args .marks .now)) (start .args .square) in
+    omega (
+      arith,
+      c .before .before .before .sent-to .ensures,
+      c .before .before .sent-to2 .ensures,
+      c .before .sent-to3 .ensures,
+      c .sent-to4 .ensures,
+      small north,
+      small east,
+      small south,
+      small west,
+    )
 
 add-result-3 : tie.Need-add-result-3
 add-result-3 c =
-    let start = c .before .before .before .before .before .before .before .before in
-    let small = sent-small (start .args .rec .now) (λ k. c .before .before .before .before .before .before .shared-slice-known2 .given k .fits) (plan (start .args .shape) (start .args .marks .now)) (start .args .square) in
-    omega (arith, c .before .before .before .sent-to .ensures, c .before .before .sent-to2 .ensures, c .before .sent-to3 .ensures, c .sent-to4 .ensures, small north, small east, small south, small west)
+    let start = c .before .before .before .before .before .before in
+    let small =
+    sent-small (start .args .rec .now) (λ k. c .before .before .before .before .shared-slice-known2 .given k .fits)
+    (plan (start .args .shape) (start .args .marks .now)) (start .args .square) in
+    omega (
+      arith,
+      c .before .before .before .sent-to .ensures,
+      c .before .before .sent-to2 .ensures,
+      c .before .sent-to3 .ensures,
+      c .sent-to4 .ensures,
+      small north,
+      small east,
+      small south,
+      small west,
+    )
 
-returns-2 : tie.Need-returns-2
+returns : tie.Need-returns
 unfolding came
-returns-2 c =
-    let start = c .before .before .before .before .before .before .before .before in
-    four-sides (sent (plan (start .args .shape) (start .args .marks .now)) (leavesIn (start .args .rec .now)) (start .args .square)) (c .before .before .before .sent-to .ensures) (c .before .before .sent-to2 .ensures) (c .before .sent-to3 .ensures) (c .sent-to4 .ensures)
+returns c =
+    let start = c .before .before .before .before .before .before in
+    four-sides (sent (plan (start .args .shape) (start .args .marks .now)) (leavesIn (start .args .rec .now)) (start .args .square))
+    (c .before .before .before .sent-to .ensures) (c .before .before .sent-to2 .ensures) (c .before .sent-to3 .ensures)
+    (c .sent-to4 .ensures)
 
 pub came-to-spec : {M : Type 1} → statement M
 came-to-spec =
     tie.close
     (tie.spec
-    on-rim-requires
-    came-within-requires
-    returns
     sent-to-requires
     sent-to-requires-2
     sent-to-requires-3
@@ -74,4 +95,4 @@ came-to-spec =
     add-result
     add-result-2
     add-result-3
-    returns-2)
+    returns)
