@@ -10,7 +10,10 @@ use Rattle.flood.proofs.added.add_water.Statement.{statement}
 use Rattle.flood.proofs.added.add_water.Tie as tie
 
 rain-added-requires : tie.Need-rain-added-requires
-rain-added-requires c κs = rain-asked (plan (c .before .before .before .before .args .shape) (c .before .before .before .before .args .marks .now)) (c .before .before .before .before .args .rules) (c .before .before .before .before .args .rain .now) (c .before .before .before .before .args .inflow .now) (c .before .before .before .before .args .start) (c .before .before .before .before .args .end) (c .before .before .before .before .pre .0)
+rain-added-requires c κs =
+    let start = c .before .before .before .before in
+    rain-asked (plan (start .args .shape) (start .args .marks .now)) (start .args .rules) (start .args .rain .now)
+    (start .args .inflow .now) (start .args .start) (start .args .end) (start .pre .0)
 
 rain-all-requires : tie.Need-rain-all-requires
 rain-all-requires c κs = search needs
@@ -19,16 +22,34 @@ same-length : tie.Need-same-length
 same-length c = search needs
 
 returns : tie.Need-returns
-returns c = rain-too-much (plan (c .before .before .before .before .before .before .before .before .before .before .args .shape) (c .before .before .before .before .before .before .before .before .before .before .args .marks .now)) (c .before .before .before .before .before .before .before .before .before .before .args .rules) (c .before .before .before .before .before .before .before .before .before .before .args .rain .now) (c .before .before .before .before .before .before .before .before .before .before .args .inflow .now) (c .before .before .before .before .before .before .before .before .before .before .args .start) (c .before .before .before .before .before .before .before .before .before .before .args .end) (c .before .before .before .before .before .before .before .before .before .before .pre .0) (c .before .before .before .before .before .rain-added .ensures) (not-true _ (c .if1 .taken)) (c .before .before .before .rain-all .ensures)
+returns c =
+    let at-rain-all = c .before .before .before in
+    let at-rain-added = at-rain-all .before .before in
+    let start = at-rain-added .before .before .before .before .before in
+    rain-too-much (plan (start .args .shape) (start .args .marks .now)) (start .args .rules) (start .args .rain .now)
+    (start .args .inflow .now) (start .args .start) (start .args .end) (start .pre .0) (at-rain-added .rain-added .ensures)
+    (not-true _ (c .if1 .taken)) (at-rain-all .rain-all .ensures)
 
 pour-all-requires : tie.Need-pour-all-requires
-pour-all-requires c κs = (pours (plan (c .before .before .before .before .before .before .before .before .before .before .before .args .shape) (c .before .before .before .before .before .before .before .before .before .before .before .args .marks .now)) (c .before .before .before .before .before .before .before .before .before .before .before .args .rules) (c .before .before .before .before .before .before .before .before .before .before .before .args .rain .now) (c .before .before .before .before .before .before .before .before .before .before .before .args .inflow .now) (c .before .before .before .before .before .before .before .before .before .before .before .args .start) (c .before .before .before .before .before .before .before .before .before .before .before .args .end) (c .before .before .before .before .before .before .before .before .before .before .before .pre .0) (c .before .before .before .before .before .before .rain-added .ensures), c .before .before .before .before .rain-all .ensures .long ∙ c .before .before .before .before .before .before .before .before .before .before .before .pre .1)
+pour-all-requires c κs =
+    let at-rain-all = c .before .before .before .before in
+    let at-rain-added = at-rain-all .before .before in
+    let start = at-rain-added .before .before .before .before .before in
+    (pours (plan (start .args .shape) (start .args .marks .now)) (start .args .rules) (start .args .rain .now) (start .args .inflow .now) (start .args .start) (start .args .end) (start .pre .0) (at-rain-added .rain-added .ensures), at-rain-all .rain-all .ensures .long ∙ start .pre .1)
 
 same-length-2 : tie.Need-same-length-2
 same-length-2 c = search needs
 
 returns-2 : tie.Need-returns-2
-returns-2 c = wetted (plan (c .before .before .before .before .before .before .before .before .before .before .before .before .before .before .args .shape) (c .before .before .before .before .before .before .before .before .before .before .before .before .before .before .args .marks .now)) (c .before .before .before .before .before .before .before .before .before .before .before .before .before .before .args .rules) (c .before .before .before .before .before .before .before .before .before .before .before .before .before .before .args .rain .now) (c .before .before .before .before .before .before .before .before .before .before .before .before .before .before .args .inflow .now) (c .before .before .before .before .before .before .before .before .before .before .before .before .before .before .args .start) (c .before .before .before .before .before .before .before .before .before .before .before .before .before .before .args .end) (c .before .before .before .before .before .before .before .before .before .before .before .before .before .before .pre .0) (c .before .before .before .before .before .before .before .before .before .rain-added .ensures) (c .before .before .before .before .before .before .before .before .before .before .before .before .before .before .pre .1) (not-false _ (c .before .before .before .before .if1 .left)) (c .before .before .before .before .before .before .before .rain-all .ensures) (c .before .before .pour-all .ensures)
+returns-2 c =
+    let at-pour-all = c .before .before in
+    let at-if1 = at-pour-all .before .before in
+    let at-rain-all = at-if1 .before .before .before in
+    let at-rain-added = at-rain-all .before .before in
+    let start = at-rain-added .before .before .before .before .before in
+    wetted (plan (start .args .shape) (start .args .marks .now)) (start .args .rules) (start .args .rain .now)
+    (start .args .inflow .now) (start .args .start) (start .args .end) (start .pre .0) (at-rain-added .rain-added .ensures)
+    (start .pre .1) (not-false _ (at-if1 .if1 .left)) (at-rain-all .rain-all .ensures) (at-pour-all .pour-all .ensures)
 
 pub add-water-spec : {M : Type 1} → statement M
 add-water-spec =

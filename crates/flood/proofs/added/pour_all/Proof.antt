@@ -28,21 +28,31 @@ abbrev μ-loop : tie.MeasureT-loop
 μ-loop shape rules inflow start end rain room₀ rows j₀ room j = length inflow / 5 - j
 
 loop-holds : tie.Need-loop-holds Inv-loop μ-loop
-loop-holds c = (omega arith, c .before .before .pre .1, pour-none (c .before .before .args .shape) (c .before .before .args .rules) (c .before .before .args .inflow .now) (c .before .before .args .start) (c .before .before .args .end) (c .before .before .args .rain) (c .before .before .args .room .now), all-none _)
+loop-holds c =
+    let start = c .before .before in
+    (omega arith, start .pre .1, pour-none (start .args .shape) (start .args .rules) (start .args .inflow .now) (start .args .start) (start .args .end) (start .args .rain) (start .args .room .now), all-none _)
 
 pour-row-requires : tie.Need-pour-row-requires Inv-loop μ-loop
 pour-row-requires c κs = (c .before .before .before .before .before .pre .0, c .before .before .loop .inv .1, omega arith)
 
 same-length : tie.Need-same-length Inv-loop μ-loop
-same-length c = c .before .before .before .pour-row .ensures .long ∙ (c .before .before .before .before .before .before .loop .inv .1 ∙ sym (c .before .before .before .before .before .before .before .before .before .pre .1))
+same-length c =
+    let at-pour-row = c .before .before .before in
+    let at-loop = at-pour-row .before .before .before in
+    let start = at-loop .before .before .before in
+    at-pour-row .pour-row .ensures .long ∙ (at-loop .loop .inv .1 ∙ sym (start .pre .1))
 
 returns : tie.Need-returns Inv-loop μ-loop
 returns c =
-    let e = not-true _ (c .if1 .taken) in
-    record {
-      fits-is = sym (all-fails _ _ (c .before .before .before .before .before .before .loop .j) (omega arith) (sym (c .before .before .before .pour-row .ensures .fits-is) ∙ e));
-      stored = λ t. not-both t refl;
-      long = c .before .before .before .pour-row .ensures .long ∙ (c .before .before .before .before .before .before .loop .inv .1 ∙ sym (c .before .before .before .before .before .before .before .before .before .pre .1));
+    let at-pour-row = c .before .before .before in
+    let at-loop = at-pour-row .before .before .before in
+    let start = at-loop .before .before .before in
+    let e = not-true _ (c .if1 .taken) in record {
+      fits-is = sym
+          (all-fails _ _ (at-loop .loop .j) (omega arith) (sym (at-pour-row .pour-row .ensures .fits-is) ∙ e));
+      stored = λ t. not-both t
+          refl;
+      long = at-pour-row .pour-row .ensures .long ∙ (at-loop .loop .inv .1 ∙ sym (start .pre .1));
     }
 
 add-j : tie.Need-add-j Inv-loop μ-loop
@@ -53,24 +63,25 @@ loop-less c = omega arith
 
 loop-again : tie.Need-loop-again Inv-loop μ-loop
 loop-again c =
-    let t = not-false _ (c .if1 .left) in
-    let j = c .before .before .before .before .before .before .loop .j in (
-      omega arith,
-      c .before .before .before .pour-row .ensures .long ∙ c .before .before .before .before .before .before .loop .inv .1,
-      poured-turn (c .before .before .before .before .before .before .before .before .before .args .shape) (c .before .before .before .before .before .before .before .before .before .args .rules) (c .before .before .before .before .before .before .before .before .before .args .inflow .now) (c .before .before .before .before .before .before .before .before .before .args .start) (c .before .before .before .before .before .before .before .before .before .args .end) (c .before .before .before .before .before .before .before .before .before .args .rain) (c .before .before .before .before .before .before .before .before .before .args .room .now) j (c .before .before .before .before .before .before .before .before .before .pre .1) (c .before .before .before .before .before .before .before .before .before .pre .0 .row-in j (omega arith)) (c .before .before .before .before .before .before .before .before .before .pre .0 .column-in j (omega arith)) (c .before .before .before .before .before .before .loop .inv .2) (c .before .before .before .pour-row .ensures) t,
-      all-more _ j (c .before .before .before .before .before .before .loop .inv .3) (sym (c .before .before .before .pour-row .ensures .fits-is) ∙ t),
-    )
+    let at-pour-row = c .before .before .before in
+    let at-loop = at-pour-row .before .before .before in
+    let start = at-loop .before .before .before in
+    let t = not-false _ (c .if1 .left) in let j = at-loop .loop .j in
+    (omega arith, at-pour-row .pour-row .ensures .long ∙ at-loop .loop .inv .1, poured-turn (start .args .shape) (start .args .rules) (start .args .inflow .now) (start .args .start) (start .args .end) (start .args .rain) (start .args .room .now) j (start .pre .1) (start .pre .0 .row-in j (omega arith)) (start .pre .0 .column-in j (omega arith)) (at-loop .loop .inv .2) (at-pour-row .pour-row .ensures) t, all-more _ j (at-loop .loop .inv .3) (sym (at-pour-row .pour-row .ensures .fits-is) ∙ t))
 
 same-length-2 : tie.Need-same-length-2 Inv-loop μ-loop
 same-length-2 c = c .before .loop .inv .1 ∙ sym (c .before .before .before .before .pre .1)
 
 returns-2 : tie.Need-returns-2 Inv-loop μ-loop
 returns-2 c =
-    let e : c .before .loop .j ≡ length (c .before .before .before .before .args .inflow .now) / 5 = omega arith in
-    record {
-      fits-is = sym (all-whole _ (c .before .loop .inv .3) e);
-      stored = λ t. c .before .loop .inv .2 ∙ ap (λ (n : ℕ). filled (squares (c .before .before .before .before .args .shape)) (unreached (c .before .before .before .before .args .shape) (c .before .before .before .before .args .rules) (c .before .before .before .before .args .inflow .now) (c .before .before .before .before .args .start) (c .before .before .before .before .args .end) (c .before .before .before .before .args .rain) n) (amountAt (c .before .before .before .before .args .shape) (c .before .before .before .before .args .rules) (c .before .before .before .before .args .inflow .now) (c .before .before .before .before .args .start) (c .before .before .before .before .args .end) (c .before .before .before .before .args .rain)) (c .before .before .before .before .args .room .now)) e;
-      long = c .before .loop .inv .1 ∙ sym (c .before .before .before .before .pre .1);
+    let start = c .before .before .before .before in
+    let e : c .before .loop .j ≡ length (start .args .inflow .now) / 5 = omega arith in record {
+      fits-is = sym
+          (all-whole _ (c .before .loop .inv .3) e);
+      stored = λ t. c .before .loop .inv .2 ∙ ap
+          (λ (n : ℕ). filled (squares (start .args .shape)) (unreached (start .args .shape) (start .args .rules) (start .args .inflow .now) (start .args .start) (start .args .end) (start .args .rain) n) (amountAt (start .args .shape) (start .args .rules) (start .args .inflow .now) (start .args .start) (start .args .end) (start .args .rain)) (start .args .room .now))
+          e;
+      long = c .before .loop .inv .1 ∙ sym (start .pre .1);
     }
 
 pub pour-all-spec : {M : Type 1} → statement M

@@ -21,13 +21,11 @@ use Rattle.flood.proofs.added.pour_row.Tie as tie
 
 within : (c : tie.After-square-at) → c .square-at .result < squares (c .before .before .before .before .before .before .before .args .shape)
 within c =
-    let a = c .before .before .before .before .before .before .before .pre .0 in
-    let j = c .before .before .before .before .before .before .before .args .j in
-    omega (
-      arith,
-      c .square-at .ensures,
-      square-within (c .before .before .before .before .before .before .before .args .shape) {row = c .before .before .before .before .number .result} {column = c .before .before .before .number2 .result} (omega (arith, a .row-in j (c .before .before .before .before .before .before .before .pre .2))) (omega (arith, a .column-in j (c .before .before .before .before .before .before .before .pre .2))),
-    )
+    let at-number2 = c .before .before .before in
+    let at-number = at-number2 .before in
+    let start = at-number .before .before .before in
+    let a = start .pre .0 in let j = start .args .j in omega
+    (arith, c .square-at .ensures, square-within (start .args .shape) {row = at-number .number .result} {column = at-number2 .number2 .result} (omega (arith, a .row-in j (start .pre .2))) (omega (arith, a .column-in j (start .pre .2))))
 
 mul-number : tie.Need-mul-number
 mul-number c = search needs
@@ -48,24 +46,38 @@ inflow-added-requires : tie.Need-inflow-added-requires
 inflow-added-requires c κs = search needs
 
 add-amount : tie.Need-add-amount
-add-amount c = omega (arith, inflow-le (c .before .before .before .before .before .args .inflow .now) (c .before .before .number .result) (c .before .number2 .result) (c .before .before .before .before .before .args .rules .«square_side») (c .before .before .before .before .before .pre .0 .table), c .inflow-added .ensures)
+add-amount c =
+    let at-number = c .before .before in
+    let start = at-number .before .before .before in
+    omega
+    (arith, inflow-le (start .args .inflow .now) (at-number .number .result) (c .before .number2 .result) (start .args .rules .«square_side») (start .pre .0 .table), c .inflow-added .ensures)
 
 cast-if1 : tie.Need-cast-if1
 cast-if1 c = search needs
 
 returns : tie.Need-returns
 returns c =
-    let e = amount-made (c .before .before .before .before .before .before .args .shape) (c .before .before .before .before .before .before .args .rules) (c .before .before .before .before .before .before .args .inflow .now) (c .before .before .before .before .before .before .args .start) (c .before .before .before .before .before .before .args .end) (c .before .before .before .before .before .before .args .rain) (c .before .before .before .before .before .before .args .j) (c .before .before .before .before .before .before .pre .0 .column-in (c .before .before .before .before .before .before .args .j) (c .before .before .before .before .before .before .pre .2)) (c .before .before .before .number .ensures) (c .before .before .number2 .ensures) (c .before .inflow-added .ensures) in
-    record {
-      fits-is = sym (lt-leb (amountAt (c .before .before .before .before .before .before .args .shape) (c .before .before .before .before .before .before .args .rules) (c .before .before .before .before .before .before .args .inflow .now) (c .before .before .before .before .before .before .args .start) (c .before .before .before .before .before .before .args .end) (c .before .before .before .before .before .before .args .rain) (rowSquare (c .before .before .before .before .before .before .args .shape) (c .before .before .before .before .before .before .args .rules) (c .before .before .before .before .before .before .args .inflow .now) (c .before .before .before .before .before .before .args .start) (c .before .before .before .before .before .before .args .end) (c .before .before .before .before .before .before .args .rain) (c .before .before .before .before .before .before .args .j))) mostDepth (omega arith));
+    let at-number2 = c .before .before in
+    let at-number = at-number2 .before in
+    let start = at-number .before .before .before in
+    let e = amount-made (start .args .shape) (start .args .rules) (start .args .inflow .now) (start .args .start) (start .args .end)
+    (start .args .rain) (start .args .j) (start .pre .0 .column-in (start .args .j) (start .pre .2)) (at-number .number .ensures)
+    (at-number2 .number2 .ensures) (c .before .inflow-added .ensures) in record {
+      fits-is = sym
+          (lt-leb (amountAt (start .args .shape) (start .args .rules) (start .args .inflow .now) (start .args .start) (start .args .end) (start .args .rain) (rowSquare (start .args .shape) (start .args .rules) (start .args .inflow .now) (start .args .start) (start .args .end) (start .args .rain) (start .args .j))) mostDepth (omega arith));
       stored = λ t. not-both t refl;
       long = refl;
     }
 
 square-at-requires : tie.Need-square-at-requires
 square-at-requires c κs =
-    let a = c .before .before .before .before .before .before .pre .0 in
-    record { fine = a .fine; row-in = omega (arith, a .row-in (c .before .before .before .before .before .before .args .j) (c .before .before .before .before .before .before .pre .2)); column-in = omega (arith, a .column-in (c .before .before .before .before .before .before .args .j) (c .before .before .before .before .before .before .pre .2)) }
+    let start = c .before .before .before .before .before .before in
+    let a = start .pre .0 in record {
+      fine = a .fine;
+      row-in = omega (arith, a .row-in (start .args .j) (start .pre .2));
+      column-in =
+          omega (arith, a .column-in (start .args .j) (start .pre .2));
+    }
 
 cast-room : tie.Need-cast-room
 cast-room c = search needs
@@ -81,11 +93,19 @@ same-length c = search needs
 
 returns-2 : tie.Need-returns-2
 returns-2 c =
-    let e = amount-made (c .before .before .before .before .before .before .before .args .shape) (c .before .before .before .before .before .before .before .args .rules) (c .before .before .before .before .before .before .before .args .inflow .now) (c .before .before .before .before .before .before .before .args .start) (c .before .before .before .before .before .before .before .args .end) (c .before .before .before .before .before .before .before .args .rain) (c .before .before .before .before .before .before .before .args .j) (c .before .before .before .before .before .before .before .pre .0 .column-in (c .before .before .before .before .before .before .before .args .j) (c .before .before .before .before .before .before .before .pre .2)) (c .before .before .before .before .number .ensures) (c .before .before .before .number2 .ensures) (c .before .before .inflow-added .ensures) in
-    record {
-      fits-is = sym (le-leb (amountAt (c .before .before .before .before .before .before .before .args .shape) (c .before .before .before .before .before .before .before .args .rules) (c .before .before .before .before .before .before .before .args .inflow .now) (c .before .before .before .before .before .before .before .args .start) (c .before .before .before .before .before .before .before .args .end) (c .before .before .before .before .before .before .before .args .rain) (rowSquare (c .before .before .before .before .before .before .before .args .shape) (c .before .before .before .before .before .before .before .args .rules) (c .before .before .before .before .before .before .before .args .inflow .now) (c .before .before .before .before .before .before .before .args .start) (c .before .before .before .before .before .before .before .args .end) (c .before .before .before .before .before .before .before .args .rain) (c .before .before .before .before .before .before .before .args .j))) mostDepth (omega arith));
-      stored = λ t. ap₂ (λ (i v : ℕ). set (c .before .before .before .before .before .before .before .args .room .now) i v) (c .square-at .ensures ∙ ap₂ (squareAt (c .before .before .before .before .before .before .before .args .shape)) (c .before .before .before .before .number .ensures) (c .before .before .before .number2 .ensures)) e;
-      long = length-set (c .before .before .before .before .before .before .before .args .room .now) (c .square-at .result) _;
+    let at-inflow-added = c .before .before in
+    let at-number2 = at-inflow-added .before in
+    let at-number = at-number2 .before in
+    let start = at-number .before .before .before in
+    let e = amount-made (start .args .shape) (start .args .rules) (start .args .inflow .now) (start .args .start) (start .args .end)
+    (start .args .rain) (start .args .j) (start .pre .0 .column-in (start .args .j) (start .pre .2)) (at-number .number .ensures)
+    (at-number2 .number2 .ensures) (at-inflow-added .inflow-added .ensures) in record {
+      fits-is = sym
+          (le-leb (amountAt (start .args .shape) (start .args .rules) (start .args .inflow .now) (start .args .start) (start .args .end) (start .args .rain) (rowSquare (start .args .shape) (start .args .rules) (start .args .inflow .now) (start .args .start) (start .args .end) (start .args .rain) (start .args .j))) mostDepth (omega arith));
+      stored = λ t. ap₂ (λ (i v : ℕ). set (start .args .room .now) i v)
+          (c .square-at .ensures ∙ ap₂ (squareAt (start .args .shape)) (at-number .number .ensures) (at-number2 .number2 .ensures)) e;
+      long
+          = length-set (start .args .room .now) (c .square-at .result) _;
     }
 
 pub pour-row-spec : {M : Type 1} → statement M

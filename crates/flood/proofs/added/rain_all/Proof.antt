@@ -34,15 +34,23 @@ rain-square-requires : tie.Need-rain-square-requires Inv-loop μ-loop
 rain-square-requires c κs = (omega arith, omega arith)
 
 same-length : tie.Need-same-length Inv-loop μ-loop
-same-length c = c .before .before .before .rain-square .ensures .long ∙ (c .before .before .before .before .before .before .loop .inv .1 ∙ sym (c .before .before .before .before .before .before .before .before .before .pre))
+same-length c =
+    let at-rain-square = c .before .before .before in
+    let at-loop = at-rain-square .before .before .before in
+    let start = at-loop .before .before .before in
+    at-rain-square .rain-square .ensures .long ∙ (at-loop .loop .inv .1 ∙ sym (start .pre))
 
 returns : tie.Need-returns Inv-loop μ-loop
 returns c =
-    let e = not-true _ (c .if1 .taken) in
-    record {
-      fits-is = sym (all-fails _ _ (c .before .before .before .before .before .before .loop .square) (omega arith) (sym (c .before .before .before .rain-square .ensures .fits-is) ∙ e));
-      stored = λ t. not-both t refl;
-      long = c .before .before .before .rain-square .ensures .long ∙ (c .before .before .before .before .before .before .loop .inv .1 ∙ sym (c .before .before .before .before .before .before .before .before .before .pre));
+    let at-rain-square = c .before .before .before in
+    let at-loop = at-rain-square .before .before .before in
+    let start = at-loop .before .before .before in
+    let e = not-true _ (c .if1 .taken) in record {
+      fits-is = sym
+          (all-fails _ _ (at-loop .loop .square) (omega arith) (sym (at-rain-square .rain-square .ensures .fits-is) ∙ e));
+      stored = λ t.
+          not-both t refl;
+      long = at-rain-square .rain-square .ensures .long ∙ (at-loop .loop .inv .1 ∙ sym (start .pre));
     }
 
 add-square : tie.Need-add-square Inv-loop μ-loop
@@ -53,23 +61,25 @@ loop-less c = omega arith
 
 loop-again : tie.Need-loop-again Inv-loop μ-loop
 loop-again c =
-    let t = not-false _ (c .if1 .left) in (
-      omega arith,
-      c .before .before .before .rain-square .ensures .long ∙ c .before .before .before .before .before .before .loop .inv .1,
-      rained-turn (c .before .before .before .before .before .before .before .before .before .args .marks .now) (c .before .before .before .before .before .before .before .before .before .args .room .now) (c .before .before .before .before .before .before .before .before .before .args .rain) (c .before .before .before .before .before .before .loop .square) (omega arith) (c .before .before .before .before .before .before .loop .inv .2) (c .before .before .before .rain-square .ensures) t,
-      all-more _ (c .before .before .before .before .before .before .loop .square) (c .before .before .before .before .before .before .loop .inv .3) (sym (c .before .before .before .rain-square .ensures .fits-is) ∙ t),
-    )
+    let at-rain-square = c .before .before .before in
+    let at-loop = at-rain-square .before .before .before in
+    let start = at-loop .before .before .before in
+    let t = not-false _ (c .if1 .left) in
+    (omega arith, at-rain-square .rain-square .ensures .long ∙ at-loop .loop .inv .1, rained-turn (start .args .marks .now) (start .args .room .now) (start .args .rain) (at-loop .loop .square) (omega arith) (at-loop .loop .inv .2) (at-rain-square .rain-square .ensures) t, all-more _ (at-loop .loop .square) (at-loop .loop .inv .3) (sym (at-rain-square .rain-square .ensures .fits-is) ∙ t))
 
 same-length-2 : tie.Need-same-length-2 Inv-loop μ-loop
 same-length-2 c = c .before .loop .inv .1 ∙ sym (c .before .before .before .before .pre)
 
 returns-2 : tie.Need-returns-2 Inv-loop μ-loop
 returns-2 c =
-    let e : c .before .loop .square ≡ length (c .before .before .before .before .args .marks .now) = omega arith in
-    record {
-      fits-is = sym (all-whole _ (c .before .loop .inv .3) e);
-      stored = λ t. c .before .loop .inv .2 ∙ ap (λ (n : ℕ). filled n (closed (c .before .before .before .before .args .marks .now)) (λ i. c .before .before .before .before .args .rain) (c .before .before .before .before .args .room .now)) e;
-      long = c .before .loop .inv .1 ∙ sym (c .before .before .before .before .pre);
+    let start = c .before .before .before .before in
+    let e : c .before .loop .square ≡ length (start .args .marks .now) = omega arith in record {
+      fits-is = sym
+          (all-whole _ (c .before .loop .inv .3) e);
+      stored = λ t. c .before .loop .inv .2 ∙ ap
+          (λ (n : ℕ). filled n (closed (start .args .marks .now)) (λ i. start .args .rain) (start .args .room .now)) e;
+      long = c .before
+          .loop .inv .1 ∙ sym (start .pre);
     }
 
 pub rain-all-spec : {M : Type 1} → statement M

@@ -37,12 +37,10 @@ past-1 c = refusal-later 1 _ (holds-by (c .before .lent-fine .ensures) (c .if1 .
 past-2 : (c : tie.Else3) → Past 2 (c .before .before .before .before .before .before .before .before .before .before .before .before .before .before)
 unfolding checkRows
 past-2 c =
-    past-1 (c .before .before .before .before)
-    ∙ refusal-later 2 _
-    (each-every _ (
-      holds-by (c .before .before .before .marks-fine .ensures) (c .before .before .if2 .left),
-      (holds-by (c .before .grounds-fine .ensures _) (c .if3 .left), tt),
-    ))
+    let at-if2 = c .before .before in
+    let at-before = at-if2 .before in
+    past-1 (at-before .before) ∙ refusal-later 2 _
+    (each-every _ (holds-by (at-before .marks-fine .ensures) (at-if2 .if2 .left), (holds-by (c .before .grounds-fine .ensures _) (c .if3 .left), tt)))
 
 past-3 : (c : tie.Else4) → Past 3 (c .before .before .before .before .before .before .before .before .before .before .before .before .before .before .before .before)
 unfolding checkRows
@@ -85,7 +83,10 @@ unfolding checkRows
 returns-4 c = sym (past-2 (c .before .before) ∙ refusal-here 3 _ (fails-by (c .before .waters-fine .ensures) (c .if4 .taken)))
 
 tables-fine-requires : tie.Need-tables-fine-requires
-tables-fine-requires c κs = lent-marked _ _ _ _ _ _ _ (holds-by (c .before .before .before .before .before .before .before .lent-fine .ensures) (c .before .before .before .before .before .before .if1 .left))
+tables-fine-requires c κs =
+    let at-if1 = c .before .before .before .before .before .before in
+    let at-lent-fine = at-if1 .before in
+    lent-marked _ _ _ _ _ _ _ (holds-by (at-lent-fine .lent-fine .ensures) (at-if1 .if1 .left))
 
 returns-5 : tie.Need-returns-5
 unfolding checkRows
@@ -96,7 +97,10 @@ unfolding checkRows
 returns-6 c = sym (past-4 (c .before) ∙ refusal-here 5 _ (not-true _ (c .if6 .taken)))
 
 slots-of-requires : tie.Need-slots-of-requires
-slots-of-requires c κs = lent-fine _ _ _ _ _ _ _ (holds-by (c .before .before .before .before .before .before .before .before .before .before .lent-fine .ensures) (c .before .before .before .before .before .before .before .before .before .if1 .left))
+slots-of-requires c κs =
+    let at-if1 = c .before .before .before .before .before .before .before .before .before in
+    let at-lent-fine = at-if1 .before in
+    lent-fine _ _ _ _ _ _ _ (holds-by (at-lent-fine .lent-fine .ensures) (at-if1 .if1 .left))
 
 run-fine-requires : tie.Need-run-fine-requires
 run-fine-requires c κs = search needs
@@ -104,18 +108,18 @@ run-fine-requires c κs = search needs
 returns-7 : tie.Need-returns-7
 unfolding checkRows runFine roomSlots
 returns-7 c =
-    let start = c .before .before .before .before .before .before .before .before .before .before .before .before .before .before .before .before .before .before .before .before .before .before in
-    sym
-    (past-5 (c .before .before .before)
-    ∙ refusal-here 6 _ (fails-by (run-fine-by (start .args .run) (c .before .run-fine .ensures) (c .before .before .slots-of .ensures)) (c .if7 .taken)))
+    let at-before = c .before .before in
+    let at-before-2 = at-before .before .before .before .before .before .before .before .before .before .before .before .before .before .before .before .before .before .before .before in
+    let start = at-before-2 .before in sym
+    (past-5 (at-before .before) ∙ refusal-here 6 _ (fails-by (run-fine-by (start .args .run) (c .before .run-fine .ensures) (at-before .slots-of .ensures)) (c .if7 .taken)))
 
 returns-8 : tie.Need-returns-8
 unfolding checkRows runFine roomSlots
 returns-8 c =
-    let start = c .before .before .before .before .before .before .before .before .before .before .before .before .before .before .before .before .before .before .before .before .before .before in
-    sym
-    (past-5 (c .before .before .before)
-    ∙ passed-refusal _ (holds-by (run-fine-by (start .args .run) (c .before .run-fine .ensures) (c .before .before .slots-of .ensures)) (c .if7 .left), tt))
+    let at-before = c .before .before in
+    let at-before-2 = at-before .before .before .before .before .before .before .before .before .before .before .before .before .before .before .before .before .before .before .before in
+    let start = at-before-2 .before in sym
+    (past-5 (at-before .before) ∙ passed-refusal _ (holds-by (run-fine-by (start .args .run) (c .before .run-fine .ensures) (at-before .slots-of .ensures)) (c .if7 .left), tt))
 
 pub checked-spec : {M : Type 1} → statement M
 checked-spec =

@@ -38,45 +38,47 @@ unfolding oneEach
 returns-4 c = sym (every-fails _ 3 (fails-by (c .before .one-each2 .ensures) (c .if4 .taken)))
 
 one-each-requires-3 : tie.Need-one-each-requires-3
-one-each-requires-3 c κs = ranges-of-fine _ (holds-by (c .before .before .before .before .before .before .before .shape-fine .ensures) (c .before .before .before .before .before .before .if1 .left))
+one-each-requires-3 c κs =
+    let at-if1 = c .before .before .before .before .before .before in
+    let at-shape-fine = at-if1 .before in
+    ranges-of-fine _ (holds-by (at-shape-fine .shape-fine .ensures) (at-if1 .if1 .left))
 
 returns-5 : tie.Need-returns-5
 unfolding oneEach
 returns-5 c = sym (every-fails _ 4 (fails-by (c .before .one-each3 .ensures) (c .if5 .taken)))
 
 one-each-requires-4 : tie.Need-one-each-requires-4
-one-each-requires-4 c κs = ranges-of-fine _ (holds-by (c .before .before .before .before .before .before .before .before .before .shape-fine .ensures) (c .before .before .before .before .before .before .before .before .if1 .left))
+one-each-requires-4 c κs =
+    let at-if1 = c .before .before .before .before .before .before .before .before in
+    let at-shape-fine = at-if1 .before in
+    ranges-of-fine _ (holds-by (at-shape-fine .shape-fine .ensures) (at-if1 .if1 .left))
 
 returns-6 : tie.Need-returns-6
 unfolding oneEach
 returns-6 c = sym (every-fails _ 5 (fails-by (c .before .one-each4 .ensures) (c .if6 .taken)))
 
 one-each-requires-5 : tie.Need-one-each-requires-5
-one-each-requires-5 c κs = ranges-of-fine _ (holds-by (c .before .before .before .before .before .before .before .before .before .before .before .shape-fine .ensures) (c .before .before .before .before .before .before .before .before .before .before .if1 .left))
+one-each-requires-5 c κs =
+    let at-if1 = c .before .before .before .before .before .before .before .before .before .before in
+    let at-shape-fine = at-if1 .before in
+    ranges-of-fine _ (holds-by (at-shape-fine .shape-fine .ensures) (at-if1 .if1 .left))
 
 returns-7 : tie.Need-returns-7
 unfolding oneEach
 returns-7 c =
+    let at-one-each4 = c .before .before in
+    let at-if5 = at-one-each4 .before in
+    let at-one-each3 = at-if5 .before in
+    let at-if4 = at-one-each3 .before in
+    let at-one-each2 = at-if4 .before in
+    let at-if3 = at-one-each2 .before in
+    let at-one-each = at-if3 .before in
+    let at-if2 = at-one-each .before in
+    let at-side-fine = at-if2 .before in
+    let at-if1 = at-side-fine .before in
+    let at-shape-fine = at-if1 .before in
     every-decided _ 6 _ (sym (c .one-each5 .ensures))
-    (λ t. (
-      holds-by (c .before .before .before .before .before .before .before .before .before .before .before .before .shape-fine .ensures) (c .before .before .before .before .before .before .before .before .before .before .before .if1 .left),
-      (
-        holds-by (c .before .before .before .before .before .before .before .before .before .before .side-fine .ensures) (c .before .before .before .before .before .before .before .before .before .if2 .left),
-        (
-          holds-by (c .before .before .before .before .before .before .before .before .one-each .ensures) (c .before .before .before .before .before .before .before .if3 .left),
-          (
-            holds-by (c .before .before .before .before .before .before .one-each2 .ensures) (c .before .before .before .before .before .if4 .left),
-            (
-              holds-by (c .before .before .before .before .one-each3 .ensures) (c .before .before .before .if5 .left),
-              (
-                holds-by (c .before .before .one-each4 .ensures) (c .before .if6 .left),
-                (sym (c .one-each5 .ensures) ∙ t, tt),
-              ),
-            ),
-          ),
-        ),
-      ),
-    ))
+    (λ t. (holds-by (at-shape-fine .shape-fine .ensures) (at-if1 .if1 .left), (holds-by (at-side-fine .side-fine .ensures) (at-if2 .if2 .left), (holds-by (at-one-each .one-each .ensures) (at-if3 .if3 .left), (holds-by (at-one-each2 .one-each2 .ensures) (at-if4 .if4 .left), (holds-by (at-one-each3 .one-each3 .ensures) (at-if5 .if5 .left), (holds-by (at-one-each4 .one-each4 .ensures) (c .before .if6 .left), (sym (c .one-each5 .ensures) ∙ t, tt))))))))
 
 pub lent-fine-spec : {M : Type 1} → statement M
 lent-fine-spec =

@@ -23,8 +23,12 @@ side-drop-requires-4 c κs = search needs
 
 returns : tie.Need-returns
 returns c =
-    drops-made (plan (c .before .before .before .before .before .before .before .before .args .shape) (c .before .before .before .before .before .before .before .before .args .marks .now)) (c .before .before .before .before .before .before .before .before .args .rules) (c .before .before .before .before .before .before .before .before .args .beds .now) (c .before .before .before .before .before .before .before .before .args .depths .now) (c .before .before .before .before .before .before .before .before .args .square)
-    (c .before .before .before .side-drop .ensures) (c .before .before .side-drop2 .ensures) (c .before .side-drop3 .ensures) (c .side-drop4 .ensures)
+    let at-side-drop2 = c .before .before in
+    let at-side-drop = at-side-drop2 .before in
+    let start = at-side-drop .before .before .before .before .before in
+    drops-made (plan (start .args .shape) (start .args .marks .now)) (start .args .rules) (start .args .beds .now)
+    (start .args .depths .now) (start .args .square) (at-side-drop .side-drop .ensures) (at-side-drop2 .side-drop2 .ensures)
+    (c .before .side-drop3 .ensures) (c .side-drop4 .ensures)
 
 pub drops-of-spec : {M : Type 1} → statement M
 drops-of-spec =

@@ -12,7 +12,12 @@ number-requires-2 : tie.Need-number-requires-2
 number-requires-2 c κs = search needs
 
 add-result : tie.Need-add-result
-add-result c = omega (arith, c .before .before .before .shared-slice-known .given (c .before .before .before .before .args .square), c .before .before .shared-slice-known2 .given (c .before .before .before .before .args .square))
+add-result c =
+    let at-shared-slice-known2 = c .before .before in
+    let at-shared-slice-known = at-shared-slice-known2 .before in
+    let start = at-shared-slice-known .before in
+    omega
+    (arith, at-shared-slice-known .shared-slice-known .given (start .args .square), at-shared-slice-known2 .shared-slice-known2 .given (start .args .square))
 
 returns : tie.Need-returns
 returns c = search needs

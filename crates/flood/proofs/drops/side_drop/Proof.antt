@@ -20,7 +20,11 @@ is-closed-requires : tie.Need-is-closed-requires
 is-closed-requires c κs = search needs
 
 returns : tie.Need-returns
-returns c = sym (drop-closed (plan (c .before .before .before .before .before .before .before .before .args .shape) (c .before .before .before .before .before .before .before .before .args .marks .now)) (c .before .before .before .before .before .before .before .before .args .rules) (c .before .before .before .before .before .before .before .before .args .beds .now) (c .before .before .before .before .before .before .before .before .args .depths .now) (c .before .before .before .before .before .before .before .before .args .square) (c .before .before .before .before .before .before .before .before .args .side) (c .before .before .before .before .beside-on .ensures) (omega arith) (sym (c .before .is-closed .ensures) ∙ c .if2 .taken))
+returns c =
+    let at-beside-on = c .before .before .before .before in
+    let start = at-beside-on .before .before .before .before in
+    sym
+    (drop-closed (plan (start .args .shape) (start .args .marks .now)) (start .args .rules) (start .args .beds .now) (start .args .depths .now) (start .args .square) (start .args .side) (at-beside-on .beside-on .ensures) (omega arith) (sym (c .before .is-closed .ensures) ∙ c .if2 .taken))
 
 level-of-requires : tie.Need-level-of-requires
 level-of-requires c κs = search needs
@@ -30,9 +34,12 @@ drop-to-requires c κs = search needs
 
 returns-2 : tie.Need-returns-2
 returns-2 c =
-    c .drop-to .ensures
-    ∙ (ap₂ dropTo (c .before .before .before .before .before .before .before .before .before .before .pre .1) (c .before .level-of .ensures)
-    ∙ sym (drop-open (plan (c .before .before .before .before .before .before .before .before .before .before .args .shape) (c .before .before .before .before .before .before .before .before .before .before .args .marks .now)) (c .before .before .before .before .before .before .before .before .before .before .args .rules) (c .before .before .before .before .before .before .before .before .before .before .args .beds .now) (c .before .before .before .before .before .before .before .before .before .before .args .depths .now) (c .before .before .before .before .before .before .before .before .before .before .args .square) (c .before .before .before .before .before .before .before .before .before .before .args .side) (c .before .before .before .before .before .before .beside-on .ensures) (omega arith) (sym (c .before .before .before .is-closed .ensures) ∙ c .before .before .if2 .left)))
+    let at-if2 = c .before .before in
+    let at-is-closed = at-if2 .before in
+    let at-beside-on = at-is-closed .before .before .before in
+    let start = at-beside-on .before .before .before .before in
+    c .drop-to .ensures ∙
+    (ap₂ dropTo (start .pre .1) (c .before .level-of .ensures) ∙ sym (drop-open (plan (start .args .shape) (start .args .marks .now)) (start .args .rules) (start .args .beds .now) (start .args .depths .now) (start .args .square) (start .args .side) (at-beside-on .beside-on .ensures) (omega arith) (sym (at-is-closed .is-closed .ensures) ∙ at-if2 .if2 .left)))
 
 is-exit-requires : tie.Need-is-exit-requires
 is-exit-requires c κs = search needs
@@ -45,12 +52,19 @@ drop-off-requires c κs = search needs
 
 returns-3 : tie.Need-returns-3
 returns-3 c =
-    c .drop-off .ensures
-    ∙ (ap (dropOff (c .before .before .before .before .before .before .before .before .before .before .args .rules)) (c .before .number .ensures)
-    ∙ sym (drop-exit (plan (c .before .before .before .before .before .before .before .before .before .before .args .shape) (c .before .before .before .before .before .before .before .before .before .before .args .marks .now)) (c .before .before .before .before .before .before .before .before .before .before .args .rules) (c .before .before .before .before .before .before .before .before .before .before .args .beds .now) (c .before .before .before .before .before .before .before .before .before .before .args .depths .now) (c .before .before .before .before .before .before .before .before .before .before .args .square) (c .before .before .before .before .before .before .before .before .before .before .args .side) (c .before .before .before .before .before .before .beside-on .ensures) (omega arith) (sym (c .before .before .before .is-exit .ensures) ∙ c .before .before .if3 .taken)))
+    let at-if3 = c .before .before in
+    let at-is-exit = at-if3 .before in
+    let at-beside-on = at-is-exit .before .before .before in
+    let start = at-beside-on .before .before .before .before in
+    c .drop-off .ensures ∙
+    (ap (dropOff (start .args .rules)) (c .before .number .ensures) ∙ sym (drop-exit (plan (start .args .shape) (start .args .marks .now)) (start .args .rules) (start .args .beds .now) (start .args .depths .now) (start .args .square) (start .args .side) (at-beside-on .beside-on .ensures) (omega arith) (sym (at-is-exit .is-exit .ensures) ∙ at-if3 .if3 .taken)))
 
 returns-4 : tie.Need-returns-4
-returns-4 c = sym (drop-rim (plan (c .before .before .before .before .before .before .before .before .args .shape) (c .before .before .before .before .before .before .before .before .args .marks .now)) (c .before .before .before .before .before .before .before .before .args .rules) (c .before .before .before .before .before .before .before .before .args .beds .now) (c .before .before .before .before .before .before .before .before .args .depths .now) (c .before .before .before .before .before .before .before .before .args .square) (c .before .before .before .before .before .before .before .before .args .side) (c .before .before .before .before .beside-on .ensures) (omega arith) (sym (c .before .is-exit .ensures) ∙ c .if3 .left))
+returns-4 c =
+    let at-beside-on = c .before .before .before .before in
+    let start = at-beside-on .before .before .before .before in
+    sym
+    (drop-rim (plan (start .args .shape) (start .args .marks .now)) (start .args .rules) (start .args .beds .now) (start .args .depths .now) (start .args .square) (start .args .side) (at-beside-on .beside-on .ensures) (omega arith) (sym (c .before .is-exit .ensures) ∙ c .if3 .left))
 
 pub side-drop-spec : {M : Type 1} → statement M
 side-drop-spec =

@@ -21,21 +21,30 @@ clear-lasts-requires : tie.Need-clear-lasts-requires
 clear-lasts-requires c κs = sizes-lent _ _ _ _ (fresh-sizes _ _ _ _ (sym (c .before .before .fresh-number .ensures) ∙ c .before .if1 .left))
 
 slots-of-requires : tie.Need-slots-of-requires
-slots-of-requires c κs = sizes-marked _ _ _ _ (fresh-sizes _ _ _ _ (sym (c .before .before .before .before .before .fresh-number .ensures) ∙ c .before .before .before .before .if1 .left)) .fine
+slots-of-requires c κs =
+    let at-if1 = c .before .before .before .before in
+    let at-fresh-number = at-if1 .before in
+    sizes-marked _ _ _ _ (fresh-sizes _ _ _ _ (sym (at-fresh-number .fresh-number .ensures) ∙ at-if1 .if1 .left)) .fine
 
 sub-t14 : tie.Need-sub-t14
 unfolding roomSlots
 sub-t14 c =
-    let some : (c .slots-of .result ≡ 0 → ⊥) =
-    λ z. fresh-slots _ _ _ _ (sym (c .before .before .before .before .before .before .fresh-number .ensures) ∙ c .before .before .before .before .before .if1 .left) (sym (c .slots-of .ensures) ∙ z) in
-    omega arith
+    let at-if1 = c .before .before .before .before .before in
+    let at-fresh-number = at-if1 .before in
+    let some : (c .slots-of .result ≡ 0 → ⊥) = λ z. fresh-slots _ _ _ _
+    (sym (at-fresh-number .fresh-number .ensures) ∙ at-if1 .if1 .left) (sym (c .slots-of .ensures) ∙ z) in omega arith
 
 same-length-2 : tie.Need-same-length-2
 same-length-2 c = search needs
 
 returns-2 : tie.Need-returns-2
 unfolding roomSlots
-returns-2 c = fresh-done _ _ _ _ (c .before .before .before .before .before .before .fresh-number .ensures) (c .before .before .before .before .before .if1 .left) (c .before .before .before .clear-lasts .ensures) (c .slots-of .ensures)
+returns-2 c =
+    let at-clear-lasts = c .before .before .before in
+    let at-if1 = at-clear-lasts .before .before in
+    let at-fresh-number = at-if1 .before in
+    fresh-done _ _ _ _ (at-fresh-number .fresh-number .ensures) (at-if1 .if1 .left) (at-clear-lasts .clear-lasts .ensures)
+    (c .slots-of .ensures)
 
 pub fresh-spec : {M : Type 1} → statement M
 fresh-spec =

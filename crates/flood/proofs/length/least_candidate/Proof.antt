@@ -27,29 +27,39 @@ squares-of-requires : tie.Need-squares-of-requires Inv-loop μ-loop
 squares-of-requires c κs = c .before .before .before .before .pre .sited .fine
 
 loop-holds : tie.Need-loop-holds Inv-loop μ-loop
-loop-holds c = (omega arith, sym (zero-mod (c .before .before .before .before .before .args .shape .columns)), least-begin (plan (c .before .before .before .before .before .args .shape) (c .before .before .before .before .before .args .marks .now)) (ground (c .before .before .before .before .before .args .rules) (c .before .before .before .before .before .args .beds .now) (c .before .before .before .before .before .args .roughness .now)) (c .before .before .before .before .before .args .depths .now) (c .before .before .before .before .before .args .rules .longest))
+loop-holds c =
+    let start = c .before .before .before .before .before in
+    (omega arith, sym (zero-mod (start .args .shape .columns)), least-begin (plan (start .args .shape) (start .args .marks .now)) (ground (start .args .rules) (start .args .beds .now) (start .args .roughness .now)) (start .args .depths .now) (start .args .rules .longest))
 
 shorter-by-requires : tie.Need-shorter-by-requires Inv-loop μ-loop
-shorter-by-requires c κs = (c .before .before .before .before .before .before .before .pre, record { fine = c .before .before .before .before .before .before .before .pre .sited .fine; inside = omega arith; column-is = c .before .loop .inv .1 })
+shorter-by-requires c κs =
+    let start = c .before .before .before .before .before .before .before in
+    (start .pre, record { fine = start .pre .sited .fine; inside = omega arith; column-is = c .before .loop .inv .1 })
 
 add-square : tie.Need-add-square Inv-loop μ-loop
 add-square c = omega arith
 
 next-column-requires : tie.Need-next-column-requires Inv-loop μ-loop
-next-column-requires c κs = (c .before .before .before .before .before .before .before .before .pre .sited .fine, column-within (c .before .before .before .before .before .before .before .before .args .shape) (c .before .before .loop .square) (c .before .before .before .before .before .before .before .before .pre .sited .fine .columns-low) (c .before .before .loop .inv .1))
+next-column-requires c κs =
+    let at-loop = c .before .before in
+    let start = at-loop .before .before .before .before .before .before in
+    (start .pre .sited .fine, column-within (start .args .shape) (at-loop .loop .square) (start .pre .sited .fine .columns-low) (at-loop .loop .inv .1))
 
 loop-less : tie.Need-loop-less Inv-loop μ-loop
 loop-less c = omega arith
 
 loop-again : tie.Need-loop-again Inv-loop μ-loop
-loop-again c = (
-  omega arith,
-  carried (c .before .before .before .before .before .before .before .before .before .args .shape) (c .before .before .before .loop .square) (c .before .before .before .loop .inv .1) (c .next-column .ensures),
-  least-more (plan (c .before .before .before .before .before .before .before .before .before .args .shape) (c .before .before .before .before .before .before .before .before .before .args .marks .now)) (ground (c .before .before .before .before .before .before .before .before .before .args .rules) (c .before .before .before .before .before .before .before .before .before .args .beds .now) (c .before .before .before .before .before .before .before .before .before .args .roughness .now)) (c .before .before .before .before .before .before .before .before .before .args .depths .now) (c .before .before .before .before .before .before .before .before .before .args .rules .longest) (c .before .before .before .loop .square) (c .before .before .before .loop .inv .2) (c .before .shorter-by .ensures),
-)
+loop-again c =
+    let at-loop = c .before .before .before in
+    let start = at-loop .before .before .before .before .before .before in
+    (omega arith, carried (start .args .shape) (at-loop .loop .square) (at-loop .loop .inv .1) (c .next-column .ensures), least-more (plan (start .args .shape) (start .args .marks .now)) (ground (start .args .rules) (start .args .beds .now) (start .args .roughness .now)) (start .args .depths .now) (start .args .rules .longest) (at-loop .loop .square) (at-loop .loop .inv .2) (c .before .shorter-by .ensures))
 
 returns : tie.Need-returns Inv-loop μ-loop
-returns c = least-all (plan (c .before .before .before .before .before .before .before .args .shape) (c .before .before .before .before .before .before .before .args .marks .now)) (ground (c .before .before .before .before .before .before .before .args .rules) (c .before .before .before .before .before .before .before .args .beds .now) (c .before .before .before .before .before .before .before .args .roughness .now)) (c .before .before .before .before .before .before .before .args .depths .now) (c .before .before .before .before .before .before .before .args .rules .longest) (c .before .loop .inv .2) (omega arith)
+returns c =
+    let start = c .before .before .before .before .before .before .before in
+    least-all (plan (start .args .shape) (start .args .marks .now))
+    (ground (start .args .rules) (start .args .beds .now) (start .args .roughness .now)) (start .args .depths .now)
+    (start .args .rules .longest) (c .before .loop .inv .2) (omega arith)
 
 pub least-candidate-spec : {M : Type 1} → statement M
 least-candidate-spec =

@@ -13,13 +13,21 @@ is-closed-requires : tie.Need-is-closed-requires
 is-closed-requires c κs = search needs
 
 returns : tie.Need-returns
-returns c = sym (least-closed (plan (c .before .before .before .before .before .before .args .shape) (c .before .before .before .before .before .before .args .marks .now)) (ground (c .before .before .before .before .before .before .args .rules) (c .before .before .before .before .before .before .args .beds .now) (c .before .before .before .before .before .before .args .roughness .now)) (c .before .before .before .before .before .before .args .depths .now) (c .before .before .before .before .before .before .args .best) (c .before .before .before .before .before .before .args .square) (sym (c .before .is-closed .ensures) ∙ c .if1 .taken))
+returns c =
+    let start = c .before .before .before .before .before .before in
+    sym
+    (least-closed (plan (start .args .shape) (start .args .marks .now)) (ground (start .args .rules) (start .args .beds .now) (start .args .roughness .now)) (start .args .depths .now) (start .args .best) (start .args .square) (sym (c .before .is-closed .ensures) ∙ c .if1 .taken))
 
 number-requires : tie.Need-number-requires
 number-requires c κs = search needs
 
 returns-2 : tie.Need-returns-2
-returns-2 c = sym (least-dry (plan (c .before .before .before .before .before .before .before .before .args .shape) (c .before .before .before .before .before .before .before .before .args .marks .now)) (ground (c .before .before .before .before .before .before .before .before .args .rules) (c .before .before .before .before .before .before .before .before .args .beds .now) (c .before .before .before .before .before .before .before .before .args .roughness .now)) (c .before .before .before .before .before .before .before .before .args .depths .now) (c .before .before .before .before .before .before .before .before .args .best) (c .before .before .before .before .before .before .before .before .args .square) (sym (c .before .before .before .is-closed .ensures) ∙ c .before .before .if1 .left) (sym (c .before .number .ensures) ∙ c .if2 .taken))
+returns-2 c =
+    let at-if1 = c .before .before in
+    let at-is-closed = at-if1 .before in
+    let start = at-is-closed .before .before .before .before .before in
+    sym
+    (least-dry (plan (start .args .shape) (start .args .marks .now)) (ground (start .args .rules) (start .args .beds .now) (start .args .roughness .now)) (start .args .depths .now) (start .args .best) (start .args .square) (sym (at-is-closed .is-closed .ensures) ∙ at-if1 .if1 .left) (sym (c .before .number .ensures) ∙ c .if2 .taken))
 
 drops-of-requires : tie.Need-drops-of-requires
 drops-of-requires c κs = search needs
@@ -28,15 +36,25 @@ number-requires-2 : tie.Need-number-requires-2
 number-requires-2 c κs = search needs
 
 shorter-requires : tie.Need-shorter-requires
-shorter-requires c κs = candidacy (plan (c .before .before .before .before .before .before .before .before .before .before .args .shape) (c .before .before .before .before .before .before .before .before .before .before .args .marks .now)) (ground (c .before .before .before .before .before .before .before .before .before .before .args .rules) (c .before .before .before .before .before .before .before .before .before .before .args .beds .now) (c .before .before .before .before .before .before .before .before .before .before .args .roughness .now)) (c .before .before .before .before .before .before .before .before .before .before .args .depths .now) (c .before .before .before .before .before .before .before .before .before .before .pre .0) (c .before .before .before .before .before .before .before .before .before .before .args .square) (c .before .before .before .before .before .before .before .before .before .before .pre .1 .inside) (sym (c .before .before .before .before .before .is-closed .ensures) ∙ c .before .before .before .before .if1 .left) (c .before .before .before .number .ensures) (c .number2 .ensures) (c .before .drops-of .ensures)
+shorter-requires c κs =
+    let at-number = c .before .before .before in
+    let at-if1 = at-number .before in
+    let at-is-closed = at-if1 .before in
+    let start = at-is-closed .before .before .before .before .before in
+    candidacy (plan (start .args .shape) (start .args .marks .now))
+    (ground (start .args .rules) (start .args .beds .now) (start .args .roughness .now)) (start .args .depths .now) (start .pre .0)
+    (start .args .square) (start .pre .1 .inside) (sym (at-is-closed .is-closed .ensures) ∙ at-if1 .if1 .left)
+    (at-number .number .ensures) (c .number2 .ensures) (c .before .drops-of .ensures)
 
 returns-3 : tie.Need-returns-3
 returns-3 c =
+    let at-drops-of = c .before .before in
+    let at-number = at-drops-of .before .before in
+    let at-if1 = at-number .before in
+    let at-is-closed = at-if1 .before in
+    let start = at-is-closed .before .before .before .before .before in
     sym
-    (least-open (plan (c .before .before .before .before .before .before .before .before .before .before .before .args .shape) (c .before .before .before .before .before .before .before .before .before .before .before .args .marks .now)) (ground (c .before .before .before .before .before .before .before .before .before .before .before .args .rules) (c .before .before .before .before .before .before .before .before .before .before .before .args .beds .now) (c .before .before .before .before .before .before .before .before .before .before .before .args .roughness .now)) (c .before .before .before .before .before .before .before .before .before .before .before .args .depths .now) (c .before .before .before .before .before .before .before .before .before .before .before .args .best) (c .before .before .before .before .before .before .before .before .before .before .before .args .square) (sym (c .before .before .before .before .before .before .is-closed .ensures) ∙ c .before .before .before .before .before .if1 .left)
-    ∙ sym
-    (c .shorter .ensures
-    ∙ shorter-made (c .before .before .before .before .before .before .before .before .before .before .before .args .rules) (c .before .before .before .before .before .before .before .before .before .before .before .args .best) (c .before .before .before .before .number .ensures) (c .before .number2 .ensures) (c .before .before .drops-of .ensures)))
+    (least-open (plan (start .args .shape) (start .args .marks .now)) (ground (start .args .rules) (start .args .beds .now) (start .args .roughness .now)) (start .args .depths .now) (start .args .best) (start .args .square) (sym (at-is-closed .is-closed .ensures) ∙ at-if1 .if1 .left) ∙ sym (c .shorter .ensures ∙ shorter-made (start .args .rules) (start .args .best) (at-number .number .ensures) (c .before .number2 .ensures) (at-drops-of .drops-of .ensures)))
 
 pub shorter-by-spec : {M : Type 1} → statement M
 shorter-by-spec =

@@ -19,13 +19,17 @@ held-length-requires c κs = search needs
 
 returns : tie.Need-returns
 returns c =
-    c .held-length .ensures
-    ∙ (ap (heldBetween (c .before .before .before .before .before .before .before .before .args .rules)) (c .before .least-candidate .ensures)
-    ∙ (fresh-held (c .before .before .before .before .before .before .before .before .args .rules) _ (c .before .before .before .before .before .before .before .before .pre .rules .shortest-to)
-    ∙ sym (length-afresh (c .before .before .before .before .before .before .before .before .args .rules) (c .before .before .before .before .before .before .before .before .args .clock) (c .before .before .before .before .before .before .before .before .args .held) _ (sym (c .before .before .before .is-update .ensures) ∙ c .before .before .if1 .taken))))
+    let at-if1 = c .before .before in
+    let at-is-update = at-if1 .before in
+    let start = at-is-update .before .before .before .before .before in
+    c .held-length .ensures ∙
+    (ap (heldBetween (start .args .rules)) (c .before .least-candidate .ensures) ∙ (fresh-held (start .args .rules) _ (start .pre .rules .shortest-to) ∙ sym (length-afresh (start .args .rules) (start .args .clock) (start .args .held) _ (sym (at-is-update .is-update .ensures) ∙ at-if1 .if1 .taken))))
 
 returns-2 : tie.Need-returns-2
-returns-2 c = sym (length-kept (c .before .before .before .before .before .before .args .rules) (c .before .before .before .before .before .before .args .clock) (c .before .before .before .before .before .before .args .held) _ (sym (c .before .is-update .ensures) ∙ c .if1 .left))
+returns-2 c =
+    let start = c .before .before .before .before .before .before in
+    sym
+    (length-kept (start .args .rules) (start .args .clock) (start .args .held) _ (sym (c .before .is-update .ensures) ∙ c .if1 .left))
 
 pub step-length-spec : {M : Type 1} → statement M
 step-length-spec =

@@ -29,14 +29,16 @@ abbrev μ-loop : tie.MeasureT-loop
 
 loop-holds : tie.Need-loop-holds Inv-loop μ-loop
 loop-holds c =
-    let a = (c .before .before .before .before .before .before .before .before .before .before .args) in
-    let p = plan (a .shape) (a .marks .now) in
-    let g = given (ground (a .rules) (a .beds .now) (a .roughness .now)) (a .rain .now) (a .inflow .now) in
-    let w = world (a .depths .now) (a .lasts .now) (a .records .now) (a .run) in
-    (c .before .before .before .before .before .before .before .before .before .before .pre .1 .0, c .before .before .before .before .before .before .before .before .before .before .pre .1 .1, running-starts p g (a .end) w (c .before .before .before .before .before .before .before .before .before .before .pre .0 .checked), refl, refl, refl, refl, refl)
+    let start = c .before .before .before .before .before .before .before .before .before .before in
+    let a = (start .args) in let p = plan (a .shape) (a .marks .now) in let g = given
+    (ground (a .rules) (a .beds .now) (a .roughness .now)) (a .rain .now) (a .inflow .now) in let w = world (a .depths .now)
+    (a .lasts .now) (a .records .now) (a .run) in
+    (start .pre .1 .0, start .pre .1 .1, running-starts p g (a .end) w (start .pre .0 .checked), refl, refl, refl, refl, refl)
 
 make-step-requires : tie.Need-make-step-requires Inv-loop μ-loop
-make-step-requires c κs = (record { checked = c .before .before .before .before .before .before .before .loop .inv .2 .valid }, (c .before .before .before .before .before .before .before .loop .inv .0, c .before .before .before .before .before .before .before .loop .inv .1))
+make-step-requires c κs =
+    let at-loop = c .before .before .before .before .before .before .before in
+    (record { checked = at-loop .loop .inv .2 .valid }, (at-loop .loop .inv .0, at-loop .loop .inv .1))
 
 same-length : tie.Need-same-length Inv-loop μ-loop
 same-length c = search needs
@@ -55,40 +57,44 @@ same-length-5 c = search needs
 
 returns : tie.Need-returns Inv-loop μ-loop
 returns c =
-    let a = (c .before .before .before .before .before .before .before .before .before .before .before .before .before .before .before .before .before .before .before .before .before .before .before .before .before .before .before .before .before .before .before .args) in
-    let l = (c .before .before .before .before .before .before .before .before .before .before .before .before .before .before .before .before .before .before .before .before .loop) in
-    let p = plan (a .shape) (a .marks .now) in
-    let g = given (ground (a .rules) (a .beds .now) (a .roughness .now)) (a .rain .now) (a .inflow .now) in
-    let w = world (a .depths .now) (a .lasts .now) (a .records .now) (a .run) in
-    record { ends = running-refused p g (a .end) (l .inv .2) (c .before .before .before .before .before .before .before .before .before .before .before .before .before .before .before .before .before .before .if1 .taken) (c .before .before .before .before .before .before .before .before .before .before .before .before .make-step .ensures) (c .if2 .taken) }
+    let at-make-step = c .before .before .before .before .before .before .before .before .before .before .before .before in
+    let at-if1 = at-make-step .before .before .before .before .before .before in
+    let at-loop = at-if1 .before .before in
+    let start = at-loop .before .before .before .before .before .before .before .before .before .before .before in
+    let a = (start .args) in let l = (at-loop .loop) in let p = plan (a .shape) (a .marks .now) in let g = given
+    (ground (a .rules) (a .beds .now) (a .roughness .now)) (a .rain .now) (a .inflow .now) in let w = world (a .depths .now)
+    (a .lasts .now) (a .records .now) (a .run) in record {
+      ends = running-refused p g (a .end) (l .inv .2) (at-if1 .if1 .taken)
+          (at-make-step .make-step .ensures) (c .if2 .taken);
+    }
 
 add-steps : tie.Need-add-steps Inv-loop μ-loop
-add-steps c = omega (arith, c .before .before .before .before .before .before .before .before .before .before .before .before .before .before .before .before .before .before .before .before .loop .inv .2 .few, c .before .before .before .before .before .before .before .before .before .before .before .before .before .before .before .before .before .before .before .before .before .before .before .before .before .before .before .before .before .before .before .pre .1 .2, c .before .before .before .before .before .before .before .before .before .before .before .before .before .before .before .before .before .before .if1 .taken)
+add-steps c =
+    let at-if1 = c .before .before .before .before .before .before .before .before .before .before .before .before .before .before .before .before .before .before in
+    let at-loop = at-if1 .before .before in
+    let start = at-loop .before .before .before .before .before .before .before .before .before .before .before in
+    omega (arith, at-loop .loop .inv .2 .few, start .pre .1 .2, at-if1 .if1 .taken)
 
 loop-less : tie.Need-loop-less Inv-loop μ-loop
 loop-less c =
-    let a = (c .before .before .before .before .before .before .before .before .before .before .before .before .before .before .before .before .before .before .before .before .before .before .before .before .before .before .before .before .before .before .before .args) in
-    let l = (c .before .before .before .before .before .before .before .before .before .before .before .before .before .before .before .before .before .before .before .before .loop) in
-    let p = plan (a .shape) (a .marks .now) in
-    let g = given (ground (a .rules) (a .beds .now) (a .roughness .now)) (a .rain .now) (a .inflow .now) in
-    let w = world (a .depths .now) (a .lasts .now) (a .records .now) (a .run) in
-    omega (arith, running-further p g (a .end) (l .inv .2) (c .before .before .before .before .before .before .before .before .before .before .before .before .before .before .before .before .before .before .if1 .taken) (c .before .before .before .before .before .before .before .before .before .before .before .before .make-step .ensures) (c .if2 .left), c .before .before .before .before .before .before .before .before .before .before .before .before .before .before .before .before .before .before .if1 .taken)
+    let at-make-step = c .before .before .before .before .before .before .before .before .before .before .before .before in
+    let at-if1 = at-make-step .before .before .before .before .before .before in
+    let at-loop = at-if1 .before .before in
+    let start = at-loop .before .before .before .before .before .before .before .before .before .before .before in
+    let a = (start .args) in let l = (at-loop .loop) in let p = plan (a .shape) (a .marks .now) in let g = given
+    (ground (a .rules) (a .beds .now) (a .roughness .now)) (a .rain .now) (a .inflow .now) in let w = world (a .depths .now)
+    (a .lasts .now) (a .records .now) (a .run) in omega
+    (arith, running-further p g (a .end) (l .inv .2) (at-if1 .if1 .taken) (at-make-step .make-step .ensures) (c .if2 .left), at-if1 .if1 .taken)
 
 loop-again : tie.Need-loop-again Inv-loop μ-loop
 loop-again c =
-    let a = (c .before .before .before .before .before .before .before .before .before .before .before .before .before .before .before .before .before .before .before .before .before .before .before .before .before .before .before .before .before .before .before .args) in
-    let l = (c .before .before .before .before .before .before .before .before .before .before .before .before .before .before .before .before .before .before .before .before .loop) in
-    let p = plan (a .shape) (a .marks .now) in
-    let g = given (ground (a .rules) (a .beds .now) (a .roughness .now)) (a .rain .now) (a .inflow .now) in (
-      c .before .before .before .before .before .before .before .before .before .before .before .before .make-step .kept .1 .1 .1 .1 .1 .1 .1 .1 .1 .1 .1 .0 ∙ l .inv .0,
-      c .before .before .before .before .before .before .before .before .before .before .before .before .make-step .kept .1 .1 .1 .1 .1 .1 .1 .1 .1 .1 .1 .1 .0 ∙ l .inv .1,
-      running-on p g (a .end) (l .inv .2) (c .before .before .before .before .before .before .before .before .before .before .before .before .before .before .before .before .before .before .if1 .taken) (c .before .before .before .before .before .before .before .before .before .before .before .before .make-step .ensures) (c .if2 .left),
-      c .before .before .before .before .before .before .before .before .before .before .before .before .make-step .kept .1 .1 .1 .1 .1 .1 .1 .1 .0 ∙ l .inv .3,
-      c .before .before .before .before .before .before .before .before .before .before .before .before .make-step .kept .1 .1 .1 .1 .1 .1 .1 .1 .1 .0 ∙ l .inv .4,
-      c .before .before .before .before .before .before .before .before .before .before .before .before .make-step .kept .1 .1 .1 .1 .1 .1 .1 .1 .1 .1 .0 ∙ l .inv .5,
-      c .before .before .before .before .before .before .before .before .before .before .before .before .make-step .kept .1 .1 .1 .1 .1 .1 .1 .1 .1 .1 .1 .0 ∙ l .inv .6,
-      c .before .before .before .before .before .before .before .before .before .before .before .before .make-step .kept .1 .1 .1 .1 .1 .1 .1 .1 .1 .1 .1 .1 .0 ∙ l .inv .7,
-    )
+    let at-make-step = c .before .before .before .before .before .before .before .before .before .before .before .before in
+    let at-if1 = at-make-step .before .before .before .before .before .before in
+    let at-loop = at-if1 .before .before in
+    let start = at-loop .before .before .before .before .before .before .before .before .before .before .before in
+    let a = (start .args) in let l = (at-loop .loop) in let p = plan (a .shape) (a .marks .now) in let g = given
+    (ground (a .rules) (a .beds .now) (a .roughness .now)) (a .rain .now) (a .inflow .now) in
+    (at-make-step .make-step .kept .1 .1 .1 .1 .1 .1 .1 .1 .1 .1 .1 .0 ∙ l .inv .0, at-make-step .make-step .kept .1 .1 .1 .1 .1 .1 .1 .1 .1 .1 .1 .1 .0 ∙ l .inv .1, running-on p g (a .end) (l .inv .2) (at-if1 .if1 .taken) (at-make-step .make-step .ensures) (c .if2 .left), at-make-step .make-step .kept .1 .1 .1 .1 .1 .1 .1 .1 .0 ∙ l .inv .3, at-make-step .make-step .kept .1 .1 .1 .1 .1 .1 .1 .1 .1 .0 ∙ l .inv .4, at-make-step .make-step .kept .1 .1 .1 .1 .1 .1 .1 .1 .1 .1 .0 ∙ l .inv .5, at-make-step .make-step .kept .1 .1 .1 .1 .1 .1 .1 .1 .1 .1 .1 .0 ∙ l .inv .6, at-make-step .make-step .kept .1 .1 .1 .1 .1 .1 .1 .1 .1 .1 .1 .1 .0 ∙ l .inv .7)
 
 same-length-6 : tie.Need-same-length-6 Inv-loop μ-loop
 same-length-6 c = c .before .before .loop .inv .3
@@ -107,12 +113,11 @@ same-length-10 c = c .before .before .loop .inv .7
 
 returns-2 : tie.Need-returns-2 Inv-loop μ-loop
 returns-2 c =
-    let a = (c .before .before .before .before .before .before .before .before .before .before .before .before .before .args) in
-    let l = (c .before .before .loop) in
-    let p = plan (a .shape) (a .marks .now) in
-    let g = given (ground (a .rules) (a .beds .now) (a .roughness .now)) (a .rain .now) (a .inflow .now) in
-    let w = world (a .depths .now) (a .lasts .now) (a .records .now) (a .run) in
-    record { ends = running-ends p g (a .end) (l .inv .2) (c .if1 .left) }
+    let at-loop = c .before .before in
+    let start = at-loop .before .before .before .before .before .before .before .before .before .before .before in
+    let a = (start .args) in let l = (at-loop .loop) in let p = plan (a .shape) (a .marks .now) in let g = given
+    (ground (a .rules) (a .beds .now) (a .roughness .now)) (a .rain .now) (a .inflow .now) in let w = world (a .depths .now)
+    (a .lasts .now) (a .records .now) (a .run) in record { ends = running-ends p g (a .end) (l .inv .2) (c .if1 .left) }
 
 pub run-on-spec : {M : Type 1} → statement M
 run-on-spec =

@@ -23,11 +23,13 @@ same-length-3 c = search needs
 
 returns : tie.Need-returns
 returns c =
-    let a = (c .before .before .before .before .before .before .before .before .before .before .before .before .before .args) in
-    let p = plan (a .shape) (a .marks .now) in
-    let g = given (ground (a .rules) (a .beds .now) (a .roughness .now)) (a .rain .now) (a .inflow .now) in
-    let w = world (a .depths .now) (a .lasts .now) (a .records .now) (a .run) in
-    record { ends = run-checked p g (a .end) w (c .before .check .ensures) (c .if1 .taken) }
+    let start = c .before .before .before .before .before .before .before .before .before .before .before .before .before in
+    let a = (start .args) in let p = plan (a .shape) (a .marks .now) in let g = given
+    (ground (a .rules) (a .beds .now) (a .roughness .now)) (a .rain .now) (a .inflow .now) in let w = world (a .depths .now)
+    (a .lasts .now) (a .records .now) (a .run) in record {
+      ends = run-checked p g (a .end) w (c .before .check .ensures)
+          (c .if1 .taken);
+    }
 
 slice-aggregate-run-in : tie.Need-slice-aggregate-run-in
 slice-aggregate-run-in c = search needs
@@ -37,11 +39,12 @@ slice-aggregate-run-in-2 c = search needs
 
 run-in-requires : tie.Need-run-in-requires
 run-in-requires c κs =
-    let a = (c .before .before .before .before .before .before .before .before .before .before .before .before .before .before .before .before .before .before .args) in
-    let p = plan (a .shape) (a .marks .now) in
-    let g = given (ground (a .rules) (a .beds .now) (a .roughness .now)) (a .rain .now) (a .inflow .now) in
-    let w = world (a .depths .now) (a .lasts .now) (a .records .now) (a .run) in
-    let e = sym (c .before .before .before .before .before .before .check .ensures) ∙ c .before .before .before .before .before .if1 .left in
+    let at-if1 = c .before .before .before .before .before in
+    let at-check = at-if1 .before in
+    let start = at-check .before .before .before .before .before .before .before .before .before .before .before .before in
+    let a = (start .args) in let p = plan (a .shape) (a .marks .now) in let g = given
+    (ground (a .rules) (a .beds .now) (a .roughness .now)) (a .rain .now) (a .inflow .now) in let w = world (a .depths .now)
+    (a .lasts .now) (a .records .now) (a .run) in let e = sym (at-check .check .ensures) ∙ at-if1 .if1 .left in
     (record { checked = run-checks-step p g (a .end) w e }, (refl, refl, end-is (a .rules) (a .end) (run-checks-end p g (a .end) w e) .0))
 
 same-length-4 : tie.Need-same-length-4
@@ -55,11 +58,16 @@ same-length-6 c = search needs
 
 returns-2 : tie.Need-returns-2
 returns-2 c =
-    let a = (c .before .before .before .before .before .before .before .before .before .before .before .before .before .before .before .before .before .before .before .before .before .before .before .before .before .before .before .args) in
-    let p = plan (a .shape) (a .marks .now) in
-    let g = given (ground (a .rules) (a .beds .now) (a .roughness .now)) (a .rain .now) (a .inflow .now) in
-    let w = world (a .depths .now) (a .lasts .now) (a .records .now) (a .run) in
-    record { ends = run-passed p g (a .end) w (c .before .before .before .before .before .before .before .before .before .before .before .before .before .before .before .check .ensures) (c .before .before .before .before .before .before .before .before .before .before .before .before .before .before .if1 .left) (c .before .before .before .before .before .before .before .before .run-in .ensures .ends) }
+    let at-run-in = c .before .before .before .before .before .before .before .before in
+    let at-if1 = at-run-in .before .before .before .before .before .before in
+    let at-check = at-if1 .before in
+    let start = at-check .before .before .before .before .before .before .before .before .before .before .before .before in
+    let a = (start .args) in let p = plan (a .shape) (a .marks .now) in let g = given
+    (ground (a .rules) (a .beds .now) (a .roughness .now)) (a .rain .now) (a .inflow .now) in let w = world (a .depths .now)
+    (a .lasts .now) (a .records .now) (a .run) in record {
+      ends = run-passed p g (a .end) w (at-check .check .ensures)
+          (at-if1 .if1 .left) (at-run-in .run-in .ensures .ends);
+    }
 
 pub run-to-spec : {M : Type 1} → statement M
 run-to-spec =

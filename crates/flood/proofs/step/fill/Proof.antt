@@ -24,40 +24,50 @@ abbrev μ-loop : tie.MeasureT-loop
 μ-loop shape rules marks beds roughness depths lasts added held lasting rec₀ squares square₀ column₀ rec square column = squares - square
 
 put-head-requires : tie.Need-put-head-requires Inv-loop μ-loop
-put-head-requires c κs = (omega (arith, c .before .before .before .before .before .before .before .before .pre .0 .record-long), (c .before .before .before .before .before .before .before .before .pre .1, c .before .before .before .before .before .before .before .before .pre .0 .lasts-for))
+put-head-requires c κs =
+    let start = c .before .before .before .before .before .before .before .before in
+    (omega (arith, start .pre .0 .record-long), (start .pre .1, start .pre .0 .lasts-for))
 
 squares-of-requires : tie.Need-squares-of-requires Inv-loop μ-loop
 squares-of-requires c κs = c .before .before .before .before .before .before .before .before .before .before .before .pre .0 .flows .lies .sited .fine
 
 loop-holds : tie.Need-loop-holds Inv-loop μ-loop
-loop-holds c = (omega arith, sym (zero-mod (c .before .before .before .before .before .before .before .before .before .before .before .before .args .shape .columns)), begun-none (c .before .before .before .before .before .before .before .before .before .before .before .before .args .rec .now) (c .before .before .before .before .before .before .before .before .before .before .before .before .pre .0 .record-long) (c .before .before .before .put-head .ensures))
+loop-holds c =
+    let at-put-head = c .before .before .before in
+    let start = at-put-head .before .before .before .before .before .before .before .before .before in
+    (omega arith, sym (zero-mod (start .args .shape .columns)), begun-none (start .args .rec .now) (start .pre .0 .record-long) (at-put-head .put-head .ensures))
 
 fill-square-requires : tie.Need-fill-square-requires Inv-loop μ-loop
 fill-square-requires c κs =
-    let f = c .before .before .before .before .before .before .before .before .before .before .before .before .before .before .before .pre .0 in (
-      record { flows = f .flows; added-long = f .added-long; lasts-for = f .lasts-for; record-long = c .before .before .loop .inv .2 .long },
-      record { fine = f .flows .lies .sited .fine; inside = omega arith; column-is = c .before .before .loop .inv .1 },
-    )
+    let at-loop = c .before .before in
+    let start = at-loop .before .before .before .before .before .before .before .before .before .before .before .before .before in
+    let f = start .pre .0 in
+    (record { flows = f .flows; added-long = f .added-long; lasts-for = f .lasts-for; record-long = at-loop .loop .inv .2 .long }, record { fine = f .flows .lies .sited .fine; inside = omega arith; column-is = at-loop .loop .inv .1 })
 
 add-square : tie.Need-add-square Inv-loop μ-loop
 add-square c = omega arith
 
 next-column-requires : tie.Need-next-column-requires Inv-loop μ-loop
-next-column-requires c κs = (c .before .before .before .before .before .before .before .before .before .before .before .before .before .before .before .before .before .before .pre .0 .flows .lies .sited .fine, column-within (c .before .before .before .before .before .before .before .before .before .before .before .before .before .before .before .before .before .before .args .shape) (c .before .before .before .before .before .loop .square) (c .before .before .before .before .before .before .before .before .before .before .before .before .before .before .before .before .before .before .pre .0 .flows .lies .sited .fine .columns-low) (c .before .before .before .before .before .loop .inv .1))
+next-column-requires c κs =
+    let at-loop = c .before .before .before .before .before in
+    let start = at-loop .before .before .before .before .before .before .before .before .before .before .before .before .before in
+    (start .pre .0 .flows .lies .sited .fine, column-within (start .args .shape) (at-loop .loop .square) (start .pre .0 .flows .lies .sited .fine .columns-low) (at-loop .loop .inv .1))
 
 loop-less : tie.Need-loop-less Inv-loop μ-loop
 loop-less c = omega arith
 
 loop-again : tie.Need-loop-again Inv-loop μ-loop
 loop-again c =
-    let a = (c .before .before .before .before .before .before .before .before .before .before .before .before .before .before .before .before .before .before .before .args) in (
-      omega arith,
-      carried (a .shape) (c .before .before .before .before .before .before .loop .square) (c .before .before .before .before .before .before .loop .inv .1) (c .next-column .ensures),
-      fill-turn (plan (a .shape) (a .marks .now)) (ground (a .rules) (a .beds .now) (a .roughness .now)) (a .depths .now) (a .lasts .now) (a .added .now) (a .held) (a .lasting) (c .before .before .before .before .before .before .loop .square) (omega arith) (c .before .before .before .before .before .before .loop .inv .2) (c .before .before .before .fill-square .ensures),
-    )
+    let at-fill-square = c .before .before .before in
+    let at-loop = at-fill-square .before .before .before in
+    let start = at-loop .before .before .before .before .before .before .before .before .before .before .before .before .before in
+    let a = (start .args) in
+    (omega arith, carried (a .shape) (at-loop .loop .square) (at-loop .loop .inv .1) (c .next-column .ensures), fill-turn (plan (a .shape) (a .marks .now)) (ground (a .rules) (a .beds .now) (a .roughness .now)) (a .depths .now) (a .lasts .now) (a .added .now) (a .held) (a .lasting) (at-loop .loop .square) (omega arith) (at-loop .loop .inv .2) (at-fill-square .fill-square .ensures))
 
 same-length : tie.Need-same-length Inv-loop μ-loop
-same-length c = c .before .loop .inv .2 .long ∙ sym (c .before .before .before .before .before .before .before .before .before .before .before .before .before .before .pre .0 .record-long)
+same-length c =
+    let start = c .before .before .before .before .before .before .before .before .before .before .before .before .before .before in
+    c .before .loop .inv .2 .long ∙ sym (start .pre .0 .record-long)
 
 returns : tie.Need-returns Inv-loop μ-loop
 returns c = begun-whole (omega arith) (c .before .loop .inv .2)

@@ -23,27 +23,65 @@ slice-aggregate-put-total : tie.Need-slice-aggregate-put-total
 slice-aggregate-put-total c = search needs
 
 put-total-requires : tie.Need-put-total-requires
-put-total-requires c κs = out-fits (plan (c .before .before .before .before .before .before .before .before .before .before .before .before .args .shape) (c .before .before .before .before .before .before .before .before .before .before .before .before .args .marks .now)) (c .before .before .before .before .before .before .before .before .before .before .before .before .args .ran .run) (c .before .before .before .before .before .before .before .before .before .before .before .before .args .ran .steps) (c .before .before .before .before .before .before .before .before .before .before .before .before .args .depths .now) (cells-long (plan (c .before .before .before .before .before .before .before .before .before .before .before .before .args .shape) (c .before .before .before .before .before .before .before .before .before .before .before .before .args .marks .now)) (c .before .before .before .before .before .before .before .before .before .before .before .before .args .depths .now) (c .before .before .before .before .before .before .before .before .before .before .before .before .pre .1) (λ i. omega (arith, c .before .before .before .before .before .before .before .before .before .shared-slice-known2 .given i))) (omega arith) (omega arith) (omega arith) (c .before .before .before .before .before .before .before .before .before .before .before .before .args .out .now) (c .before .before .before .before .before .before .before .before .before .before .before .before .pre .4) (c .before .before .before .before .put-squares .ensures)
+put-total-requires c κs =
+    let at-put-squares = c .before .before .before .before in
+    let at-shared-slice-known2 = at-put-squares .before .before .before .before .before in
+    let start = at-shared-slice-known2 .before .before .before in
+    let p = plan (start .args .shape) (start .args .marks .now) in
+    out-fits p (start .args .ran .run) (start .args .ran .steps) (start .args .depths .now)
+    (cells-long p (start .args .depths .now) (start .pre .1) (λ i. omega (arith, at-shared-slice-known2 .shared-slice-known2 .given i)))
+    (omega (arith, start .good)) (omega (arith, start .good)) (omega (arith, start .good)) (start .args .out .now) (start .pre .4) (at-put-squares .put-squares .ensures)
 
 slice-aggregate-put-total-2 : tie.Need-slice-aggregate-put-total-2
 slice-aggregate-put-total-2 c = search needs
 
 put-total-requires-2 : tie.Need-put-total-requires-2
-put-total-requires-2 c κs = steps-fits (plan (c .before .before .before .before .before .before .before .before .before .before .before .before .before .before .before .before .before .args .shape) (c .before .before .before .before .before .before .before .before .before .before .before .before .before .before .before .before .before .args .marks .now)) (c .before .before .before .before .before .before .before .before .before .before .before .before .before .before .before .before .before .args .ran .run) (c .before .before .before .before .before .before .before .before .before .before .before .before .before .before .before .before .before .args .ran .steps) (c .before .before .before .before .before .before .before .before .before .before .before .before .before .before .before .before .before .args .depths .now) (cells-long (plan (c .before .before .before .before .before .before .before .before .before .before .before .before .before .before .before .before .before .args .shape) (c .before .before .before .before .before .before .before .before .before .before .before .before .before .before .before .before .before .args .marks .now)) (c .before .before .before .before .before .before .before .before .before .before .before .before .before .before .before .before .before .args .depths .now) (c .before .before .before .before .before .before .before .before .before .before .before .before .before .before .before .before .before .pre .1) (λ i. omega (arith, c .before .before .before .before .before .before .before .before .before .before .before .before .before .before .shared-slice-known2 .given i))) (omega arith) (omega arith) (omega arith) (c .before .before .before .before .before .before .before .before .before .before .before .before .before .before .before .before .before .args .out .now) (c .before .before .before .before .before .before .before .before .before .before .before .before .before .before .before .before .before .pre .4) (c .before .before .before .before .before .before .before .before .before .put-squares .ensures) (c .before .before .before .before .put-total .ensures)
+put-total-requires-2 c κs =
+    let at-put-total = c .before .before .before .before in
+    let at-put-squares = at-put-total .before .before .before .before .before in
+    let at-shared-slice-known2 = at-put-squares .before .before .before .before .before in
+    let start = at-shared-slice-known2 .before .before .before in
+    let p = plan (start .args .shape) (start .args .marks .now) in
+    steps-fits p (start .args .ran .run) (start .args .ran .steps) (start .args .depths .now)
+    (cells-long p (start .args .depths .now) (start .pre .1) (λ i. omega (arith, at-shared-slice-known2 .shared-slice-known2 .given i)))
+    (omega (arith, start .good)) (omega (arith, start .good)) (omega (arith, start .good)) (start .args .out .now) (start .pre .4) (at-put-squares .put-squares .ensures)
+    (at-put-total .put-total .ensures)
 
 slice-aggregate-put-total-3 : tie.Need-slice-aggregate-put-total-3
 slice-aggregate-put-total-3 c = search needs
 
 put-total-requires-3 : tie.Need-put-total-requires-3
-put-total-requires-3 c κs = clock-fits (plan (c .before .before .before .before .before .before .before .before .before .before .before .before .before .before .before .before .before .before .before .before .before .before .args .shape) (c .before .before .before .before .before .before .before .before .before .before .before .before .before .before .before .before .before .before .before .before .before .before .args .marks .now)) (c .before .before .before .before .before .before .before .before .before .before .before .before .before .before .before .before .before .before .before .before .before .before .args .ran .run) (c .before .before .before .before .before .before .before .before .before .before .before .before .before .before .before .before .before .before .before .before .before .before .args .ran .steps) (c .before .before .before .before .before .before .before .before .before .before .before .before .before .before .before .before .before .before .before .before .before .before .args .depths .now) (cells-long (plan (c .before .before .before .before .before .before .before .before .before .before .before .before .before .before .before .before .before .before .before .before .before .before .args .shape) (c .before .before .before .before .before .before .before .before .before .before .before .before .before .before .before .before .before .before .before .before .before .before .args .marks .now)) (c .before .before .before .before .before .before .before .before .before .before .before .before .before .before .before .before .before .before .before .before .before .before .args .depths .now) (c .before .before .before .before .before .before .before .before .before .before .before .before .before .before .before .before .before .before .before .before .before .before .pre .1) (λ i. omega (arith, c .before .before .before .before .before .before .before .before .before .before .before .before .before .before .before .before .before .before .before .shared-slice-known2 .given i))) (omega arith) (omega arith) (omega arith) (c .before .before .before .before .before .before .before .before .before .before .before .before .before .before .before .before .before .before .before .before .before .before .args .out .now) (c .before .before .before .before .before .before .before .before .before .before .before .before .before .before .before .before .before .before .before .before .before .before .pre .4) (c .before .before .before .before .before .before .before .before .before .before .before .before .before .before .put-squares .ensures) (c .before .before .before .before .before .before .before .before .before .put-total .ensures) (c .before .before .before .before .put-total2 .ensures)
+put-total-requires-3 c κs =
+    let at-put-total2 = c .before .before .before .before in
+    let at-put-total = at-put-total2 .before .before .before .before .before in
+    let at-put-squares = at-put-total .before .before .before .before .before in
+    let at-shared-slice-known2 = at-put-squares .before .before .before .before .before in
+    let start = at-shared-slice-known2 .before .before .before in
+    let p = plan (start .args .shape) (start .args .marks .now) in
+    clock-fits p (start .args .ran .run) (start .args .ran .steps) (start .args .depths .now)
+    (cells-long p (start .args .depths .now) (start .pre .1) (λ i. omega (arith, at-shared-slice-known2 .shared-slice-known2 .given i)))
+    (omega (arith, start .good)) (omega (arith, start .good)) (omega (arith, start .good)) (start .args .out .now) (start .pre .4) (at-put-squares .put-squares .ensures)
+    (at-put-total .put-total .ensures) (at-put-total2 .put-total2 .ensures)
 
 same-length-2 : tie.Need-same-length-2
 same-length-2 c = search needs
 
 returns-2 : tie.Need-returns-2
 returns-2 c =
-    let g = (c .before .before .before .before .before .before .before .before .before .before .before .before .before .before .before .before .before .before .before .before .before .before .before .before .before .good) in
-    λ lasts records. made-printed (plan (c .before .before .before .before .before .before .before .before .before .before .before .before .before .before .before .before .before .before .before .before .before .before .before .before .before .args .shape) (c .before .before .before .before .before .before .before .before .before .before .before .before .before .before .before .before .before .before .before .before .before .before .before .before .before .args .marks .now)) (c .before .before .before .before .before .before .before .before .before .before .before .before .before .before .before .before .before .before .before .before .before .before .before .before .before .args .ran .run) (c .before .before .before .before .before .before .before .before .before .before .before .before .before .before .before .before .before .before .before .before .before .before .before .before .before .args .ran .steps) (c .before .before .before .before .before .before .before .before .before .before .before .before .before .before .before .before .before .before .before .before .before .before .before .before .before .args .depths .now) (cells-long (plan (c .before .before .before .before .before .before .before .before .before .before .before .before .before .before .before .before .before .before .before .before .before .before .before .before .before .args .shape) (c .before .before .before .before .before .before .before .before .before .before .before .before .before .before .before .before .before .before .before .before .before .before .before .before .before .args .marks .now)) (c .before .before .before .before .before .before .before .before .before .before .before .before .before .before .before .before .before .before .before .before .before .before .before .before .before .args .depths .now) (c .before .before .before .before .before .before .before .before .before .before .before .before .before .before .before .before .before .before .before .before .before .before .before .before .before .pre .1) (λ i. omega (arith, c .before .before .before .before .before .before .before .before .before .before .before .before .before .before .before .before .before .before .before .before .before .before .shared-slice-known2 .given i))) (omega arith) (omega arith) (omega arith) (c .before .before .before .before .before .before .before .before .before .before .before .before .before .before .before .before .before .before .before .before .before .before .before .before .before .args .out .now) (c .before .before .before .before .before .before .before .before .before .before .before .before .before .before .before .before .before .before .before .before .before .before .before .before .before .pre .4) (c .before .before .before .before .before .before .before .before .before .before .before .before .before .before .before .before .before .put-squares .ensures) (c .before .before .before .before .before .before .before .before .before .before .before .before .put-total .ensures) (c .before .before .before .before .before .before .before .put-total2 .ensures) lasts records (c .before .before .before .before .before .before .before .before .before .before .before .before .before .before .before .before .before .before .before .before .if1 .left) (c .before .before .put-total3 .ensures)
+    let at-put-total3 = c .before .before in
+    let at-put-total2 = at-put-total3 .before .before .before .before .before in
+    let at-put-total = at-put-total2 .before .before .before .before .before in
+    let at-put-squares = at-put-total .before .before .before .before .before in
+    let at-if1 = at-put-squares .before .before .before in
+    let at-shared-slice-known2 = at-if1 .before .before in
+    let start = at-shared-slice-known2 .before .before .before in
+    let p = plan (start .args .shape) (start .args .marks .now) in
+    let g = (start .good) in λ lasts records. made-printed p (start .args .ran .run) (start .args .ran .steps)
+    (start .args .depths .now)
+    (cells-long p (start .args .depths .now) (start .pre .1) (λ i. omega (arith, at-shared-slice-known2 .shared-slice-known2 .given i)))
+    (omega (arith, start .good)) (omega (arith, start .good)) (omega (arith, start .good)) (start .args .out .now) (start .pre .4) (at-put-squares .put-squares .ensures)
+    (at-put-total .put-total .ensures) (at-put-total2 .put-total2 .ensures) lasts records (at-if1 .if1 .left)
+    (at-put-total3 .put-total3 .ensures)
 
 pub put-ran-spec : {M : Type 1} → statement M
 put-ran-spec =

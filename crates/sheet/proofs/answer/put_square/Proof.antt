@@ -34,16 +34,29 @@ slice-aggregate-put-line-2 c = search needs
 
 put-line-requires : tie.Need-put-line-requires
 put-line-requires c κs =
-    let e = open-text (plan (c .before .before .before .before .before .before .before .before .before .args .shape) (c .before .before .before .before .before .before .before .before .before .args .marks .now)) (c .before .before .before .before .before .before .before .before .before .args .depths .now) (c .before .before .before .before .before .before .before .before .before .args .square) (sym (c .before .before .before .before .before .is-closed .ensures) ∙ c .before .before .before .before .if1 .left) in
-    let h = line-as cellWord (c .before .before .before .before .before .before .before .before .before .args .square / c .before .before .before .before .before .before .before .before .before .args .shape .columns) (c .before .before .before .before .before .before .before .before .before .args .square % c .before .before .before .before .before .before .before .before .before .args .shape .columns) (c .before .before .before .number .ensures) e in omega (arith, ap length h, c .before .before .before .before .before .before .before .before .before .pre .1)
+    let at-number = c .before .before .before in
+    let at-if1 = at-number .before in
+    let at-is-closed = at-if1 .before in
+    let start = at-is-closed .before .before .before .before in
+    let e = open-text (plan (start .args .shape) (start .args .marks .now)) (start .args .depths .now) (start .args .square)
+    (sym (at-is-closed .is-closed .ensures) ∙ at-if1 .if1 .left) in let h = line-as cellWord
+    (start .args .square / start .args .shape .columns) (start .args .square % start .args .shape .columns)
+    (at-number .number .ensures) e in omega (arith, ap length h, start .pre .1)
 
 same-length : tie.Need-same-length
 same-length c = search needs
 
 returns-2 : tie.Need-returns-2
 returns-2 c =
-    let e = open-text (plan (c .before .before .before .before .before .before .before .before .before .before .before .before .args .shape) (c .before .before .before .before .before .before .before .before .before .before .before .before .args .marks .now)) (c .before .before .before .before .before .before .before .before .before .before .before .before .args .depths .now) (c .before .before .before .before .before .before .before .before .before .before .before .before .args .square) (sym (c .before .before .before .before .before .before .before .before .is-closed .ensures) ∙ c .before .before .before .before .before .before .before .if1 .left) in
-    written-as (line-as cellWord (c .before .before .before .before .before .before .before .before .before .before .before .before .args .square / c .before .before .before .before .before .before .before .before .before .before .before .before .args .shape .columns) (c .before .before .before .before .before .before .before .before .before .before .before .before .args .square % c .before .before .before .before .before .before .before .before .before .before .before .before .args .shape .columns) (c .before .before .before .before .before .before .number .ensures) e) (c .before .before .put-line .ensures)
+    let at-put-line = c .before .before in
+    let at-number = at-put-line .before .before .before .before in
+    let at-if1 = at-number .before in
+    let at-is-closed = at-if1 .before in
+    let start = at-is-closed .before .before .before .before in
+    let e = open-text (plan (start .args .shape) (start .args .marks .now)) (start .args .depths .now) (start .args .square)
+    (sym (at-is-closed .is-closed .ensures) ∙ at-if1 .if1 .left) in written-as
+    (line-as cellWord (start .args .square / start .args .shape .columns) (start .args .square % start .args .shape .columns) (at-number .number .ensures) e)
+    (at-put-line .put-line .ensures)
 
 pub put-square-spec : {M : Type 1} → statement M
 put-square-spec =

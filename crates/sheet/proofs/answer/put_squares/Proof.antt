@@ -26,7 +26,13 @@ loop-holds : tie.Need-loop-holds Inv-loop μ-loop
 loop-holds c = (omega arith, none-written _ _ _)
 
 put-square-requires : tie.Need-put-square-requires Inv-loop μ-loop
-put-square-requires c κs = ((c .before .before .before .before .before .before .before .pre .0, omega (arith, c .before .before .before .squares-of .ensures, c .before .before .before .before .before .before .before .pre .2), omega (arith, c .before .before .before .squares-of .ensures, c .before .before .before .before .before .before .before .pre .3)), square-fits (plan (c .before .before .before .before .before .before .before .args .shape) (c .before .before .before .before .before .before .before .args .marks .now)) (c .before .before .before .before .before .before .before .args .depths .now) (c .before .before .loop .square) (c .before .before .before .before .before .before .before .args .out .now) (next-fits (plan (c .before .before .before .before .before .before .before .args .shape) (c .before .before .before .before .before .before .before .args .marks .now)) (c .before .before .before .before .before .before .before .args .depths .now) (c .before .before .before .before .before .before .before .pre .1) (λ i. omega (arith, c .before .before .before .before .shared-slice-known2 .given i)) (c .before .before .loop .square) (c .before .before .before .before .before .before .before .args .out .now) (omega (arith, c .before .before .before .squares-of .ensures)) (c .before .before .before .before .before .before .before .pre .4)) (c .before .before .loop .inv .1))
+put-square-requires c κs =
+    let at-loop = c .before .before in
+    let at-squares-of = at-loop .before in
+    let at-shared-slice-known2 = at-squares-of .before in
+    let start = at-shared-slice-known2 .before .before .before in
+    let p = plan (start .args .shape) (start .args .marks .now) in
+    ((start .pre .0, omega (arith, at-squares-of .squares-of .ensures, start .pre .2), omega (arith, at-squares-of .squares-of .ensures, start .pre .3)), square-fits p (start .args .depths .now) (at-loop .loop .square) (start .args .out .now) (next-fits p (start .args .depths .now) (start .pre .1) (λ i. omega (arith, at-shared-slice-known2 .shared-slice-known2 .given i)) (at-loop .loop .square) (start .args .out .now) (omega (arith, at-squares-of .squares-of .ensures)) (start .pre .4)) (at-loop .loop .inv .1))
 
 add-square : tie.Need-add-square Inv-loop μ-loop
 add-square c = omega arith
@@ -35,16 +41,32 @@ loop-less : tie.Need-loop-less Inv-loop μ-loop
 loop-less c = omega arith
 
 loop-again : tie.Need-loop-again Inv-loop μ-loop
-loop-again c = (omega arith, square-written (plan (c .before .before .before .before .before .before .before .before .before .before .args .shape) (c .before .before .before .before .before .before .before .before .before .before .args .marks .now)) (c .before .before .before .before .before .before .before .before .before .before .args .depths .now) (c .before .before .before .before .before .loop .square) (c .before .before .before .before .before .before .before .before .before .before .args .out .now) (next-fits (plan (c .before .before .before .before .before .before .before .before .before .before .args .shape) (c .before .before .before .before .before .before .before .before .before .before .args .marks .now)) (c .before .before .before .before .before .before .before .before .before .before .args .depths .now) (c .before .before .before .before .before .before .before .before .before .before .pre .1) (λ i. omega (arith, c .before .before .before .before .before .before .before .shared-slice-known2 .given i)) (c .before .before .before .before .before .loop .square) (c .before .before .before .before .before .before .before .before .before .before .args .out .now) (omega (arith, c .before .before .before .before .before .before .squares-of .ensures)) (c .before .before .before .before .before .before .before .before .before .before .pre .4)) (c .before .before .before .before .before .loop .inv .1) (c .before .before .put-square .ensures))
+loop-again c =
+    let at-put-square = c .before .before in
+    let at-loop = at-put-square .before .before .before in
+    let at-squares-of = at-loop .before in
+    let at-shared-slice-known2 = at-squares-of .before in
+    let start = at-shared-slice-known2 .before .before .before in
+    let p = plan (start .args .shape) (start .args .marks .now) in
+    (omega arith, square-written p (start .args .depths .now) (at-loop .loop .square) (start .args .out .now) (next-fits p (start .args .depths .now) (start .pre .1) (λ i. omega (arith, at-shared-slice-known2 .shared-slice-known2 .given i)) (at-loop .loop .square) (start .args .out .now) (omega (arith, at-squares-of .squares-of .ensures)) (start .pre .4)) (at-loop .loop .inv .1) (at-put-square .put-square .ensures))
 
 same-length : tie.Need-same-length Inv-loop μ-loop
-same-length c = wrote-length (so-far-fits (plan (c .before .before .before .before .before .before .args .shape) (c .before .before .before .before .before .before .args .marks .now)) (c .before .before .before .before .before .before .args .depths .now) (c .before .before .before .before .before .before .pre .1) (λ i. omega (arith, c .before .before .before .shared-slice-known2 .given i)) (c .before .loop .square) (c .before .before .before .before .before .before .args .out .now) (omega (arith, c .before .before .squares-of .ensures)) (c .before .before .before .before .before .before .pre .4)) (c .before .loop .inv .1)
+same-length c =
+    let at-squares-of = c .before .before in
+    let at-shared-slice-known2 = at-squares-of .before in
+    let start = at-shared-slice-known2 .before .before .before in
+    wrote-length
+    (so-far-fits (plan (start .args .shape) (start .args .marks .now)) (start .args .depths .now) (start .pre .1) (λ i. omega (arith, at-shared-slice-known2 .shared-slice-known2 .given i)) (c .before .loop .square) (start .args .out .now) (omega (arith, at-squares-of .squares-of .ensures)) (start .pre .4))
+    (c .before .loop .inv .1)
 
 returns : tie.Need-returns Inv-loop μ-loop
 unfolding cellsText
 returns c =
-    let end : c .before .loop .square ≡ squares (c .before .before .before .before .before .before .args .shape) = omega (arith, c .before .before .squares-of .ensures) in
-    subst (λ (n : ℕ). Wrote (joined n (cellText (plan (c .before .before .before .before .before .before .args .shape) (c .before .before .before .before .before .before .args .marks .now)) (c .before .before .before .before .before .before .args .depths .now))) 0 (c .before .before .before .before .before .before .args .out .now) (c .before .loop .out) (c .before .loop .at)) end (c .before .loop .inv .1)
+    let at-squares-of = c .before .before in
+    let start = at-squares-of .before .before .before .before in
+    let end : c .before .loop .square ≡ squares (start .args .shape) = omega (arith, at-squares-of .squares-of .ensures) in subst
+    (λ (n : ℕ). Wrote (joined n (cellText (plan (start .args .shape) (start .args .marks .now)) (start .args .depths .now))) 0 (start .args .out .now) (c .before .loop .out) (c .before .loop .at))
+    end (c .before .loop .inv .1)
 
 pub put-squares-spec : {M : Type 1} → statement M
 put-squares-spec =

@@ -42,7 +42,14 @@ number-requires-5 : tie.Need-number-requires-5
 number-requires-5 c κs = search needs
 
 returns : tie.Need-returns
-returns c = run-is _ _ _ (c .before .before .before .before .before .before .before .before .before .before .before .line-of .ensures) (c .before .before .before .before .before .before .before .before .number .ensures) (c .before .before .before .before .before .before .number2 .ensures) (c .before .before .before .before .number3 .ensures) (c .before .before .number4 .ensures) (c .number5 .ensures)
+returns c =
+    let at-number4 = c .before .before in
+    let at-number3 = at-number4 .before .before in
+    let at-number2 = at-number3 .before .before in
+    let at-number = at-number2 .before .before in
+    let at-line-of = at-number .before .before .before in
+    run-is _ _ _ (at-line-of .line-of .ensures) (at-number .number .ensures) (at-number2 .number2 .ensures)
+    (at-number3 .number3 .ensures) (at-number4 .number4 .ensures) (c .number5 .ensures)
 
 pub run-line-spec : {M : Type 1} → statement M
 run-line-spec =

@@ -23,21 +23,31 @@ array-share-prefix-lasts : tie.Need-array-share-prefix-lasts
 array-share-prefix-lasts c = omega (arith, c .before .squares-of .ensures, c .before .before .before .before .before .before .before .before .pre .few)
 
 slice-aggregate-check : tie.Need-slice-aggregate-check
-slice-aggregate-check c = sym (length-take-le _ _ (omega (arith, c .before .before .squares-of .ensures, c .before .before .before .before .before .before .before .before .before .pre .few, length-replicate {A = ℕ} 4096 0)))
+slice-aggregate-check c =
+    let at-squares-of = c .before .before in
+    let start = at-squares-of .before .before .before .before .before .before .before in
+    sym (length-take-le _ _ (omega (arith, at-squares-of .squares-of .ensures, start .pre .few, length-replicate {A = ℕ} 4096 0)))
 
 array-share-prefix-records : tie.Need-array-share-prefix-records
 array-share-prefix-records c = omega (arith, c .before .record-size .ensures, c .before .before .before .before .before .before .before .before .before .pre .few)
 
 slice-aggregate-check-2 : tie.Need-slice-aggregate-check-2
-slice-aggregate-check-2 c = sym (length-take-le _ _ (omega (arith, c .before .before .record-size .ensures, c .before .before .before .before .before .before .before .before .before .before .pre .few, length-replicate {A = ℕ} 24578 0)))
+slice-aggregate-check-2 c =
+    let at-record-size = c .before .before in
+    let start = at-record-size .before .before .before .before .before .before .before .before in
+    sym (length-take-le _ _ (omega (arith, at-record-size .record-size .ensures, start .pre .few, length-replicate {A = ℕ} 24578 0)))
 
 check-requires : tie.Need-check-requires
 check-requires c κs = search needs
 
 returns : tie.Need-returns
 returns c =
-    let small : recordSize (plan (c .before .before .before .before .before .before .before .before .before .before .before .args .shape) []) ≤ 24578 = omega (arith, c .before .before .before .before .before .before .before .before .before .before .before .pre .few) in
-    judge-is _ _ _ _ (c .check .ensures) (zeros-are _ _ (c .before .before .before .before .squares-of .ensures) (c .before .before .before .before .before .before .before .before .before .before .before .pre .few)) (zeros-are _ _ (c .before .before .before .record-size .ensures) small)
+    let at-record-size = c .before .before .before in
+    let at-squares-of = at-record-size .before in
+    let start = at-squares-of .before .before .before .before .before .before .before in
+    let small : recordSize (plan (start .args .shape) []) ≤ 24578 = omega (arith, start .pre .few) in judge-is _ _ _ _
+    (c .check .ensures) (zeros-are _ _ (at-squares-of .squares-of .ensures) (start .pre .few))
+    (zeros-are _ _ (at-record-size .record-size .ensures) small)
 
 pub judge-spec : {M : Type 1} → statement M
 judge-spec =

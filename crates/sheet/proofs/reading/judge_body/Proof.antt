@@ -24,7 +24,10 @@ slice-aggregate-fill-rows-2 : tie.Need-slice-aggregate-fill-rows-2
 slice-aggregate-fill-rows-2 c = search needs
 
 fill-rows-requires : tie.Need-fill-rows-requires
-fill-rows-requires c κs = ((omega arith, plain-rain), (omega (arith, c .before .before .before .looked-at .ensures, rain-rows-at (c .before .before .before .before .before .before .before .before .before .pre .0 .2)), omega (arith, c .before .before .before .looked-at .ensures)))
+fill-rows-requires c κs =
+    let at-looked-at = c .before .before .before in
+    let start = at-looked-at .before .before .before .before .before .before in
+    ((omega arith, plain-rain), (omega (arith, at-looked-at .looked-at .ensures, rain-rows-at (start .pre .0 .2)), omega (arith, at-looked-at .looked-at .ensures)))
 
 slice-aggregate-fill-rows-3 : tie.Need-slice-aggregate-fill-rows-3
 slice-aggregate-fill-rows-3 c = search needs
@@ -33,7 +36,10 @@ slice-aggregate-fill-rows-4 : tie.Need-slice-aggregate-fill-rows-4
 slice-aggregate-fill-rows-4 c = search needs
 
 fill-rows-requires-2 : tie.Need-fill-rows-requires-2
-fill-rows-requires-2 c κs = ((omega arith, plain-inflow), (omega (arith, c .before .before .before .before .before .before .looked-at2 .ensures, inflow-rows-at (c .before .before .before .before .before .before .before .before .before .before .before .before .before .pre .0 .2)), omega (arith, c .before .before .before .before .before .before .looked-at2 .ensures)))
+fill-rows-requires-2 c κs =
+    let at-looked-at2 = c .before .before .before .before .before .before in
+    let start = at-looked-at2 .before .before .before .before .before .before .before in
+    ((omega arith, plain-inflow), (omega (arith, at-looked-at2 .looked-at2 .ensures, inflow-rows-at (start .pre .0 .2)), omega (arith, at-looked-at2 .looked-at2 .ensures)))
 
 mul-rain-end : tie.Need-mul-rain-end
 mul-rain-end c = search needs
@@ -45,19 +51,35 @@ array-share-prefix-rain : tie.Need-array-share-prefix-rain
 array-share-prefix-rain c = search needs
 
 slice-aggregate-judge : tie.Need-slice-aggregate-judge
-slice-aggregate-judge c = sym (length-take-le _ _ (omega (arith, c .before .before .before .before .before .before .before .before .before .before .looked-at .ensures, c .before .before .before .before .before .before .fill-rows .kept .1 .1 .1 .1 .1 .0, length-replicate {A = ℕ} 195 0)))
+slice-aggregate-judge c =
+    let at-fill-rows = c .before .before .before .before .before .before in
+    let at-looked-at = at-fill-rows .before .before .before .before in
+    sym
+    (length-take-le _ _ (omega (arith, at-looked-at .looked-at .ensures, at-fill-rows .fill-rows .kept .1 .1 .1 .1 .1 .0, length-replicate {A = ℕ} 195 0)))
 
 array-share-prefix-inflow : tie.Need-array-share-prefix-inflow
 array-share-prefix-inflow c = search needs
 
 slice-aggregate-judge-2 : tie.Need-slice-aggregate-judge-2
-slice-aggregate-judge-2 c = sym (length-take-le _ _ (omega (arith, c .before .before .before .before .before .before .before .before .before .before .looked-at2 .ensures, c .before .before .before .fill-rows2 .kept .1 .1 .1 .1 .1 .0, length-replicate {A = ℕ} 325 0)))
+slice-aggregate-judge-2 c =
+    let at-fill-rows2 = c .before .before .before in
+    let at-looked-at2 = at-fill-rows2 .before .before .before .before .before .before .before in
+    sym
+    (length-take-le _ _ (omega (arith, at-looked-at2 .looked-at2 .ensures, at-fill-rows2 .fill-rows2 .kept .1 .1 .1 .1 .1 .0, length-replicate {A = ℕ} 325 0)))
 
 judge-requires : tie.Need-judge-requires
 judge-requires c κs = c .before .before .before .before .before .before .before .before .before .before .before .before .before .before .before .before .before .pre .0 .0
 
 returns : tie.Need-returns
-returns c = body-judged _ (c .before .before .before .before .before .before .before .before .before .before .before .before .before .before .before .before .before .before .pre .0 .1) (c .before .before .before .before .before .before .before .before .before .before .before .before .before .before .before .before .before .before .pre .0 .2) (c .before .before .before .before .before .before .before .before .before .before .before .before .before .before .before .before .before .before .pre .1) (c .before .before .before .before .before .before .before .before .before .before .before .before .looked-at .ensures) (c .before .before .before .before .before .before .before .before .before .before .before .looked-at2 .ensures) (table-taken _ _ _ 3 (omega arith) _ _ (c .before .before .before .before .before .before .before .before .fill-rows .ensures)) (table-taken _ _ _ 5 (omega arith) _ _ (c .before .before .before .before .fill-rows2 .ensures)) (c .judge .ensures)
+returns c =
+    let at-fill-rows2 = c .before .before .before .before in
+    let at-fill-rows = at-fill-rows2 .before .before .before .before in
+    let at-looked-at2 = at-fill-rows .before .before .before in
+    let at-looked-at = at-looked-at2 .before in
+    let start = at-looked-at .before .before .before .before .before .before in
+    body-judged _ (start .pre .0 .1) (start .pre .0 .2) (start .pre .1) (at-looked-at .looked-at .ensures)
+    (at-looked-at2 .looked-at2 .ensures) (table-taken _ _ _ 3 (omega arith) _ _ (at-fill-rows .fill-rows .ensures))
+    (table-taken _ _ _ 5 (omega arith) _ _ (at-fill-rows2 .fill-rows2 .ensures)) (c .judge .ensures)
 
 pub judge-body-spec : {M : Type 1} → statement M
 judge-body-spec =

@@ -27,22 +27,50 @@ squares-of-requires : tie.Need-squares-of-requires
 squares-of-requires c κs = ranges-of-fine _ (holds-by (c .before .before .before .shape-fine .ensures) (c .before .before .if1 .left))
 
 returns-3 : tie.Need-returns-3
-returns-3 c = sym (every-fails _ 2 (lt-leb (squares (c .before .before .before .before .before .before .before .args .shape)) (c .before .before .before .before .before .before .before .args .lent .marks) (omega (arith, c .if3 .taken, c .before .before .squares-of .ensures))))
+returns-3 c =
+    let at-squares-of = c .before .before in
+    let start = at-squares-of .before .before .before .before .before in
+    sym
+    (every-fails _ 2 (lt-leb (squares (start .args .shape)) (start .args .lent .marks) (omega (arith, c .if3 .taken, at-squares-of .squares-of .ensures))))
 
 returns-4 : tie.Need-returns-4
-returns-4 c = sym (every-fails _ 3 (lt-leb (squares (c .before .before .before .before .before .before .before .before .before .args .shape)) (c .before .before .before .before .before .before .before .before .before .args .lent .beds) (omega (arith, c .if4 .taken, c .before .before .before .before .squares-of .ensures))))
+returns-4 c =
+    let at-squares-of = c .before .before .before .before in
+    let start = at-squares-of .before .before .before .before .before in
+    sym
+    (every-fails _ 3 (lt-leb (squares (start .args .shape)) (start .args .lent .beds) (omega (arith, c .if4 .taken, at-squares-of .squares-of .ensures))))
 
 returns-5 : tie.Need-returns-5
-returns-5 c = sym (every-fails _ 4 (lt-leb (squares (c .before .before .before .before .before .before .before .before .before .before .before .args .shape)) (c .before .before .before .before .before .before .before .before .before .before .before .args .lent .roughness) (omega (arith, c .if5 .taken, c .before .before .before .before .before .before .squares-of .ensures))))
+returns-5 c =
+    let at-squares-of = c .before .before .before .before .before .before in
+    let start = at-squares-of .before .before .before .before .before in
+    sym
+    (every-fails _ 4 (lt-leb (squares (start .args .shape)) (start .args .lent .roughness) (omega (arith, c .if5 .taken, at-squares-of .squares-of .ensures))))
 
 returns-6 : tie.Need-returns-6
-returns-6 c = sym (every-fails _ 5 (lt-leb (squares (c .before .before .before .before .before .before .before .before .before .before .before .before .before .args .shape)) (c .before .before .before .before .before .before .before .before .before .before .before .before .before .args .lent .depths) (omega (arith, c .if6 .taken, c .before .before .before .before .before .before .before .before .squares-of .ensures))))
+returns-6 c =
+    let at-squares-of = c .before .before .before .before .before .before .before .before in
+    let start = at-squares-of .before .before .before .before .before in
+    sym
+    (every-fails _ 5 (lt-leb (squares (start .args .shape)) (start .args .lent .depths) (omega (arith, c .if6 .taken, at-squares-of .squares-of .ensures))))
 
 returns-7 : tie.Need-returns-7
 returns-7 c = sym (every-fails _ 6 (lt-leb _ _ (c .if7 .taken)))
 
 returns-8 : tie.Need-returns-8
-returns-8 c = every-decided _ 7 _ refl (λ t. ((holds-by (c .before .before .before .before .before .before .before .before .before .before .before .before .before .before .before .shape-fine .ensures) (c .before .before .before .before .before .before .before .before .before .before .before .before .before .before .if1 .left)), ((holds-by (c .before .before .before .before .before .before .before .before .before .before .before .before .before .side-fine .ensures) (c .before .before .before .before .before .before .before .before .before .before .before .before .if2 .left)), (le-leb (squares (c .before .before .before .before .before .before .before .before .before .before .before .before .before .before .before .before .args .shape)) (c .before .before .before .before .before .before .before .before .before .before .before .before .before .before .before .before .args .lent .marks) (omega (arith, c .before .before .before .before .before .before .before .before .before .if3 .left, c .before .before .before .before .before .before .before .before .before .before .before .squares-of .ensures)), (le-leb (squares (c .before .before .before .before .before .before .before .before .before .before .before .before .before .before .before .before .args .shape)) (c .before .before .before .before .before .before .before .before .before .before .before .before .before .before .before .before .args .lent .beds) (omega (arith, c .before .before .before .before .before .before .before .if4 .left, c .before .before .before .before .before .before .before .before .before .before .before .squares-of .ensures)), (le-leb (squares (c .before .before .before .before .before .before .before .before .before .before .before .before .before .before .before .before .args .shape)) (c .before .before .before .before .before .before .before .before .before .before .before .before .before .before .before .before .args .lent .roughness) (omega (arith, c .before .before .before .before .before .if5 .left, c .before .before .before .before .before .before .before .before .before .before .before .squares-of .ensures)), (le-leb (squares (c .before .before .before .before .before .before .before .before .before .before .before .before .before .before .before .before .args .shape)) (c .before .before .before .before .before .before .before .before .before .before .before .before .before .before .before .before .args .lent .depths) (omega (arith, c .before .before .before .if6 .left, c .before .before .before .before .before .before .before .before .before .before .before .squares-of .ensures)), (le-leb _ _ (c .before .if7 .left), (t, tt)))))))))
+returns-8 c =
+    let at-if6 = c .before .before .before in
+    let at-if5 = at-if6 .before .before in
+    let at-if4 = at-if5 .before .before in
+    let at-if3 = at-if4 .before .before in
+    let at-squares-of = at-if3 .before .before in
+    let at-if2 = at-squares-of .before in
+    let at-side-fine = at-if2 .before in
+    let at-if1 = at-side-fine .before in
+    let at-shape-fine = at-if1 .before in
+    let start = at-shape-fine .before in
+    every-decided _ 7 _ refl
+    (λ t. ((holds-by (at-shape-fine .shape-fine .ensures) (at-if1 .if1 .left)), ((holds-by (at-side-fine .side-fine .ensures) (at-if2 .if2 .left)), (le-leb (squares (start .args .shape)) (start .args .lent .marks) (omega (arith, at-if3 .if3 .left, at-squares-of .squares-of .ensures)), (le-leb (squares (start .args .shape)) (start .args .lent .beds) (omega (arith, at-if4 .if4 .left, at-squares-of .squares-of .ensures)), (le-leb (squares (start .args .shape)) (start .args .lent .roughness) (omega (arith, at-if5 .if5 .left, at-squares-of .squares-of .ensures)), (le-leb (squares (start .args .shape)) (start .args .lent .depths) (omega (arith, at-if6 .if6 .left, at-squares-of .squares-of .ensures)), (le-leb _ _ (c .before .if7 .left), (t, tt)))))))))
 
 pub rooms-fine-spec : {M : Type 1} → statement M
 rooms-fine-spec =

@@ -22,19 +22,36 @@ line-of-requires : tie.Need-line-of-requires Inv-loop μ-loop
 line-of-requires c κs = c .before .before .before .before .pre .0
 
 returns : tie.Need-returns Inv-loop μ-loop
-returns c = rows-stop _ _ _ _ (c .before .before .before .before .before .before .before .pre .0) (c .before .before .before .before .before .before .before .pre .1) (c .before .before .before .before .loop .inv .1) (c .before .before .line-of .ensures) (c .before .before .before .loop-test .taken) (not-true _ (c .if1 .taken))
+returns c =
+    let at-line-of = c .before .before in
+    let at-loop-test = at-line-of .before in
+    let at-loop = at-loop-test .before in
+    let start = at-loop .before .before .before in
+    rows-stop _ _ _ _ (start .pre .0) (start .pre .1) (at-loop .loop .inv .1) (at-line-of .line-of .ensures)
+    (at-loop-test .loop-test .taken) (not-true _ (c .if1 .taken))
 
 add-count : tie.Need-add-count Inv-loop μ-loop
 add-count c = omega arith
 
 loop-less : tie.Need-loop-less Inv-loop μ-loop
-loop-less c = omega (arith, row-forth _ _ _ _ (c .before .before .before .before .before .before .before .pre .0) (c .before .before .before .before .before .before .before .pre .1) (c .before .before .before .before .loop .inv .1) (c .before .before .line-of .ensures) (not-false _ (c .if1 .left)))
+loop-less c =
+    let at-line-of = c .before .before in
+    let at-loop = at-line-of .before .before in
+    let start = at-loop .before .before .before in
+    omega
+    (arith, row-forth _ _ _ _ (start .pre .0) (start .pre .1) (at-loop .loop .inv .1) (at-line-of .line-of .ensures) (not-false _ (c .if1 .left)))
 
 loop-again : tie.Need-loop-again Inv-loop μ-loop
-loop-again c = (omega (arith, c .before .before .before .before .loop .inv .1 .passed), row-more _ _ _ _ (c .before .before .before .before .before .before .before .pre .0) (c .before .before .before .before .before .before .before .pre .1) (c .before .before .before .before .loop .inv .1) (c .before .before .line-of .ensures) (not-false _ (c .if1 .left)))
+loop-again c =
+    let at-line-of = c .before .before in
+    let at-loop = at-line-of .before .before in
+    let start = at-loop .before .before .before in
+    (omega (arith, at-loop .loop .inv .1 .passed), row-more _ _ _ _ (start .pre .0) (start .pre .1) (at-loop .loop .inv .1) (at-line-of .line-of .ensures) (not-false _ (c .if1 .left)))
 
 returns-2 : tie.Need-returns-2 Inv-loop μ-loop
-returns-2 c = rows-end _ _ _ _ (c .before .before .before .before .pre .0) (c .before .before .before .before .pre .1) (c .before .loop .inv .1) (omega arith) (omega arith)
+returns-2 c =
+    let start = c .before .before .before .before in
+    rows-end _ _ _ _ (start .pre .0) (start .pre .1) (c .before .loop .inv .1) (omega arith) (omega arith)
 
 pub count-rows-spec : {M : Type 1} → statement M
 count-rows-spec =

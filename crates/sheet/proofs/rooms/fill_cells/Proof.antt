@@ -44,15 +44,20 @@ same-length-4 : tie.Need-same-length-4 Inv-loop μ-loop
 same-length-4 c = long-depths _ _ _ (c .before .before .before .before .loop .inv .1)
 
 returns : tie.Need-returns Inv-loop μ-loop
-returns c = filling-stop _ _ _ (c .before .before .before .before .loop .inv .1) (c .before .before .cell-line .ensures) (c .before .before .before .before .before .before .before .before .before .before .before .args .shape) refl (omega (arith, c .before .before .before .before .before .squares-of .ensures)) (not-true _ (c .if1 .taken))
+returns c =
+    let at-cell-line = c .before .before in
+    let at-loop = at-cell-line .before .before in
+    let at-squares-of = at-loop .before in
+    let start = at-squares-of .before .before .before .before .before .before in
+    filling-stop _ _ _ (at-loop .loop .inv .1) (at-cell-line .cell-line .ensures) (start .args .shape) refl
+    (omega (arith, at-squares-of .squares-of .ensures)) (not-true _ (c .if1 .taken))
 
 put-cell-requires : tie.Need-put-cell-requires Inv-loop μ-loop
-put-cell-requires c κs = (
-  omega (arith, c .before .before .before .before .before .before .before .before .before .squares-of .ensures, c .before .before .before .before .before .before .before .before .before .before .before .before .before .before .before .pre .1 .0, long-marks _ _ _ (c .before .before .before .before .before .before .before .before .loop .inv .1)),
-  omega (arith, c .before .before .before .before .before .before .before .before .before .squares-of .ensures, c .before .before .before .before .before .before .before .before .before .before .before .before .before .before .before .pre .1 .1, long-beds _ _ _ (c .before .before .before .before .before .before .before .before .loop .inv .1)),
-  omega (arith, c .before .before .before .before .before .before .before .before .before .squares-of .ensures, c .before .before .before .before .before .before .before .before .before .before .before .before .before .before .before .pre .1 .2, long-roughness _ _ _ (c .before .before .before .before .before .before .before .before .loop .inv .1)),
-  omega (arith, c .before .before .before .before .before .before .before .before .before .squares-of .ensures, c .before .before .before .before .before .before .before .before .before .before .before .before .before .before .before .pre .1 .3, long-depths _ _ _ (c .before .before .before .before .before .before .before .before .loop .inv .1)),
-)
+put-cell-requires c κs =
+    let at-loop = c .before .before .before .before .before .before .before .before in
+    let at-squares-of = at-loop .before in
+    let start = at-squares-of .before .before .before .before .before .before in
+    (omega (arith, at-squares-of .squares-of .ensures, start .pre .1 .0, long-marks _ _ _ (at-loop .loop .inv .1)), omega (arith, at-squares-of .squares-of .ensures, start .pre .1 .1, long-beds _ _ _ (at-loop .loop .inv .1)), omega (arith, at-squares-of .squares-of .ensures, start .pre .1 .2, long-roughness _ _ _ (at-loop .loop .inv .1)), omega (arith, at-squares-of .squares-of .ensures, start .pre .1 .3, long-depths _ _ _ (at-loop .loop .inv .1)))
 
 add-square : tie.Need-add-square Inv-loop μ-loop
 add-square c = omega arith
@@ -61,13 +66,14 @@ loop-less : tie.Need-loop-less Inv-loop μ-loop
 loop-less c = omega arith
 
 loop-again : tie.Need-loop-again Inv-loop μ-loop
-loop-again c = (
-  omega arith,
-  filling-more _ _ _ (c .before .before .before .before .before .before .before .before .before .before .before .before .before .before .before .before .before .loop .inv .1) (c .before .before .before .before .before .before .before .before .before .before .before .before .before .before .before .cell-line .ensures) (not-false _ (c .before .before .before .before .before .before .before .before .before .before .before .before .before .if1 .left))
-      (omega (arith, c .before .before .before .before .before .before .before .before .before .before .before .before .before .before .before .before .before .before .squares-of .ensures, c .before .before .before .before .before .before .before .before .before .before .before .before .before .before .before .before .before .before .before .before .before .before .before .before .pre .1 .0)) (omega (arith, c .before .before .before .before .before .before .before .before .before .before .before .before .before .before .before .before .before .before .squares-of .ensures, c .before .before .before .before .before .before .before .before .before .before .before .before .before .before .before .before .before .before .before .before .before .before .before .before .pre .1 .1))
-      (omega (arith, c .before .before .before .before .before .before .before .before .before .before .before .before .before .before .before .before .before .before .squares-of .ensures, c .before .before .before .before .before .before .before .before .before .before .before .before .before .before .before .before .before .before .before .before .before .before .before .before .pre .1 .2)) (omega (arith, c .before .before .before .before .before .before .before .before .before .before .before .before .before .before .before .before .before .before .squares-of .ensures, c .before .before .before .before .before .before .before .before .before .before .before .before .before .before .before .before .before .before .before .before .before .before .before .before .pre .1 .3))
-      (record { marks = c .before .before .before .before .before .before .before .before .put-cell .ensures .0; beds = c .before .before .before .before .before .before .before .before .put-cell .ensures .1; roughness = c .before .before .before .before .before .before .before .before .put-cell .ensures .2; depths = c .before .before .before .before .before .before .before .before .put-cell .ensures .3 }),
-)
+loop-again c =
+    let at-put-cell = c .before .before .before .before .before .before .before .before in
+    let at-if1 = at-put-cell .before .before .before .before .before in
+    let at-cell-line = at-if1 .before .before in
+    let at-loop = at-cell-line .before .before in
+    let at-squares-of = at-loop .before in
+    let start = at-squares-of .before .before .before .before .before .before in
+    (omega arith, filling-more _ _ _ (at-loop .loop .inv .1) (at-cell-line .cell-line .ensures) (not-false _ (at-if1 .if1 .left)) (omega (arith, at-squares-of .squares-of .ensures, start .pre .1 .0)) (omega (arith, at-squares-of .squares-of .ensures, start .pre .1 .1)) (omega (arith, at-squares-of .squares-of .ensures, start .pre .1 .2)) (omega (arith, at-squares-of .squares-of .ensures, start .pre .1 .3)) (record { marks = at-put-cell .put-cell .ensures .0; beds = at-put-cell .put-cell .ensures .1; roughness = at-put-cell .put-cell .ensures .2; depths = at-put-cell .put-cell .ensures .3 }))
 
 same-length-5 : tie.Need-same-length-5 Inv-loop μ-loop
 same-length-5 c = long-marks _ _ _ (c .before .loop .inv .1)
@@ -82,7 +88,10 @@ same-length-8 : tie.Need-same-length-8 Inv-loop μ-loop
 same-length-8 c = long-depths _ _ _ (c .before .loop .inv .1)
 
 returns-2 : tie.Need-returns-2 Inv-loop μ-loop
-returns-2 c = filling-all _ _ _ (c .before .loop .inv .1) (c .before .before .before .before .before .before .before .before .args .shape) refl (omega (arith, c .before .before .squares-of .ensures))
+returns-2 c =
+    let at-squares-of = c .before .before in
+    let start = at-squares-of .before .before .before .before .before .before in
+    filling-all _ _ _ (c .before .loop .inv .1) (start .args .shape) refl (omega (arith, at-squares-of .squares-of .ensures))
 
 pub fill-cells-spec : {M : Type 1} → statement M
 fill-cells-spec =

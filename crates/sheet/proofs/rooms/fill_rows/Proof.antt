@@ -26,10 +26,19 @@ slice-aggregate-put-row : tie.Need-slice-aggregate-put-row Inv-loop μ-loop
 slice-aggregate-put-row c = search needs
 
 put-row-requires : tie.Need-put-row-requires Inv-loop μ-loop
-put-row-requires c κs = (omega (arith, c .before .before .before .before .before .before .before .before .before .pre .0 .0, values-at _ _ _ _ (c .before .before .before .line-of .ensures)), omega (arith, c .before .before .before .before .before .loop .inv .1, (table-fits _ (c .before .before .before .before .loop-test .taken) (c .before .before .before .before .before .before .before .before .before .pre .1 .1)), table-room _ _ _ _ (c .before .before .before .before .before .before .before .before .before .pre .0 .0) _ _ (table-fits _ (c .before .before .before .before .loop-test .taken) (c .before .before .before .before .before .before .before .before .before .pre .1 .1)) (c .before .before .before .before .before .loop .inv .3)))
+put-row-requires c κs =
+    let at-line-of = c .before .before .before in
+    let at-loop-test = at-line-of .before in
+    let at-loop = at-loop-test .before in
+    let start = at-loop .before .before .before .before in
+    (omega (arith, start .pre .0 .0, values-at _ _ _ _ (at-line-of .line-of .ensures)), omega (arith, at-loop .loop .inv .1, (table-fits _ (at-loop-test .loop-test .taken) (start .pre .1 .1)), table-room _ _ _ _ (start .pre .0 .0) _ _ (table-fits _ (at-loop-test .loop-test .taken) (start .pre .1 .1)) (at-loop .loop .inv .3)))
 
 add-used : tie.Need-add-used Inv-loop μ-loop
-add-used c = omega (arith, c .before .before .before .before .before .before .before .before .loop .inv .1, (table-fits _ (c .before .before .before .before .before .before .before .loop-test .taken) (c .before .before .before .before .before .before .before .before .before .before .before .before .pre .1 .1)))
+add-used c =
+    let at-loop-test = c .before .before .before .before .before .before .before in
+    let at-loop = at-loop-test .before in
+    let start = at-loop .before .before .before .before in
+    omega (arith, at-loop .loop .inv .1, (table-fits _ (at-loop-test .loop-test .taken) (start .pre .1 .1)))
 
 add-row : tie.Need-add-row Inv-loop μ-loop
 add-row c = omega arith
@@ -38,20 +47,25 @@ loop-less : tie.Need-loop-less Inv-loop μ-loop
 loop-less c = omega arith
 
 loop-again : tie.Need-loop-again Inv-loop μ-loop
-loop-again c = (
-  omega arith,
-  used-more _ _ (c .before .before .before .before .before .before .before .before .loop .inv .1),
-  row-more _ _ _ _ (c .before .before .before .before .before .before .before .before .before .before .before .before .pre .0 .0) (c .before .before .before .before .before .before .before .before .before .before .before .before .pre .0 .1) (c .before .before .before .before .before .before .before .before .loop .inv .2) (c .before .before .before .before .before .before .line-of .ensures) (row-read _ _ _ _ (c .before .before .before .before .before .before .before .before .loop .inv .2) (c .before .before .before .before .before .before .line-of .ensures) (omega (arith, c .before .before .before .before .before .before .before .before .before .before .before .before .pre .1 .0))),
-  table-more _ _ _ _ (c .before .before .before .before .before .before .before .before .before .before .before .before .pre .0 .0) _ _ (table-fits _ (c .before .before .before .before .before .before .before .loop-test .taken) (c .before .before .before .before .before .before .before .before .before .before .before .before .pre .1 .1)) (c .before .before .before .before .before .before .before .before .loop .inv .2 .here) (c .before .before .before .before .before .before .before .before .loop .inv .1) (c .before .before .before .before .before .before .before .before .loop .inv .3) (c .before .before .before .before .before .before .line-of .ensures) (c .before .before .put-row .ensures),
-)
+loop-again c =
+    let at-put-row = c .before .before in
+    let at-line-of = at-put-row .before .before .before .before in
+    let at-loop-test = at-line-of .before in
+    let at-loop = at-loop-test .before in
+    let start = at-loop .before .before .before .before in
+    (omega arith, used-more _ _ (at-loop .loop .inv .1), row-more _ _ _ _ (start .pre .0 .0) (start .pre .0 .1) (at-loop .loop .inv .2) (at-line-of .line-of .ensures) (row-read _ _ _ _ (at-loop .loop .inv .2) (at-line-of .line-of .ensures) (omega (arith, start .pre .1 .0))), table-more _ _ _ _ (start .pre .0 .0) _ _ (table-fits _ (at-loop-test .loop-test .taken) (start .pre .1 .1)) (at-loop .loop .inv .2 .here) (at-loop .loop .inv .1) (at-loop .loop .inv .3) (at-line-of .line-of .ensures) (at-put-row .put-row .ensures))
 
 same-length : tie.Need-same-length Inv-loop μ-loop
-same-length c = rows-length _ _ _ _ (c .before .before .before .before .before .pre .0 .0) _ (c .before .loop .inv .0) (c .before .before .before .before .before .pre .1 .1) (c .before .loop .inv .3)
+same-length c =
+    let start = c .before .before .before .before .before in
+    rows-length _ _ _ _ (start .pre .0 .0) _ (c .before .loop .inv .0) (start .pre .1 .1) (c .before .loop .inv .3)
 
 returns : tie.Need-returns Inv-loop μ-loop
 returns c =
-    let end : c .before .loop .row ≡ c .before .before .before .before .before .args .count = omega arith in
-    c .before .loop .inv .3 ∙ ap (λ (n : ℕ). placed (c .before .before .before .before .before .args .room .now) 0 (tableRows (c .before .before .before .before .before .args .text .now) (c .before .before .before .before .before .args .at) (c .before .before .before .before .before .args .word .now) (c .before .before .before .before .before .args .width) n)) end
+    let start = c .before .before .before .before .before in
+    let end : c .before .loop .row ≡ start .args .count = omega arith in c .before .loop .inv .3 ∙ ap
+    (λ (n : ℕ). placed (start .args .room .now) 0 (tableRows (start .args .text .now) (start .args .at) (start .args .word .now) (start .args .width) n))
+    end
 
 pub fill-rows-spec : {M : Type 1} → statement M
 fill-rows-spec =

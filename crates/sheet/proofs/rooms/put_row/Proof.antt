@@ -31,7 +31,11 @@ mul-room-2 : tie.Need-mul-room-2 Inv-loop μ-loop
 mul-room-2 c = omega arith
 
 slice-write-room : tie.Need-slice-write-room Inv-loop μ-loop
-slice-write-room c = omega (arith, row-length (c .before .before .before .args .room .now) (c .before .before .before .args .at) (c .before .before .before .args .values .now) (c .before .before .loop .k) (omega arith) (c .before .before .loop .inv .1))
+slice-write-room c =
+    let at-loop = c .before .before in
+    let start = at-loop .before in
+    omega
+    (arith, row-length (start .args .room .now) (start .args .at) (start .args .values .now) (at-loop .loop .k) (omega arith) (at-loop .loop .inv .1))
 
 add-k : tie.Need-add-k Inv-loop μ-loop
 add-k c = omega arith
@@ -40,15 +44,22 @@ loop-less : tie.Need-loop-less Inv-loop μ-loop
 loop-less c = omega arith
 
 loop-again : tie.Need-loop-again Inv-loop μ-loop
-loop-again c = (omega arith, row-put (c .before .before .before .args .room .now) (c .before .before .before .args .at) (c .before .before .before .args .values .now) (c .before .before .loop .k) (omega arith) (omega arith) (omega arith) (c .before .before .loop .inv .1))
+loop-again c =
+    let at-loop = c .before .before in
+    let start = at-loop .before in
+    (omega arith, row-put (start .args .room .now) (start .args .at) (start .args .values .now) (at-loop .loop .k) (omega arith) (omega arith) (omega arith) (at-loop .loop .inv .1))
 
 same-length : tie.Need-same-length Inv-loop μ-loop
-same-length c = row-length (c .before .before .args .room .now) (c .before .before .args .at) (c .before .before .args .values .now) (c .before .loop .k) (omega arith) (c .before .loop .inv .1)
+same-length c =
+    let start = c .before .before in
+    row-length (start .args .room .now) (start .args .at) (start .args .values .now) (c .before .loop .k) (omega arith)
+    (c .before .loop .inv .1)
 
 returns : tie.Need-returns Inv-loop μ-loop
 returns c =
-    let end : c .before .loop .k ≡ c .before .before .args .width = omega arith in
-    c .before .loop .inv .1 ∙ ap (λ (n : ℕ). placed (c .before .before .args .room .now) (c .before .before .args .at) (take n (c .before .before .args .values .now))) end
+    let start = c .before .before in
+    let end : c .before .loop .k ≡ start .args .width = omega arith in c .before .loop .inv .1 ∙ ap
+    (λ (n : ℕ). placed (start .args .room .now) (start .args .at) (take n (start .args .values .now))) end
 
 pub put-row-spec : {M : Type 1} → statement M
 put-row-spec =
