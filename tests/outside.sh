@@ -1,0 +1,13 @@
+#!/usr/bin/env bash
+# Links the static library into a Rust program and compares every call with document 01 as tests/outside/reference.rs has it. Words go to
+# the program: --long for a long run, --seed N, --rounds N.
+set -eu
+cd "$(dirname "$0")/.."
+. tests/outside/build.sh
+if ! tools; then
+    echo "outside: skipped, the library is not compared with Rust here: $why"
+    exit 0
+fi
+archive
+build compare
+"${run_by[@]}" "$built/compare" "$@" samples/*.sheet tests/damaged/*.sheet
