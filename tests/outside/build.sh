@@ -19,8 +19,9 @@ have() {
         return 1
     fi
     echo "outside: installing ${missing[*]}"
-    if ! { dpkg --add-architecture amd64 && apt-get update &&
-        DEBIAN_FRONTEND=noninteractive apt-get install -y --no-install-recommends "${missing[@]}"; } >"$built/install.log" 2>&1; then
+    [ "$(uname -m)" = x86_64 ] || dpkg --add-architecture amd64
+    if ! { apt-get update && DEBIAN_FRONTEND=noninteractive apt-get install -y --no-install-recommends "${missing[@]}"; } \
+        >"$built/install.log" 2>&1; then
         why="${missing[*]} cannot be installed: $(tail -n 1 "$built/install.log")"
         return 1
     fi

@@ -20,4 +20,30 @@ impl Chance {
     pub fn between(&mut self, least: u64, most: u64) -> u64 {
         least + self.below(most - least + 1)
     }
+
+    pub fn one_in(&mut self, many: u64) -> bool {
+        self.below(many) == 0
+    }
+
+    pub fn index(&mut self, length: usize) -> usize {
+        self.below(length as u64) as usize
+    }
+
+    pub fn pick<Item: Copy>(&mut self, from: &[Item]) -> Item {
+        from[self.index(from.len())]
+    }
+
+    /// A number up to `most`, of any size and often at an end.
+    pub fn amount(&mut self, most: u64) -> u64 {
+        match self.below(8) {
+            0 => 0,
+            1 => most - self.below(3).min(most),
+            2 => self.between(0, most),
+            3 => self.below(10).min(most),
+            _ => {
+                let bits = self.below(64 - most.leading_zeros() as u64 + 1);
+                self.below(1 << bits).min(most)
+            }
+        }
+    }
 }

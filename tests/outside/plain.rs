@@ -23,10 +23,16 @@ pub trait Roots {
 /// Roots binary digit by binary digit from the top: the library's way.
 pub struct Digits;
 
+/// The top digit that a root of this power can have.
+fn top_digit(of: u64, power: u32) -> u64 {
+    let digits = 64 - of.leading_zeros();
+    (1 << ((digits + power - 1) / power)) >> 1
+}
+
 impl Roots for Digits {
     fn square(of: u64) -> u64 {
         let mut root = 0;
-        let mut digit = 1 << ((64 - of.leading_zeros()) / 2);
+        let mut digit = top_digit(of, 2);
         while digit > 0 {
             let tried = root + digit;
             if tried * tried <= of {
@@ -39,7 +45,7 @@ impl Roots for Digits {
 
     fn cube(of: u64) -> u64 {
         let mut root = 0;
-        let mut digit = 1 << ((64 - of.leading_zeros()) / 3);
+        let mut digit = top_digit(of, 3);
         while digit > 0 {
             let tried = root + digit;
             if tried * tried * tried <= of {

@@ -2,11 +2,13 @@
 //! programs take turns, so that a change of the machine's pace meets all of them. Prints the tables of docs/SPEED.md.
 //! Arguments: the sheet to run, and the words that name the machine.
 
+// the benchmark uses a part of what the comparison does
+#[allow(dead_code)]
 mod chance;
-#[allow(dead_code)] // the benchmark calls two of the eight functions
+#[allow(dead_code)]
 mod library;
 mod plain;
-#[allow(dead_code)] // and of the reference only the reading of a sheet, the checks and the fresh run
+#[allow(dead_code)]
 mod reference;
 
 use chance::Chance;

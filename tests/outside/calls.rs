@@ -1,0 +1,376 @@
+//! One call made by the reference and by the library on the same input, and everything compared afterwards: the answer, every number
+//! lent, the run. The first difference is printed with its input and ends the program.
+
+use crate::library;
+use crate::meadows::Lent;
+use crate::plain;
+use crate::reference::{self, Arrow, Heading, Made, Meadow, Run};
+use std::collections::BTreeMap;
+use std::fmt;
+
+#[derive(Clone, Copy, PartialEq, Eq, PartialOrd, Ord, Debug)]
+pub enum Call {
+    Fresh,
+    Step,
+    RunTo,
+    TakeBack,
+    Arrow,
+    WetRows,
+    ReadSheet,
+    Meadow,
+}
+
+use Call::*;
+
+/// The calls on a meadow.
+pub const ON_MEADOW: [Call; 6] = [Fresh, Step, RunTo, TakeBack, Call::Arrow, WetRows];
+
+/// What each call can answer: 0, a refusal, and for an arrow 101 closed, 102 dry, 103 still. A run can never give 7: its end is in range
+/// and no step passes a multiple of the update time.
+pub const ANSWERS: [(Call, &[u32]); 8] = [
+    (Fresh, &[0, 1, 2, 5, 6]),
+    (Step, &[0, 1, 2, 3, 4, 5, 6, 7, 8, 9]),
+    (RunTo, &[0, 1, 2, 3, 4, 5, 6, 8, 9]),
+    (TakeBack, &[0, 1, 2, 3, 6, 10, 11]),
+    (Call::Arrow, &[0, 1, 2, 3, 6, 10, 11, 101, 102, 103]),
+    (WetRows, &[0, 1, 2, 3, 5]),
+    (ReadSheet, &[0, 1, 2, 3, 4, 5, 12]),
+    (Call::Meadow, &[0, 1, 2, 3, 4, 5, 8, 9, 12]),
+];
+
+/// What a slice for an answer holds before the call, so that a number not written is seen.
+const JUNK: u64 = 0xa5a5_a5a5_a5a5_a5a5;
+
+/// The room that `flood_meadow` asks for.
+pub const PRINT_ROOM: usize = 40_960;
+
+/// Bytes shown as a Rust literal.
+#[derive(Clone, PartialEq)]
+pub struct Text(pub Vec<u8>);
+
+impl fmt::Debug for Text {
+    fn fmt(&self, out: &mut fmt::Formatter) -> fmt::Result {
+        let shown: String = self.0.iter().flat_map(|byte| std::ascii::escape_default(*byte)).map(char::from).collect();
+        write!(out, "Text(b\"{}\".to_vec())", shown.replace('[', "\\x5b"))
+    }
+}
+
+/// A sheet's text with the rooms lent for it; the two sizes are added to those that `heading` and `line` must have.
+#[derive(Clone, Debug, PartialEq)]
+pub struct LentSheet {
+    pub text: Text,
+    pub rooms: Meadow,
+    pub heading: i64,
+    pub line: i64,
+}
+
+/// Everything that a call can have changed, and its number.
+#[derive(Clone, Debug, PartialEq)]
+pub struct After {
+    pub number: u32,
+    pub meadow: Meadow,
+    pub answer: Vec<u64>,
+    pub more: Vec<u64>,
+    pub printed: Text,
+}
+
+/// Counts, and where the program stands.
+#[derive(Default)]
+pub struct Tally {
+    pub seed: u64,
+    pub round: u64,
+    pub kind: &'static str,
+    pub by_answer: BTreeMap<(Call, u32), u64>,
+    pub by_kind: BTreeMap<&'static str, u64>,
+    pub by_damage: BTreeMap<(&'static str, u32), u64>,
+}
+
+impl Tally {
+    /// Calls both ways, compares, counts, and gives what the document says.
+    pub fn call(&mut self, call: Call, lent: &Lent) -> After {
+        let expected = by_reference(call, lent);
+        self.compare(call, lent, &expected, &by_library(call, lent), "the library");
+        if call == RunTo && lent.answer == 0 {
+            let run_to = [plain::run_to::<plain::Digits>, plain::run_to::<plain::Floats>];
+            for (engine, name) in run_to.into_iter().zip(["the plain engine (digits)", "the plain engine (f64)"]) {
+                self.compare(call, lent, &expected, &by_run_to(lent, engine), name);
+            }
+        }
+        self.count(call, expected.number);
+        expected
+    }
+
+    pub fn read_sheet(&mut self, lent: &LentSheet) -> After {
+        let expected = sheet_by_reference(lent);
+        self.compare(ReadSheet, lent, &expected, &sheet_by_library(lent), "the library");
+        self.count(ReadSheet, expected.number);
+        expected
+    }
+
+    /// `room` is the length lent for what is printed.
+    pub fn meadow(&mut self, text: &Text, room: usize) -> After {
+        let expected = meadow_by_reference(text, room);
+        self.compare(Call::Meadow, &(text, room), &expected, &meadow_by_library(text, room), "the library");
+        if room >= PRINT_ROOM {
+            self.count(Call::Meadow, expected.number);
+        }
+        expected
+    }
+
+    fn count(&mut self, call: Call, number: u32) {
+        *self.by_answer.entry((call, number)).or_insert(0) += 1;
+        *self.by_kind.entry(self.kind).or_insert(0) += 1;
+    }
+
+    fn compare(&self, call: Call, input: &dyn fmt::Debug, expected: &After, found: &After, who: &str) {
+        if expected == found {
+            return;
+        }
+        println!("outside: {:?} differs between the document and {}", call, who);
+        println!("repeat with: --seed {} --from {} --rounds 1 (kind: {})", self.seed, self.round, self.kind);
+        println!("input:\n{}", format!("{:?}", input).replace('[', "vec!["));
+        println!("by the document:\n{:?}", expected);
+        println!("by {}:\n{:?}", who, found);
+        println!("first difference: {}", first_difference(expected, found));
+        std::process::exit(1);
+    }
+}
+
+fn first_difference(expected: &After, found: &After) -> String {
+    if expected.number != found.number {
+        return format!("number {} by the document, {} found", expected.number, found.number);
+    }
+    let wide = |numbers: &[u32]| numbers.iter().map(|number| *number as u64).collect::<Vec<u64>>();
+    let bytes = |bytes: &[u8]| bytes.iter().map(|byte| *byte as u64).collect::<Vec<u64>>();
+    let (one, other) = (&expected.meadow, &found.meadow);
+    let parts = [
+        ("answer", expected.answer.clone(), found.answer.clone()),
+        ("wet or line", expected.more.clone(), found.more.clone()),
+        ("printed", bytes(&expected.printed.0), bytes(&found.printed.0)),
+        ("marks", bytes(&one.marks), bytes(&other.marks)),
+        ("beds", wide(&one.beds), wide(&other.beds)),
+        ("roughness", wide(&one.roughness), wide(&other.roughness)),
+        ("rain", wide(&one.rain), wide(&other.rain)),
+        ("inflow", wide(&one.inflow), wide(&other.inflow)),
+        ("depths", wide(&one.depths), wide(&other.depths)),
+        ("lasts", wide(&one.lasts), wide(&other.lasts)),
+        ("records", wide(&one.records), wide(&other.records)),
+    ];
+    for (name, expected, found) in parts {
+        if expected.len() != found.len() {
+            return format!("{}: length {} by the document, {} found", name, expected.len(), found.len());
+        }
+        if let Some(at) = (0..expected.len()).find(|at| expected[*at] != found[*at]) {
+            return format!("{}[{}]: {} by the document, {} found", name, at, expected[at], found[at]);
+        }
+    }
+    "none".to_string()
+}
+
+// ---------------------------------------------------------------- calls on a meadow
+
+/// How many numbers the answer of a call has.
+fn answer_size(call: Call) -> i64 {
+    match call {
+        RunTo => 6,
+        Call::Arrow => 2,
+        WetRows => 1,
+        _ => 5,
+    }
+}
+
+fn before(call: Call, lent: &Lent) -> After {
+    After {
+        number: 0,
+        meadow: lent.meadow.clone(),
+        answer: vec![JUNK; (answer_size(call) + lent.answer).max(0) as usize],
+        more: lent.wet.clone(),
+        printed: Text(Vec::new()),
+    }
+}
+
+fn numbers(run: &Run) -> [u64; 5] {
+    [run.clock, run.length, run.outflow, run.kept as u64, run.newest as u64]
+}
+
+/// A run to an end: a refusal by 1 to 6 leaves the answer as it was, one by 8 or 9 tells run and steps.
+fn put_made(after: &mut After, made: Result<Made, u32>) {
+    match made {
+        Err(number) => after.number = number,
+        Ok(made) => {
+            after.number = made.number;
+            after.answer[..5].copy_from_slice(&numbers(&made.run));
+            after.answer[5] = made.steps;
+        }
+    }
+}
+
+fn put_run(after: &mut After, run: Result<Run, u32>) {
+    match run {
+        Err(number) => after.number = number,
+        Ok(run) => after.answer.copy_from_slice(&numbers(&run)),
+    }
+}
+
+fn by_run_to(lent: &Lent, run_to: fn(&mut Meadow, &reference::Rules, &Run, u64) -> Result<Made, u32>) -> After {
+    let mut after = before(RunTo, lent);
+    let made = run_to(&mut after.meadow, &lent.rules, &lent.run, lent.end);
+    put_made(&mut after, made);
+    after
+}
+
+fn by_reference(call: Call, lent: &Lent) -> After {
+    let mut after = before(call, lent);
+    if after.answer.len() as i64 != answer_size(call) {
+        after.number = 1;
+        return after;
+    }
+    match call {
+        Fresh => {
+            let run = reference::fresh(&mut after.meadow, &lent.rules);
+            put_run(&mut after, run);
+        }
+        Step => {
+            let run = reference::step(&mut after.meadow, &lent.rules, &lent.run);
+            put_run(&mut after, run);
+        }
+        RunTo => return by_run_to(lent, reference::run_to),
+        TakeBack => {
+            let run = reference::take_back(&mut after.meadow, &lent.run);
+            put_run(&mut after, run);
+        }
+        Call::Arrow => {
+            let arrow = reference::arrow(&lent.meadow, lent.rules.square_side, &lent.run, lent.row, lent.column);
+            after.number = match arrow {
+                Arrow::Refused(number) => number,
+                Arrow::Closed => 101,
+                Arrow::Dry => 102,
+                Arrow::Still => 103,
+                Arrow::Moving { east, north } => {
+                    after.answer = vec![east.to_bits(), north.to_bits()];
+                    0
+                }
+            };
+        }
+        WetRows => match reference::wet_rows(&lent.meadow, lent.wet_depth, &mut after.more) {
+            Err(number) => after.number = number,
+            Ok(count) => after.answer[0] = count,
+        },
+        ReadSheet | Call::Meadow => unreachable!("a call on a text"),
+    }
+    after
+}
+
+fn by_library(call: Call, lent: &Lent) -> After {
+    let mut after = before(call, lent);
+    let (meadow, answer) = (&mut after.meadow, &mut after.answer);
+    after.number = match call {
+        Fresh => library::fresh(meadow, &lent.rules, answer),
+        Step => library::step(meadow, &lent.rules, &lent.run, answer),
+        RunTo => library::run_to(meadow, &lent.rules, &lent.run, lent.end, answer),
+        TakeBack => library::take_back(meadow, &lent.run, answer),
+        Call::Arrow => {
+            let mut speeds: Vec<f64> = answer.iter().map(|bits| f64::from_bits(*bits)).collect();
+            let side = lent.rules.square_side;
+            let number = library::arrow(meadow, side, &lent.run, lent.row, lent.column, &mut speeds);
+            *answer = speeds.iter().map(|speed| speed.to_bits()).collect();
+            number
+        }
+        WetRows => library::wet_rows(meadow, lent.wet_depth, &mut after.more, answer),
+        ReadSheet | Call::Meadow => unreachable!("a call on a text"),
+    };
+    after
+}
+
+// ---------------------------------------------------------------- calls on a text
+
+const HEADING_SIZE: i64 = 10;
+
+fn sheet_before(lent: &LentSheet) -> After {
+    After {
+        number: 0,
+        meadow: lent.rooms.clone(),
+        answer: vec![JUNK; (HEADING_SIZE + lent.heading).max(0) as usize],
+        more: vec![JUNK; (1 + lent.line).max(0) as usize],
+        printed: Text(Vec::new()),
+    }
+}
+
+fn heading_numbers(heading: &Heading) -> Vec<u64> {
+    let rules = &heading.rules;
+    vec![
+        heading.rows as u64,
+        heading.columns as u64,
+        rules.square_side,
+        rules.tolerance,
+        rules.shortest,
+        rules.longest,
+        rules.update,
+        heading.end,
+        heading.rain_rows as u64,
+        heading.inflow_rows as u64,
+    ]
+}
+
+fn sheet_by_reference(lent: &LentSheet) -> After {
+    let mut after = sheet_before(lent);
+    if lent.heading != 0 || lent.line != 0 {
+        after.number = 1;
+        return after;
+    }
+    match reference::read_sheet(&lent.text.0, &mut after.meadow) {
+        Ok(heading) => {
+            after.answer = heading_numbers(&heading);
+            after.more[0] = 0;
+        }
+        Err(refusal) => {
+            after.number = refusal.number;
+            after.more[0] = refusal.line;
+        }
+    }
+    after
+}
+
+fn sheet_by_library(lent: &LentSheet) -> After {
+    let mut after = sheet_before(lent);
+    after.number = library::read_sheet(&lent.text.0, &mut after.meadow, &mut after.answer, &mut after.more);
+    after
+}
+
+/// The number that a printed refusal tells, else 0.
+fn refused_by(printed: &[u8]) -> u32 {
+    let printed = String::from_utf8_lossy(printed);
+    match printed.strip_prefix("refused\t").and_then(|rest| rest.split('\t').next()) {
+        Some(number) => number.parse().unwrap_or(u32::MAX),
+        None => 0,
+    }
+}
+
+/// `answer` is the length that is given back, `more` where the rest of the room was written.
+fn meadow_after(length: usize, room: &[u8]) -> After {
+    let (printed, rest) = room.split_at(length);
+    let written = |at: &usize| rest[*at] != JUNK as u8;
+    After {
+        number: refused_by(printed),
+        meadow: Meadow::default(),
+        answer: vec![length as u64],
+        more: (0..rest.len()).filter(written).map(|at| at as u64).collect(),
+        printed: Text(printed.to_vec()),
+    }
+}
+
+fn meadow_by_reference(text: &Text, room: usize) -> After {
+    let mut out = vec![JUNK as u8; room];
+    if room < PRINT_ROOM {
+        return meadow_after(0, &out);
+    }
+    let printed = reference::meadow(&text.0);
+    out[..printed.len()].copy_from_slice(&printed);
+    meadow_after(printed.len(), &out)
+}
+
+fn meadow_by_library(text: &Text, room: usize) -> After {
+    let mut out = vec![JUNK as u8; room];
+    let length = library::meadow(&text.0, &mut out);
+    meadow_after(length.min(room), &out)
+}

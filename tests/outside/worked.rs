@@ -1,0 +1,124 @@
+//! Document 01's cases worked by hand, with the document's own numbers: both the reference and the library are held to them.
+
+use crate::calls::{After, Call, Tally, Text, PRINT_ROOM};
+use crate::meadows::Lent;
+use crate::reference::{Meadow, Rules, Run, EXIT, OPEN};
+
+const SHEET: &[u8] = b"grid\t1\t2\t1\nrun\t100\t1000\t1000\t1000\t1000\ncell\t0\t0\to\t0\t100\t1000\ncell\t0\t1\to\t0\t100\t0\n";
+const PRINTED: &[u8] = b"cell\t0\t0\t969\ncell\t0\t1\t31\nout\t0\nsteps\t1\nclock\t1000\n";
+
+/// A row of squares on flat ground, k 100, with a room for one record and a fresh run in steps of 1000 ms.
+fn flat(marks: Vec<u8>, depths: Vec<u32>) -> Lent {
+    let squares = marks.len();
+    Lent {
+        meadow: Meadow {
+            rows: 1,
+            columns: squares,
+            marks,
+            beds: vec![0; squares],
+            roughness: vec![100; squares],
+            rain: Vec::new(),
+            inflow: Vec::new(),
+            depths,
+            lasts: vec![0; squares],
+            records: vec![0; 2 + 6 * squares],
+        },
+        rules: Rules { square_side: 1, tolerance: 100, shortest: 1_000, longest: 1_000, update: 1_000 },
+        run: Run { clock: 0, length: 1_000, outflow: 0, kept: 0, newest: 0 },
+        end: 1_000,
+        row: 0,
+        column: 0,
+        wet_depth: 0,
+        wet: vec![0],
+        answer: 0,
+    }
+}
+
+/// The input of the next call: the meadow and the run that a call left.
+pub fn go_on(lent: &mut Lent, after: &After) {
+    lent.meadow = after.meadow.clone();
+    let [clock, length, outflow, kept, newest] = [0, 1, 2, 3, 4].map(|at| after.answer[at]);
+    lent.run = Run { clock, length, outflow, kept: kept as usize, newest: newest as usize };
+}
+
+fn hold(what: &str, right: bool) {
+    if !right {
+        println!("outside: not as worked by hand in the document: {}", what);
+        std::process::exit(1);
+    }
+}
+
+fn two_squares(tally: &mut Tally) {
+    let start = flat(vec![OPEN; 2], vec![1_000, 0]);
+    let mut lent = start.clone();
+    let step = tally.call(Call::Step, &lent);
+    hold("the sheet's step", step.meadow.depths == [969, 31] && step.meadow.records[2..] == [0, 31, 0, 0, 0, 0, 0, 0, 0, 0, 0, 0]);
+    go_on(&mut lent, &step);
+
+    let arrow = tally.call(Call::Arrow, &lent);
+    let east: f64 = 62_000.0 / 1_000_000.0;
+    hold("the arrow after it", arrow.number == 0 && arrow.answer == [east.to_bits(), 0.0f64.to_bits()]);
+
+    let back = tally.call(Call::TakeBack, &lent);
+    hold("its take-back", back.meadow.depths == [1_000, 0] && back.meadow.lasts == [0, 0] && back.answer[0] == 0);
+
+    let second = tally.call(Call::Step, &lent);
+    hold("its second step", second.meadow.depths == [941, 59] && second.answer[0] == 2_000);
+
+    // K = 1: step, step, take-back, take-back
+    go_on(&mut lent, &second);
+    let back = tally.call(Call::TakeBack, &lent);
+    hold("the first take-back of two", back.meadow.depths == [969, 31]);
+    go_on(&mut lent, &back);
+    hold("the second take-back of two", tally.call(Call::TakeBack, &lent).number == 10);
+}
+
+fn single_squares(tally: &mut Tally) {
+    let exit = tally.call(Call::Step, &flat(vec![EXIT], vec![10_000]));
+    hold("one exit square", exit.meadow.depths == [2_000] && exit.answer[2] == 8_000 && exit.meadow.records[2..6] == [2_000; 4]);
+    let still = tally.call(Call::Step, &flat(vec![OPEN; 2], vec![500, 500]));
+    hold("two equal levels", still.meadow.depths == [500, 500] && still.meadow.lasts == [0, 0]);
+    for (depth, number) in [(100_000_000, 0), (100_000_001, 3)] {
+        hold("the deepest depth", tally.call(Call::Step, &flat(vec![OPEN], vec![depth])).number == number);
+    }
+    for (columns, number) in [(64, 0), (65, 1)] {
+        let row = flat(vec![OPEN; columns], vec![0; columns]);
+        hold("the longest row", tally.call(Call::Step, &row).number == number);
+    }
+}
+
+/// The length is worked afresh at clock 0, and held in the run.
+fn lengths(tally: &mut Tally) {
+    for (tolerance, length) in [(99, 250), (100, 60_000)] {
+        let mut lent = flat(vec![OPEN; 2], vec![1_000_000, 900_000]);
+        lent.meadow.roughness = vec![500; 2];
+        lent.rules = Rules { square_side: 10, tolerance, shortest: 1, longest: 60_000, update: 60_000 };
+        hold("the step length", tally.call(Call::Step, &lent).answer[1] == length);
+    }
+}
+
+/// Rain of 3,600 µm an hour is 0 by 999 ms and 1 by 1000; 1 l/s on a square of 2 m is 0 by 3 ms and 1 by 4.
+fn tables(tally: &mut Tally) {
+    for (lasts, depth) in [(999, 0), (1_000, 1)] {
+        let mut lent = flat(vec![OPEN], vec![0]);
+        lent.meadow.rain = vec![0, 604_800_000, 3_600];
+        lent.rules.update = lasts;
+        hold("rain", tally.call(Call::Step, &lent).meadow.depths == [depth]);
+    }
+    for (lasts, depth) in [(3, 0), (4, 1)] {
+        let mut lent = flat(vec![OPEN], vec![0]);
+        lent.meadow.inflow = vec![0, 0, 0, 604_800_000, 1];
+        lent.rules.square_side = 2;
+        lent.rules.update = lasts;
+        hold("inflow", tally.call(Call::Step, &lent).meadow.depths == [depth]);
+    }
+}
+
+pub fn cases(tally: &mut Tally) {
+    two_squares(tally);
+    single_squares(tally);
+    lengths(tally);
+    tables(tally);
+    let printed = tally.meadow(&Text(SHEET.to_vec()), PRINT_ROOM).printed;
+    hold("what meadow prints", printed.0 == PRINTED);
+}
