@@ -3,7 +3,7 @@
 use crate::calls::{LentSheet, Text};
 use crate::chance::Chance;
 use crate::meadows::{self, Lent};
-use crate::reference::{Meadow, Rules, CLOSED, INFLOW_ROOM, OPEN, RAIN_ROOM};
+use crate::reference::{Meadow, Rules, CLOSED, EXIT, INFLOW_ROOM, OPEN, RAIN_ROOM};
 
 pub fn written(meadow: &Meadow, rules: &Rules, end: u64) -> Vec<u8> {
     let mut text = format!("grid\t{}\t{}\t{}\n", meadow.rows, meadow.columns, rules.square_side);
@@ -48,18 +48,18 @@ pub fn overfull(chance: &mut Chance) -> Vec<u8> {
     written(&meadow, &rules, 1_000 * chance.between(1, 2))
 }
 
-/// Exits on every square with as much inflow as they can carry: after some 234,000 steps more water has left than can be counted.
+/// Exits that touch no other, each with as much inflow as it can carry: after some 473,000 steps more water has left than can be counted.
 pub fn endless() -> Vec<u8> {
     let mut meadow = Meadow {
         rows: 1,
         columns: 64,
-        marks: vec![2; 64],
+        marks: (0..64).map(|column| if column % 2 == 0 { EXIT } else { CLOSED }).collect(),
         beds: vec![0; 64],
         roughness: vec![1; 64],
         depths: vec![0; 64],
         ..Meadow::default()
     };
-    for column in 0..64 {
+    for column in (0..64).step_by(2) {
         meadow.inflow.extend([0, column, 0, 604_800_000, 66_000]);
     }
     let rules = Rules { square_side: 1, tolerance: 10_000, shortest: 1_000, longest: 1_000, update: 3_600_000 };
