@@ -40,7 +40,7 @@ tools() {
         machine="x86_64, not emulated"
         ;;
     aarch64)
-        command -v dpkg >/dev/null || { why="on Arm the x86-64 packages and the emulator are Debian's, and this is not Debian" && return 1; }
+        command -v dpkg >/dev/null || { why="on Arm this needs Debian's x86-64 packages and emulator" && return 1; }
         have rustc libstd-rust-dev:amd64 gcc-x86-64-linux-gnu libc6-dev-amd64-cross libc6:amd64 qemu-user || return 1
         # Debian's own rustc: another one on the path has no x86-64 standard library
         compile=(/usr/bin/rustc --target x86_64-unknown-linux-gnu -C linker=x86_64-linux-gnu-gcc)

@@ -89,11 +89,12 @@ impl Tally {
     /// Calls both ways, compares, counts, and gives what the document says.
     pub fn call(&mut self, call: Call, lent: &Lent) -> After {
         let expected = by_reference(call, lent);
-        self.compare(call, lent, &expected, &by_library(call, lent), "the library");
+        let input = || format!("tally.call(Call::{:?}, &{:?});", call, lent);
+        self.compare(call, &input, &expected, &by_library(call, lent), "the library");
         if call == RunTo && lent.answer == 0 {
             let run_to = [plain::run_to::<plain::Digits>, plain::run_to::<plain::Floats>];
             for (engine, name) in run_to.into_iter().zip(["the plain engine (digits)", "the plain engine (f64)"]) {
-                self.compare(call, lent, &expected, &by_run_to(lent, engine), name);
+                self.compare(call, &input, &expected, &by_run_to(lent, engine), name);
             }
         }
         self.count(call, expected.number);
@@ -102,7 +103,8 @@ impl Tally {
 
     pub fn read_sheet(&mut self, lent: &LentSheet) -> After {
         let expected = sheet_by_reference(lent);
-        self.compare(ReadSheet, lent, &expected, &sheet_by_library(lent), "the library");
+        let input = || format!("tally.read_sheet(&crate::calls::{:?});", lent);
+        self.compare(ReadSheet, &input, &expected, &sheet_by_library(lent), "the library");
         self.count(ReadSheet, expected.number);
         expected
     }
@@ -110,7 +112,8 @@ impl Tally {
     /// `room` is the length lent for what is printed.
     pub fn meadow(&mut self, text: &Text, room: usize) -> After {
         let expected = meadow_by_reference(text, room);
-        self.compare(Call::Meadow, &(text, room), &expected, &meadow_by_library(text, room), "the library");
+        let input = || format!("tally.meadow(&{:?}, {});", text, room);
+        self.compare(Call::Meadow, &input, &expected, &meadow_by_library(text, room), "the library");
         if room >= PRINT_ROOM {
             self.count(Call::Meadow, expected.number);
         }
@@ -122,13 +125,14 @@ impl Tally {
         *self.by_kind.entry(self.kind).or_insert(0) += 1;
     }
 
-    fn compare(&self, call: Call, input: &dyn fmt::Debug, expected: &After, found: &After, who: &str) {
+    /// `input` is the call as a line of Rust.
+    fn compare(&self, call: Call, input: &dyn Fn() -> String, expected: &After, found: &After, who: &str) {
         if expected == found {
             return;
         }
-        println!("outside: {:?} differs between the document and {}", call, who);
-        println!("repeat with: --seed {} --from {} --rounds 1 (kind: {})", self.seed, self.round, self.kind);
-        println!("input:\n{}", format!("{:?}", input).replace('[', "vec!["));
+        println!("outside: {:?} differs between the document and {} ({})", call, who, self.kind);
+        println!("repeat with: tests/outside.sh --seed {} --from {} --rounds 1", self.seed, self.round);
+        println!("or as a line in tests/outside/worked.rs:\n{}", input().replace('[', "vec!["));
         println!("by the document:\n{:?}", expected);
         println!("by {}:\n{:?}", who, found);
         println!("first difference: {}", first_difference(expected, found));

@@ -458,11 +458,7 @@ fn forged_meadow(tally: &mut Tally, chance: &mut Chance) {
 fn shapes(tally: &mut Tally, chance: &mut Chance) {
     const SHAPES: [(usize, usize); 12] =
         [(64, 64), (64, 63), (63, 64), (64, 1), (1, 64), (2, 64), (64, 2), (8, 64), (65, 1), (1, 65), (0, 3), (3, 0)];
-    let shape = if chance.one_in(4) {
-        (chance.between(1, 64) as usize, chance.between(1, 64) as usize)
-    } else {
-        chance.pick(&SHAPES)
-    };
+    let shape = if chance.one_in(4) { (chance.between(1, 64) as usize, chance.between(1, 64) as usize) } else { chance.pick(&SHAPES) };
     if shape.0 * shape.1 == 0 || shape.0 > 64 || shape.1 > 64 {
         call_all(tally, &out_of_shape(chance, shape));
         return;
@@ -660,10 +656,8 @@ fn print_counts(tally: &Tally) {
     }
     println!("outside: calls by answer (0 done, 1 to 12 refused; an arrow: 0 moving, 101 closed, 102 dry, 103 still)");
     for (call, answers) in ANSWERS {
-        let counts: Vec<String> = answers
-            .iter()
-            .map(|answer| format!("{}: {}", answer, tally.by_answer.get(&(call, *answer)).unwrap_or(&0)))
-            .collect();
+        let counts: Vec<String> =
+            answers.iter().map(|answer| format!("{}: {}", answer, tally.by_answer.get(&(call, *answer)).unwrap_or(&0))).collect();
         println!("  {:<10} {}", format!("{:?}", call), counts.join(", "));
     }
     println!("outside: damaged sheets by damage and what the reader answers");

@@ -140,6 +140,7 @@ impl<'a> Ringed<'a> {
                     ringed.roughness[to] = meadow.roughness[from];
                     ringed.depths[to] = meadow.depths[from];
                     ringed.lasts[to] = meadow.lasts[from];
+                    ringed.levels[to] = meadow.beds[from] + meadow.depths[from];
                 }
             }
         }
@@ -186,17 +187,6 @@ impl<'a> Ringed<'a> {
             }
         }
         drops
-    }
-
-    fn find_levels(&mut self) {
-        for row in 0..self.rows {
-            let from = self.at(row, 0);
-            for at in from..from + self.columns {
-                if self.marks[at] != CLOSED {
-                    self.levels[at] = self.beds[at] + self.depths[at];
-                }
-            }
-        }
     }
 
     /// The gentlest drop that counts has the least candidate of its square, so one root of a drop is enough.
@@ -279,10 +269,8 @@ impl<'a> Ringed<'a> {
                 let flow = &self.flows[at];
                 let left = flow[0] + flow[1] + flow[2] + flow[3];
                 let [north, east, south, west] = self.neighbours(at);
-                let come = self.flows[north][2] as u64
-                    + self.flows[east][3] as u64
-                    + self.flows[south][0] as u64
-                    + self.flows[west][1] as u64;
+                let come =
+                    self.flows[north][2] as u64 + self.flows[east][3] as u64 + self.flows[south][0] as u64 + self.flows[west][1] as u64;
                 let depth = (self.depths[at] - left) as u64 + come + rained + self.hatched[at];
                 if depth > MOST_DEPTH {
                     return false;
@@ -293,6 +281,7 @@ impl<'a> Ringed<'a> {
         true
     }
 
+    /// Writes the record, and in the same pass the last leaving and the levels for the next step.
     fn keep_record(&mut self, slot: usize, length: u64, lasted: u64, rained: u64) {
         let size = 2 + 6 * self.rows * self.columns;
         let record = &mut self.records[slot * size..(slot + 1) * size];
@@ -312,6 +301,7 @@ impl<'a> Ringed<'a> {
                 kept[4] = self.lasts[at];
                 kept[5] = (rained + self.hatched[at]) as u32;
                 self.lasts[at] = flow[0] + flow[1] + flow[2] + flow[3];
+                self.levels[at] = self.beds[at] + self.depths_after[at];
             }
         }
     }
@@ -319,7 +309,6 @@ impl<'a> Ringed<'a> {
     /// One step; refusals 7, 8 and 9 come before anything is written.
     fn step<R: Roots>(&mut self, rules: &Rules, run: &Run) -> Result<Run, u32> {
         let into = run.clock % rules.update;
-        self.find_levels();
         let length = if into == 0 { self.length_afresh::<R>(rules) } else { run.length };
         let lasted = length.min(rules.update - into);
         let clock = run.clock + lasted;

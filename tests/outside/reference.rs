@@ -504,8 +504,7 @@ fn refuse(number: u32, applies: bool) -> Result<(), u32> {
 
 /// Numbers 1 to 6 for a step, and for a run where there is an end.
 pub fn check(meadow: &Meadow, rules: &Rules, run: &Run, end: Option<u64>) -> Result<(), u32> {
-    let lengths =
-        [meadow.marks.len(), meadow.beds.len(), meadow.roughness.len(), meadow.depths.len(), meadow.lasts.len()];
+    let lengths = [meadow.marks.len(), meadow.beds.len(), meadow.roughness.len(), meadow.depths.len(), meadow.lasts.len()];
     refuse(1, shape_wrong(meadow) || side_wrong(rules.square_side) || lengths_wrong(meadow, &lengths))?;
     refuse(2, marks_wrong(meadow) || ground_wrong(meadow))?;
     refuse(3, depths_wrong(meadow, &meadow.depths) || depths_wrong(meadow, &meadow.lasts))?;
@@ -540,8 +539,7 @@ fn marks_wrong(meadow: &Meadow) -> bool {
 /// 2: "bed or roughness of a square not closed out of range".
 fn ground_wrong(meadow: &Meadow) -> bool {
     (0..meadow.squares()).any(|square| {
-        !meadow.closed(square)
-            && (meadow.beds[square] as u128 > MOST_BED || !within(1, meadow.roughness[square] as u128, MOST_ROUGHNESS))
+        !meadow.closed(square) && (meadow.beds[square] as u128 > MOST_BED || !within(1, meadow.roughness[square] as u128, MOST_ROUGHNESS))
     })
 }
 
@@ -748,10 +746,7 @@ pub fn meadow_by(text: &[u8], run_to: impl Fn(&mut Meadow, &Rules, &Run, u64) ->
     }
 }
 
-fn depths_at_end(
-    text: &[u8],
-    run_to: impl Fn(&mut Meadow, &Rules, &Run, u64) -> Result<Made, u32>,
-) -> Result<(Meadow, Made), Refusal> {
+fn depths_at_end(text: &[u8], run_to: impl Fn(&mut Meadow, &Rules, &Run, u64) -> Result<Made, u32>) -> Result<(Meadow, Made), Refusal> {
     // "reads at most 65,536 bytes from standard input (more: 12, line 0) and gives 1 above 1,024 squares"
     if text.len() > MOST_TEXT {
         return Err(Refusal { number: 12, line: 0 });

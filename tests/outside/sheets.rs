@@ -215,8 +215,18 @@ pub fn at_limits(chance: &mut Chance, text: &[u8]) -> Vec<Vec<u8>> {
 
 fn no_number(chance: &mut Chance, text: &mut Vec<u8>) {
     const NUMBERS: [&str; 12] = [
-        "", "+1", "-1", "1.0", "1e3", "0x1", "00", "4294967296", "18446744073709551616", "340282366920938463463374607431768211457",
-        "1 ", "o",
+        "",
+        "+1",
+        "-1",
+        "1.0",
+        "1e3",
+        "0x1",
+        "00",
+        "4294967296",
+        "18446744073709551616",
+        "340282366920938463463374607431768211457",
+        "1 ",
+        "o",
     ];
     in_fields(chance, text, |chance, fields| {
         let at = chance.index(fields.len());
