@@ -20,7 +20,7 @@ use std::time::{Duration, Instant};
 use worked::go_on;
 
 const ROUNDS: u64 = 440;
-const LONG_ROUNDS: u64 = 13_000;
+const LONG_ROUNDS: u64 = 10 * ROUNDS;
 
 type Kind = fn(&mut Tally, &mut Chance);
 
