@@ -1,6 +1,6 @@
 #!/usr/bin/env bash
-# Links the static library into a Rust program and compares every call with document 01 as tests/outside/reference.rs has it. Words go to
-# the program: --long for a long run, --seed N, --rounds N.
+# Links the static library into a C program, which calls each function by flood.h, and into a Rust program, which compares every call with
+# document 01 as tests/outside/reference.rs has it. Words go to the Rust program: --long for a long run, --seed N, --rounds N.
 set -eu
 cd "$(dirname "$0")/.."
 . tests/outside/build.sh
@@ -9,5 +9,7 @@ if ! tools; then
     exit 0
 fi
 archive
+build_c header
+"${run_by[@]}" "$built/header"
 build compare
 "${run_by[@]}" "$built/compare" "$@" samples/*.sheet tests/damaged/*.sheet

@@ -3,6 +3,7 @@
 
 built=target/outside
 compile=()
+compile_c=()
 run_by=()
 machine=
 why=
@@ -37,6 +38,7 @@ tools() {
             have rustc gcc libc6-dev || return 1
         fi
         compile=(rustc)
+        compile_c=(cc)
         machine="x86_64, not emulated"
         ;;
     aarch64)
@@ -44,6 +46,7 @@ tools() {
         have rustc libstd-rust-dev:amd64 gcc-x86-64-linux-gnu libc6-dev-amd64-cross libc6:amd64 qemu-user || return 1
         # Debian's own rustc: another one on the path has no x86-64 standard library
         compile=(/usr/bin/rustc --target x86_64-unknown-linux-gnu -C linker=x86_64-linux-gnu-gcc)
+        compile_c=(x86_64-linux-gnu-gcc)
         run_by=(qemu-x86_64)
         machine="aarch64, x86-64 programs emulated by $(qemu-x86_64 --version | head -n 1)"
         ;;
@@ -66,4 +69,9 @@ archive() {
 # build NAME: tests/outside/NAME.rs with the static library, to target/outside/NAME
 build() {
     "${compile[@]}" --edition 2021 -O -L native=target/staticlib -o "$built/$1" "tests/outside/$1.rs"
+}
+
+# build_c NAME: the same of tests/outside/NAME.c
+build_c() {
+    "${compile_c[@]}" -std=c99 -Wall -Wextra -Werror -O -o "$built/$1" "tests/outside/$1.c" target/staticlib/libexports.a
 }
