@@ -10,13 +10,27 @@ import time
 
 import analytical_wave
 import basin
+import ditch_mouth
 import lake
+import long_step
+import pond
+import thin_water
 import turns
 import walls
 from sheets import TOP, Wrong
 
 PAGE = os.path.join(TOP, "docs", "VALIDATION.md")
-PARTS = {"wave": analytical_wave, "lake": lake, "basin": basin, "turns": turns, "walls": walls}
+PARTS = {
+    "wave": analytical_wave,
+    "lake": lake,
+    "basin": basin,
+    "turns": turns,
+    "walls": walls,
+    "pond": pond,
+    "thin": thin_water,
+    "mouth": ditch_mouth,
+    "step": long_step,
+}
 
 
 def page_lines():
