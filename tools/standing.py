@@ -11,7 +11,7 @@ Prints `standing` and the count, `steep` and how many of them fall by 1 mm or mo
 import os
 import sys
 
-sys.path.insert(0, os.path.join(os.path.dirname(os.path.abspath(__file__)), "..", "tests"))
+sys.path.append(os.path.join(os.path.dirname(os.path.abspath(__file__)), "..", "tests"))
 
 from document_01 import MOST_DEPTH, weigh  # noqa: E402
 from reading import Unreadable, read_answer  # noqa: E402

@@ -1,6 +1,7 @@
 """The analytical wave of source 000, section 3.1, in a channel folded through closed squares."""
 import math
 
+import unrounded
 from sheets import HOUR, MINUTE, SECOND, Sheet, claim, meadow, table
 from standing import with_answer
 
@@ -118,8 +119,25 @@ def length_rows(long):
         yield (side, len(at), f"{at[-1] // MINUTE} min", lengths[-1][0], TABLE_1[side, 60][1])
 
 
+def unrounded_row(side):
+    """The published rule with nothing rounded, fed by the same rows of inflow."""
+    rows = wave_sheet(side)[0].inflow
+    poured = lambda clock: sum(litres * max(0, min(clock, end / SECOND) - start / SECOND) for _, _, start, end, litres in rows)
+    brought = lambda clock: poured(clock) / 1_000 / side**2
+    depths, steps, least = unrounded.run(WAVES[side], side, ROUGHNESS / 10_000, HOUR / SECOND, brought)
+    told = [wave_depth((i + 0.5) * side, HOUR / SECOND) for i in range(WAVES[side])]
+    wet = error(pair for pair in zip(depths, told) if max(pair) > unrounded.NONE)
+    published = TABLE_1[side, 60]
+    return (side, steps, f"{wet:.4f}", f"{published[0]:.4f}", f"{wet / published[0]:.2f}", f"{1_000 * least:.1f}", published[1])
+
+
 def figures(long):
     heads = ["D, m", "update time", "steps", "error, m", "Table 1", "ratio", "error where 0.1 m deep", "error on the wave's own squares", "squares ahead"]
     yield from table(heads, error_rows(long))
     yield ""
     yield from table(["D, m", "update clocks looked at", "last of them", "least step, ms", "Table 1, ms"], length_rows(long))
+    if long:
+        yield ""
+        yield "The published rule with nothing rounded:"
+        yield ""
+        yield from table(["D, m", "steps", "error, m", "Table 1", "ratio", "least step, ms", "Table 1, ms"], [unrounded_row(25)])

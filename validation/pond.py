@@ -93,7 +93,7 @@ def figures(long):
         claim(rows[-1][3] > 0, "no steep square stands")
         yield from table(heads, rows)
     with open(SAMPLE) as sample:
-        claim(sample.read() == opened(water, HELD_MOUTH).text(HOUR), "samples/held-pond.sheet is not this pond")
+        claim(sample.read() == opened(water, HELD_MOUTH).text(10 * MINUTE), "samples/held-pond.sheet is not this pond")
     yield ""
     yield "Each mouth in turn, an hour after it is opened:"
     yield ""

@@ -4,8 +4,8 @@ import subprocess
 import sys
 
 TOP = os.path.join(os.path.dirname(os.path.abspath(__file__)), "..")
-for shared in ("tests", "tools"):
-    sys.path.insert(0, os.path.join(TOP, shared))
+for shared in ("tools", "tests"):
+    sys.path.append(os.path.join(TOP, shared))
 
 from reading import read_answer  # noqa: E402
 
