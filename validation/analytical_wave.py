@@ -11,7 +11,7 @@ INFLOW_ROWS = 64
 LONGEST_ROW = 64
 WAVES = {25: 150, 10: 370}
 # source 000, Table 1, by square and update time: error in m, least step in ms
-TABLE_1 = {(25, 60): (0.0313, 38), (10, 60): (0.0139, 6), (10, 10): (0.0141, 6), (10, 1): (0.0140, 6), (10, 0.5): (0.0136, 6)}
+TABLE_1 = {(25, 60): (0.0313, 38), (10, 60): (0.0139, 6), (10, 0.5): (0.0136, 6)}
 # how far the error may be above Table 1's
 ALLOWED = {25: 1.1, 10: 1.2}
 
@@ -76,10 +76,9 @@ def errors(found, told):
 
 
 def length_at(sheet, clock):
-    """The step length worked at a clock, from the depths that a run to it prints, and the steps made until then."""
+    """The step length that is worked at a clock, from the depths that a run to it prints."""
     text = sheet.text(clock)
-    answer = meadow(text)
-    return with_answer(text, answer.text).fresh_length(), answer.steps
+    return with_answer(text, meadow(text).text).fresh_length()
 
 
 def error_row(side, run, label):
@@ -99,24 +98,20 @@ def error_row(side, run, label):
 def error_rows(long):
     yield error_row(25, (0, 1, 60_000, 60_000), "60 s")
     if long:
-        for update in (60_000, 10_000, 1_000, 500):
+        for update in (60_000, 500):
             yield error_row(10, (0, 1, 60_000, update), f"{update / SECOND:g} s")
         for fixed in (18, 24):
             yield error_row(10, (0, fixed, fixed, 60_000), f"60 s, every step {fixed} ms")
 
 
-def length_rows(long):
-    """The length held from a clock on; the long form looks at every update of D = 25 and at some of D = 10."""
-    clocks = {25: range(MINUTE, HOUR, MINUTE) if long else [59 * MINUTE]}
-    if long:
-        clocks[10] = [10 * MINUTE, 20 * MINUTE, 30 * MINUTE, 40 * MINUTE, 50 * MINUTE, 59 * MINUTE]
+def length_rows():
+    """The least of the lengths held: at every update clock for D = 25, at some for D = 10."""
+    clocks = {25: range(MINUTE, HOUR, MINUTE), 10: [20 * MINUTE, 40 * MINUTE, 59 * MINUTE]}
     for side, at in clocks.items():
         sheet, _ = wave_sheet(side)
         lengths = [length_at(sheet, clock) for clock in at]
-        if long:
-            falling = all(later[0] <= earlier[0] for earlier, later in zip(lengths, lengths[1:]))
-            claim(falling, f"the step length does not only fall at D = {side}")
-        yield (side, len(at), f"{at[-1] // MINUTE} min", lengths[-1][0], TABLE_1[side, 60][1])
+        claim(lengths == sorted(lengths, reverse=True), f"the step length does not only fall at D = {side}")
+        yield (side, len(at), f"{at[-1] // MINUTE} min", lengths[-1], TABLE_1[side, 60][1])
 
 
 def unrounded_row(side):
@@ -134,9 +129,9 @@ def unrounded_row(side):
 def figures(long):
     heads = ["D, m", "update time", "steps", "error, m", "Table 1", "ratio", "error where 0.1 m deep", "error on the wave's own squares", "squares ahead"]
     yield from table(heads, error_rows(long))
-    yield ""
-    yield from table(["D, m", "update clocks looked at", "last of them", "least step, ms", "Table 1, ms"], length_rows(long))
     if long:
+        yield ""
+        yield from table(["D, m", "update clocks looked at", "last of them", "least step, ms", "Table 1, ms"], length_rows())
         yield ""
         yield "The published rule with nothing rounded:"
         yield ""

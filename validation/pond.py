@@ -59,9 +59,15 @@ def counts(sheet, ends):
         yield (end // MINUTE, answer.steps, len(found), sum(square[4] >= STEEP for square in found), greatest, answer.out)
 
 
+def share_gone(water, mouth, rain=0, **opening):
+    """How much of the pond's water has gone through a mouth in an hour; rain that fell on the mouth itself is none of it."""
+    after = meadow(opened(water, mouth, rain=rain, **opening).text(HOUR)).depths
+    return sum(depth + rain - after[place] for place, depth in water.items()) / sum(water.values())
+
+
 def mouths(name, water, **opening):
     """How many of the mouths let nothing out in an hour, and the least and the most that the others let out."""
-    shares = [meadow(opened(water, mouth, **opening).text(HOUR)).out / sum(water.values()) for mouth in bank()]
+    shares = [share_gone(water, mouth, **opening) for mouth in bank()]
     flowing = [share for share in shares if share > 0]
     return (name, len(shares), len(shares) - len(flowing), f"{100 * min(flowing):.1f} %", f"{100 * max(flowing):.1f} %")
 

@@ -6,7 +6,6 @@ prints does not stand in the page.
 """
 import os
 import sys
-import time
 
 import analytical_wave
 import basin
@@ -40,6 +39,12 @@ def page_lines():
         return {line.rstrip("\n") for line in page}
 
 
+def worked():
+    """Seconds of processor time that this program and the runs that it started have taken."""
+    times = os.times()
+    return times.user + times.system + times.children_user + times.children_system
+
+
 def run_part(name, long, page):
     """Prints a part's figures; the number of faults."""
     faults = 0
@@ -66,9 +71,9 @@ def main():
         return 2
     page, faults = page_lines(), 0
     for name in asked:
-        begun = time.monotonic()
+        begun = worked()
         faults += run_part(name, long, page)
-        print(f"validation: {name}: {time.monotonic() - begun:.0f} s", file=sys.stderr)
+        print(f"validation: {name}: {worked() - begun:.0f} s of processor time", file=sys.stderr)
     print(f"\nvalidation: {len(asked)} parts, {faults} faults")
     return 1 if faults else 0
 

@@ -2,6 +2,7 @@
 from sheets import MINUTE, Sheet, claim, meadow, table, uneven
 
 ROWS, COLUMNS = 9, 13
+END = 10 * MINUTE
 EXITS = {(4, 12), (8, 3)}
 CLOSED = {(3, 5), (3, 6), (4, 5), (0, 9)}
 # where a square goes in each image, of a grid with these rows and columns
@@ -32,13 +33,12 @@ def image(place_of):
     return sheet
 
 
-def figures(long):
-    end = (60 if long else 10) * MINUTE
+def figures(_long):
     first, rows = None, []
     for name, place_of in IMAGES.items():
-        answer = meadow(image(place_of).text(end))
+        answer = meadow(image(place_of).text(END))
         first = first or answer
         differ = sum(answer.depths[place_of(*place)] != depth for place, depth in first.depths.items())
-        rows.append((name, end // MINUTE, answer.steps, answer.out, differ))
+        rows.append((name, answer.steps, answer.out, differ))
         claim((differ, answer.steps, answer.out) == (0, first.steps, first.out), f"{name}: the answer is not the image of the first")
-    yield from table(["image", "minutes", "steps", "out, µm", "squares that differ"], rows)
+    yield from table(["image", "steps", "out, µm", "squares that differ"], rows)

@@ -11,6 +11,7 @@ AROUND = [
     if row not in WALL or column not in WALL
 ]
 HIGHEST = 1_000_000_000
+END = 30 * MINUTE
 
 
 def house(inside=None, around=None, rain=()):
@@ -29,39 +30,36 @@ def house(inside=None, around=None, rain=()):
     return sheet
 
 
-def tried(name, sheet, end, alone):
+def tried(name, sheet, alone):
     """A row of the table: water inside, water outside, and how many answers outside differ from `alone` (None: not compared)."""
-    answer = meadow(sheet.text(end))
+    answer = meadow(sheet.text(END))
     inside = [answer.depths.get(place, 0) for place in INSIDE]
     outside = {place: depth for place, depth in answer.depths.items() if place not in INSIDE}
     differ = "other ground" if alone is None else sum(alone[place] != depth for place, depth in outside.items())
     return (name, max(inside), min(outside.values()), max(outside.values()), differ)
 
 
-def figures(long):
-    end = (2 if long else 1) * HOUR // 2
-    alone = meadow(house().text(end)).depths
+def figures(_long):
+    alone = meadow(house().text(END)).depths
     pit, tower = (lambda place: 0), (lambda place: HIGHEST)
     uneven_floor = lambda place: uneven(place, 2_000_000)
     rows = [
-        tried("house all closed", house(), end, alone),
-        tried("floor at 0 m, a pit", house(inside=pit), end, alone),
-        tried("floor at 1,000 m", house(inside=tower), end, alone),
-        tried("uneven floor", house(inside=uneven_floor), end, alone),
-        tried("floor at 0 m, ground around it at 0 m", house(inside=pit, around=pit), end, None),
-        tried("floor at 0 m, ground around it at 1,000 m", house(inside=pit, around=tower), end, None),
-        tried("floor at 0 m, uneven ground around it", house(inside=pit, around=uneven_floor), end, None),
+        tried("house all closed", house(), alone),
+        tried("floor at 0 m, a pit", house(inside=pit), alone),
+        tried("floor at 1,000 m", house(inside=tower), alone),
+        tried("uneven floor", house(inside=uneven_floor), alone),
+        tried("floor at 0 m, ground around it at 0 m", house(inside=pit, around=pit), None),
+        tried("floor at 0 m, ground around it at 1,000 m", house(inside=pit, around=tower), None),
+        tried("floor at 0 m, uneven ground around it", house(inside=pit, around=uneven_floor), None),
     ]
     for row in rows:
         claim(row[1] == 0 and row[4] in (0, "other ground"), f"the wall let something through: {row}")
     # rain falls on every square that is not closed, an open floor too, and stays there
-    rain = [(0, end, 20_000)]
-    wet = meadow(house(inside=pit, rain=rain).text(end)).depths
-    dry = meadow(house(rain=rain).text(end)).depths
-    fallen = 20_000 * end // HOUR
+    rain = [(0, END, 20_000)]
+    wet = meadow(house(inside=pit, rain=rain).text(END)).depths
+    dry = meadow(house(rain=rain).text(END)).depths
+    fallen = 20_000 * END // HOUR
     claim(all(wet[place] == fallen for place in INSIDE), "rain inside did not stay")
     rows.append(("floor at 0 m, rain of 20 mm/h", fallen, min(dry.values()), max(dry.values()), sum(wet[place] != dry[place] for place in dry)))
     claim(rows[-1][4] == 0, "rain inside changed an answer outside")
-    yield f"after {end // MINUTE} minutes, depths in µm:"
-    yield ""
-    yield from table(["trial", "deepest inside", "least outside", "deepest outside", "answers outside that differ"], rows)
+    yield from table(["trial", "deepest inside, µm", "least outside, µm", "deepest outside, µm", "answers outside that differ"], rows)
