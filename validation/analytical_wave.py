@@ -127,7 +127,8 @@ def unrounded_row(side):
 
 
 def figures(long):
-    heads = ["D, m", "update time", "steps", "error, m", "Table 1", "ratio", "error where 0.1 m deep", "error on the wave's own squares", "squares ahead"]
+    heads = ["D, m", "update time", "steps", "error, m", "Table 1", "ratio"]
+    heads += ["error where 0.1 m deep", "error on the wave's own squares", "squares ahead"]
     yield from table(heads, error_rows(long))
     if long:
         yield ""

@@ -8,7 +8,12 @@ SIZE = 16
 HATCH = (0, 0)
 UNEVEN_BY = 1_000
 # the method's own step lengths; usual limits; two fixed steps
-RUNS = {"the method's own": (0, 1, 60_000, 60_000), "usual": USUAL, "all 10 s": (0, 10_000, 10_000, 60_000), "all 60 s": (0, 60_000, 60_000, 60_000)}
+RUNS = {
+    "the method's own": (0, 1, 60_000, 60_000),
+    "usual": USUAL,
+    "all 10 s": (0, 10_000, 10_000, 60_000),
+    "all 60 s": (0, 60_000, 60_000, 60_000),
+}
 
 
 def level_meadow(run):

@@ -73,7 +73,8 @@ def ditch_mouth():
     side = 10
     cliff, goes_on = profiles(side)
     centres = [(column + 0.5) * side for column in range(SQUARES)]
-    chart = Chart(range(0, 321, 40), [0, 0.02, 0.04, 0.06, 0.08, 0.1, 0.12], "distance along the ditch, m; its exit is at 320 m", f"depth, m, at {FLOW} l/s a metre")
+    names = "distance along the ditch, m; its exit is at 320 m", f"depth, m, at {FLOW} l/s for each metre of width"
+    chart = Chart(range(0, 321, 40), [0, 0.02, 0.04, 0.06, 0.08, 0.1, 0.12], *names)
     chart.line([(0, normal_depth() / 1e6), (320, normal_depth() / 1e6)], GREY, "4 3")
     chart.dots([(x, depth / 1e6) for x, depth in zip(centres, goes_on)], RED)
     chart.dots([(x, depth / 1e6) for x, depth in zip(centres, cliff)], BLUE)

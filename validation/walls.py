@@ -60,6 +60,7 @@ def figures(_long):
     dry = meadow(house(rain=rain).text(END)).depths
     fallen = 20_000 * END // HOUR
     claim(all(wet[place] == fallen for place in INSIDE), "rain inside did not stay")
-    rows.append(("floor at 0 m, rain of 20 mm/h", fallen, min(dry.values()), max(dry.values()), sum(wet[place] != dry[place] for place in dry)))
-    claim(rows[-1][4] == 0, "rain inside changed an answer outside")
+    differ = sum(wet[place] != depth for place, depth in dry.items())
+    claim(differ == 0, "rain inside changed an answer outside")
+    rows.append(("floor at 0 m, rain of 20 mm/h", fallen, min(dry.values()), max(dry.values()), differ))
     yield from table(["trial", "deepest inside, µm", "least outside, µm", "deepest outside, µm", "answers outside that differ"], rows)
