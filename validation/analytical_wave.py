@@ -10,6 +10,8 @@ ROUGHNESS = 300
 INFLOW_ROWS = 64
 LONGEST_ROW = 64
 WAVES = {25: 150, 10: 370}
+# slope tolerance 0 and whatever step the method asks for
+OWN_STEPS = (0, 1, 60_000, 60_000)
 # source 000, Table 1, by square and update time: error in m, least step in ms
 TABLE_1 = {(25, 60): (0.0313, 38), (10, 60): (0.0139, 6), (10, 0.5): (0.0136, 6)}
 # how far the error may be above Table 1's
@@ -32,28 +34,44 @@ def mean_depth_at_inlet(start, end):
     return (summed(end) - summed(start)) / (end - start)
 
 
-def fold(squares):
+def fold(squares, longest=LONGEST_ROW):
     """The places of the channel in order: it runs east and west along even rows, and one square joins each to the next."""
     places, row, ahead = [], 0, 1
     while len(places) < squares:
-        columns = range(LONGEST_ROW) if ahead == 1 else range(LONGEST_ROW - 1, -1, -1)
+        columns = range(longest) if ahead == 1 else range(longest - 1, -1, -1)
         places += [(row, column) for column in columns]
         places.append((row + 1, places[-1][1]))
         row, ahead = row + 2, -ahead
     return places[:squares]
 
 
-def wave_sheet(side, run=(0, 1, 60_000, 60_000)):
+def wave_sheet(side, run=OWN_STEPS):
     """The sheet of the wave, and the channel's places in order."""
     places = fold(WAVES[side])
-    sheet = Sheet(places[-1][0] + 1, LONGEST_ROW, side, run)
+    return channel(side, places, run), places
+
+
+def channel(side, places, run=OWN_STEPS):
+    """A flat dry channel along the given places, with the wave's inflow on the first."""
+    sheet = Sheet(places[-1][0] + 1, 1 + max(column for _, column in places), side, run)
     for place in places:
         sheet.put(place, 0, ROUGHNESS)
     each = HOUR // INFLOW_ROWS
     for start in range(0, HOUR, each):
         mean = mean_depth_at_inlet(start / SECOND, (start + each) / SECOND)
         sheet.inflow.append((*places[0], start, start + each, round(SPEED * mean * side * 1_000)))
-    return sheet, places
+    return sheet
+
+
+def depths_along(places, end):
+    answer = meadow(channel(25, places).text(end))
+    return [answer.depths[place] for place in places]
+
+
+def claim_fold_is_exact():
+    """A straight channel and a folded one have the same water, while the wave is still within the longest row."""
+    straight, folded = fold(LONGEST_ROW), fold(LONGEST_ROW, 7)
+    claim(depths_along(straight, 15 * MINUTE) == depths_along(folded, 15 * MINUTE), "the fold changes the wave")
 
 
 def compare(answer, places, side):
@@ -96,7 +114,7 @@ def error_row(side, run, label):
 
 
 def error_rows(long):
-    yield error_row(25, (0, 1, 60_000, 60_000), "60 s")
+    yield error_row(25, OWN_STEPS, "60 s")
     if long:
         for update in (60_000, 500):
             yield error_row(10, (0, 1, 60_000, update), f"{update / SECOND:g} s")
@@ -127,6 +145,7 @@ def unrounded_row(side):
 
 
 def figures(long):
+    claim_fold_is_exact()
     heads = ["D, m", "update time", "steps", "error, m", "Table 1", "ratio"]
     heads += ["error where 0.1 m deep", "error on the wave's own squares", "squares ahead"]
     yield from table(heads, error_rows(long))
