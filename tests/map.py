@@ -1,5 +1,6 @@
 #!/usr/bin/env python3
-"""The map of each sample has a wall for each closed square, an exit for each exit, and blue just where the answer has water."""
+"""The map of each sample has a wall for each closed square, an exit for each exit, blue just where the answer has water, and a mark for
+each standing square."""
 import glob
 import os
 import subprocess
@@ -9,6 +10,8 @@ import xml.etree.ElementTree as tree
 
 TOP = os.path.join(os.path.dirname(os.path.abspath(__file__)), "..")
 TOOL = os.path.join(TOP, "tools", "map.py")
+# the samples that have standing squares, and how many
+STANDING = {"held-pond.sheet": 27}
 
 
 def drawn(sheet, answer):
@@ -25,12 +28,13 @@ def expected(sheet, answer):
         "exit": marks.count("e"),
         "wet": sum(depth > 0 for depth in depths),
         "dry": sum(depth == 0 for depth in depths),
+        "standing": STANDING.get(os.path.basename(sheet), 0),
     }
 
 
 def found(svg):
     kinds = [part.get("class") for part in tree.fromstring(svg).iter() if part.get("class")]
-    return {kind: kinds.count(kind) for kind in ("wall", "exit", "wet", "dry")}
+    return {kind: kinds.count(kind) for kind in ("wall", "exit", "wet", "dry", "standing")}
 
 
 def main():

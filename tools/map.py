@@ -1,15 +1,20 @@
 #!/usr/bin/env python3
 """map.py SHEET ANSWER > MAP.svg: a map of a sheet and of what `meadow` answered to it.
 
-Depths are blue in steps, closed squares are walls, exits have a gold edge, dry ground is shaded by its height. The tool computes no
-depth: it draws those that the answer has.
+Depths are blue in steps, closed squares are walls, exits have a gold edge, dry ground is shaded by its height. Standing squares, as
+tools/standing.py finds them, have a red diamond: filled where the square falls by 1 mm or more on some side, else an outline. The tool
+computes no depth: it draws those that the answer has.
 """
 import sys
 
+from reading import Unreadable, read_answer, read_sheet
+from standing import STEEP, standing_squares
+
 SQUARE = 22
-MARGIN = 16
+MARGIN = 28
 LEGEND = 260
-LEAST_HEIGHT = 320
+LEAST_HEIGHT = 370
+EVERY = 5
 # the least depth of each step of blue, in µm, with its colour and its name in the legend
 BLUES = [
     (1, "#deebf7", "under 1 mm"),
@@ -22,42 +27,10 @@ BLUES = [
 ]
 WALL = "#4a4a4a"
 EXIT = "#d99a00"
+STANDING = "#ff4d3d"
+LINES = '<g stroke="#f0f0f0" stroke-width="0.5">'
 LOW_GROUND = (233, 221, 184)
 HIGH_GROUND = (150, 126, 84)
-
-
-class Unreadable(Exception):
-    pass
-
-
-def read_sheet(text):
-    """Rows, columns, side, and each square's mark and bed."""
-    lines = [line.split("\t") for line in text.splitlines()]
-    if len(lines) < 2 or lines[0][0] != "grid" or len(lines[0]) != 4:
-        raise Unreadable("the sheet does not begin with a grid line")
-    rows, columns, side = (int(n) for n in lines[0][1:])
-    cells = [line for line in lines if line[0] == "cell"]
-    if len(cells) != rows * columns:
-        raise Unreadable("the sheet has not one cell line a square")
-    squares = {}
-    for cell in cells:
-        bed = int(cell[4]) if len(cell) > 4 else 0
-        squares[int(cell[1]), int(cell[2])] = (cell[3], bed)
-    return rows, columns, side, squares
-
-
-def read_answer(text):
-    """Depths by square, and the totals; a refusal has neither."""
-    depths, totals = {}, {}
-    for line in text.splitlines():
-        fields = line.split("\t")
-        if fields[0] == "refused":
-            raise Unreadable(f"meadow refused this sheet: number {fields[1]}, line {fields[2]}")
-        if fields[0] == "cell":
-            depths[int(fields[1]), int(fields[2])] = int(fields[3])
-        else:
-            totals[fields[0]] = int(fields[1])
-    return depths, totals
 
 
 def blue(depth):
@@ -93,7 +66,23 @@ def square_at(place, mark, bed, depths, lowest, highest):
     return drawn
 
 
-def legend(x, side, lowest, highest, totals):
+def diamond(x, y, steep, more=""):
+    """The mark of a standing square, about the middle of a square at x, y."""
+    fill = STANDING if steep else "none"
+    points = " ".join(f"{x + SQUARE / 2 + across:g},{y + SQUARE / 2 + down:g}" for across, down in ((0, -6), (6, 0), (0, 6), (-6, 0)))
+    return f'<polygon points="{points}" fill="{fill}" stroke="{STANDING}" stroke-width="1.5"{more}/>'
+
+
+def numbers(rows, columns):
+    """Every fifth row and column by its number in the sheet."""
+    middle = SQUARE // 2 + 4
+    across = ' font-size="10" fill="#666666" text-anchor="middle"'
+    drawn = [words(MARGIN + column * SQUARE + SQUARE // 2, MARGIN - 6, column, across) for column in range(0, columns, EVERY)]
+    down = across.replace("middle", "end")
+    return drawn + [words(MARGIN - 6, MARGIN + row * SQUARE + middle, row, down) for row in range(0, rows, EVERY)]
+
+
+def legend(x, side, lowest, highest, totals, standing):
     drawn = [words(x, MARGIN + 12, "depth of water", ' font-weight="bold"')]
     y = MARGIN + 24
     for _, colour, name in BLUES:
@@ -106,28 +95,38 @@ def legend(x, side, lowest, highest, totals):
         drawn += [box(x, y, 16, 14, colour), words(x + 24, y + 12, name)]
         y += 18
     drawn += [box(x + 1, y + 1, 14, 12, "none", f' stroke="{EXIT}" stroke-width="3"'), words(x + 24, y + 12, "exit")]
-    y += 30
+    for steep, name in ((True, "standing, falls by 1 mm or more"), (False, "standing, falls by less")):
+        y += 18
+        count = sum((square[4] >= STEEP) == steep for square in standing)
+        drawn += [diamond(x + 8 - SQUARE / 2, y + 7 - SQUARE / 2, steep), words(x + 24, y + 12, f"{name}: {count}")]
+    y += 34
     drawn.append(words(x, y, f"a square is {side} m by {side} m; north is up"))
-    for name, unit in (("clock", "ms"), ("steps", "steps"), ("out", "µm over one square left")):
+    for name, unit in (("clock", " ms"), ("steps", ""), ("out", " µm over one square")):
         if name in totals:
             y += 18
-            drawn.append(words(x, y, f"{name}: {totals[name]:,} {unit}"))
+            drawn.append(words(x, y, f"{name}: {totals[name]:,}{unit}"))
     return drawn
 
 
 def svg(sheet, answer):
     rows, columns, side, squares = read_sheet(sheet)
     depths, totals = read_answer(answer)
+    standing = standing_squares(sheet, answer)
     beds = [bed for mark, bed in squares.values() if mark != "x"] or [0]
     lowest, highest = min(beds), max(beds)
     width = 2 * MARGIN + columns * SQUARE + MARGIN + LEGEND
     height = max(2 * MARGIN + rows * SQUARE, LEAST_HEIGHT)
     drawn = [f'<svg xmlns="http://www.w3.org/2000/svg" width="{width}" height="{height}" font-family="sans-serif" font-size="12">']
     drawn.append(box(0, 0, width, height, "#ffffff"))
+    drawn.append(LINES)
     for place in sorted(squares):
         mark, bed = squares[place]
         drawn.append(square_at(place, mark, bed, depths, lowest, highest))
-    drawn += legend(2 * MARGIN + columns * SQUARE, side, lowest, highest, totals)
+    drawn.append("</g>")
+    for row, column, _, _, greatest in standing:
+        drawn.append(diamond(MARGIN + column * SQUARE, MARGIN + row * SQUARE, greatest >= STEEP, ' class="standing"'))
+    drawn += numbers(rows, columns)
+    drawn += legend(2 * MARGIN + columns * SQUARE, side, lowest, highest, totals, standing)
     return "\n".join(drawn + ["</svg>"]) + "\n"
 
 
@@ -138,7 +137,7 @@ def main():
     try:
         with open(sys.argv[1]) as sheet, open(sys.argv[2]) as answer:
             sys.stdout.write(svg(sheet.read(), answer.read()))
-    except (OSError, ValueError, IndexError, Unreadable) as fault:
+    except (OSError, ValueError, IndexError, KeyError, Unreadable) as fault:
         print(f"map: {fault}", file=sys.stderr)
         return 1
     return 0

@@ -1,0 +1,39 @@
+"""A closed basin under rain and inflow: the water on the ground is what the tables say by the clock."""
+from sheets import DAY, HOUR, MINUTE, Sheet, claim, meadow, table, uneven
+
+SIDE = 7
+RAIN = [(0, 90_001, 20_017), (30_500, 1_800_000, 7_333), (700_000, 700_001, 999_983)]
+INFLOW = [(2, 3, 0, 600_001, 17), (2, 3, 59_999, 1_200_000, 23), (9, 6, 1, 3_333_333, 5), (4, 1, 10, 13, 99_991)]
+CLOSED = {(0, 0), (5, 4), (5, 5), (11, 2)}
+
+
+def basin():
+    sheet = Sheet(12, 9, SIDE)
+    for place in sheet.squares:
+        if place not in CLOSED:
+            sheet.put(place, uneven(place, 800_000), 100 + uneven(place, 500), uneven(place, 3_000))
+    sheet.rain, sheet.inflow = RAIN, INFLOW
+    return sheet
+
+
+def ran(start, end, clock):
+    return max(0, min(clock, end) - start)
+
+
+def by_the_tables(sheet, clock):
+    """The water at the start and all that the tables have brought by a clock, in µm over one square."""
+    ground = sheet.ground()
+    rain = sum(rate * ran(start, end, clock) for start, end, rate in sheet.rain) // HOUR
+    poured = {}
+    for row, column, start, end, litres in sheet.inflow:
+        poured[row, column] = poured.get((row, column), 0) + litres * ran(start, end, clock)
+    return sum(sheet.squares[place][3] + rain for place in ground) + sum(amount // SIDE**2 for amount in poured.values())
+
+
+def figures(long):
+    sheet, rows = basin(), []
+    for end in [MINUTE, 10 * MINUTE, HOUR] + ([DAY] if long else []):
+        answer, told = meadow(sheet.text(end)), by_the_tables(sheet, end)
+        rows.append((end // MINUTE, answer.steps, answer.water(), told, answer.water() - told))
+        claim(answer.water() == told and answer.out == 0, f"water was lost or won by {end} ms")
+    yield from table(["minutes", "steps", "on the ground, µm over one square", "by the tables", "difference"], rows)

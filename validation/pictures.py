@@ -1,0 +1,110 @@
+#!/usr/bin/env python3
+"""pictures.py: makes the pictures of docs/VALIDATION.md, under docs/pictures/, from runs of `meadow`."""
+import os
+
+from analytical_wave import compare, wave_depth, wave_sheet
+from ditch_mouth import FLOW, SQUARES, normal_depth, profiles
+from long_step import RUNS, level_meadow
+from pond import HELD_MOUTH, opened, settled
+from sheets import HOUR, MINUTE, SECOND, TOP, meadow
+
+import map as drawing
+
+FOLDER = os.path.join(TOP, "docs", "pictures")
+WIDTH, HEIGHT = 640, 300
+LEFT, RIGHT, ABOVE, BELOW = 48, 24, 28, 44
+BLUE, RED, GREY = "#08519c", "#d7301f", "#777777"
+
+
+class Chart:
+    """Lines and dots over an x axis and a y axis, each a list of the values that are marked on it."""
+
+    def __init__(self, across, up, name_across, name_up):
+        self.across, self.up = across, up
+        head = f'<svg xmlns="http://www.w3.org/2000/svg" width="{WIDTH}" height="{HEIGHT}" font-family="sans-serif" font-size="12">'
+        self.drawn = [head, f'<rect width="{WIDTH}" height="{HEIGHT}" fill="#ffffff"/>']
+        for value in across:
+            self.drawn.append(f'<path d="M{self.x(value)} {ABOVE}V{HEIGHT - BELOW}" stroke="#e5e5e5"/>')
+            self.write(self.x(value), HEIGHT - BELOW + 16, f"{value:,}")
+        for value in up:
+            self.drawn.append(f'<path d="M{LEFT} {self.y(value)}H{WIDTH - RIGHT}" stroke="#e5e5e5"/>')
+            self.write(LEFT - 6, self.y(value) + 4, f"{value:g}", "end")
+        self.write(WIDTH / 2, HEIGHT - 8, name_across)
+        self.write(LEFT, ABOVE - 12, name_up, "start")
+
+    def x(self, value):
+        first, last = self.across[0], self.across[-1]
+        return round(LEFT + (value - first) / (last - first) * (WIDTH - LEFT - RIGHT), 1)
+
+    def y(self, value):
+        first, last = self.up[0], self.up[-1]
+        return round(HEIGHT - BELOW - (value - first) / (last - first) * (HEIGHT - ABOVE - BELOW), 1)
+
+    def write(self, x, y, text, anchor="middle", fill="#000000"):
+        self.drawn.append(f'<text x="{x}" y="{y}" text-anchor="{anchor}" fill="{fill}">{text}</text>')
+
+    def line(self, points, colour, dashes="none"):
+        path = "M" + "L".join(f"{self.x(x)} {self.y(y)}" for x, y in points)
+        self.drawn.append(f'<path d="{path}" fill="none" stroke="{colour}" stroke-width="1.5" stroke-dasharray="{dashes}"/>')
+
+    def dots(self, points, colour):
+        self.drawn += [f'<circle cx="{self.x(x)}" cy="{self.y(y)}" r="2.2" fill="{colour}"/>' for x, y in points]
+
+    def name(self, x, y, text, colour):
+        self.write(self.x(x), self.y(y), text, "start", colour)
+
+    def text(self):
+        return "\n".join(self.drawn + ["</svg>"]) + "\n"
+
+
+def wave():
+    side = 25
+    sheet, places = wave_sheet(side)
+    found, _ = compare(meadow(sheet.text(HOUR)), places, side)
+    chart = Chart(range(0, 3_751, 750), [0, 0.5, 1, 1.5, 2, 2.5], "distance from the inlet, m", "depth, m, after 3,600 s")
+    chart.dots([((i + 0.5) * side, depth) for i, depth in enumerate(found)], BLUE)
+    chart.line([(x, wave_depth(x, HOUR / SECOND)) for x in (*range(0, 3_600, 25), *range(3_576, 3_601, 2), 3_750)], RED)
+    chart.name(150, 1.0, "line: the analytical wave", RED)
+    chart.name(150, 0.8, "dots: meadow, squares of 25 m", BLUE)
+    return chart.text()
+
+
+def ditch_mouth():
+    side = 10
+    cliff, goes_on = profiles(side)
+    centres = [(column + 0.5) * side for column in range(SQUARES)]
+    names = "distance along the ditch, m; its exit is at 320 m", f"depth, m, at {FLOW} l/s for each metre of width"
+    chart = Chart(range(0, 321, 40), [0, 0.02, 0.04, 0.06, 0.08, 0.1, 0.12], *names)
+    chart.line([(0, normal_depth() / 1e6), (320, normal_depth() / 1e6)], GREY, "4 3")
+    chart.dots([(x, depth / 1e6) for x, depth in zip(centres, goes_on)], RED)
+    chart.dots([(x, depth / 1e6) for x, depth in zip(centres, cliff)], BLUE)
+    chart.name(10, 0.06, "dashes: normal depth", GREY)
+    chart.name(10, 0.05, "red: the ditch goes on beyond 320 m", RED)
+    chart.name(10, 0.04, "blue: an exit at 320 m", BLUE)
+    return chart.text()
+
+
+def map_of(sheet, end):
+    text = sheet.text(end)
+    return drawing.svg(text, meadow(text).text)
+
+
+PICTURES = {
+    "wave.svg": wave,
+    "held-pond.svg": lambda: map_of(opened(settled(), HELD_MOUTH), 10 * MINUTE),
+    "ditch-mouth.svg": ditch_mouth,
+    "usual-steps.svg": lambda: map_of(level_meadow(RUNS["usual"]), 30 * MINUTE),
+    "long-steps.svg": lambda: map_of(level_meadow(RUNS["all 60 s"]), 30 * MINUTE),
+}
+
+
+def main():
+    os.makedirs(FOLDER, exist_ok=True)
+    for name, made in PICTURES.items():
+        with open(os.path.join(FOLDER, name), "w", encoding="utf-8") as picture:
+            picture.write(made())
+        print(f"docs/pictures/{name}")
+
+
+if __name__ == "__main__":
+    main()

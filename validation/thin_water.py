@@ -1,0 +1,99 @@
+"""Thin water: speeds in whole mm/s and amounts in whole µm keep it where it is."""
+import math
+
+from document_01 import MOST_DEPTH, height, weigh
+from sheets import HOUR, MINUTE, USUAL, Sheet, claim, meadow, table
+
+SIDE = 10
+SLOPES = (100, 1_000, 10_000)
+ROUGHNESSES = (300, 3_500)
+STEPS = (100, 500, 10_000, 60_000)
+SQUARES = 40
+
+
+def fall(slope):
+    """The drop in µm from one square to the next on a slope of 1 in so many."""
+    return SIDE * 1_000_000 // slope
+
+
+def strip(squares, slope, roughness, depth, run):
+    """A strip that falls to an exit at its east end, between closed rows."""
+    sheet = Sheet(3, squares, SIDE, run)
+    for column in range(squares):
+        mark = "e" if column == squares - 1 else "o"
+        sheet.put((1, column), 1_000_000 + fall(slope) * (squares - 1 - column), roughness, depth, mark)
+    return sheet
+
+
+def still_up_to(moves):
+    """The greatest depth in µm at which nothing moves."""
+    still, moving = 0, MOST_DEPTH
+    while moving - still > 1:
+        middle = (still + moving) // 2
+        still, moving = (still, middle) if moves(middle) else (middle, moving)
+    return still
+
+
+def moves_in(slope, roughness, ms):
+    return lambda depth: any(weigh(SIDE, depth, 0, roughness, ms, [0, fall(slope), 0, 0]))
+
+
+def has_speed(slope, roughness):
+    return lambda depth: height(depth) * math.isqrt(100 * fall(slope) // SIDE) >= 10 * roughness
+
+
+def moves_in_micrometres(slope, roughness, ms):
+    """As moves_in, with the speed in µm/s that request #105 asks for."""
+
+    def moves(depth):
+        speed = min(math.isqrt(9_810_000 * depth), 100 * height(depth) * math.isqrt(100 * fall(slope) // SIDE) // roughness)
+        most = min(depth, speed * ms * depth // (SIDE * 1_000_000_000))
+        return min(2 * most, depth, fall(slope)) // 2 > 0
+
+    return moves
+
+
+def found_still(slope, roughness, ms):
+    """The greatest still depth for a step, worked from the rule and then tried: `meadow` moves nothing there, and moves 1 µm more."""
+    depth = still_up_to(moves_in(slope, roughness, ms))
+    for tried, moved in ((depth, False), (depth + 1, True)):
+        answer = meadow(strip(3, slope, roughness, tried, (0, ms, ms, ms)).text(ms))
+        claim((answer.depths[1, 0] != tried) == moved, f"{tried} µm on 1 in {slope} in {ms} ms is not as worked")
+    return depth
+
+
+def still_rows():
+    for slope in SLOPES:
+        for roughness in ROUGHNESSES:
+            speed = still_up_to(has_speed(slope, roughness))
+            today = [found_still(slope, roughness, ms) for ms in STEPS]
+            asked = [still_up_to(moves_in_micrometres(slope, roughness, ms)) for ms in (500, 10_000)]
+            yield (f"1 in {slope:,}", roughness / 10_000, speed, *today, *asked)
+
+
+def kinematic_share(slope, roughness, rate):
+    """The share of an hour's rain that leaves a plane within that hour by the kinematic wave, before it is in balance."""
+    n, rain, length = roughness / 10_000, rate / 1e6 / 3_600, SQUARES * SIDE
+    gain = slope**-0.5 / n
+    claim((length / (gain * rain ** (2 / 3))) ** 0.6 > 3_600, "the plane is in balance within the hour")
+    return gain * rain ** (5 / 3) * 3_600 ** (8 / 3) * 3 / 8 / (rain * 3_600 * length)
+
+
+def rain_rows(long):
+    slope, roughness = 100, 1_000
+    runs = [("usual", USUAL), ("all 10,000 ms", (0, 10_000, 10_000, MINUTE)), ("all 500 ms", (0, 500, 500, MINUTE))]
+    runs += [("all 100 ms", (0, 100, 100, MINUTE))] if long else []
+    for rate in (20_000, 5_000):
+        for name, run in runs:
+            sheet = strip(SQUARES, slope, roughness, 0, run)
+            sheet.rain.append((0, HOUR, rate))
+            share = [f"{100 * meadow(sheet.text(end)).out / (rate * SQUARES):.2f} %" for end in (HOUR, 3 * HOUR)]
+            yield (f"{rate // 1_000} mm/h", name, *share, f"{100 * kinematic_share(slope, roughness, rate):.2f} %")
+
+
+def figures(long):
+    heads = ["slope", "n", "speed 0 up to"] + [f"still in {ms:,} ms up to" for ms in STEPS]
+    yield from table(heads + ["#105: in 500 ms", "#105: in 10,000 ms"], still_rows())
+    yield ""
+    heads = ["rain for an hour", "steps", "out after 1 h", "out after 3 h", "kinematic wave, 1 h"]
+    yield from table(heads, rain_rows(long))
