@@ -68,7 +68,7 @@ archive() {
 
 # build NAME: tests/outside/NAME.rs with the static library, to target/outside/NAME
 build() {
-    "${compile[@]}" --edition 2021 -O -L native=target/staticlib -o "$built/$1" "tests/outside/$1.rs"
+    "${compile[@]}" --edition 2021 -C opt-level=3 -C codegen-units=1 -L native=target/staticlib -o "$built/$1" "tests/outside/$1.rs"
 }
 
 # build_c NAME: the same of tests/outside/NAME.c

@@ -157,6 +157,24 @@ fn time_meadow(text: &[u8]) -> (Times, Vec<u8>) {
     })
 }
 
+/// The three roots of every square of a meadow, taken as often as in a run: what finding roots alone costs.
+fn time_roots<R: plain::Roots>(meadow: &Meadow) -> (Vec<f64>, u64) {
+    let mut sum = 0;
+    let times = (0..ROUNDS)
+        .map(|_| {
+            let clock = Instant::now();
+            for turn in 0..STEPS {
+                for depth in &meadow.depths {
+                    let depth = *depth as u64 + turn;
+                    sum += R::cube(depth * depth) + R::square(981 * depth / 100) + R::square(100 * depth / RULES.square_side);
+                }
+            }
+            clock.elapsed().as_nanos() as f64
+        })
+        .collect();
+    (times, sum)
+}
+
 fn median(times: &[f64]) -> f64 {
     let mut sorted = times.to_vec();
     sorted.sort_by(|a, b| a.partial_cmp(b).unwrap());
@@ -215,6 +233,14 @@ fn main() {
     println!("|---|---|---|---|---|---|");
     let (times, _) = time_meadow(&text);
     line(&words[1], &times, 1000.0);
+
+    let meadow = all_wet(64);
+    let ((digits, a), (floats, b)) = (time_roots::<plain::Digits>(&meadow), time_roots::<plain::Floats>(&meadow));
+    assert!(a == b, "the two ways to find a root differ");
+    let roots = STEPS as f64 * meadow.squares() as f64;
+    println!("\n| nanoseconds for the three roots of a wet square | roots by digits | roots by f64 |");
+    println!("|---|---|---|");
+    println!("| 64 by 64, all wet | {} | {} |", spread(&digits, roots, 1), spread(&floats, roots, 1));
 
     println!("\n| all wet | squares | library, ns a step | library, ns a square | digits, ns a square | f64, ns a square |");
     println!("|---|---|---|---|---|---|");
