@@ -82,9 +82,8 @@ module _ {p : Plan} {rec : List ℕ} {held : ℕ} {w : World} (s : Settles p rec
   pub settles-gathers : Gathers p rec (w .depths)
   settles-gathers = record { recorded = settles-recorded; depths-long = s .depths-long; covered = s .covered }
 
-  pub settles-small : SmallLeaving p rec
-  settles-small =
-      record { recorded = settles-recorded; small = λ i h e. omega (arith, s .covered i h e, s .depths-to i h e) }
+  pub settles-small : SmallLeaving p rec (w .depths)
+  settles-small = record { gathers = settles-gathers; small = s .depths-to }
 
 -- ---- the numbers and the world
 

@@ -95,7 +95,12 @@ pub record GatheredAll (p : Plan) (rec depths : List ℕ) (r : Found) (new : Lis
   pub found : Walked p rec (depthsFit p (movesIn rec 0) (ofDepths depths)) r
   pub stored : r .fits ≡ true → new ≡ depthsBy p rec depths
 
--- a record whose squares' leavings are in range
-pub record SmallLeaving (p : Plan) (rec : List ℕ) : Type 0 where
-  pub recorded : Recorded p rec
-  pub small : (i : ℕ) → i < squares (p .shape) → shut p i ≡ false → gone (leavesIn rec) i ≤ mostDepth
+-- a record and the depths before it, in range, which cover what its squares sent
+pub record SmallLeaving (p : Plan) (rec depths : List ℕ) : Type 0 where
+  pub gathers : Gathers p rec depths
+  pub small : (i : ℕ) → i < squares (p .shape) → shut p i ≡ false → getD depths i 0 ≤ mostDepth
+
+-- the same of one square: what it sent is covered by its depth, which is in range
+pub record SmallSquare (rec depths : List ℕ) (i : ℕ) : Type 0 where
+  pub covered : gone (leavesIn rec) i ≤ getD depths i 0
+  pub small : getD depths i 0 ≤ mostDepth

@@ -13,7 +13,7 @@ ghost use Rattle.ledger.specs.Runs.{plan, world};
 ghost use Rattle.ledger.specs.Flows.{came, gone};
 ghost use Rattle.ledger.specs.Record.{Recorded, addedIn, leavesIn, wordPlace};
 ghost use Rattle.ledger.specs.After.{newOutflow};
-ghost use Rattle.ledger.specs.Settle.{GatheredAll, GatheredOne, Gathers, Settles, SettlesTo, SmallLeaving, depthBy, depthsBy, movesIn, written};
+ghost use Rattle.ledger.specs.Settle.{GatheredAll, GatheredOne, Gathers, Settles, SettlesTo, SmallLeaving, SmallSquare, depthBy, depthsBy, movesIn, written};
 use crate::record::Found;
 use crate::record::UNFIT;
 use crate::record::added_by;
@@ -136,33 +136,37 @@ fn copy(from: &[u32], to: &mut [u32])
     }
 }
 
-// Writes the last leaving of a square that is not closed.
-fn write_last(marks: &[u8], rec: &[u32], square: usize, lasts: &mut [u32])
-    requires { ⌜ (square < length (now marks)) × (wordPlace square west < length (now rec)) × (square < length (now lasts)) ⌝ }
-    requires { ⌜ (closed (now marks) square ≡ false → gone (leavesIn (now rec)) square ≤ mostDepth) ⌝ }
+// Writes the last leaving of a square that is not closed. A dry square has sent nothing.
+fn write_last(marks: &[u8], rec: &[u32], depths: &[u32], square: usize, lasts: &mut [u32])
+    requires { ⌜ (square < length (now marks)) × (wordPlace square west < length (now rec)) × (square < length (now depths)) × (square < length (now lasts)) ⌝ }
+    requires { ⌜ (closed (now marks) square ≡ false → SmallSquare (now rec) (now depths) square) ⌝ }
     ensures { λ _. ⌜ now (lasts .exit) ≡ pick (closed (now (marks .entry)) square) (now (lasts .entry)) (set (now (lasts .entry)) square (gone (leavesIn (now (rec .entry))) square)) ⌝ }
 {
     if is_closed(marks, square) {
+        return;
+    }
+    if depths[square] == 0 {
+        lasts[square] = 0;
         return;
     }
     lasts[square] = gone_from(rec, square) as u32;
 }
 
 // Writes the last leaving of every square that is not closed.
-fn write_lasts(shape: Shape, marks: &[u8], rec: &[u32], lasts: &mut [u32])
-    requires { ⌜ SmallLeaving (plan shape (now marks)) (now rec) ⌝ }
+fn write_lasts(shape: Shape, marks: &[u8], rec: &[u32], depths: &[u32], lasts: &mut [u32])
+    requires { ⌜ SmallLeaving (plan shape (now marks)) (now rec) (now depths) ⌝ }
     requires { ⌜ length (now lasts) ≡ squares shape ⌝ }
     ensures { λ _. ⌜ now (lasts .exit) ≡ filled (squares shape) (closed (now (marks .entry))) (gone (leavesIn (now (rec .entry)))) (now (lasts .entry)) ⌝ }
 {
     let squares = squares_of(shape);
     let mut square = 0;
     while square < squares {
-        write_last(marks, rec, square, lasts);
+        write_last(marks, rec, depths, square, lasts);
         square += 1;
     }
 }
 
-// Writes the step: its record into the slot after the newest, depths and last leaving; gives the run after it.
+// Writes the step: its record into the slot after the newest, last leaving and depths; gives the run after it.
 fn write(
     shape: Shape,
     marks: &[u8],
@@ -186,8 +190,8 @@ fn write(
     let at = trials::slot_start(size, slot);
     let end = at + size;
     copy(rec, &mut records[at..end]);
+    write_lasts(shape, marks, rec, depths, lasts);
     copy(fresh, depths);
-    write_lasts(shape, marks, rec, lasts);
     Run {
         clock: run.clock + lasted(rec),
         length: held,

@@ -22,38 +22,23 @@ slots-in-requires c κs = search needs
 slot-after-requires : tie.Need-slot-after-requires
 slot-after-requires c κs =
     let start = c .before .before .before .before .before .before .before .before in
-    omega (
-      arith,
-      slots-of (plan (start .args .shape) (start .args .marks .now)) (start .args .records .now) (c .before .record-size .ensures)
-          (c .slots-in .ensures),
-      start .pre .0 .newest-in,
-    )
+    omega (arith, slots-of (plan (start .args .shape) (start .args .marks .now)) (start .args .records .now) (c .before .record-size .ensures) (c .slots-in .ensures), start .pre .0 .newest-in)
 
 slot-start-requires : tie.Need-slot-start-requires
 slot-start-requires c κs =
     let start = c .before .before .before .before .before .before .before .before .before in
-    omega (
-      arith,
-      next-fits (plan (start .args .shape) (start .args .marks .now)) (start .args .records .now) (c .before .before .record-size .ensures)
-          (c .before .slots-in .ensures) (start .pre .0 .newest-in) (c .slot-after .ensures),
-    )
+    omega (arith, next-fits (plan (start .args .shape) (start .args .marks .now)) (start .args .records .now) (c .before .before .record-size .ensures) (c .before .slots-in .ensures) (start .pre .0 .newest-in) (c .slot-after .ensures))
 
 add-end : tie.Need-add-end
 add-end c =
     let start = c .before .before .before .before .before .before .before .before .before .before in
-    let fits : slotStart (c .before .before .before .record-size .result) (c .before .slot-after .result) + c .before .before .before .record-size .result ≤ length (start .args .records .now) =
-    next-fits (plan (start .args .shape) (start .args .marks .now)) (start .args .records .now)
-    (c .before .before .before .record-size .ensures) (c .before .before .slots-in .ensures) (start .pre .0 .newest-in)
-    (c .before .slot-after .ensures) in
+    let fits : slotStart (c .before .before .before .record-size .result) (c .before .slot-after .result) + c .before .before .before .record-size .result ≤ length (start .args .records .now) = next-fits (plan (start .args .shape) (start .args .marks .now)) (start .args .records .now) (c .before .before .before .record-size .ensures) (c .before .before .slots-in .ensures) (start .pre .0 .newest-in) (c .before .slot-after .ensures) in
     search needs
 
 mul-copy : tie.Need-mul-copy
 mul-copy c =
     let start = c .before .before .before .before .before .before .before .before .before .before in
-    let fits : slotStart (c .before .before .before .record-size .result) (c .before .slot-after .result) + c .before .before .before .record-size .result ≤ length (start .args .records .now) =
-    next-fits (plan (start .args .shape) (start .args .marks .now)) (start .args .records .now)
-    (c .before .before .before .record-size .ensures) (c .before .before .slots-in .ensures) (start .pre .0 .newest-in)
-    (c .before .slot-after .ensures) in
+    let fits : slotStart (c .before .before .before .record-size .result) (c .before .slot-after .result) + c .before .before .before .record-size .result ≤ length (start .args .records .now) = next-fits (plan (start .args .shape) (start .args .marks .now)) (start .args .records .now) (c .before .before .before .record-size .ensures) (c .before .before .slots-in .ensures) (start .pre .0 .newest-in) (c .before .slot-after .ensures) in
     search needs
 
 sub-copy : tie.Need-sub-copy
@@ -65,32 +50,25 @@ part-copy-start c = search needs
 part-copy-end : tie.Need-part-copy-end
 part-copy-end c =
     let start = c .before .before .before .before .before .before .before .before .before .before in
-    let fits : slotStart (c .before .before .before .record-size .result) (c .before .slot-after .result) + c .before .before .before .record-size .result ≤ length (start .args .records .now) =
-    next-fits (plan (start .args .shape) (start .args .marks .now)) (start .args .records .now)
-    (c .before .before .before .record-size .ensures) (c .before .before .slots-in .ensures) (start .pre .0 .newest-in)
-    (c .before .slot-after .ensures) in
+    let fits : slotStart (c .before .before .before .record-size .result) (c .before .slot-after .result) + c .before .before .before .record-size .result ≤ length (start .args .records .now) = next-fits (plan (start .args .shape) (start .args .marks .now)) (start .args .records .now) (c .before .before .before .record-size .ensures) (c .before .before .slots-in .ensures) (start .pre .0 .newest-in) (c .before .slot-after .ensures) in
     search needs
 
 copy-requires : tie.Need-copy-requires
 copy-requires c κs = search needs
 
-copy-requires-2 : tie.Need-copy-requires-2
-copy-requires-2 c κs =
-    let start = c .before .before .before .before .before .before .before .before .before .before .before .before .before .before .before in
-    start .pre .0 .depths-long ∙ sym (ap length (start .pre .1 .0) ∙ (length-filled _ _ _ _ ∙ start .pre .0 .depths-long))
-
 write-lasts-requires : tie.Need-write-lasts-requires
 write-lasts-requires c κs =
-    let start =
-    c .before .before .before .before .before .before .before .before .before .before .before .before .before .before .before
-    .before .before .before .before in
-    (settles-small (start .pre .0), start .pre .0 .lasts-long)
+    let start = c .before .before .before .before .before .before .before .before .before .before .before .before .before .before .before .before in (settles-small (start .pre .0), start .pre .0 .lasts-long)
+
+copy-requires-2 : tie.Need-copy-requires-2
+copy-requires-2 c κs =
+    let start = c .before .before .before .before .before .before .before .before .before .before .before .before .before .before .before .before .before .before .before .before in start .pre .0 .depths-long ∙ sym (ap length (start .pre .1 .0) ∙ (length-filled _ _ _ _ ∙ start .pre .0 .depths-long))
 
 lasted-requires : tie.Need-lasted-requires
 lasted-requires c κs = search needs
 
-add-t27 : tie.Need-add-t27
-add-t27 c = search needs
+add-t29 : tie.Need-add-t29
+add-t29 c = search needs
 
 kept-after-requires : tie.Need-kept-after-requires
 kept-after-requires c κs = search needs
@@ -106,35 +84,15 @@ same-length-3 c = search needs
 
 returns : tie.Need-returns
 returns c =
-    let start =
-    c .before .before .before .before .before .before .before .before .before .before .before .before .before .before .before
-    .before .before .before .before .before .before .before .before .before .before in
-    let at-slot-start =
-    c .before .before .before .before .before .before .before .before .before .before .before .before .before .before .before in
-    let at-record-size =
-    c .before .before .before .before .before .before .before .before .before .before .before .before .before .before .before
-    .before .before .before in
-    let at-slots-in =
-    c .before .before .before .before .before .before .before .before .before .before .before .before .before .before .before
-    .before .before in
-    let at-slot-after =
-    c .before .before .before .before .before .before .before .before .before .before .before .before .before .before .before
-    .before in
-    let at-copy2 = c .before .before .before .before .before .before .before .before .before in
-    let at-copy = c .before .before .before .before .before .before .before .before .before .before .before .before .before in
+    let start = c .before .before .before .before .before .before .before .before .before .before .before .before .before .before .before .before .before .before .before .before .before .before .before .before .before .before in
+    let p = plan (start .args .shape) (start .args .marks .now) in
     let w = world (start .args .depths .now) (start .args .lasts .now) (start .args .records .now) (start .args .run) in
-    let long : length (start .args .rec .now) ≡ at-slot-start .slot-start .result + at-record-size .record-size .result - at-slot-start .slot-start .result =
-    omega (arith, start .pre .0 .record-long, at-record-size .record-size .ensures) in
-    written-is (plan (start .args .shape) (start .args .marks .now)) (start .args .rec .now) (start .args .held) w
-    (slots-of (plan (start .args .shape) (start .args .marks .now)) (start .args .records .now) (at-record-size .record-size .ensures) (at-slots-in .slots-in .ensures))
-    (at-slot-after .slot-after .ensures)
-    (at-copy2 .copy2 .ensures ∙ start .pre .1 .0)
-    (c .before .before .before .before .before .write-lasts .ensures)
-    (at-slot-start .slot-start .ensures ∙ ap (λ (k : ℕ). slotStart k (at-slot-after .slot-after .result)) (at-record-size .record-size .ensures))
-    (placed-back _ _ _ (at-copy .copy .ensures) long)
-    (ap (λ (k : ℕ). start .args .run .clock + k) (c .before .before .lasted .ensures))
-    (start .pre .1 .1)
-    (c .kept-after .ensures)
+    let long : length (start .args .rec .now) ≡ c .before .before .before .before .before .before .before .before .before .before .before .before .before .before .before .before .slot-start .result + c .before .before .before .before .before .before .before .before .before .before .before .before .before .before .before .before .before .before .before .record-size .result - c .before .before .before .before .before .before .before .before .before .before .before .before .before .before .before .before .slot-start .result = omega (arith, start .pre .0 .record-long, c .before .before .before .before .before .before .before .before .before .before .before .before .before .before .before .before .before .before .before .record-size .ensures) in
+    written-is p (start .args .rec .now) (start .args .held) w
+    (slots-of p (start .args .records .now) (c .before .before .before .before .before .before .before .before .before .before .before .before .before .before .before .before .before .before .before .record-size .ensures) (c .before .before .before .before .before .before .before .before .before .before .before .before .before .before .before .before .before .before .slots-in .ensures)) (c .before .before .before .before .before .before .before .before .before .before .before .before .before .before .before .before .before .slot-after .ensures)
+    (c .before .before .before .before .before .copy2 .ensures ∙ start .pre .1 .0) (c .before .before .before .before .before .before .before .before .before .write-lasts .ensures)
+    (c .before .before .before .before .before .before .before .before .before .before .before .before .before .before .before .before .slot-start .ensures ∙ ap (λ (k : ℕ). slotStart k (c .before .before .before .before .before .before .before .before .before .before .before .before .before .before .before .before .before .slot-after .result)) (c .before .before .before .before .before .before .before .before .before .before .before .before .before .before .before .before .before .before .before .record-size .ensures))
+    (placed-back _ _ _ (c .before .before .before .before .before .before .before .before .before .before .before .before .before .before .copy .ensures) long) (ap (λ (k : ℕ). start .args .run .clock + k) (c .before .before .lasted .ensures)) (start .pre .1 .1) (c .kept-after .ensures)
 
 pub write-spec : {M : Type 1} → statement M
 write-spec =
@@ -150,10 +108,10 @@ write-spec =
     part-copy-start
     part-copy-end
     copy-requires
-    copy-requires-2
     write-lasts-requires
+    copy-requires-2
     lasted-requires
-    add-t27
+    add-t29
     kept-after-requires
     same-length
     same-length-2

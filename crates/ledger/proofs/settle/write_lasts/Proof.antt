@@ -14,16 +14,15 @@ use Rattle.ledger.proofs.settle.write_lasts.Statement.{statement}
 use Rattle.ledger.proofs.settle.write_lasts.Tie as tie
 
 abbrev Inv-loop : tie.InvT-loop
-Inv-loop marks rec lasts₀ squares square₀ lasts square =
+Inv-loop marks rec depths lasts₀ squares square₀ lasts square =
     (square ≤ squares) × (lasts ≡ filled square (closed marks) (gone (leavesIn rec)) lasts₀)
 
 abbrev μ-loop : tie.MeasureT-loop
-μ-loop marks rec lasts₀ squares square₀ lasts square =
-    squares - square
+μ-loop marks rec depths lasts₀ squares square₀ lasts square = squares - square
 
 squares-of-requires : tie.Need-squares-of-requires Inv-loop μ-loop
 squares-of-requires c κs =
-    c .before .before .before .pre .0 .recorded .fine
+    c .before .before .before .before .pre .0 .gathers .recorded .fine
 
 loop-holds : tie.Need-loop-holds Inv-loop μ-loop
 loop-holds c =
@@ -31,33 +30,20 @@ loop-holds c =
 
 write-last-requires : tie.Need-write-last-requires Inv-loop μ-loop
 write-last-requires c κs =
-    let start = c .before .before .before .before .before .before .before in
-    let turn = c .before .before in
-    let inside : turn .loop .square < squares (start .args .shape) =
-    omega (arith, c .before .before .before .squares-of .ensures, c .before .loop-test .taken) in (
+    let start = c .before .before .before .before .before .before .before .before in
+    let inside : c .before .before .loop .square < squares (start .args .shape) = omega (arith, c .before .before .before .squares-of .ensures, c .before .loop-test .taken) in (
       (
-        omega (arith, start .pre .0 .recorded .marks-long, c .before .before .before .squares-of .ensures, c .before .loop-test .taken),
-        omega (arith, start .pre .0 .recorded .record-long, c .before .before .before .squares-of .ensures, c .before .loop-test .taken),
-        omega (
-          arith,
-          filled-long _ _ _ _ (turn .loop .inv .1),
-          start .pre .1,
-          c .before .before .before .squares-of .ensures,
-          c .before .loop-test .taken,
-        ),
+        omega (arith, start .pre .0 .gathers .recorded .marks-long, inside),
+        omega (arith, start .pre .0 .gathers .recorded .record-long, inside),
+        omega (arith, start .pre .0 .gathers .depths-long, inside),
+        omega (arith, filled-long _ _ _ _ (c .before .before .loop .inv .1), start .pre .1, inside),
       ),
-      start .pre .0 .small (turn .loop .square) inside,
+      (λ e. record { covered = start .pre .0 .gathers .covered (c .before .before .loop .square) inside e; small = start .pre .0 .small (c .before .before .loop .square) inside e }),
     )
 
 add-square : tie.Need-add-square Inv-loop μ-loop
 add-square c =
-    let at-pre = c .before .before .before .before .before .before .before .before .before .before in
-    omega (
-      arith,
-      c .before .before .before .before .loop-test .taken,
-      c .before .before .before .before .before .before .squares-of .ensures,
-      at-pre .pre .0 .recorded .fine .few,
-    )
+    omega (arith, c .before .before .before .before .loop-test .taken, c .before .before .before .before .before .before .squares-of .ensures, c .before .before .before .before .before .before .before .before .before .before .before .pre .0 .gathers .recorded .fine .few)
 
 loop-less : tie.Need-loop-less Inv-loop μ-loop
 loop-less c =
@@ -65,13 +51,8 @@ loop-less c =
 
 loop-again : tie.Need-loop-again Inv-loop μ-loop
 loop-again c =
-    let start = c .before .before .before .before .before .before .before .before .before .before in
-    let at-loop-test = c .before .before .before .before in (
-      omega (arith, at-loop-test .loop-test .taken),
-      filled-turn (closed (start .args .marks .now)) (gone (leavesIn (start .args .rec .now))) (start .args .lasts .now)
-          (omega (arith, start .pre .1, c .before .before .before .before .before .before .squares-of .ensures, at-loop-test .loop-test .taken))
-          (c .before .before .before .before .before .loop .inv .1) (λ z. refl) (c .before .before .write-last .ensures),
-    )
+    let start = c .before .before .before .before .before .before .before .before .before .before .before in
+    (omega (arith, c .before .before .before .before .loop-test .taken), filled-turn (closed (start .args .marks .now)) (gone (leavesIn (start .args .rec .now))) (start .args .lasts .now) (omega (arith, start .pre .1, c .before .before .before .before .before .before .squares-of .ensures, c .before .before .before .before .loop-test .taken)) (c .before .before .before .before .before .loop .inv .1) (λ z. refl) (c .before .before .write-last .ensures))
 
 same-length : tie.Need-same-length Inv-loop μ-loop
 same-length c =
@@ -79,8 +60,7 @@ same-length c =
 
 returns : tie.Need-returns Inv-loop μ-loop
 returns c =
-    filled-whole _ _ _ (c .before .loop .inv .1)
-    (omega (arith, c .before .before .squares-of .ensures, c .before .loop .inv .0, c .loop-test .left))
+    filled-whole _ _ _ (c .before .loop .inv .1) (omega (arith, c .before .before .squares-of .ensures, c .before .loop .inv .0, c .loop-test .left))
 
 pub write-lasts-spec : {M : Type 1} → statement M
 write-lasts-spec =
