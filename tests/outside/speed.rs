@@ -175,14 +175,14 @@ fn time_roots<R: plain::Roots>(meadow: &Meadow) -> (Vec<f64>, u64) {
     let mut sum = 0;
     let times = (0..ROUNDS)
         .map(|_| {
-            let clock = Instant::now();
+            let start = processor_time();
             for turn in 0..STEPS {
                 for depth in &meadow.depths {
                     let depth = *depth as u64 + turn;
                     sum += R::cube(depth * depth) + R::square(981 * depth / 100) + R::square(100 * depth / RULES.square_side);
                 }
             }
-            clock.elapsed().as_nanos() as f64
+            processor_time() - start
         })
         .collect();
     (times, sum)
