@@ -1,10 +1,13 @@
-//! Changes of one value of a call's input: to the limits of its range, just past them, and to the sizes that slices may not have.
+//! Rounds of good inputs with one value or two changed: to the limits of their ranges, just past them, and to sizes that slices may not
+//! have.
 
+use crate::calls::{Call, Tally, ON_MEADOW};
 use crate::chance::Chance;
-use crate::meadows::{Lent, MOST_BED, MOST_CLOCK, MOST_DEPTH, MOST_OUTFLOW};
+use crate::meadows::{self, Lent, MOST_BED, MOST_CLOCK, MOST_DEPTH, MOST_OUTFLOW};
 use crate::reference::CLOSED;
+use crate::worked::go_on;
 
-pub type Change = Box<dyn Fn(&mut Lent)>;
+type Change = Box<dyn Fn(&mut Lent)>;
 
 const MOST_32: u64 = u32::MAX as u64;
 
@@ -138,7 +141,7 @@ fn record(changes: &mut Vec<Change>, base: &Lent, square: usize) {
 }
 
 /// Every change of one value, on a good input.
-pub fn changes(chance: &mut Chance, base: &Lent) -> Vec<Change> {
+fn changes(chance: &mut Chance, base: &Lent) -> Vec<Change> {
     let mut changes: Vec<Change> = Vec::new();
     rules_and_run(&mut changes, base);
     let closed = base.meadow.marks.iter().position(|mark| *mark == CLOSED);
@@ -154,4 +157,68 @@ pub fn changes(chance: &mut Chance, base: &Lent) -> Vec<Change> {
         each(&mut changes, round_limits(*depth as u64, *depth as u64, MOST_32), |lent, value| lent.wet_depth = value as u32);
     }
     changes
+}
+
+// ---------------------------------------------------------------- rounds
+
+/// A good input for all six calls: its newest record is that of a step just made, and a run to its end is short. Now and then no step is
+/// kept.
+fn good_for_all(tally: &mut Tally, chance: &mut Chance) -> Lent {
+    loop {
+        let shape = (chance.between(1, 3) as usize, chance.between(1, 3) as usize);
+        let mut lent = meadows::lent(chance, shape);
+        let longest = chance.between(2, 50);
+        lent.rules.longest = longest;
+        lent.rules.shortest = chance.between(1, longest);
+        lent.rules.update = chance.between(1, 50);
+        lent.run.clock = chance.below(1_000);
+        lent.run.outflow = chance.amount(MOST_OUTFLOW / 2);
+        lent.end = 0;
+        let after = tally.call(Call::Step, &lent);
+        if after.number != 0 || lent.open_squares().is_empty() {
+            continue;
+        }
+        go_on(&mut lent, &after);
+        if chance.one_in(2) {
+            lent.end = meadows::end(chance, &lent.run, &lent.rules);
+        }
+        if chance.one_in(4) {
+            lent.run.kept = 0;
+        }
+        return lent;
+    }
+}
+
+/// A changed end or clock could ask for a run of weeks: that one is left out.
+fn short_run(lent: &Lent) -> bool {
+    lent.end > MOST_CLOCK || lent.end.saturating_sub(lent.run.clock) <= 1_000
+}
+
+pub fn call_all(tally: &mut Tally, lent: &Lent) {
+    for call in ON_MEADOW {
+        if call != Call::RunTo || short_run(lent) {
+            tally.call(call, lent);
+        }
+    }
+}
+
+pub fn one_value(tally: &mut Tally, chance: &mut Chance) {
+    let base = good_for_all(tally, chance);
+    call_all(tally, &base);
+    for change in changes(chance, &base) {
+        let mut lent = base.clone();
+        change(&mut lent);
+        call_all(tally, &lent);
+    }
+}
+
+pub fn two_values(tally: &mut Tally, chance: &mut Chance) {
+    let base = good_for_all(tally, chance);
+    let changes = changes(chance, &base);
+    for _ in 0..200 {
+        let mut lent = base.clone();
+        changes[chance.index(changes.len())](&mut lent);
+        changes[chance.index(changes.len())](&mut lent);
+        call_all(tally, &lent);
+    }
 }

@@ -119,11 +119,11 @@ fn on_rim(meadow: &Meadow, square: usize) -> bool {
 }
 
 fn marks(chance: &mut Chance, meadow: &mut Meadow) {
-    let closed = chance.pick(&[0, 0, 10, 25, 50, 100]);
+    let closed = chance.pick(&[0, 0, 0, 10, 25, 50]);
     let exits = chance.pick(&[0, 10, 30, 100]);
     let all_closed = chance.one_in(100);
     for square in 0..meadow.squares() {
-        meadow.marks[square] = if all_closed || (closed < 100 && chance.below(100) < closed) {
+        meadow.marks[square] = if all_closed || chance.below(100) < closed {
             CLOSED
         } else if on_rim(meadow, square) && chance.below(100) < exits {
             EXIT

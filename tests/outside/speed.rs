@@ -1,5 +1,6 @@
 //! The benchmark: `flood_run_to` and `flood_meadow` of the static library against the same arithmetic in Rust on plain vectors. The
-//! programs take turns, so that a change of the machine's pace meets all of them. Prints the tables of docs/SPEED.md.
+//! programs take turns, so that a change of the machine's pace meets all of them. Times are of the processor and not of the clock on the
+//! wall, so that other work on the machine counts little. Prints the tables of docs/SPEED.md.
 //! Arguments: the sheet to run, and the words that name the machine.
 
 // the benchmark uses a part of what the comparison does
@@ -13,7 +14,6 @@ mod reference;
 
 use chance::Chance;
 use reference::{Made, Meadow, Rules, Run, CLOSED, EXIT, OPEN};
-use std::time::Instant;
 
 const ROUNDS: usize = 9;
 const STEPS: u64 = 200;
@@ -109,6 +109,19 @@ fn sending_squares(meadow: &Meadow, made: &Made) -> usize {
 
 // ---------------------------------------------------------------- times
 
+extern "C" {
+    fn clock_gettime(clock: i32, seconds_and_nanoseconds: *mut [i64; 2]) -> i32;
+}
+
+/// The processor's time that this program has had so far, in nanoseconds; the standard library gives only the time on the wall.
+fn processor_time() -> f64 {
+    const OF_THIS_PROCESS: i32 = 2;
+    let mut time = [0; 2];
+    let failed = unsafe { clock_gettime(OF_THIS_PROCESS, &mut time) };
+    assert!(failed == 0, "no processor time");
+    time[0] as f64 * 1e9 + time[1] as f64
+}
+
 /// Nanoseconds of each round for each program.
 type Times = [Vec<f64>; 3];
 
@@ -135,9 +148,9 @@ fn time_run(name: &str, start: &Meadow) -> (Times, (Meadow, Made)) {
     take_turns(name, |program| {
         let mut meadow = start.clone();
         let run = reference::fresh(&mut meadow, &RULES).expect("a fresh run");
-        let clock = Instant::now();
+        let start = processor_time();
         let made = RUNS[program](&mut meadow, &RULES, &run, STEPS * STEP_LASTS).expect("a run");
-        let time = clock.elapsed().as_nanos() as f64;
+        let time = processor_time() - start;
         assert!(made.number == 0 && made.steps == STEPS, "{}: {:?}", name, made);
         (time, (meadow, made))
     })
@@ -146,14 +159,14 @@ fn time_run(name: &str, start: &Meadow) -> (Times, (Meadow, Made)) {
 fn time_meadow(text: &[u8]) -> (Times, Vec<u8>) {
     take_turns("meadow", |program| {
         let mut out = vec![0; 40_960];
-        let clock = Instant::now();
+        let start = processor_time();
         if program == 0 {
             let length = library::meadow(text, &mut out);
             out.truncate(length);
         } else {
             out = reference::meadow_by(text, RUNS[program]);
         }
-        (clock.elapsed().as_nanos() as f64, out)
+        (processor_time() - start, out)
     })
 }
 
@@ -162,14 +175,14 @@ fn time_roots<R: plain::Roots>(meadow: &Meadow) -> (Vec<f64>, u64) {
     let mut sum = 0;
     let times = (0..ROUNDS)
         .map(|_| {
-            let clock = Instant::now();
+            let start = processor_time();
             for turn in 0..STEPS {
                 for depth in &meadow.depths {
                     let depth = *depth as u64 + turn;
                     sum += R::cube(depth * depth) + R::square(981 * depth / 100) + R::square(100 * depth / RULES.square_side);
                 }
             }
-            clock.elapsed().as_nanos() as f64
+            processor_time() - start
         })
         .collect();
     (times, sum)
@@ -217,7 +230,7 @@ fn main() {
     }
     let text = std::fs::read(&words[1]).expect("the sheet");
     println!("Machine: {}.", words[2]);
-    println!("{} rounds after a first one that is not counted; {} steps a round; median (least..most).", ROUNDS, STEPS);
+    println!("{} rounds after a first one that is not counted; {} steps a round; processor time; median (least..most).", ROUNDS, STEPS);
 
     let mut states = Vec::new();
     println!("\n| nanoseconds a step of `run_to` | {} | library / digits | library / f64 |", NAMES.join(" | "));

@@ -1,0 +1,266 @@
+//! Rounds of steps, runs and take-backs on random meadows: in series with changing rules, at the brim, and where a rounding is exact.
+
+use crate::calls::{Call, Tally};
+use crate::chance::Chance;
+use crate::limits;
+use crate::meadows::{self, Lent, MOST_BED, MOST_CLOCK, MOST_DEPTH, MOST_OUTFLOW};
+use crate::reference::{Rules, OPEN};
+use crate::worked::go_on;
+
+/// Arrows of every square of a small meadow and of some squares of a large one, and wet rows.
+pub fn look(tally: &mut Tally, chance: &mut Chance, lent: &Lent) {
+    let mut lent = lent.clone();
+    let squares = lent.meadow.squares();
+    for turn in 0..squares.min(30) {
+        let square = if squares <= 30 { turn } else { chance.index(squares) };
+        lent.row = square / lent.meadow.columns;
+        lent.column = square % lent.meadow.columns;
+        tally.call(Call::Arrow, &lent);
+    }
+    lent.wet_depth = wet_depth(chance, &lent);
+    tally.call(Call::WetRows, &lent);
+}
+
+/// A depth at or beside one that a square has, or any.
+fn wet_depth(chance: &mut Chance, lent: &Lent) -> u32 {
+    let depth = chance.pick(&lent.meadow.depths) as u64;
+    match chance.below(4) {
+        0 => depth.saturating_sub(1).min(MOST_DEPTH) as u32,
+        1 => depth.min(MOST_DEPTH) as u32,
+        2 => (depth + 1).min(MOST_DEPTH) as u32,
+        _ => chance.amount(MOST_DEPTH) as u32,
+    }
+}
+
+/// New rules, tables or roughness, as a warden may give between two calls.
+fn change_rules(chance: &mut Chance, lent: &mut Lent) {
+    match chance.below(3) {
+        0 => lent.rules = meadows::rules(chance),
+        1 => meadows::tables(chance, &mut lent.meadow, lent.run.clock),
+        _ => {
+            for square in lent.open_squares() {
+                lent.meadow.roughness[square] = chance.between(1, 10_000) as u32;
+            }
+        }
+    }
+}
+
+pub fn one_call(tally: &mut Tally, chance: &mut Chance, lent: &mut Lent) {
+    let call = chance.pick(&[Call::Step, Call::Step, Call::Step, Call::RunTo, Call::TakeBack, Call::TakeBack]);
+    lent.end = meadows::end(chance, &lent.run, &lent.rules);
+    let after = tally.call(call, lent);
+    if after.number == 0 || (call == Call::RunTo && after.number >= 7) {
+        go_on(lent, &after);
+    }
+}
+
+fn make_series(tally: &mut Tally, chance: &mut Chance, lent: &mut Lent, calls: u64) {
+    if chance.one_in(2) {
+        let fresh = tally.call(Call::Fresh, lent);
+        if fresh.number == 0 {
+            go_on(lent, &fresh);
+        }
+    }
+    for _ in 0..calls {
+        match chance.below(8) {
+            0 => change_rules(chance, lent),
+            1 => look(tally, chance, lent),
+            2 => meadows::junk(chance, &mut lent.meadow),
+            _ => one_call(tally, chance, lent),
+        }
+    }
+    look(tally, chance, lent);
+}
+
+pub fn series(tally: &mut Tally, chance: &mut Chance) {
+    for _ in 0..12 {
+        let shape = meadows::small_shape(chance);
+        let mut lent = meadows::lent(chance, shape);
+        let calls = chance.between(10, 40);
+        make_series(tally, chance, &mut lent, calls);
+    }
+}
+
+// ---------------------------------------------------------------- the brim
+
+pub fn brim(tally: &mut Tally, chance: &mut Chance) {
+    for _ in 0..15 {
+        steps_at_brim(tally, chance);
+    }
+}
+
+fn steps_at_brim(tally: &mut Tally, chance: &mut Chance) {
+    let shape = meadows::small_shape(chance);
+    let mut lent = meadows::lent(chance, shape);
+    if chance.one_in(2) {
+        for square in lent.open_squares() {
+            lent.meadow.depths[square] = (MOST_DEPTH - chance.amount(MOST_DEPTH / 10)) as u32;
+        }
+    }
+    if chance.one_in(2) {
+        lent.run.outflow = MOST_OUTFLOW - chance.amount(1_000_000_000);
+    }
+    if chance.one_in(2) {
+        lent.run.clock = MOST_CLOCK - chance.below(200_000);
+        meadows::tables(chance, &mut lent.meadow, lent.run.clock);
+    }
+    lent.end = meadows::end(chance, &lent.run, &lent.rules);
+    tally.call(Call::RunTo, &lent);
+    for _ in 0..6 {
+        let after = tally.call(Call::Step, &lent);
+        if after.number != 0 {
+            break;
+        }
+        go_on(&mut lent, &after);
+    }
+}
+
+pub fn exact_brims(tally: &mut Tally, chance: &mut Chance) {
+    for _ in 0..6 {
+        exact_brim(tally, chance);
+    }
+}
+
+/// A step that just passes and one that just does not, for each of 7, 8 and 9.
+fn exact_brim(tally: &mut Tally, chance: &mut Chance) {
+    let shape = meadows::small_shape(chance);
+    let mut lent = meadows::lent(chance, shape);
+    lent.rules = Rules { square_side: 1, tolerance: 0, shortest: 1, longest: 60_000, update: 1_000_000 };
+    lent.run.clock = 500_000;
+    lent.run.length = chance.between(2_000, 60_000);
+    lent.run.outflow = 0;
+    for most in [7, 8, 9] {
+        let mut at_brim = lent.clone();
+        match most {
+            7 => at_brim.run.clock = MOST_CLOCK - lent.run.length,
+            8 => fill_one_square(tally, chance, &mut at_brim),
+            _ => at_brim.run.outflow = MOST_OUTFLOW - tally.call(Call::Step, &lent).answer[2].min(MOST_OUTFLOW),
+        }
+        tally.call(Call::Step, &at_brim);
+        match most {
+            7 => at_brim.run.clock += 1,
+            8 => put_one_more(&mut at_brim),
+            _ => at_brim.run.outflow = (at_brim.run.outflow + 1).min(MOST_OUTFLOW),
+        }
+        tally.call(Call::Step, &at_brim);
+    }
+}
+
+/// Lets in what is missing to the deepest depth on a square, by two rows on a square of 1 m: so many litres each millisecond, and the rest
+/// in one.
+fn fill_one_square(tally: &mut Tally, chance: &mut Chance, lent: &mut Lent) {
+    lent.meadow.rain.clear();
+    lent.meadow.inflow.clear();
+    let after = tally.call(Call::Step, lent);
+    let open = lent.open_squares();
+    if after.number != 0 || open.is_empty() {
+        return;
+    }
+    let square = chance.pick(&open);
+    let (row, column) = ((square / lent.meadow.columns) as u32, (square % lent.meadow.columns) as u32);
+    let missing = MOST_DEPTH as u32 - after.meadow.depths[square];
+    let (clock, time) = (lent.run.clock as u32, 1_500);
+    lent.meadow.inflow.extend([row, column, clock, clock + time, missing / time]);
+    lent.meadow.inflow.extend([row, column, clock, clock + 1, missing % time]);
+}
+
+fn put_one_more(lent: &mut Lent) {
+    if let Some(litres) = lent.meadow.inflow.last_mut() {
+        *litres += 1;
+    }
+}
+
+/// Deep water above great drops and in long steps, where the most through a side times the sum of the drops passes 64 bits.
+pub fn deep_and_steep(tally: &mut Tally, chance: &mut Chance) {
+    for _ in 0..60 {
+        let shape = (chance.between(1, 2) as usize, chance.between(2, 3) as usize);
+        let mut lent = meadows::lent(chance, shape);
+        lent.rules.square_side = chance.between(1, 2);
+        lent.rules.update = 3_600_000;
+        lent.run.clock = 1;
+        lent.run.length = chance.between(50_000, 60_000);
+        for square in lent.open_squares() {
+            let high = square % 2 == 0;
+            lent.meadow.beds[square] = if high { MOST_BED - chance.below(1_000) } else { chance.below(1_000) } as u32;
+            lent.meadow.depths[square] = if high { chance.between(MOST_DEPTH / 2, MOST_DEPTH) } else { 0 } as u32;
+            lent.meadow.roughness[square] = chance.between(1, 50) as u32;
+            lent.meadow.lasts[square] = MOST_DEPTH as u32;
+        }
+        tally.call(Call::Step, &lent);
+    }
+}
+
+/// Rain and inflow that come out whole, one short of it and one more, at the start or the end of a step.
+pub fn exact_roundings(tally: &mut Tally, chance: &mut Chance) {
+    for _ in 0..20 {
+        let mut lent = meadows::lent(chance, (1, 2));
+        lent.meadow.marks = vec![OPEN; 2];
+        lent.meadow.beds = vec![0; 2];
+        lent.meadow.roughness = vec![100; 2];
+        lent.meadow.depths = vec![chance.below(100) as u32; 2];
+        lent.meadow.lasts = vec![0; 2];
+        lent.rules.update = 3_600_000;
+        lent.run.clock = chance.between(100_000_000, 500_000_000);
+        let ends = lent.run.clock + lent.run.length.min(3_600_000 - lent.run.clock % 3_600_000);
+        let at = chance.pick(&[lent.run.clock, ends]);
+        lent.meadow.rain = summing_up(chance, at, 3_600_000, &[]);
+        let area = lent.rules.square_side * lent.rules.square_side;
+        lent.meadow.inflow = summing_up(chance, at, area, &[0, 1]);
+        tally.call(Call::Step, &lent);
+    }
+}
+
+/// Two rows of a table whose amounts times time run come to a multiple of `whole` by the clock, or to one beside it.
+fn summing_up(chance: &mut Chance, clock: u64, whole: u64, place: &[u32]) -> Vec<u32> {
+    let sum = whole * chance.between(1, 20) + chance.below(3) - 1;
+    let amount = chance.between(1, 9);
+    let rows = [(sum / amount, amount), (1, sum % amount)];
+    rows.iter().flat_map(|(time, amount)| place.iter().cloned().chain([(clock - time) as u32, MOST_CLOCK as u32, *amount as u32])).collect()
+}
+
+// ---------------------------------------------------------------- shapes and wet rows
+
+/// Shapes at the limits and one past them, all slices fitting.
+pub fn shapes(tally: &mut Tally, chance: &mut Chance) {
+    const SHAPES: [(usize, usize); 12] =
+        [(64, 64), (64, 63), (63, 64), (64, 1), (1, 64), (2, 64), (64, 2), (8, 64), (65, 1), (1, 65), (0, 3), (3, 0)];
+    let shape = if chance.one_in(4) { (chance.between(1, 64) as usize, chance.between(1, 64) as usize) } else { chance.pick(&SHAPES) };
+    if shape.0 * shape.1 == 0 || shape.0 > 64 || shape.1 > 64 {
+        limits::call_all(tally, &out_of_shape(chance, shape));
+        return;
+    }
+    let mut lent = meadows::lent(chance, shape);
+    let calls = if shape.0 * shape.1 > 600 { 3 } else { 10 };
+    make_series(tally, chance, &mut lent, calls);
+}
+
+fn out_of_shape(chance: &mut Chance, (rows, columns): (usize, usize)) -> Lent {
+    let mut lent = meadows::lent(chance, (1, 1));
+    let squares = rows * columns;
+    lent.meadow.rows = rows;
+    lent.meadow.columns = columns;
+    lent.meadow.marks = vec![1; squares];
+    lent.meadow.beds = vec![0; squares];
+    lent.meadow.roughness = vec![100; squares];
+    lent.meadow.depths = vec![5; squares];
+    lent.meadow.lasts = vec![0; squares];
+    lent.meadow.inflow.clear();
+    lent.meadow.records = vec![1; 2 + 6 * squares];
+    lent.run.kept = 1;
+    lent.run.newest = 0;
+    lent.wet = vec![0; rows];
+    lent
+}
+
+pub fn wet_rows(tally: &mut Tally, chance: &mut Chance) {
+    let shape = if chance.one_in(3) { (chance.between(1, 64) as usize, 64) } else { meadows::small_shape(chance) };
+    let mut lent = meadows::lent(chance, shape);
+    for _ in 0..6 {
+        lent.wet_depth = wet_depth(chance, &lent);
+        tally.call(Call::WetRows, &lent);
+    }
+    for wet_depth in [0, 1, MOST_DEPTH as u32, MOST_DEPTH as u32 + 1] {
+        lent.wet_depth = wet_depth;
+        tally.call(Call::WetRows, &lent);
+    }
+}
