@@ -66,7 +66,8 @@ loop-again c =
     let at-pour-row = c .before .before .before in
     let at-loop = at-pour-row .before .before .before in
     let start = at-loop .before .before .before in
-    let t = not-false _ (c .if1 .left) in let j = at-loop .loop .j in
+    let t = not-false _ (c .if1 .left) in
+    let j = at-loop .loop .j in
     (omega arith, at-pour-row .pour-row .ensures .long ∙ at-loop .loop .inv .1, poured-turn (start .args .shape) (start .args .rules) (start .args .inflow .now) (start .args .start) (start .args .end) (start .args .rain) (start .args .room .now) j (start .pre .1) (start .pre .0 .row-in j (omega arith)) (start .pre .0 .column-in j (omega arith)) (at-loop .loop .inv .2) (at-pour-row .pour-row .ensures) t, all-more _ j (at-loop .loop .inv .3) (sym (at-pour-row .pour-row .ensures .fits-is) ∙ t))
 
 same-length-2 : tie.Need-same-length-2 Inv-loop μ-loop

@@ -24,7 +24,9 @@ within c =
     let at-number2 = c .before .before .before in
     let at-number = at-number2 .before in
     let start = at-number .before .before .before in
-    let a = start .pre .0 in let j = start .args .j in omega
+    let a = start .pre .0 in
+    let j = start .args .j in
+    omega
     (arith, c .square-at .ensures, square-within (start .args .shape) {row = at-number .number .result} {column = at-number2 .number2 .result} (omega (arith, a .row-in j (start .pre .2))) (omega (arith, a .column-in j (start .pre .2))))
 
 mul-number : tie.Need-mul-number

@@ -38,9 +38,8 @@ past-2 : (c : tie.Else3) → Past 2 (c .before .before .before .before .before .
 unfolding checkRows
 past-2 c =
     let at-if2 = c .before .before in
-    let at-before = at-if2 .before in
-    past-1 (at-before .before) ∙ refusal-later 2 _
-    (each-every _ (holds-by (at-before .marks-fine .ensures) (at-if2 .if2 .left), (holds-by (c .before .grounds-fine .ensures _) (c .if3 .left), tt)))
+    past-1 (at-if2 .before .before) ∙ refusal-later 2 _
+    (each-every _ (holds-by (at-if2 .before .marks-fine .ensures) (at-if2 .if2 .left), (holds-by (c .before .grounds-fine .ensures _) (c .if3 .left), tt)))
 
 past-3 : (c : tie.Else4) → Past 3 (c .before .before .before .before .before .before .before .before .before .before .before .before .before .before .before .before)
 unfolding checkRows
@@ -108,18 +107,20 @@ run-fine-requires c κs = search needs
 returns-7 : tie.Need-returns-7
 unfolding checkRows runFine roomSlots
 returns-7 c =
-    let at-before = c .before .before in
-    let at-before-2 = at-before .before .before .before .before .before .before .before .before .before .before .before .before .before .before .before .before .before .before .before in
-    let start = at-before-2 .before in sym
-    (past-5 (at-before .before) ∙ refusal-here 6 _ (fails-by (run-fine-by (start .args .run) (c .before .run-fine .ensures) (at-before .slots-of .ensures)) (c .if7 .taken)))
+    let start =
+    c .before .before .before .before .before .before .before .before .before .before .before .before .before .before .before .before .before .before .before .before .before .before
+    in
+    sym
+    (past-5 (c .before .before .before) ∙ refusal-here 6 _ (fails-by (run-fine-by (start .args .run) (c .before .run-fine .ensures) (c .before .before .slots-of .ensures)) (c .if7 .taken)))
 
 returns-8 : tie.Need-returns-8
 unfolding checkRows runFine roomSlots
 returns-8 c =
-    let at-before = c .before .before in
-    let at-before-2 = at-before .before .before .before .before .before .before .before .before .before .before .before .before .before .before .before .before .before .before .before in
-    let start = at-before-2 .before in sym
-    (past-5 (at-before .before) ∙ passed-refusal _ (holds-by (run-fine-by (start .args .run) (c .before .run-fine .ensures) (at-before .slots-of .ensures)) (c .if7 .left), tt))
+    let start =
+    c .before .before .before .before .before .before .before .before .before .before .before .before .before .before .before .before .before .before .before .before .before .before
+    in
+    sym
+    (past-5 (c .before .before .before) ∙ passed-refusal _ (holds-by (run-fine-by (start .args .run) (c .before .run-fine .ensures) (c .before .before .slots-of .ensures)) (c .if7 .left), tt))
 
 pub checked-spec : {M : Type 1} → statement M
 checked-spec =

@@ -30,9 +30,10 @@ abbrev μ-loop : tie.MeasureT-loop
 loop-holds : tie.Need-loop-holds Inv-loop μ-loop
 loop-holds c =
     let start = c .before .before .before .before .before .before .before .before .before .before in
-    let a = (start .args) in let p = plan (a .shape) (a .marks .now) in let g = given
-    (ground (a .rules) (a .beds .now) (a .roughness .now)) (a .rain .now) (a .inflow .now) in let w = world (a .depths .now)
-    (a .lasts .now) (a .records .now) (a .run) in
+    let a = start .args in
+    let p = plan (a .shape) (a .marks .now) in
+    let g = given (ground (a .rules) (a .beds .now) (a .roughness .now)) (a .rain .now) (a .inflow .now) in
+    let w = world (a .depths .now) (a .lasts .now) (a .records .now) (a .run) in
     (start .pre .1 .0, start .pre .1 .1, running-starts p g (a .end) w (start .pre .0 .checked), refl, refl, refl, refl, refl)
 
 make-step-requires : tie.Need-make-step-requires Inv-loop μ-loop
@@ -61,12 +62,13 @@ returns c =
     let at-if1 = at-make-step .before .before .before .before .before .before in
     let at-loop = at-if1 .before .before in
     let start = at-loop .before .before .before .before .before .before .before .before .before .before .before in
-    let a = (start .args) in let l = (at-loop .loop) in let p = plan (a .shape) (a .marks .now) in let g = given
-    (ground (a .rules) (a .beds .now) (a .roughness .now)) (a .rain .now) (a .inflow .now) in let w = world (a .depths .now)
-    (a .lasts .now) (a .records .now) (a .run) in record {
-      ends = running-refused p g (a .end) (l .inv .2) (at-if1 .if1 .taken)
-          (at-make-step .make-step .ensures) (c .if2 .taken);
-    }
+    let a = start .args in
+    let l = (at-loop .loop) in
+    let p = plan (a .shape) (a .marks .now) in
+    let g = given (ground (a .rules) (a .beds .now) (a .roughness .now)) (a .rain .now) (a .inflow .now) in
+    let w = world (a .depths .now) (a .lasts .now) (a .records .now) (a .run) in
+    record
+    { ends = running-refused p g (a .end) (l .inv .2) (at-if1 .if1 .taken) (at-make-step .make-step .ensures) (c .if2 .taken) }
 
 add-steps : tie.Need-add-steps Inv-loop μ-loop
 add-steps c =
@@ -81,9 +83,12 @@ loop-less c =
     let at-if1 = at-make-step .before .before .before .before .before .before in
     let at-loop = at-if1 .before .before in
     let start = at-loop .before .before .before .before .before .before .before .before .before .before .before in
-    let a = (start .args) in let l = (at-loop .loop) in let p = plan (a .shape) (a .marks .now) in let g = given
-    (ground (a .rules) (a .beds .now) (a .roughness .now)) (a .rain .now) (a .inflow .now) in let w = world (a .depths .now)
-    (a .lasts .now) (a .records .now) (a .run) in omega
+    let a = start .args in
+    let l = (at-loop .loop) in
+    let p = plan (a .shape) (a .marks .now) in
+    let g = given (ground (a .rules) (a .beds .now) (a .roughness .now)) (a .rain .now) (a .inflow .now) in
+    let w = world (a .depths .now) (a .lasts .now) (a .records .now) (a .run) in
+    omega
     (arith, running-further p g (a .end) (l .inv .2) (at-if1 .if1 .taken) (at-make-step .make-step .ensures) (c .if2 .left), at-if1 .if1 .taken)
 
 loop-again : tie.Need-loop-again Inv-loop μ-loop
@@ -92,8 +97,10 @@ loop-again c =
     let at-if1 = at-make-step .before .before .before .before .before .before in
     let at-loop = at-if1 .before .before in
     let start = at-loop .before .before .before .before .before .before .before .before .before .before .before in
-    let a = (start .args) in let l = (at-loop .loop) in let p = plan (a .shape) (a .marks .now) in let g = given
-    (ground (a .rules) (a .beds .now) (a .roughness .now)) (a .rain .now) (a .inflow .now) in
+    let a = start .args in
+    let l = (at-loop .loop) in
+    let p = plan (a .shape) (a .marks .now) in
+    let g = given (ground (a .rules) (a .beds .now) (a .roughness .now)) (a .rain .now) (a .inflow .now) in
     (at-make-step .make-step .kept .1 .1 .1 .1 .1 .1 .1 .1 .1 .1 .1 .0 ∙ l .inv .0, at-make-step .make-step .kept .1 .1 .1 .1 .1 .1 .1 .1 .1 .1 .1 .1 .0 ∙ l .inv .1, running-on p g (a .end) (l .inv .2) (at-if1 .if1 .taken) (at-make-step .make-step .ensures) (c .if2 .left), at-make-step .make-step .kept .1 .1 .1 .1 .1 .1 .1 .1 .0 ∙ l .inv .3, at-make-step .make-step .kept .1 .1 .1 .1 .1 .1 .1 .1 .1 .0 ∙ l .inv .4, at-make-step .make-step .kept .1 .1 .1 .1 .1 .1 .1 .1 .1 .1 .0 ∙ l .inv .5, at-make-step .make-step .kept .1 .1 .1 .1 .1 .1 .1 .1 .1 .1 .1 .0 ∙ l .inv .6, at-make-step .make-step .kept .1 .1 .1 .1 .1 .1 .1 .1 .1 .1 .1 .1 .0 ∙ l .inv .7)
 
 same-length-6 : tie.Need-same-length-6 Inv-loop μ-loop
@@ -115,9 +122,12 @@ returns-2 : tie.Need-returns-2 Inv-loop μ-loop
 returns-2 c =
     let at-loop = c .before .before in
     let start = at-loop .before .before .before .before .before .before .before .before .before .before .before in
-    let a = (start .args) in let l = (at-loop .loop) in let p = plan (a .shape) (a .marks .now) in let g = given
-    (ground (a .rules) (a .beds .now) (a .roughness .now)) (a .rain .now) (a .inflow .now) in let w = world (a .depths .now)
-    (a .lasts .now) (a .records .now) (a .run) in record { ends = running-ends p g (a .end) (l .inv .2) (c .if1 .left) }
+    let a = start .args in
+    let l = (at-loop .loop) in
+    let p = plan (a .shape) (a .marks .now) in
+    let g = given (ground (a .rules) (a .beds .now) (a .roughness .now)) (a .rain .now) (a .inflow .now) in
+    let w = world (a .depths .now) (a .lasts .now) (a .records .now) (a .run) in
+    record { ends = running-ends p g (a .end) (l .inv .2) (c .if1 .left) }
 
 pub run-on-spec : {M : Type 1} → statement M
 run-on-spec =

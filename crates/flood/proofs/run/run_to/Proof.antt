@@ -24,12 +24,11 @@ same-length-3 c = search needs
 returns : tie.Need-returns
 returns c =
     let start = c .before .before .before .before .before .before .before .before .before .before .before .before .before in
-    let a = (start .args) in let p = plan (a .shape) (a .marks .now) in let g = given
-    (ground (a .rules) (a .beds .now) (a .roughness .now)) (a .rain .now) (a .inflow .now) in let w = world (a .depths .now)
-    (a .lasts .now) (a .records .now) (a .run) in record {
-      ends = run-checked p g (a .end) w (c .before .check .ensures)
-          (c .if1 .taken);
-    }
+    let a = start .args in
+    let p = plan (a .shape) (a .marks .now) in
+    let g = given (ground (a .rules) (a .beds .now) (a .roughness .now)) (a .rain .now) (a .inflow .now) in
+    let w = world (a .depths .now) (a .lasts .now) (a .records .now) (a .run) in
+    record { ends = run-checked p g (a .end) w (c .before .check .ensures) (c .if1 .taken) }
 
 slice-aggregate-run-in : tie.Need-slice-aggregate-run-in
 slice-aggregate-run-in c = search needs
@@ -42,9 +41,11 @@ run-in-requires c κs =
     let at-if1 = c .before .before .before .before .before in
     let at-check = at-if1 .before in
     let start = at-check .before .before .before .before .before .before .before .before .before .before .before .before in
-    let a = (start .args) in let p = plan (a .shape) (a .marks .now) in let g = given
-    (ground (a .rules) (a .beds .now) (a .roughness .now)) (a .rain .now) (a .inflow .now) in let w = world (a .depths .now)
-    (a .lasts .now) (a .records .now) (a .run) in let e = sym (at-check .check .ensures) ∙ at-if1 .if1 .left in
+    let a = start .args in
+    let p = plan (a .shape) (a .marks .now) in
+    let g = given (ground (a .rules) (a .beds .now) (a .roughness .now)) (a .rain .now) (a .inflow .now) in
+    let w = world (a .depths .now) (a .lasts .now) (a .records .now) (a .run) in
+    let e = sym (at-check .check .ensures) ∙ at-if1 .if1 .left in
     (record { checked = run-checks-step p g (a .end) w e }, (refl, refl, end-is (a .rules) (a .end) (run-checks-end p g (a .end) w e) .0))
 
 same-length-4 : tie.Need-same-length-4
@@ -62,12 +63,11 @@ returns-2 c =
     let at-if1 = at-run-in .before .before .before .before .before .before in
     let at-check = at-if1 .before in
     let start = at-check .before .before .before .before .before .before .before .before .before .before .before .before in
-    let a = (start .args) in let p = plan (a .shape) (a .marks .now) in let g = given
-    (ground (a .rules) (a .beds .now) (a .roughness .now)) (a .rain .now) (a .inflow .now) in let w = world (a .depths .now)
-    (a .lasts .now) (a .records .now) (a .run) in record {
-      ends = run-passed p g (a .end) w (at-check .check .ensures)
-          (at-if1 .if1 .left) (at-run-in .run-in .ensures .ends);
-    }
+    let a = start .args in
+    let p = plan (a .shape) (a .marks .now) in
+    let g = given (ground (a .rules) (a .beds .now) (a .roughness .now)) (a .rain .now) (a .inflow .now) in
+    let w = world (a .depths .now) (a .lasts .now) (a .records .now) (a .run) in
+    record { ends = run-passed p g (a .end) w (at-check .check .ensures) (at-if1 .if1 .left) (at-run-in .run-in .ensures .ends) }
 
 pub run-to-spec : {M : Type 1} → statement M
 run-to-spec =

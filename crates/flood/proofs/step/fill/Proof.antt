@@ -61,7 +61,7 @@ loop-again c =
     let at-fill-square = c .before .before .before in
     let at-loop = at-fill-square .before .before .before in
     let start = at-loop .before .before .before .before .before .before .before .before .before .before .before .before .before in
-    let a = (start .args) in
+    let a = start .args in
     (omega arith, carried (a .shape) (at-loop .loop .square) (at-loop .loop .inv .1) (c .next-column .ensures), fill-turn (plan (a .shape) (a .marks .now)) (ground (a .rules) (a .beds .now) (a .roughness .now)) (a .depths .now) (a .lasts .now) (a .added .now) (a .held) (a .lasting) (at-loop .loop .square) (omega arith) (at-loop .loop .inv .2) (at-fill-square .fill-square .ensures))
 
 same-length : tie.Need-same-length Inv-loop μ-loop

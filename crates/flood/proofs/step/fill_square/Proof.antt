@@ -61,12 +61,10 @@ returns-2 c =
     let at-if1 = at-number .before in
     let at-is-closed = at-if1 .before in
     let start = at-is-closed .before .before .before .before .before .before .before .before in
-    let a = (start .args) in let c′ = sym (at-is-closed .is-closed .ensures) ∙ at-if1 .if1 .left in record {
-      closed-put = λ e.
-          not-both e c′;
-      open-put = λ e. put-dry (a .rules) _ _ (a .lasting) _ (a .rec .now) (a .square) _ _
-          (sym (at-number .number .ensures) ∙ at-if2 .if2 .taken) (at-put-square .put-square .ensures);
-    }
+    let a = start .args in
+    let c′ = sym (at-is-closed .is-closed .ensures) ∙ at-if1 .if1 .left in
+    record
+    { closed-put = λ e. not-both e c′; open-put = λ e. put-dry (a .rules) _ _ (a .lasting) _ (a .rec .now) (a .square) _ _ (sym (at-number .number .ensures) ∙ at-if2 .if2 .taken) (at-put-square .put-square .ensures) }
 
 drops-of-requires : tie.Need-drops-of-requires
 drops-of-requires c κs = search needs
@@ -84,11 +82,13 @@ weigh-requires c κs =
     let at-if1 = at-number .before in
     let at-is-closed = at-if1 .before in
     let start = at-is-closed .before .before .before .before .before .before .before .before in
-    let a = (start .args) in let f = start .pre .0 .flows in let c′ = sym (at-is-closed .is-closed .ensures) ∙ at-if1 .if1 .left in
-    let inside = start .pre .1 .inside in weighable (plan (a .shape) (a .marks .now))
-    (ground (a .rules) (a .beds .now) (a .roughness .now)) (a .depths .now) (f .lies) (a .square) inside c′ (a .lasts .now)
-    (f .lasts-to (a .square) inside c′) (start .pre .0 .lasts-for) (at-number .number .ensures) (c .before .number2 .ensures)
-    (c .number3 .ensures) (at-drops-of .drops-of .ensures)
+    let a = start .args in
+    let f = start .pre .0 .flows in
+    let c′ = sym (at-is-closed .is-closed .ensures) ∙ at-if1 .if1 .left in
+    let inside = start .pre .1 .inside in
+    weighable (plan (a .shape) (a .marks .now)) (ground (a .rules) (a .beds .now) (a .roughness .now)) (a .depths .now) (f .lies)
+    (a .square) inside c′ (a .lasts .now) (f .lasts-to (a .square) inside c′) (start .pre .0 .lasts-for) (at-number .number .ensures)
+    (c .before .number2 .ensures) (c .number3 .ensures) (at-drops-of .drops-of .ensures)
 
 mul-put-square-3 : tie.Need-mul-put-square-3
 mul-put-square-3 c = search needs
@@ -112,8 +112,9 @@ put-square-requires-2 c κs =
     let at-if1 = at-number .before in
     let at-is-closed = at-if1 .before in
     let start = at-is-closed .before .before .before .before .before .before .before .before in
-    let a = (start .args) in let c′ = sym (at-is-closed .is-closed .ensures) ∙ at-if1 .if1 .left in let d = start .pre .0 .flows .lies
-    .depths-to (a .square) (start .pre .1 .inside) c′ in
+    let a = start .args in
+    let c′ = sym (at-is-closed .is-closed .ensures) ∙ at-if1 .if1 .left in
+    let d = start .pre .0 .flows .lies .depths-to (a .square) (start .pre .1 .inside) c′ in
     (omega (arith, start .pre .0 .record-long, start .pre .1 .inside), words-fit (a .rules) (at-number2 .number2 .result) (at-number3 .number3 .result) (a .lasting) (at-drops-of .drops-of .result) {d = at-number .number .result} (omega (arith, at-number .number .ensures)) (at-weigh .weigh .ensures))
 
 same-length-3 : tie.Need-same-length-3
@@ -130,14 +131,10 @@ returns-3 c =
     let at-if1 = at-number .before in
     let at-is-closed = at-if1 .before in
     let start = at-is-closed .before .before .before .before .before .before .before .before in
-    let a = (start .args) in let c′ = sym (at-is-closed .is-closed .ensures) ∙ at-if1 .if1 .left in record {
-      closed-put = λ e.
-          not-both e c′;
-      open-put = λ e. put-wet (a .rules) (getD (a .lasts .now) (a .square) 0) (getD (a .roughness .now) (a .square) 0)
-          (a .lasting) (dropsOf (plan (a .shape) (a .marks .now)) (a .rules) (a .beds .now) (a .depths .now) (a .square)) (a .rec .now)
-          (a .square) _ _ (at-number .number .ensures) (at-number2 .number2 .ensures) (at-number3 .number3 .ensures)
-          (at-drops-of .drops-of .ensures) (at-weigh .weigh .ensures) (at-put-square2 .put-square2 .ensures);
-    }
+    let a = start .args in
+    let c′ = sym (at-is-closed .is-closed .ensures) ∙ at-if1 .if1 .left in
+    record
+    { closed-put = λ e. not-both e c′; open-put = λ e. put-wet (a .rules) (getD (a .lasts .now) (a .square) 0) (getD (a .roughness .now) (a .square) 0) (a .lasting) (dropsOf (plan (a .shape) (a .marks .now)) (a .rules) (a .beds .now) (a .depths .now) (a .square)) (a .rec .now) (a .square) _ _ (at-number .number .ensures) (at-number2 .number2 .ensures) (at-number3 .number3 .ensures) (at-drops-of .drops-of .ensures) (at-weigh .weigh .ensures) (at-put-square2 .put-square2 .ensures) }
 
 pub fill-square-spec : {M : Type 1} → statement M
 fill-square-spec =

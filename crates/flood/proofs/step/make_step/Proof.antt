@@ -19,24 +19,31 @@ use Rattle.flood.proofs.step.make_step.Tie as tie
 step-length-requires : tie.Need-step-length-requires
 step-length-requires c κs =
     let start = c .before .before .before .before .before .before .before .before .before .before .before in
-    let a = (start .args) in let p = plan (a .shape) (a .marks .now) in let g = given
-    (ground (a .rules) (a .beds .now) (a .roughness .now)) (a .rain .now) (a .inflow .now) in let w = world (a .depths .now)
-    (a .lasts .now) (a .records .now) (a .run) in is-ready p g w (start .pre .0 .checked) .flows .lies
+    let a = start .args in
+    let p = plan (a .shape) (a .marks .now) in
+    let g = given (ground (a .rules) (a .beds .now) (a .roughness .now)) (a .rain .now) (a .inflow .now) in
+    let w = world (a .depths .now) (a .lasts .now) (a .records .now) (a .run) in
+    is-ready p g w (start .pre .0 .checked) .flows .lies
 
 lasts-for-requires : tie.Need-lasts-for-requires
 lasts-for-requires c κs =
     let start = c .before .before .before .before .before .before .before .before .before .before .before .before in
-    let a = (start .args) in let p = plan (a .shape) (a .marks .now) in let g = given
-    (ground (a .rules) (a .beds .now) (a .roughness .now)) (a .rain .now) (a .inflow .now) in let w = world (a .depths .now)
-    (a .lasts .now) (a .records .now) (a .run) in is-ready p g w (start .pre .0 .checked) .waters .rules .update-from
+    let a = start .args in
+    let p = plan (a .shape) (a .marks .now) in
+    let g = given (ground (a .rules) (a .beds .now) (a .roughness .now)) (a .rain .now) (a .inflow .now) in
+    let w = world (a .depths .now) (a .lasts .now) (a .records .now) (a .run) in
+    is-ready p g w (start .pre .0 .checked) .waters .rules .update-from
 
 add-end : tie.Need-add-end
 add-end c =
     let at-step-length = c .before .before in
     let start = at-step-length .before .before .before .before .before .before .before .before .before .before .before .before in
-    let a = (start .args) in let p = plan (a .shape) (a .marks .now) in let g = given
-    (ground (a .rules) (a .beds .now) (a .roughness .now)) (a .rain .now) (a .inflow .now) in let w = world (a .depths .now)
-    (a .lasts .now) (a .records .now) (a .run) in let r = is-ready p g w (start .pre .0 .checked) in omega
+    let a = start .args in
+    let p = plan (a .shape) (a .marks .now) in
+    let g = given (ground (a .rules) (a .beds .now) (a .roughness .now)) (a .rain .now) (a .inflow .now) in
+    let w = world (a .depths .now) (a .lasts .now) (a .records .now) (a .run) in
+    let r = is-ready p g w (start .pre .0 .checked) in
+    omega
     (arith, lasts-made p g w (at-step-length .step-length .ensures) (c .before .lasts-for .ensures), step-lasts-to p g (seenOf w) r, r .clock-to)
 
 same-length : tie.Need-same-length
@@ -47,17 +54,22 @@ returns c =
     let at-lasts-for = c .before .before in
     let at-step-length = at-lasts-for .before in
     let start = at-step-length .before .before .before .before .before .before .before .before .before .before .before .before in
-    let a = (start .args) in let p = plan (a .shape) (a .marks .now) in let g = given
-    (ground (a .rules) (a .beds .now) (a .roughness .now)) (a .rain .now) (a .inflow .now) in let w = world (a .depths .now)
-    (a .lasts .now) (a .records .now) (a .run) in step-seven p g w (start .pre .0 .checked)
+    let a = start .args in
+    let p = plan (a .shape) (a .marks .now) in
+    let g = given (ground (a .rules) (a .beds .now) (a .roughness .now)) (a .rain .now) (a .inflow .now) in
+    let w = world (a .depths .now) (a .lasts .now) (a .records .now) (a .run) in
+    step-seven p g w (start .pre .0 .checked)
     (omega (arith, lasts-made p g w (at-step-length .step-length .ensures) (at-lasts-for .lasts-for .ensures), c .if1 .taken))
 
 add-water-requires : tie.Need-add-water-requires
 add-water-requires c κs =
-    let start = c .before .before .before .before .before .before .before .before .before .before .before .before .before .before .before .before in
-    let a = (start .args) in let p = plan (a .shape) (a .marks .now) in let g = given
-    (ground (a .rules) (a .beds .now) (a .roughness .now)) (a .rain .now) (a .inflow .now) in let w = world (a .depths .now)
-    (a .lasts .now) (a .records .now) (a .run) in let r = is-ready p g w (start .pre .0 .checked) in
+    let start =
+    c .before .before .before .before .before .before .before .before .before .before .before .before .before .before .before .before in
+    let a = start .args in
+    let p = plan (a .shape) (a .marks .now) in
+    let g = given (ground (a .rules) (a .beds .now) (a .roughness .now)) (a .rain .now) (a .inflow .now) in
+    let w = world (a .depths .now) (a .lasts .now) (a .records .now) (a .run) in
+    let r = is-ready p g w (start .pre .0 .checked) in
     (record { waters = record { fine = r .waters .fine; marks-long = r .waters .marks-long; rules = r .waters .rules; rain = r .waters .rain; inflow = r .waters .inflow; inflow-squares = r .waters .inflow-squares }; ordered = omega arith; end-to = c .before .if1 .left }, start .pre .1 .1)
 
 same-length-2 : tie.Need-same-length-2
@@ -73,10 +85,12 @@ returns-2 c =
     let at-lasts-for = at-if1 .before .before in
     let at-step-length = at-lasts-for .before in
     let start = at-step-length .before .before .before .before .before .before .before .before .before .before .before .before in
-    let a = (start .args) in let p = plan (a .shape) (a .marks .now) in let g = given
-    (ground (a .rules) (a .beds .now) (a .roughness .now)) (a .rain .now) (a .inflow .now) in let w = world (a .depths .now)
-    (a .lasts .now) (a .records .now) (a .run) in let n = lasts-made p g w (at-step-length .step-length .ensures)
-    (at-lasts-for .lasts-for .ensures) in step-eight p g w (start .pre .0 .checked) (omega (arith, n, at-if1 .if1 .left))
+    let a = start .args in
+    let p = plan (a .shape) (a .marks .now) in
+    let g = given (ground (a .rules) (a .beds .now) (a .roughness .now)) (a .rain .now) (a .inflow .now) in
+    let w = world (a .depths .now) (a .lasts .now) (a .records .now) (a .run) in
+    let n = lasts-made p g w (at-step-length .step-length .ensures) (at-lasts-for .lasts-for .ensures) in
+    step-eight p g w (start .pre .0 .checked) (omega (arith, n, at-if1 .if1 .left))
     (ap (λ (x : ℕ). addedFits p g (a .run .clock) (a .run .clock + x)) (sym n) ∙ (sym (same-fits p g w (a .run .clock) (a .run .clock + at-lasts-for .lasts-for .result)) ∙ (sym (at-add-water .add-water .ensures .fits-is) ∙ not-true _ (c .if2 .taken))))
 
 fill-requires : tie.Need-fill-requires
@@ -85,9 +99,11 @@ fill-requires c κs =
     let at-lasts-for = at-add-water .before .before .before .before in
     let at-step-length = at-lasts-for .before in
     let start = at-step-length .before .before .before .before .before .before .before .before .before .before .before .before in
-    let a = (start .args) in let p = plan (a .shape) (a .marks .now) in let g = given
-    (ground (a .rules) (a .beds .now) (a .roughness .now)) (a .rain .now) (a .inflow .now) in let w = world (a .depths .now)
-    (a .lasts .now) (a .records .now) (a .run) in let r = is-ready p g w (start .pre .0 .checked) in
+    let a = start .args in
+    let p = plan (a .shape) (a .marks .now) in
+    let g = given (ground (a .rules) (a .beds .now) (a .roughness .now)) (a .rain .now) (a .inflow .now) in
+    let w = world (a .depths .now) (a .lasts .now) (a .records .now) (a .run) in
+    let r = is-ready p g w (start .pre .0 .checked) in
     (record { flows = r .flows; added-long = at-add-water .add-water .ensures .long ∙ start .pre .1 .1; lasts-for = omega (arith, lasts-made p g w (at-step-length .step-length .ensures) (at-lasts-for .lasts-for .ensures), step-lasts-to p g (seenOf w) r); record-long = start .pre .1 .0 }, r .length-to)
 
 settle-requires : tie.Need-settle-requires
@@ -99,10 +115,11 @@ settle-requires c κs =
     let at-lasts-for = at-if1 .before .before in
     let at-step-length = at-lasts-for .before in
     let start = at-step-length .before .before .before .before .before .before .before .before .before .before .before .before in
-    let a = (start .args) in let p = plan (a .shape) (a .marks .now) in let g = given
-    (ground (a .rules) (a .beds .now) (a .roughness .now)) (a .rain .now) (a .inflow .now) in let w = world (a .depths .now)
-    (a .lasts .now) (a .records .now) (a .run) in let n = lasts-made p g w (at-step-length .step-length .ensures)
-    (at-lasts-for .lasts-for .ensures) in
+    let a = start .args in
+    let p = plan (a .shape) (a .marks .now) in
+    let g = given (ground (a .rules) (a .beds .now) (a .roughness .now)) (a .rain .now) (a .inflow .now) in
+    let w = world (a .depths .now) (a .lasts .now) (a .records .now) (a .run) in
+    let n = lasts-made p g w (at-step-length .step-length .ensures) (at-lasts-for .lasts-for .ensures) in
     (settles p g w (start .pre .0 .checked) (omega (arith, n, at-if1 .if1 .left)) (record-made p g w n refl (start .pre .1 .1) (at-add-water .add-water .ensures) (not-false _ (at-if2 .if2 .left)) (at-fill .fill .ensures)) (length-made p g w (at-step-length .step-length .ensures)), at-add-water .add-water .ensures .long ∙ start .pre .1 .1)
 
 same-length-4 : tie.Need-same-length-4
@@ -130,10 +147,12 @@ returns-3 c =
     let at-lasts-for = at-if1 .before .before in
     let at-step-length = at-lasts-for .before in
     let start = at-step-length .before .before .before .before .before .before .before .before .before .before .before .before in
-    let a = (start .args) in let p = plan (a .shape) (a .marks .now) in let g = given
-    (ground (a .rules) (a .beds .now) (a .roughness .now)) (a .rain .now) (a .inflow .now) in let w = world (a .depths .now)
-    (a .lasts .now) (a .records .now) (a .run) in let n = lasts-made p g w (at-step-length .step-length .ensures)
-    (at-lasts-for .lasts-for .ensures) in step-settled p g w (start .pre .0 .checked) (omega (arith, n, at-if1 .if1 .left))
+    let a = start .args in
+    let p = plan (a .shape) (a .marks .now) in
+    let g = given (ground (a .rules) (a .beds .now) (a .roughness .now)) (a .rain .now) (a .inflow .now) in
+    let w = world (a .depths .now) (a .lasts .now) (a .records .now) (a .run) in
+    let n = lasts-made p g w (at-step-length .step-length .ensures) (at-lasts-for .lasts-for .ensures) in
+    step-settled p g w (start .pre .0 .checked) (omega (arith, n, at-if1 .if1 .left))
     (record-made p g w n refl (start .pre .1 .1) (at-add-water .add-water .ensures) (not-false _ (at-if2 .if2 .left)) (at-fill .fill .ensures))
     (length-made p g w (at-step-length .step-length .ensures)) (at-settle .settle .ensures)
 

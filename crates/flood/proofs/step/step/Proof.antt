@@ -26,10 +26,11 @@ returns : tie.Need-returns
 returns c =
     let at-rules-fine = c .before .before .before .before .before in
     let start = at-rules-fine .before .before .before .before .before .before .before .before .before in
-    let a = (start .args) in let p = plan (a .shape) (a .marks .now) in let g = given
-    (ground (a .rules) (a .beds .now) (a .roughness .now)) (a .rain .now) (a .inflow .now) in let w = world (a .depths .now)
-    (a .lasts .now) (a .records .now) (a .run) in step-checked p g w (at-rules-fine .rules-fine .ensures)
-    (c .before .checked .ensures) (c .if1 .taken)
+    let a = start .args in
+    let p = plan (a .shape) (a .marks .now) in
+    let g = given (ground (a .rules) (a .beds .now) (a .roughness .now)) (a .rain .now) (a .inflow .now) in
+    let w = world (a .depths .now) (a .lasts .now) (a .records .now) (a .run) in
+    step-checked p g w (at-rules-fine .rules-fine .ensures) (c .before .checked .ensures) (c .if1 .taken)
 
 step-on-requires : tie.Need-step-on-requires
 step-on-requires c κs =
@@ -37,10 +38,11 @@ step-on-requires c κs =
     let at-checked = at-if1 .before in
     let at-rules-fine = at-checked .before .before .before .before in
     let start = at-rules-fine .before .before .before .before .before .before .before .before .before in
-    let a = (start .args) in let p = plan (a .shape) (a .marks .now) in let g = given
-    (ground (a .rules) (a .beds .now) (a .roughness .now)) (a .rain .now) (a .inflow .now) in let w = world (a .depths .now)
-    (a .lasts .now) (a .records .now) (a .run) in passes-checks p g w (at-rules-fine .rules-fine .ensures)
-    (at-checked .checked .ensures) (at-if1 .if1 .left)
+    let a = start .args in
+    let p = plan (a .shape) (a .marks .now) in
+    let g = given (ground (a .rules) (a .beds .now) (a .roughness .now)) (a .rain .now) (a .inflow .now) in
+    let w = world (a .depths .now) (a .lasts .now) (a .records .now) (a .run) in
+    passes-checks p g w (at-rules-fine .rules-fine .ensures) (at-checked .checked .ensures) (at-if1 .if1 .left)
 
 same-length-4 : tie.Need-same-length-4
 same-length-4 c = search needs
@@ -54,10 +56,14 @@ same-length-6 c = search needs
 returns-2 : tie.Need-returns-2
 returns-2 c =
     let at-step-on = c .before .before .before .before .before .before .before .before in
-    let start = at-step-on .before .before .before .before .before .before .before .before .before .before .before .before .before .before .before .before .before .before in
-    let a = (start .args) in let p = plan (a .shape) (a .marks .now) in let g = given
-    (ground (a .rules) (a .beds .now) (a .roughness .now)) (a .rain .now) (a .inflow .now) in let w = world (a .depths .now)
-    (a .lasts .now) (a .records .now) (a .run) in step-refused p g w (at-step-on .step-on .ensures) (c .if2 .taken)
+    let start =
+    at-step-on .before .before .before .before .before .before .before .before .before .before .before .before .before .before .before .before .before .before
+    in
+    let a = start .args in
+    let p = plan (a .shape) (a .marks .now) in
+    let g = given (ground (a .rules) (a .beds .now) (a .roughness .now)) (a .rain .now) (a .inflow .now) in
+    let w = world (a .depths .now) (a .lasts .now) (a .records .now) (a .run) in
+    step-refused p g w (at-step-on .step-on .ensures) (c .if2 .taken)
 
 same-length-7 : tie.Need-same-length-7
 same-length-7 c = search needs
@@ -71,10 +77,14 @@ same-length-9 c = search needs
 returns-3 : tie.Need-returns-3
 returns-3 c =
     let at-step-on = c .before .before .before .before .before .before .before .before in
-    let start = at-step-on .before .before .before .before .before .before .before .before .before .before .before .before .before .before .before .before .before .before in
-    let a = (start .args) in let p = plan (a .shape) (a .marks .now) in let g = given
-    (ground (a .rules) (a .beds .now) (a .roughness .now)) (a .rain .now) (a .inflow .now) in let w = world (a .depths .now)
-    (a .lasts .now) (a .records .now) (a .run) in step-done p g w (at-step-on .step-on .ensures) (c .if2 .left)
+    let start =
+    at-step-on .before .before .before .before .before .before .before .before .before .before .before .before .before .before .before .before .before .before
+    in
+    let a = start .args in
+    let p = plan (a .shape) (a .marks .now) in
+    let g = given (ground (a .rules) (a .beds .now) (a .roughness .now)) (a .rain .now) (a .inflow .now) in
+    let w = world (a .depths .now) (a .lasts .now) (a .records .now) (a .run) in
+    step-done p g w (at-step-on .step-on .ensures) (c .if2 .left)
 
 pub step-spec : {M : Type 1} → statement M
 step-spec =

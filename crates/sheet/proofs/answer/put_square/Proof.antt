@@ -39,9 +39,10 @@ put-line-requires c κs =
     let at-is-closed = at-if1 .before in
     let start = at-is-closed .before .before .before .before in
     let e = open-text (plan (start .args .shape) (start .args .marks .now)) (start .args .depths .now) (start .args .square)
-    (sym (at-is-closed .is-closed .ensures) ∙ at-if1 .if1 .left) in let h = line-as cellWord
-    (start .args .square / start .args .shape .columns) (start .args .square % start .args .shape .columns)
-    (at-number .number .ensures) e in omega (arith, ap length h, start .pre .1)
+    (sym (at-is-closed .is-closed .ensures) ∙ at-if1 .if1 .left) in
+    let h = line-as cellWord (start .args .square / start .args .shape .columns) (start .args .square % start .args .shape .columns)
+    (at-number .number .ensures) e in
+    omega (arith, ap length h, start .pre .1)
 
 same-length : tie.Need-same-length
 same-length c = search needs

@@ -94,7 +94,8 @@ judge-body-requires c κs =
     let at-if1 = at-squares-of .before .before in
     let at-read-body = at-if1 .before .before .before .before .before .before in
     let start = at-read-body .before .before .before .before .before .before in
-    let s = ap (λ (g : GridLine). g .shape) (start .pre .0) in let n = ap squares s in
+    let s = ap (λ (g : GridLine). g .shape) (start .pre .0) in
+    let n = ap squares s in
     ((start .pre .2, s, at-read-body .read-body .ensures .body-is (at-if1 .if1 .left)), said-from _ 4096 (at-squares-of .squares-of .ensures ∙ n) (omega (arith, start .pre .2 .few, n)) (at-read-body .read-body .ensures .rooms-are (at-if1 .if1 .left)))
 
 returns-2 : tie.Need-returns-2

@@ -73,18 +73,21 @@ slice-aggregate-fill-rows c = search needs
 fill-rows-requires : tie.Need-fill-rows-requires
 unfolding roomsFine
 fill-rows-requires c κs =
-    let at-if3 = c .before .before .before .before .before .before .before .before .before .before .before .before .before .before .before .before .before in
+    let at-if3 =
+    c .before .before .before .before .before .before .before .before .before .before .before .before .before .before .before .before .before in
     let at-decide = at-if3 .before .before in
     let at-if2 = at-decide .before in
     let at-rooms-fine = at-if2 .before in
     let at-if1 = at-rooms-fine .before .before in
     let at-grid-line = at-if1 .before .before in
     let start = at-grid-line .before .before .before .before .before .before .before .before in
-    let held = rooms (start .args .marks .now) (start .args .beds .now) (start .args .roughness .now) (start .args .depths .now) (start .args .rain .now) (start .args .inflow .now) in
+    let held = rooms (start .args .marks .now) (start .args .beds .now) (start .args .roughness .now) (start .args .depths .now)
+    (start .args .rain .now) (start .args .inflow .now) in
     let f : roomsFine (at-grid-line .grid-line .result .shape) (at-grid-line .grid-line .result .rules) held ≡ true =
-    (holds-by (at-rooms-fine .rooms-fine .ensures) (at-if2 .if2 .left)) in let few = rain-few (start .args .text .now)
-    (no-check _ (at-grid-line .grid-line .ensures) held (not-false _ (at-if1 .if1 .left)) f (at-decide .decide .ensures) (at-if3 .if3 .left))
-    in let rows = rain-rows-at (at-decide .decide .ensures .body-is (at-if3 .if3 .left)) in
+    (holds-by (at-rooms-fine .rooms-fine .ensures) (at-if2 .if2 .left)) in
+    let few = rain-few (start .args .text .now)
+    (no-check _ (at-grid-line .grid-line .ensures) held (not-false _ (at-if1 .if1 .left)) f (at-decide .decide .ensures) (at-if3 .if3 .left)) in
+    let rows = rain-rows-at (at-decide .decide .ensures .body-is (at-if3 .if3 .left)) in
     ((omega arith, plain-rain), (omega (arith, rows), omega (arith, few, rooms-tables (at-grid-line .grid-line .result .shape) (at-grid-line .grid-line .result .rules) held f .0, (at-decide .decide .ensures .body-is (at-if3 .if3 .left)) .rain-rows-are)))
 
 slice-aggregate-fill-rows-2 : tie.Need-slice-aggregate-fill-rows-2
@@ -93,18 +96,22 @@ slice-aggregate-fill-rows-2 c = search needs
 fill-rows-requires-2 : tie.Need-fill-rows-requires-2
 unfolding roomsFine
 fill-rows-requires-2 c κs =
-    let at-if3 = c .before .before .before .before .before .before .before .before .before .before .before .before .before .before .before .before .before .before .before .before .before .before in
+    let at-if3 =
+    c .before .before .before .before .before .before .before .before .before .before .before .before .before .before .before .before .before .before .before .before .before .before
+    in
     let at-decide = at-if3 .before .before in
     let at-if2 = at-decide .before in
     let at-rooms-fine = at-if2 .before in
     let at-if1 = at-rooms-fine .before .before in
     let at-grid-line = at-if1 .before .before in
     let start = at-grid-line .before .before .before .before .before .before .before .before in
-    let held = rooms (start .args .marks .now) (start .args .beds .now) (start .args .roughness .now) (start .args .depths .now) (start .args .rain .now) (start .args .inflow .now) in
+    let held = rooms (start .args .marks .now) (start .args .beds .now) (start .args .roughness .now) (start .args .depths .now)
+    (start .args .rain .now) (start .args .inflow .now) in
     let f : roomsFine (at-grid-line .grid-line .result .shape) (at-grid-line .grid-line .result .rules) held ≡ true =
-    (holds-by (at-rooms-fine .rooms-fine .ensures) (at-if2 .if2 .left)) in let few = inflow-few (start .args .text .now)
-    (no-check _ (at-grid-line .grid-line .ensures) held (not-false _ (at-if1 .if1 .left)) f (at-decide .decide .ensures) (at-if3 .if3 .left))
-    in let rows = inflow-rows-at (at-decide .decide .ensures .body-is (at-if3 .if3 .left)) in
+    (holds-by (at-rooms-fine .rooms-fine .ensures) (at-if2 .if2 .left)) in
+    let few = inflow-few (start .args .text .now)
+    (no-check _ (at-grid-line .grid-line .ensures) held (not-false _ (at-if1 .if1 .left)) f (at-decide .decide .ensures) (at-if3 .if3 .left)) in
+    let rows = inflow-rows-at (at-decide .decide .ensures .body-is (at-if3 .if3 .left)) in
     ((omega arith, plain-inflow), (omega (arith, rows), omega (arith, few, rooms-tables (at-grid-line .grid-line .result .shape) (at-grid-line .grid-line .result .rules) held f .1, (at-decide .decide .ensures .body-is (at-if3 .if3 .left)) .inflow-rows-are)))
 
 same-length : tie.Need-same-length
