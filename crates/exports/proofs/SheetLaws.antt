@@ -1,26 +1,25 @@
 -- What the exported reading of a sheet and the whole of `meadow` give follows from what the calls below give.
 -- Assumes nothing.
-use mathlib.Core.Path.{_≡_, refl, sym, ap, _∙_, subst}
+use mathlib.Core.Path.{_≡_, sym, ap, _∙_}
 use mathlib.Core.Bool.{Bool, true, false, _&&_}
-use mathlib.Core.List.{List, [], _∷_, _++_}
-use Prim.Native.Nat.{ℕ, _+_, _≤_, _<_}
+use mathlib.Core.List.{List, [], _∷_}
+use Prim.Native.Nat.{ℕ, _≤_, _<_}
 use native.Mathlib.Omega.{arith}
-use lib.Dec.{eqb, leb}
+use lib.Dec.{eqb}
 use lib.ListN.{length, take, drop, replicate, length-replicate}
 use lib.Seq.{take-append-seam}
 use borrow.Author.Tests.{ne-eqb, eq-eqb, le-leb, lt-leb}
-use Rattle.reckon.specs.Tests.{pick}
 use Rattle.reckon.specs.Lists.{placed}
 use Rattle.reckon.proofs.TestLaws.{pick-true, pick-false, and-both}
 use Rattle.text.specs.Writing.{Wrote}
 use Rattle.text.proofs.WritingLaws.{wrote-length}
-use Rattle.sheet.specs.Sheet.{Rooms, Reads, sheetOf, roomsAfter}
+use Rattle.sheet.specs.Sheet.{Rooms, Reads, roomsAfter}
 use Rattle.sheet.specs.Printed.{Prints, meadowText, mostPrinted}
 use Rattle.sheet.specs.declared.reading.Heading.{Heading}
 use Rattle.sheet.specs.declared.reading.Sheet.{Sheet}
 use Rattle.sheet.specs.declared.reading.Sheet.the-variants.{Read, Refused}
-use Rattle.exports.specs.Answers.{headingSize, lineSize, numberIf, headingNumbers}
-use Rattle.exports.specs.Sheets.{sheetNumber, sheetLine, headingIn, sheetSized, ExportsRead, outSized, ExportsMeadow}
+use Rattle.exports.specs.Answers.{headingSize, lineSize, headingNumbers}
+use Rattle.exports.specs.Sheets.{sheetNumber, sheetLine, headingIn, sheetSized, ExportsRead, ExportsMeadow}
 use Rattle.exports.proofs.AnswerLaws.{sized-number, unsized-number}
 
 -- ---- reading

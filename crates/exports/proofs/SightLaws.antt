@@ -1,17 +1,16 @@
 -- What the exported arrow and wet rows give follows from what the calls below give.
 -- Assumes nothing.
 use mathlib.Core.Path.{_≡_, refl, sym, ap, _∙_}
-use mathlib.Core.Bool.{Bool, true, false}
+use mathlib.Core.Bool.{true}
 use mathlib.Core.List.{List, [], _∷_}
 use Prim.Native.Nat.{ℕ, zero, suc}
-use lib.Dec.{eqb}
 use lib.ListN.{length}
 use lib.Ieee.{Float}
 use borrow.Author.Tests.{ne-eqb, eq-eqb}
 use Rattle.reckon.specs.Tests.{pick}
 use Rattle.reckon.proofs.TestLaws.{pick-true, pick-false}
 use Rattle.ledger.specs.Runs.{Plan, World}
-use Rattle.sight.specs.Arrows.{Sees, seenAt}
+use Rattle.sight.specs.Arrows.{Sees}
 use Rattle.sight.specs.WetRows.{WetRowed, counted, onesOver, wetMasks, wetNumber}
 use Rattle.sight.specs.declared.speeds.Arrow.{Arrow}
 use Rattle.sight.specs.declared.arrows.Sight.{Sight}
@@ -19,10 +18,10 @@ use Rattle.sight.specs.declared.arrows.Sight.the-variants.{Closed, Dry, Still, 
 use Rattle.sight.specs.declared.wet_rows.Wet.{Wet}
 use Rattle.sight.specs.declared.wet_rows.Wet.the-variants.{Count}
 use Rattle.sight.specs.declared.wet_rows.Wet.the-variants as Wet
-use Rattle.exports.specs.Answers.{speedsSize, countSize, numberIf}
+use Rattle.exports.specs.Answers.{speedsSize, countSize}
 use Rattle.exports.specs.Steps.{unlessRefused}
 use Rattle.exports.specs.Sights.{sightNumber, speedsIn, speedsSized, ExportsArrow, wetNumberOf, countIn, wetGives, ExportsWet}
-use Rattle.exports.proofs.AnswerLaws.{sized-number, unsized-number, refused-leaves, chosen-twice}
+use Rattle.exports.proofs.AnswerLaws.{sized-number, unsized-number, refused-leaves}
 
 -- ---- the arrow
 

@@ -1,18 +1,17 @@
 -- What the exported steps give follows from what the calls below give: a number with a run, or with all as it was.
 -- Assumes nothing.
-use mathlib.Core.Path.{_≡_, refl, sym, ap, _∙_}
-use mathlib.Core.Bool.{true, false}
+use mathlib.Core.Path.{_≡_, sym, ap, _∙_}
+use mathlib.Core.Bool.{true}
 use mathlib.Core.List.{List}
 use Prim.Native.Nat.{ℕ}
 use lib.Dec.{eqb}
 use lib.ListN.{length}
 use borrow.Author.Tests.{ne-eqb, eq-eqb}
-use Rattle.reckon.specs.Tests.{pick}
 use Rattle.reckon.specs.Lists.{filled}
 use Rattle.reckon.proofs.TestLaws.{pick-true, pick-false}
 use Rattle.grid.specs.Squares.{squares}
 use Rattle.rule.specs.declared.rules.Rules.{Rules}
-use Rattle.ledger.specs.Runs.{Plan, World, world, answered}
+use Rattle.ledger.specs.Runs.{Plan, World}
 use Rattle.ledger.specs.Record.{newestRecord}
 use Rattle.ledger.specs.Flows.{shut}
 use Rattle.ledger.specs.After.{worldAfter}
@@ -22,10 +21,10 @@ use Rattle.ledger.specs.declared.runs.Answer.{Answer}
 use Rattle.flood.specs.Drops.{Given}
 use Rattle.flood.specs.Step.{stepMoves}
 use Rattle.flood.specs.Refusals.{Steps, stepNumber, stepped}
-use Rattle.flood.specs.Run.{Ended, ended, runTo, RunsTo, Freshens, freshNumber, freshRun, freshLasts}
+use Rattle.flood.specs.Run.{Ended, RunsTo, Freshens, freshNumber, freshRun, freshLasts}
 use Rattle.flood.specs.declared.run.Ran.{Ran}
-use Rattle.exports.specs.Answers.{runSize, ranSize, numberIf, runNumbers, answerNumber, answerRun, ranRun}
-use Rattle.exports.specs.Steps.{unlessRefused, freshGives, ExportsFresh, stepGives, ExportsStep, backGives, ExportsBack, ranSized, ranEnd, ExportsRun}
+use Rattle.exports.specs.Answers.{runSize, ranSize, runNumbers, answerNumber, answerRun, ranRun}
+use Rattle.exports.specs.Steps.{unlessRefused, freshGives, ExportsFresh, stepGives, ExportsStep, backGives, ExportsBack, ranSized, ExportsRun}
 use Rattle.exports.proofs.AnswerLaws.{sized-number, unsized-number, refused-leaves, chosen-twice, number-answered, run-answered}
 
 -- ---- a fresh run

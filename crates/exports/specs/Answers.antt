@@ -1,9 +1,9 @@
 -- What a caller in another language is given: a number, and values in slices lent for them.
 -- Assumes nothing.
 use mathlib.Core.Bool.{Bool, _&&_}
-use mathlib.Core.List.{List, [], _∷_}
+use mathlib.Core.List.{List, [], _∷_, _++_}
 use Prim.Native.Nat.{ℕ}
-use lib.Dec.{eqb, leb}
+use lib.Dec.{leb}
 use lib.ListN.{length}
 use Rattle.reckon.specs.Tests.{pick}
 use Rattle.ledger.specs.declared.runs.Run.{Run}
@@ -17,7 +17,7 @@ runNumbers u = u .clock ∷ u .length ∷ u .outflow ∷ u .kept ∷ u .newest �
 
 -- a run and the steps made
 abbrev pub ranNumbers : Run → ℕ → List ℕ
-ranNumbers u steps = u .clock ∷ u .length ∷ u .outflow ∷ u .kept ∷ u .newest ∷ steps ∷ []
+ranNumbers u steps = runNumbers u ++ (steps ∷ [])
 
 -- "`grid` rows columns D", "`run` q shortest longest U end", and how many `rain` and `inflow` lines there are
 abbrev pub headingNumbers : Heading → List ℕ
@@ -69,6 +69,10 @@ unfoldable pub answerRun : Answer → List ℕ → List ℕ
 answerRun (Done u) old = runNumbers u
 answerRun (Refused n) old = old
 
--- the same of a run to an end: its checks, 1 to 6, leave the slice as it was; from then on it has "that number with the steps made"
+-- the last number of the table that is tried before any step
+abbrev pub lastCheck : ℕ
+lastCheck = 6
+
+-- the same of a run to an end: its checks leave the slice as it was; from then on it has "that number with the steps made"
 unfoldable pub ranRun : ℕ → Run → ℕ → List ℕ → List ℕ
-ranRun number u steps old = pick (leb 1 number && leb number 6) old (ranNumbers u steps)
+ranRun number u steps old = pick (leb 1 number && leb number lastCheck) old (ranNumbers u steps)

@@ -10,8 +10,7 @@ use Rattle.reckon.specs.Tests.{pick}
 use Rattle.grid.specs.declared.squares.Shape.{Shape}
 use Rattle.rule.specs.declared.rules.Rules.{Rules}
 use Rattle.ledger.specs.declared.runs.Run.{Run}
-use Rattle.ledger.specs.declared.runs.Answer.{Answer}
-use Rattle.ledger.specs.Runs.{Plan, World, answered}
+use Rattle.ledger.specs.Runs.{Plan, World}
 use Rattle.ledger.specs.TakeBack.{backNumber, takenBack}
 use Rattle.flood.specs.Drops.{Given}
 use Rattle.flood.specs.Refusals.{stepNumber, stepped}

@@ -3,7 +3,7 @@ use ledger::runs::Run;
 use sheet::reading::Heading;
 ghost use mathlib.Core.Path.{_≡_};
 ghost use lib.ListN.{length};
-ghost use Rattle.exports.specs.Answers.{headingNumbers, ranNumbers, runNumbers};
+ghost use Rattle.exports.specs.Answers.{headingNumbers, headingSize, ranNumbers, ranSize, runNumbers, runSize};
 
 // The numbers of each answer.
 pub(crate) const RUN_NUMBERS: usize = 5;
@@ -23,7 +23,7 @@ pub(crate) const NOT_ITS_SIZE: u32 = 1;
 
 // Puts a run into its five places.
 pub(crate) fn put_run(run: Run, room: &mut [u64])
-    requires { ⌜ length (now room) ≡ 5 ⌝ }
+    requires { ⌜ length (now room) ≡ runSize ⌝ }
     ensures { λ _. ⌜ now (room .exit) ≡ runNumbers run ⌝ }
 {
     room[0] = run.clock;
@@ -35,7 +35,7 @@ pub(crate) fn put_run(run: Run, room: &mut [u64])
 
 // Puts a run and the steps made into their six places.
 pub(crate) fn put_ran(run: Run, steps: u64, room: &mut [u64])
-    requires { ⌜ length (now room) ≡ 6 ⌝ }
+    requires { ⌜ length (now room) ≡ ranSize ⌝ }
     ensures { λ _. ⌜ now (room .exit) ≡ ranNumbers run steps ⌝ }
 {
     room[0] = run.clock;
@@ -48,7 +48,7 @@ pub(crate) fn put_ran(run: Run, steps: u64, room: &mut [u64])
 
 // Puts a sheet's heading into its ten places.
 pub(crate) fn put_heading(heading: Heading, room: &mut [u64])
-    requires { ⌜ length (now room) ≡ 10 ⌝ }
+    requires { ⌜ length (now room) ≡ headingSize ⌝ }
     ensures { λ _. ⌜ now (room .exit) ≡ headingNumbers heading ⌝ }
 {
     let shape = heading.shape;

@@ -12,11 +12,12 @@ ghost use mathlib.Core.Path.{_≡_};
 ghost use mathlib.Core.List.{[], _∷_};
 ghost use lib.ListN.{length};
 ghost use Rattle.sheet.specs.Sheet.{rooms};
+ghost use Rattle.exports.specs.Answers.{headingSize, lineSize};
 ghost use Rattle.exports.specs.Sheets.{ExportsMeadow, ExportsRead, headingIn, sheetLine, sheetNumber};
 
 // A sheet's number; its heading, where it was read, and the line of its refusal go into the slices.
 fn tell_sheet(sheet: Sheet, heading: &mut [u64], line: &mut [u64]) -> u32
-    requires { ⌜ (length (now heading) ≡ 10) × (length (now line) ≡ 1) ⌝ }
+    requires { ⌜ (length (now heading) ≡ headingSize) × (length (now line) ≡ lineSize) ⌝ }
     ensures { λ r. ⌜ (r ≡ sheetNumber sheet) × (now (heading .exit) ≡ headingIn sheet (now (heading .entry))) × (now (line .exit) ≡ sheetLine sheet ∷ []) ⌝ }
 {
     match sheet {

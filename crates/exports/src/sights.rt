@@ -12,6 +12,7 @@ ghost use mathlib.Core.Path.{_≡_};
 ghost use lib.ListN.{length};
 ghost use Rattle.ledger.specs.Runs.{plan};
 ghost use Rattle.sight.specs.Arrows.{view};
+ghost use Rattle.exports.specs.Answers.{countSize, speedsSize};
 ghost use Rattle.exports.specs.Steps.{runOf, shapeOf};
 ghost use Rattle.exports.specs.Sights.{ExportsArrow, ExportsWet, countIn, sightNumber, speedsIn, wetNumberOf};
 
@@ -26,7 +27,7 @@ const STILL: u32 = 103;
 
 // A sight's number; a moving square's speeds, east and north in m/s, go into the slice.
 fn tell_sight(sight: Sight, speeds: &mut [f64]) -> u32
-    requires { ⌜ length (now speeds) ≡ 2 ⌝ }
+    requires { ⌜ length (now speeds) ≡ speedsSize ⌝ }
     ensures { λ r. ⌜ (r ≡ sightNumber sight) × (now (speeds .exit) ≡ speedsIn sight (now (speeds .entry))) ⌝ }
 {
     match sight {
@@ -82,7 +83,7 @@ pub extern "C" fn flood_arrow(
 
 // An answer's number; a count goes into the slice.
 fn tell_wet(wet: Wet, count: &mut [u64]) -> u32
-    requires { ⌜ length (now count) ≡ 1 ⌝ }
+    requires { ⌜ length (now count) ≡ countSize ⌝ }
     ensures { λ r. ⌜ (r ≡ wetNumberOf wet) × (now (count .exit) ≡ countIn wet (now (count .entry))) ⌝ }
 {
     match wet {

@@ -17,7 +17,7 @@ ghost use mathlib.Core.Path.{_≡_};
 ghost use lib.ListN.{length};
 ghost use Rattle.ledger.specs.Runs.{plan, world};
 ghost use Rattle.flood.specs.Drops.{ground, given};
-ghost use Rattle.exports.specs.Answers.{answerNumber, answerRun, ranRun};
+ghost use Rattle.exports.specs.Answers.{answerNumber, answerRun, ranRun, ranSize, runSize};
 ghost use Rattle.exports.specs.Steps.{ExportsBack, ExportsFresh, ExportsRun, ExportsStep, rulesOf, runOf, shapeOf};
 
 // The last of the numbers that are tried before any step.
@@ -25,7 +25,7 @@ const LAST_CHECK: u32 = 6;
 
 // An answer's number; its run, where there is one, goes into the slice.
 fn tell_answer(answer: Answer, run_after: &mut [u64]) -> u32
-    requires { ⌜ length (now «run_after») ≡ 5 ⌝ }
+    requires { ⌜ length (now «run_after») ≡ runSize ⌝ }
     ensures { λ r. ⌜ (r ≡ answerNumber answer) × (now («run_after» .exit) ≡ answerRun answer (now («run_after» .entry))) ⌝ }
 {
     match answer {
@@ -39,7 +39,7 @@ fn tell_answer(answer: Answer, run_after: &mut [u64]) -> u32
 
 // The number of a run to an end; unless its checks refused it, its run and steps go into the slice.
 fn tell_ran(ran: Ran, run_after: &mut [u64]) -> u32
-    requires { ⌜ length (now «run_after») ≡ 6 ⌝ }
+    requires { ⌜ length (now «run_after») ≡ ranSize ⌝ }
     ensures { λ r. ⌜ (r ≡ ran .refused) × (now («run_after» .exit) ≡ ranRun (ran .refused) (ran .run) (ran .steps) (now («run_after» .entry))) ⌝ }
 {
     let number = ran.refused;

@@ -2,7 +2,7 @@
 -- inflow, and no row is for a closed square.
 -- Assumes nothing.
 use mathlib.Core.Path.{_≡_, refl, sym, ap, ap₂, _∙_, subst}
-use mathlib.Core.Bool.{Bool, true, false, _&&_, _||_, not}
+use mathlib.Core.Bool.{Bool, true, false, _&&_, _||_, not, or-false}
 use mathlib.Core.List.{List}
 use Prim.Native.Nat.{ℕ, _+_, _-_, _*_, _/_, _%_, _≤_, _<_}
 use native.Mathlib.Nat.{add-zero}
@@ -32,14 +32,6 @@ use Rattle.flood.specs.Step.{addedFor}
 
 -- ---- the rain of one square
 
-or-none : (b : Bool) → (b || false) ≡ b
-or-none true = refl
-or-none false = refl
-
-or-all : (b : Bool) → (b || true) ≡ true
-or-all true = refl
-or-all false = refl
-
 -- a closed square's own number stored again is no change
 stored-unless : (b : Bool) (l : List ℕ) (i x : ℕ) → set l i (pick b (getD l i 0) x) ≡ pick b l (set l i x)
 unfolding pick
@@ -50,7 +42,7 @@ module _ {marks : List ℕ} {rain i : ℕ} (old : List ℕ) (shut-is : Bool) whe
   pub rain-too-deep : mostDepth < rain → shut-is ≡ closed marks i → Rained marks rain i old shut-is old
   rain-too-deep h e =
       record {
-        fits-is = e ∙ (sym (or-none (closed marks i)) ∙ ap (λ (b : Bool). closed marks i || b) (sym (lt-leb rain mostDepth h)));
+        fits-is = e ∙ (sym (or-false (closed marks i)) ∙ ap (λ (b : Bool). closed marks i || b) (sym (lt-leb rain mostDepth h)));
         stored = λ t. sym (pick-true old (set old i rain) (sym e ∙ t));
         long = refl;
       }
@@ -59,7 +51,7 @@ module _ {marks : List ℕ} {rain i : ℕ} (old : List ℕ) (shut-is : Bool) whe
       {x : ℕ} → rain ≤ mostDepth → shut-is ≡ closed marks i → x ≡ pick shut-is (getD old i 0) rain → Rained marks rain i old true (set old i x)
   rain-stored {x} h e v =
       record {
-        fits-is = sym (ap (λ (b : Bool). closed marks i || b) (le-leb rain mostDepth h) ∙ or-all (closed marks i));
+        fits-is = sym (or-of (closed marks i) (leb rain mostDepth) (λ z. le-leb rain mostDepth h));
         stored =
             λ t.
             ap (set old i) v
