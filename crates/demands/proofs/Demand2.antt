@@ -3,7 +3,8 @@
 use mathlib.Core.Path.{_≡_, refl, sym, ap, ap₂, _∙_, subst}
 use mathlib.Core.Bool.{Bool, true, false, _||_}
 use mathlib.Core.List.{List, [], _∷_, _++_}
-use Prim.Native.Nat.{ℕ, zero, suc, _+_, _-_, _<_}
+use Prim.Native.Nat.{ℕ, zero, suc, _+_, _-_, _*_, _/_, _≤_, _<_}
+use native.Mathlib.Nat.{mul-le-mul, div-le-self}
 use native.Mathlib.Decide.{decLt, ℕ-discrete}
 use native.Mathlib.Omega.{arith}
 use lib.Dec.{eqb, leb, ltb}
@@ -12,6 +13,7 @@ use Rattle.reckon.specs.Tests.{pick, allBelow, refusal}
 use Rattle.reckon.specs.Lists.{filled}
 use Rattle.reckon.specs.Ranges.{mostDepth, waterFine}
 use Rattle.reckon.proofs.TestLaws.{pick-both, all-ext, refusal-both}
+use Rattle.reckon.proofs.RootLaws.{root-right}
 use Rattle.reckon.proofs.ListLaws.{getD-tabulate, length-filled, filled-in, filled-skipped, joined-ext, sum-ext}
 use Rattle.trials.specs.Ring.{slotsIn, slotAfter}
 use Rattle.trials.specs.Room.{recordIn, storedIn}
@@ -24,27 +26,39 @@ use Rattle.grid.proofs.MarkLaws.{unless-closed}
 use Rattle.rule.specs.Drops.{dropOff}
 use Rattle.rule.specs.Length.{lastsFor}
 use Rattle.rule.specs.Rules.{groundFine}
+use Rattle.rule.specs.Weighing.{heightOf, slopeOf, criticalSpeed}
 use Rattle.rule.specs.declared.rules.Rules.{Rules}
 use Rattle.ledger.specs.Runs.{Plan, World, world}
 use Rattle.ledger.specs.Flows.{shut, gone, sent, came, offSide, offSquare, offGrid}
 use Rattle.ledger.specs.Record.{squareWords, recordSize, wordPlace, newestRecord, leavesIn, lastIn, addedIn, squareRecord, recordOf, roomSlots}
 use Rattle.ledger.specs.After.{Moves, remains, newDepth, depthsFit, newOutflow, lateRows, stepRecord, worldAfter}
 use Rattle.ledger.specs.TakeBack.{oneEach, watersFine, timesFine, heldAndGone, cameAndAdded, depthBefore, squareRestorable, restorable, worldBefore, backRows, backNumber, takenBack}
-use Rattle.ledger.specs.Engine.{seenOf, ringOf}
-use Rattle.ledger.specs.Walls.{Untouched}
+use Rattle.ledger.specs.Engine.{Seen, seenOf, ringOf}
+use Rattle.ledger.specs.Walls.{Walled, Untouched}
 use Rattle.ledger.proofs.ReadBack.{step-long, closed-read}
-use Rattle.ledger.proofs.Walls.{goes-where, after-untouched, back-untouched}
+use Rattle.ledger.proofs.Walls.{goes-where, walls-stay-dry, after-untouched, back-untouched}
 use Rattle.ledger.specs.declared.runs.Run.{Run}
 use Rattle.flood.specs.Drops.{Given, ground, given, sideDrop, dropsOf}
 use Rattle.flood.specs.Step.{squareCandidates, candidates, leavesFor, addedFor, stepLength, stepLasts, stepMoves}
 use Rattle.flood.specs.Refusals.{groundsFine, checkRows, stepChecks, runChecks, stepNumber, stepped}
 use Rattle.flood.specs.Run.{Ended, ended, goOn, runFrom, runTo, freshRows, freshNumber, freshRun, freshLasts}
-use Rattle.sight.specs.Arrows.{view, seenAt}
 use Rattle.sight.proofs.Alike.{AlikeDepths, AlikeRecords, arrow-alike, wet-alike}
 use Rattle.flood.proofs.CheckLaws.{checks-named, ready, ring-is}
-use Rattle.flood.proofs.RuleLaws.{leaves-open, flood-walled}
+use Rattle.flood.proofs.RuleLaws.{leaves-open, covered, flood-walled}
 use Rattle.flood.proofs.RunToLaws.{made-is, refused-is}
-use Rattle.demands.specs.Demand2.{StepGives, SameOpen, SameGiven, SameRecord, SameRoom, SameWorld, SameEnd, NoneDepends, NoneAltered, WallRule, Demand2}
+use Rattle.demands.specs.Demand2.{RootsAre, StepGives, SameOpen, SameGiven, SameRecord, SameRoom, SameWorld, SameEnd, NoneDepends, NoneAltered, WallRule, Demand2}
+use Rattle.demands.proofs.Loader.{loader-walls}
+
+-- ---- roots
+
+roots-are : RootsAre
+unfolding heightOf slopeOf criticalSpeed
+roots-are =
+    record {
+      height = λ d h. root-right 3 (d * d) (omega arith) (omega (arith, mul-le-mul h h));
+      slope = λ r drop h. root-right 2 _ (omega arith) (omega (arith, div-le-self (100 * drop) (r .«square_side»)));
+      critical = λ d h. root-right 2 _ (omega arith) (omega arith);
+    }
 
 or-ext : (b : Bool) {x y : Bool} → (b ≡ false → x ≡ y) → (b || x) ≡ (b || y)
 or-ext true f = refl
@@ -499,7 +513,7 @@ module _ (p : Plan) where
   module _ (g : Given) (w : World) (made : stepNumber p g w ≡ 0) where
     -- it gives what the rule gives
     step-gives : StepGives p g w
-    unfolding worldAfter newDepth remains newOutflow stepLength stepLasts
+    unfolding worldAfter newDepth remains newOutflow stepLength stepLasts stepRecord
     step-gives =
         let flows = ready p g (ringOf p w) (seenOf w) (checked g w made) .flows in
         let depths-long : length (w .depths) ≡ squares (p .shape) = flows .lies .sited .depths-long in
@@ -512,6 +526,8 @@ module _ (p : Plan) where
           length-is = ap (λ (u : World). u .run .length) (made-is p g w made);
           duration-is = ap (λ (u : World). lastsFor (g .lie .rules) (w .run .clock) (u .run .length)) (sym (made-is p g w made));
           clock = ap (λ (u : World). u .run .clock) (made-is p g w made);
+          covered = λ i e. covered p (g .lie) (w .depths) (w .lasts) (stepLasts p g (seenOf w)) i e;
+          record-is = newest-written g w made;
         }
 
     slot-zeros : (i word : ℕ) → i < squares (p .shape) → shut p i ≡ true → word < squareWords → getD (newestRecord p (stepped p g w)) (wordPlace i word) 0 ≡ 0
@@ -544,9 +560,21 @@ module _ (p : Plan) where
   wall-rule : WallRule p
   wall-rule =
       record {
-        walled = λ g v. flood-walled p (g .lie) (v .depths) (v .lasts) (stepLasts p g v);
-        goes = λ g v i side h l. goes-where p _ i side h l (flood-walled p (g .lie) (v .depths) (v .lasts) (stepLasts p g v));
+        walled = walled;
+        goes = λ g v i side h l. goes-where p _ i side h l (walled g v);
+        walls-stay-dry = λ g v. walls-stay-dry p _ (walled g v);
       }
+    where
+      walled : (g : Given) (v : Seen) → Walled p (stepMoves p g v .leaves)
+      walled g v = flood-walled p (g .lie) (v .depths) (v .lasts) (stepLasts p g v)
 
   pub demand-2 : Demand2 p
-  demand-2 = record { step-gives = step-gives; none-depends = none-depends; none-altered = none-altered; wall-rule = wall-rule }
+  demand-2 =
+      record {
+        step-gives = step-gives;
+        roots-are = roots-are;
+        none-depends = none-depends;
+        none-altered = none-altered;
+        wall-rule = wall-rule;
+        loader = loader-walls;
+      }

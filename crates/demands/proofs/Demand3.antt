@@ -258,6 +258,7 @@ module _ (p : Plan) where
           same-next = λ g. same-next g (D .alone) (x .at) (alone p (x .standing) f) (A .state-is) (D .same-next g);
           same-newest = D .same-newest ∙ ap (λ (s : State E). s .newest) (A .state-is);
           same-records = λ j h. D .same-records j h ∙ ap (λ (s : State E). E .read (s .room) _) (A .state-is);
+          kept-low = subst (λ (s : State E). x .at .run .kept ≤ s .kept) (A .state-is) (D .kept-low);
           kept-is = D .kept-is;
           back-made = λ h. made (D .back-kept h .0) (D .back-kept h .1) (backNumber p (x .at)) refl;
           back-fails = λ d. fails d (backNumber p (x .at)) refl;

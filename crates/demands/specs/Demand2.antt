@@ -4,21 +4,23 @@
 use mathlib.Core.Path.{_≡_}
 use mathlib.Core.Bool.{true, false}
 use mathlib.Core.List.{List}
-use Prim.Native.Nat.{ℕ, _+_, _-_, _<_}
+use Prim.Native.Nat.{ℕ, _+_, _-_, _*_, _/_, _≤_, _<_}
 use lib.ListN.{length, getD}
 use Rattle.reckon.specs.Tests.{refusal}
+use Rattle.reckon.specs.Ranges.{mostDepth}
+use Rattle.reckon.specs.Roots.{Root}
 use Rattle.trials.specs.Room.{recordIn}
 use Rattle.grid.specs.Squares.{squares, sides}
 use Rattle.grid.specs.Marks.{Alike}
 use Rattle.rule.specs.Length.{lengthAt, lastsFor}
-use Rattle.rule.specs.Weighing.{weighed}
+use Rattle.rule.specs.Weighing.{heightOf, slopeOf, criticalSpeed, weighed, mostDrop}
 use Rattle.rule.specs.declared.rules.Rules.{Rules}
 use Rattle.ledger.specs.Runs.{Plan, World}
 use Rattle.ledger.specs.Flows.{Leaves, shut, gone, came, offGrid}
-use Rattle.ledger.specs.Record.{squareWords, recordSize, wordPlace, heldIn, lastedIn, newestRecord}
+use Rattle.ledger.specs.Record.{squareWords, recordSize, wordPlace, heldIn, lastedIn, newestRecord, recordOf}
 use Rattle.ledger.specs.TakeBack.{backNumber, takenBack}
 use Rattle.ledger.specs.Engine.{Seen, seenOf}
-use Rattle.ledger.specs.Walls.{Walled, Goes, Untouched}
+use Rattle.ledger.specs.Walls.{Walled, reaches, drains, intoWalls, Untouched}
 use Rattle.ledger.specs.declared.runs.Run.{Run}
 use Rattle.flood.specs.Drops.{Given, dropsOf}
 use Rattle.flood.specs.Step.{candidates, addedFor, stepMoves}
@@ -27,6 +29,13 @@ use Rattle.sight.specs.Arrows.{view, seenAt}
 use Rattle.sight.specs.WetRows.{WetRowed}
 use Rattle.sight.specs.declared.wet_rows.Wet.{Wet}
 use Rattle.flood.specs.Run.{Ended, runTo, freshNumber, freshRun, freshLasts}
+use Rattle.demands.specs.Loader.{LoaderWalls}
+
+-- "h: the largest whole number with h³ ≤ d²", "s: the largest with s² ≤ 100·VM / D", "the largest c with c² ≤ 981·d / 100"
+pub record RootsAre : Type 0 where
+  pub height : (d : ℕ) → d ≤ mostDepth → Root 3 (d * d) (heightOf d)
+  pub slope : (r : Rules) (drop : ℕ) → drop ≤ mostDrop → Root 2 (100 * drop / r .«square_side») (slopeOf r drop)
+  pub critical : (d : ℕ) → d ≤ mostDepth → Root 2 (981 * d / 100) (criticalSpeed d)
 
 module _ (p : Plan) where
   -- ---- "Each step gives exactly the depths, transfers, outflow and step length that the published weighted cellular automaton rule gives in
@@ -61,6 +70,12 @@ module _ (p : Plan) where
       -- "The step lasts the smaller of that length and the time to the next multiple of U"
       pub duration-is : duration ≡ lastsFor (g .lie .rules) (w .run .clock) (stepped p g w .run .length)
       pub clock : stepped p g w .run .clock ≡ w .run .clock + duration
+      -- no square sends more than it holds, so that "old − four leaving" is not cut off at 0
+      pub covered : (i : ℕ) → shut p i ≡ false → gone amounts i ≤ getD (w .depths) i 0
+      -- the transfers as a caller reads them: "length held before the step, how long the step lasted, then for each square north, east,
+      -- south, west, P before, amount added"
+      pub record-is : newestRecord p (stepped p g w)
+          ≡ recordOf p (w .run .length) duration amounts (λ i. getD (w .lasts) i 0) (addedFor p g (w .run .clock) (w .run .clock + duration))
 
   -- ---- what differs only in what closed squares hold
 
@@ -137,14 +152,20 @@ module _ (p : Plan) where
 
   -- ---- "walls that no water enters"
 
-  -- whatever is given and seen: nothing goes through a side towards a closed square, a closed square sends nothing, and off the grid
-  -- water goes only from an exit; so all that leaves a square comes to a neighbour that is not closed, or leaves from an exit
+  -- whatever is given and seen
   pub record WallRule : Type 0 where
+    -- nothing goes through a side towards a closed square, a closed square sends nothing, and off the grid water goes only from an exit
     pub walled : (g : Given) (v : Seen) → Walled p (stepMoves p g v .leaves)
-    pub goes : (g : Given) (v : Seen) (i side : ℕ) → i < squares (p .shape) → side < sides → Goes p (stepMoves p g v .leaves) i side
+    -- so all that leaves a square comes to a neighbour that is not closed, or leaves the grid from an exit
+    pub goes : (g : Given) (v : Seen) (i side : ℕ) → i < squares (p .shape) → side < sides →
+        stepMoves p g v .leaves i side ≡ reaches p (stepMoves p g v .leaves) i side + drains p (stepMoves p g v .leaves) i side
+    -- and the sum of all that arrives in closed squares is 0
+    pub walls-stay-dry : (g : Given) (v : Seen) → intoWalls p (stepMoves p g v .leaves) ≡ 0
 
   pub record Demand2 : Type 0 where
     pub step-gives : (g : Given) (w : World) → stepNumber p g w ≡ 0 → StepGives g w
+    pub roots-are : RootsAre
     pub none-depends : NoneDepends
     pub none-altered : NoneAltered
     pub wall-rule : WallRule
+    pub loader : LoaderWalls

@@ -92,6 +92,8 @@ module _ (p : Plan) where
     pub same-records : (j : ℕ) → j < x .at .run .kept →
         let slot = slotAgo (roomSlots p (f .records)) (x .at .run .newest) j in
         recordIn (recordSize p) (x .at .records) slot ≡ recordIn (recordSize p) (alone (x .standing) f .records) slot
+    -- the fresh run keeps as many or more: "overwritten records do not come back"
+    pub kept-low : x .at .run .kept ≤ alone (x .standing) f .run .kept
     -- "Each step is kept until the record room needs its place": with K places, the oldest peak - K had to go, and no other
     pub kept-is : x .at .run .kept + (x .peak - roomSlots p (f .records)) ≡ length (x .standing)
     -- "a take-back fails for lack of records only when no kept step is left", and for nothing else

@@ -1,4 +1,7 @@
 pub mod Demand1
 pub mod Demand2
 pub mod Demand3
+pub mod Determined
+pub mod Loader
+pub mod Table
 pub mod Worked
