@@ -3,7 +3,7 @@
 use mathlib.Core.Path.{_≡_, refl, sym, ap, ap₂, _∙_, subst}
 use mathlib.Core.Bool.{Bool, true, false, _||_}
 use mathlib.Core.List.{List, [], _∷_, _++_}
-use Prim.Native.Nat.{ℕ, zero, suc, _+_, _-_, _*_, _/_, _≤_, _<_}
+use Prim.Native.Nat.{ℕ, zero, suc, _+_, _-_, _*_, _<_}
 use native.Mathlib.Nat.{mul-le-mul, div-le-self}
 use native.Mathlib.Decide.{decLt, ℕ-discrete}
 use native.Mathlib.Omega.{arith}
@@ -46,8 +46,10 @@ use Rattle.sight.proofs.Alike.{AlikeDepths, AlikeRecords, arrow-alike, wet-alik
 use Rattle.flood.proofs.CheckLaws.{checks-named, ready, ring-is}
 use Rattle.flood.proofs.RuleLaws.{leaves-open, covered, flood-walled}
 use Rattle.flood.proofs.RunToLaws.{made-is, refused-is}
-use Rattle.demands.specs.Demand2.{RootsAre, StepGives, SameOpen, SameGiven, SameRecord, SameRoom, SameWorld, SameEnd, NoneDepends, NoneAltered, WallRule, Demand2}
+use Rattle.demands.specs.Closed.{SameOpen, SameGiven, SameRecord, SameRoom, SameWorld, SameEnd}
+use Rattle.demands.specs.Demand2.{RootsAre, StepGives, NoneDepends, NoneAltered, WallRule, Demand2}
 use Rattle.demands.proofs.Loader.{loader-walls}
+use Rattle.demands.proofs.Exported.{exports-none-depends}
 
 -- ---- roots
 
@@ -577,4 +579,5 @@ module _ (p : Plan) where
         none-altered = none-altered;
         wall-rule = wall-rule;
         loader = loader-walls;
+        exports-none-depends = exports-none-depends p none-depends;
       }

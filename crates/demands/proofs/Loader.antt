@@ -1,34 +1,31 @@
 -- The demands hold of the loader: its table is read row by row; a line that is found stands in the text as it would be written, its letter
 -- too; rooms are filled but at closed squares.
 -- Assumes nothing.
-use mathlib.Core.Path.{_≡_, refl, sym, ap, ap₂, _∙_, subst}
+use mathlib.Core.Path.{_≡_, refl, sym, ap, _∙_, subst}
 use mathlib.Core.Bool.{Bool, true, false}
-use mathlib.Core.List.{List, [], _∷_, _++_, append-assoc}
+use mathlib.Core.List.{List, [], _∷_, _++_}
 use Prim.Native.Nat.{ℕ, zero, suc, _+_, _/_, _%_, _≤_, _<_}
 use native.Mathlib.Decide.{decLt}
 use native.Mathlib.Omega.{arith}
-use lib.Dec.{T, eqb, leb}
+use lib.Dec.{eqb}
 use lib.ListN.{length, getD, take, drop, List·getD-eq-default}
 use borrow.Author.Tests.{eq-eqb, ne-eqb, eqb-true, le-leb, lt-leb, leb-true}
-use Rattle.reckon.specs.Tests.{pick, firstFailing, Row, _unless_, refusal}
+use Rattle.reckon.specs.Tests.{pick, Row, _unless_, refusal}
 use Rattle.reckon.specs.Lists.{filled}
 use Rattle.reckon.proofs.TestLaws.{not-both, pick-true, pick-false, failing-before}
 use Rattle.reckon.proofs.ListLaws.{length-filled, filled-in, filled-past, filled-skipped}
 use Rattle.grid.specs.Squares.{squares}
 use Rattle.grid.specs.Marks.{closed}
-use Rattle.grid.specs.declared.squares.Shape.{Shape}
 use Rattle.flood.specs.Refusals.{checkRows}
-use Rattle.flood.specs.Run.{Ended, runTo}
 use Rattle.text.specs.Reading.{tab, newline, isByte, wordAt, lineFrom, fieldsAt}
 use Rattle.text.specs.Writing.{fieldsText, Stands}
 use Rattle.text.specs.declared.reading.Fields.{Fields}
-use Rattle.text.proofs.ReadingLaws.{by-test}
 use Rattle.text.proofs.StandLaws.{stands-both, stands-byte, stands-word}
 use Rattle.text.proofs.RoundTrip.{fields-found}
 use Rattle.text.proofs.LineLaws.{line-add}
 use Rattle.sheet.specs.Lines.{cellWord, xLetter, oLetter, eLetter, noCell, closedCell, asOpen, openCell, markedCell, placedCell, cellLine}
 use Rattle.sheet.specs.Sheet.{Rooms, Reads, cellFrom, cellsAt, cellsRead, closedFrom, cellsFilled, tablesFilled, roomsAfter, lineOne, shapeOf, roomsFine, badLine, checksIn, checksOf, headingOf, judged, sheetOf}
-use Rattle.sheet.specs.Printed.{programRooms, refusedText, endedText, runText, sheetText, meadowText}
+use Rattle.sheet.specs.Printed.{endedText, runText, sheetText, meadowText}
 use Rattle.sheet.specs.declared.lines.CellLine.{CellLine}
 use Rattle.sheet.specs.declared.reading.Heading.{Heading}
 use Rattle.sheet.specs.declared.reading.Sheet.{Sheet}
@@ -74,7 +71,7 @@ module _ (s : List ℕ) (lent : Rooms) where
   number-by true true zero zero rows q = q refl
   number-by true true zero (suc check) rows q = q refl
 
-  sheet-number : sheetNumber (sheetOf s lent) ≡ refusal (sheetRefusals s lent)
+  pub sheet-number : sheetNumber (sheetOf s lent) ≡ refusal (sheetRefusals s lent)
   unfolding sheetOf
   sheet-number = number-by (lineOne s .found) (roomsFine (shapeOf s) (lineOne s .rules) lent) (badLine s) (checksOf s) _ checks-are
 
@@ -338,7 +335,7 @@ module _ (s : List ℕ) (before after : Rooms) (h : Heading) (R : Reads s before
         depths = left-alone _ (before .depths) _ (ap (λ (z : Rooms). z .depths) (R .rooms-are));
       }
 
-sheet-alike : (s : List ℕ) (a b : Rooms) → AsLong a b → sheetOf s a ≡ sheetOf s b
+pub sheet-alike : (s : List ℕ) (a b : Rooms) → AsLong a b → sheetOf s a ≡ sheetOf s b
 unfolding sheetOf roomsFine
 sheet-alike s a b l = rw (l .marks, l .beds, l .roughness, l .depths, l .rain, l .inflow)
 

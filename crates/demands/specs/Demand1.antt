@@ -18,9 +18,11 @@ use Rattle.flood.specs.Run.{Ended, ended, runTo, freshRows, freshNumber, freshL
 use Rattle.sight.specs.Arrows.{arrowRows, arrowNumber}
 use Rattle.sight.specs.WetRows.{WetRowed, wetRefusals, wetNumber}
 use Rattle.sight.specs.declared.wet_rows.Wet.{Wet}
+use Rattle.exports.specs.Refusals.{lastCheck}
 use Rattle.demands.specs.Table.{TableSays}
 use Rattle.demands.specs.Determined.{Determined}
 use Rattle.demands.specs.Loader.{LoaderRefuses}
+use Rattle.demands.specs.Exported.{ExportsExactlyWhen, ExportsLeave}
 
 -- ---- "A refusal gives one number from the table in document 01, exactly when that table says"
 
@@ -60,12 +62,16 @@ pub record StopsBefore (p : Plan) (g : Given) (end : ℕ) (w : World) (e : Ended
   -- it ended there, or the next step is refused by that number
   pub comes-to : e .number ≡ 0 → end ≤ e .world .run .clock
   pub stops : (e .number ≡ 0 → ⊥) → (e .world .run .clock < end) × (e .number ≡ stepNumber p g (e .world))
+  -- and that is none of its checks' numbers
+  pub late : (e .number ≡ 0 → ⊥) → lastCheck < e .number
 
 -- ---- all of it
 
 pub record Demand1 : Type 0 where
   pub determined : Determined
   pub exactly-when : (p : Plan) → ExactlyWhen p
-  pub loader : LoaderRefuses
   pub refusals-leave : (p : Plan) → RefusalsLeave p
+  pub loader : LoaderRefuses
+  pub exports-exactly-when : (p : Plan) → ExportsExactlyWhen p
+  pub exports-leave : (p : Plan) → ExportsLeave p
   pub run-stops : (p : Plan) (g : Given) (end : ℕ) (w : World) → refusal (runChecks p g end w) ≡ 0 → StopsBefore p g end w (runTo p g end w)

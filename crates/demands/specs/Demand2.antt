@@ -9,15 +9,13 @@ use lib.ListN.{length, getD}
 use Rattle.reckon.specs.Tests.{refusal}
 use Rattle.reckon.specs.Ranges.{mostDepth}
 use Rattle.reckon.specs.Roots.{Root}
-use Rattle.trials.specs.Room.{recordIn}
 use Rattle.grid.specs.Squares.{squares, sides}
-use Rattle.grid.specs.Marks.{Alike}
 use Rattle.rule.specs.Length.{lengthAt, lastsFor}
 use Rattle.rule.specs.Weighing.{heightOf, slopeOf, criticalSpeed, weighed, mostDrop}
 use Rattle.rule.specs.declared.rules.Rules.{Rules}
 use Rattle.ledger.specs.Runs.{Plan, World}
 use Rattle.ledger.specs.Flows.{Leaves, shut, gone, came, offGrid}
-use Rattle.ledger.specs.Record.{squareWords, recordSize, wordPlace, heldIn, lastedIn, newestRecord, recordOf}
+use Rattle.ledger.specs.Record.{squareWords, wordPlace, newestRecord, recordOf}
 use Rattle.ledger.specs.TakeBack.{backNumber, takenBack}
 use Rattle.ledger.specs.Engine.{Seen, seenOf}
 use Rattle.ledger.specs.Walls.{Walled, reaches, drains, intoWalls, Untouched}
@@ -28,8 +26,10 @@ use Rattle.flood.specs.Refusals.{runChecks, stepNumber, stepped}
 use Rattle.sight.specs.Arrows.{view, seenAt}
 use Rattle.sight.specs.WetRows.{WetRowed}
 use Rattle.sight.specs.declared.wet_rows.Wet.{Wet}
-use Rattle.flood.specs.Run.{Ended, runTo, freshNumber, freshRun, freshLasts}
+use Rattle.flood.specs.Run.{runTo, freshNumber, freshRun, freshLasts}
 use Rattle.demands.specs.Loader.{LoaderWalls}
+use Rattle.demands.specs.Closed.{SameOpen, SameGiven, SameRecord, SameRoom, SameWorld, SameEnd}
+use Rattle.demands.specs.Exported.{ExportsNoneDepends}
 
 -- "h: the largest whole number with h³ ≤ d²", "s: the largest with s² ≤ 100·VM / D", "the largest c with c² ≤ 981·d / 100"
 pub record RootsAre : Type 0 where
@@ -77,66 +77,27 @@ module _ (p : Plan) where
       pub record-is : newestRecord p (stepped p g w)
           ≡ recordOf p (w .run .length) duration amounts (λ i. getD (w .lasts) i 0) (addedFor p g (w .run .clock) (w .run .clock + duration))
 
-  -- ---- what differs only in what closed squares hold
-
-  -- two slices of as many numbers
-  pub record SameOpen (a b : List ℕ) : Type 0 where
-    pub long : length a ≡ length b
-    pub alike : Alike (p .marks) a b
-
-  -- heights, roughness, rules and tables
-  pub record SameGiven (g h : Given) : Type 0 where
-    pub beds : SameOpen (g .lie .beds) (h .lie .beds)
-    pub roughness : SameOpen (g .lie .roughness) (h .lie .roughness)
-    pub rules : g .lie .rules ≡ h .lie .rules
-    pub rain : g .rain ≡ h .rain
-    pub inflow : g .inflow ≡ h .inflow
-
-  -- two records: "A closed square's numbers in a record are never read"
-  pub record SameRecord (a b : List ℕ) : Type 0 where
-    pub held : heldIn a ≡ heldIn b
-    pub lasted : lastedIn a ≡ lastedIn b
-    pub words : (i word : ℕ) → shut p i ≡ false → word < squareWords → getD a (wordPlace i word) 0 ≡ getD b (wordPlace i word) 0
-
-  -- two record rooms, slot by slot
-  pub record SameRoom (a b : List ℕ) : Type 0 where
-    pub long : length a ≡ length b
-    pub slots : (u : ℕ) → SameRecord (recordIn (recordSize p) a u) (recordIn (recordSize p) b u)
-
-  -- depths, last leaving, records and run
-  pub record SameWorld (w v : World) : Type 0 where
-    pub depths : SameOpen (w .depths) (v .depths)
-    pub lasts : SameOpen (w .lasts) (v .lasts)
-    pub records : SameRoom (w .records) (v .records)
-    pub run : w .run ≡ v .run
-
-  -- how a run ended
-  pub record SameEnd (e f : Ended) : Type 0 where
-    pub number : e .number ≡ f .number
-    pub steps : e .steps ≡ f .steps
-    pub world : SameWorld (e .world) (f .world)
-
   -- ---- "no answer depends on it"
 
   -- the number and the run are the same, and so is afterwards all that is held, but for closed squares
   pub record NoneDepends : Type 0 where
-    pub step : (g h : Given) (w v : World) → SameGiven g h → SameWorld w v →
-        (stepNumber p g w ≡ stepNumber p h v) × SameWorld (stepped p g w) (stepped p h v)
+    pub step : (g h : Given) (w v : World) → SameGiven p g h → SameWorld p w v →
+        (stepNumber p g w ≡ stepNumber p h v) × SameWorld p (stepped p g w) (stepped p h v)
     -- the record that a step writes, number for number
-    pub written : (g h : Given) (w v : World) → SameGiven g h → SameWorld w v → stepNumber p g w ≡ 0 →
+    pub written : (g h : Given) (w v : World) → SameGiven p g h → SameWorld p w v → stepNumber p g w ≡ 0 →
         newestRecord p (stepped p g w) ≡ newestRecord p (stepped p h v)
-    pub run-to : (g h : Given) (end : ℕ) (w v : World) → SameGiven g h → SameWorld w v → SameEnd (runTo p g end w) (runTo p h end v)
-    pub take-back : (w v : World) → SameWorld w v → (backNumber p w ≡ backNumber p v) × SameWorld (takenBack p w) (takenBack p v)
-    pub fresh : (r : Rules) (lasts others records rooms : List ℕ) → SameOpen lasts others → SameRoom records rooms →
+    pub run-to : (g h : Given) (end : ℕ) (w v : World) → SameGiven p g h → SameWorld p w v → SameEnd p (runTo p g end w) (runTo p h end v)
+    pub take-back : (w v : World) → SameWorld p w v → (backNumber p w ≡ backNumber p v) × SameWorld p (takenBack p w) (takenBack p v)
+    pub fresh : (r : Rules) (lasts others records rooms : List ℕ) → SameOpen p lasts others → SameRoom p records rooms →
         (freshNumber p r lasts records ≡ freshNumber p r others rooms)
         × (freshRun p r lasts records ≡ freshRun p r others rooms)
-        × SameOpen (freshLasts p r lasts records) (freshLasts p r others rooms)
-    pub check : (g h : Given) (end : ℕ) (w v : World) → SameGiven g h → SameWorld w v → refusal (runChecks p g end w) ≡ refusal (runChecks p h end v)
+        × SameOpen p (freshLasts p r lasts records) (freshLasts p r others rooms)
+    pub check : (g h : Given) (end : ℕ) (w v : World) → SameGiven p g h → SameWorld p w v → refusal (runChecks p g end w) ≡ refusal (runChecks p h end v)
     -- an arrow is lent depths, the record room and the run
-    pub arrow : (D : ℕ) (depths others room rest : List ℕ) (u : Run) (row column : ℕ) → SameOpen depths others → length room ≡ length rest →
-        SameRecord (newestRecord p (view depths room u)) (newestRecord p (view others rest u)) →
+    pub arrow : (D : ℕ) (depths others room rest : List ℕ) (u : Run) (row column : ℕ) → SameOpen p depths others → length room ≡ length rest →
+        SameRecord p (newestRecord p (view depths room u)) (newestRecord p (view others rest u)) →
         seenAt p D (view depths room u) row column ≡ seenAt p D (view others rest u) row column
-    pub wet-rows : (depths others : List ℕ) (least : ℕ) (old : List ℕ) (a : Wet) (rows : List ℕ) → SameOpen depths others →
+    pub wet-rows : (depths others : List ℕ) (least : ℕ) (old : List ℕ) (a : Wet) (rows : List ℕ) → SameOpen p depths others →
         WetRowed p depths least old a rows → WetRowed p others least old a rows
 
   -- ---- "What a closed square holds is not altered": bed and roughness are lent to no call for writing
@@ -169,3 +130,4 @@ module _ (p : Plan) where
     pub none-altered : NoneAltered
     pub wall-rule : WallRule
     pub loader : LoaderWalls
+    pub exports-none-depends : ExportsNoneDepends p
