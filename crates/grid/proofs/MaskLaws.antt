@@ -16,7 +16,7 @@ use lib.Pow.{pow-mono, pow-add}
 use borrow.Author.Tests.{lt-ltb, le-ltb}
 use Rattle.reckon.specs.Tests.{pick}
 use Rattle.reckon.specs.Lists.{tabulate, filled, sumBelow}
-use Rattle.reckon.proofs.ListLaws.{length-tabulate, getD-tabulate, is-tabulate, length-filled, filled-in, filled-none, filled-store, sum-ext}
+use Rattle.reckon.proofs.ListLaws.{length-tabulate, getD-tabulate, is-tabulate, tabulate-ext, length-filled, filled-in, filled-none, filled-store, sum-ext}
 use Rattle.grid.specs.declared.squares.Shape.{Shape}
 use Rattle.grid.specs.Squares.{squares, squareAt}
 use Rattle.grid.specs.Marks.{closed, Alike}
@@ -191,7 +191,7 @@ wet-alike marks {a} {b} h least i = go (closed marks i) refl
     go false e = wet-open marks a least i e ∙ (ap (leb least) (h .at i e) ∙ sym (wet-open marks b least i e))
 
 -- the mask of a row depends on no closed square
-pub mask-alike :
+mask-alike :
     (marks : List ℕ) {a b : List ℕ} → Alike marks a b → (least first n : ℕ) →
     maskFrom (isWet marks a least) first n ≡ maskFrom (isWet marks b least) first n
 mask-alike marks h least first n = λ j. maskFrom (λ i. wet-alike marks h least i j) first n
@@ -256,3 +256,10 @@ module _ (s : Shape) (marks depths : List ℕ) (least : ℕ) where
 
     pub bit-past : {column : ℕ} → s .columns ≤ column → bitAt (getD (wetMasks s marks depths least) row 0) column ≡ false
     bit-past {column} l = ap (λ (m : ℕ). bitAt m column) row-is ∙ mask-past (isWet marks depths least) (row * s .columns) l
+
+-- nor do the masks of all rows depend on a closed square
+pub masks-alike :
+    (s : Shape) (marks : List ℕ) {a b : List ℕ} → Alike marks a b → (least : ℕ) → wetMasks s marks a least ≡ wetMasks s marks b least
+unfolding wetMasks
+masks-alike s marks h least =
+    tabulate-ext (s .rows) _ _ (λ row l. mask-alike marks h least (row * s .columns) (s .columns))
