@@ -13,9 +13,9 @@ use Rattle.reckon.proofs.TestLaws.{not-both, pick-false, Passed, refusal-passed
 use Rattle.reckon.proofs.RootLaws.{root-unique}
 use Rattle.rule.specs.declared.rules.Rules.{Rules}
 use Rattle.ledger.specs.Runs.{Plan, World, world}
-use Rattle.ledger.specs.Settle.{SettlesTo}
-use Rattle.ledger.specs.TakeBack.{TakesBack, backRows, backNumber}
 use Rattle.ledger.specs.After.{lateRows}
+use Rattle.ledger.specs.TakeBack.{TakesBack, backRows, backNumber}
+use Rattle.ledger.specs.inner.Settle.{SettlesTo}
 use Rattle.ledger.specs.declared.runs.Answer.{Answer}
 use Rattle.ledger.specs.declared.settle.Settled.{Settled}
 use Rattle.ledger.proofs.Bridge.{refused-stays}

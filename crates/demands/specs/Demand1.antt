@@ -23,12 +23,12 @@ use Rattle.rule.specs.Length.{Shorter, HeldLength, IsUpdate, LastsFor}
 use Rattle.rule.specs.Rules.{SideFine, RulesFine, GroundFine}
 use Rattle.rule.specs.Weighing.{Weighs}
 use Rattle.rule.specs.declared.rules.Rules.{Rules}
-use Rattle.ledger.specs.Runs.{Plan, World, world, RunFine}
-use Rattle.ledger.specs.Record.{SizeOf, HeldBefore, Lasted, Leaving, LastBefore, AddedBy, GoneFrom, SentTo, CameTo, OffFrom, HeadPut, SquarePut, ClosedPut}
+use Rattle.ledger.specs.Runs.{Plan, World, world, RunFine, seenOf}
+use Rattle.ledger.specs.Record.{SizeOf, HeldBefore, Lasted, Leaving, LastBefore, AddedBy, GoneFrom, SentTo, CameTo, OffFrom, HeadPut, SquarePut, ClosedPut, ringOf}
 use Rattle.ledger.specs.After.{lateRows}
-use Rattle.ledger.specs.Settle.{SettlesTo}
-use Rattle.ledger.specs.TakeBack.{OneEach, WatersJudged, TimesJudged, TakesBack, backRows, backNumber, takenBack}
-use Rattle.ledger.specs.Engine.{seenOf, ringOf}
+use Rattle.ledger.specs.Checks.{OneEach, WatersJudged, TimesJudged}
+use Rattle.ledger.specs.TakeBack.{TakesBack, backRows, backNumber, takenBack}
+use Rattle.ledger.specs.inner.Settle.{SettlesTo}
 use Rattle.ledger.specs.declared.runs.Run.{Run}
 use Rattle.ledger.specs.declared.runs.Answer.{Answer}
 use Rattle.ledger.specs.declared.settle.Settled.{Settled}
