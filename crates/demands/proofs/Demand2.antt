@@ -28,12 +28,12 @@ use Rattle.rule.specs.Length.{lastsFor}
 use Rattle.rule.specs.Rules.{groundFine}
 use Rattle.rule.specs.Weighing.{heightOf, slopeOf, criticalSpeed}
 use Rattle.rule.specs.declared.rules.Rules.{Rules}
-use Rattle.ledger.specs.Runs.{Plan, World, world}
+use Rattle.ledger.specs.Runs.{Plan, World, world, Seen, seenOf}
 use Rattle.ledger.specs.Flows.{shut, gone, sent, came, offSide, offSquare, offGrid}
-use Rattle.ledger.specs.Record.{squareWords, recordSize, wordPlace, newestRecord, leavesIn, lastIn, addedIn, squareRecord, recordOf, roomSlots}
+use Rattle.ledger.specs.Record.{squareWords, recordSize, wordPlace, newestRecord, leavesIn, lastIn, addedIn, squareRecord, recordOf, roomSlots, ringOf}
 use Rattle.ledger.specs.After.{Moves, remains, newDepth, depthsFit, newOutflow, lateRows, stepRecord, worldAfter}
-use Rattle.ledger.specs.TakeBack.{oneEach, watersFine, timesFine, heldAndGone, cameAndAdded, depthBefore, squareRestorable, restorable, worldBefore, backRows, backNumber, takenBack}
-use Rattle.ledger.specs.Engine.{Seen, seenOf, ringOf}
+use Rattle.ledger.specs.Checks.{oneEach, watersFine, timesFine}
+use Rattle.ledger.specs.TakeBack.{heldAndGone, cameAndAdded, depthBefore, squareRestorable, restorable, worldBefore, backRows, backNumber, takenBack}
 use Rattle.ledger.specs.Walls.{Walled, Untouched}
 use Rattle.ledger.proofs.ReadBack.{step-long, closed-read}
 use Rattle.ledger.proofs.Walls.{goes-where, walls-stay-dry, after-untouched, back-untouched}

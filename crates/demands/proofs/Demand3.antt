@@ -23,12 +23,12 @@ use Rattle.trials.proofs.Standing.{never-made}
 use Rattle.grid.specs.Squares.{squares}
 use Rattle.rule.proofs.RuleLaws.{rules-are}
 use Rattle.rule.specs.declared.rules.Rules.{Rules}
-use Rattle.ledger.specs.Runs.{Plan, World, world, runFine, answered}
+use Rattle.ledger.specs.Runs.{Plan, World, world, runFine, answered, Seen, seenOf}
 use Rattle.ledger.specs.Flows.{shut}
 use Rattle.ledger.specs.Record.{roomSlots, newestRecord}
 use Rattle.ledger.specs.After.{worldAfter}
-use Rattle.ledger.specs.TakeBack.{restorable, backRows, backNumber, takenBack}
-use Rattle.ledger.specs.Engine.{Seen, seenOf, outcome, lookRows, engine, stateOf}
+use Rattle.ledger.specs.TakeBack.{restorable, backRows, backNumber, takenBack, lookRows}
+use Rattle.ledger.specs.inner.Engine.{outcome, engine, stateOf}
 use Rattle.ledger.proofs.Bridge.{outcome-then, refused-stays, back-bridge, step-bridge}
 use Rattle.ledger.proofs.EngineLaws.{Looks, seen-look, engine-laws}
 use Rattle.ledger.specs.declared.runs.Run.{Run}

@@ -26,16 +26,18 @@ use Rattle.sight.specs.WetRows.{wetRefusals, wetNumber, onesOver}
 use Rattle.sight.specs.declared.speeds.Arrow.{Arrow}
 use Rattle.sight.specs.declared.arrows.Sight.{Sight}
 use Rattle.sight.specs.declared.arrows.Sight.the-variants.{Closed, Dry, Still, Moving, Refused}
-use Rattle.sight.proofs.Alike.{AlikeDepths, wet-number-alike, masks-alike}
+use Rattle.sight.proofs.Alike.{AlikeDepths, wet-number-alike}
+use Rattle.grid.proofs.MaskLaws.{masks-alike}
 use Rattle.text.proofs.WritingLaws.{placed-none}
 use Rattle.sheet.specs.Sheet.{Rooms, roomsAfter}
 use Rattle.sheet.specs.Printed.{meadowText}
 use Rattle.sheet.specs.declared.reading.Sheet.{Sheet}
 use Rattle.sheet.specs.declared.reading.Sheet.the-variants.{Read}
 use Rattle.sheet.specs.declared.reading.Sheet.the-variants as Reading
-use Rattle.exports.specs.Numbers.{runValueFrom, runNumbers, runSize, countSize, bothSized}
-use Rattle.exports.specs.Refusals.{numberIf, unlessRefused, lastCheck, unlessChecks}
-use Rattle.exports.specs.Steps.{ExportsFresh, ExportsStep, ExportsRun, ExportsBack, freshGives, stepGives, backGives, ranSized}
+use Rattle.exports.specs.Numbers.{runValueFrom, bothSized}
+use Rattle.exports.specs.Answers.{runNumbers, runSize, countSize, numberIf, lastCheck}
+use Rattle.exports.specs.Steps.{unlessRefused, ExportsFresh, ExportsStep, ExportsRun, ExportsBack, freshGives, stepGives, backGives, ranSized}
+use Rattle.exports.specs.Refusals.{unlessChecks}
 use Rattle.exports.specs.Sights.{ExportsWet, arrowSized, sightNumber, speedsIn, wetGives}
 use Rattle.exports.specs.Sheets.{sheetSized, sheetNumber, sheetLine, headingIn}
 use Rattle.demands.specs.Closed.{SameOpen, SameGiven, SameRoom, SameWorld}

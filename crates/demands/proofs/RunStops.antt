@@ -8,11 +8,11 @@ use native.Mathlib.Decide.{decLt}
 use native.Mathlib.Omega.{arith}
 use Rattle.reckon.specs.Tests.{pick, _unless_, refusal}
 use Rattle.reckon.proofs.TestLaws.{refusal-second}
-use Rattle.ledger.specs.Runs.{Plan, World}
+use Rattle.ledger.specs.Runs.{Plan, World, seenOf}
 use Rattle.ledger.specs.After.{lateRows}
-use Rattle.ledger.specs.Engine.{seenOf, ringOf}
+use Rattle.ledger.specs.Record.{ringOf}
 use Rattle.flood.specs.Step.{stepMoves}
-use Rattle.exports.specs.Refusals.{lastCheck}
+use Rattle.exports.specs.Answers.{lastCheck}
 use Rattle.flood.specs.Drops.{Given}
 use Rattle.flood.specs.Refusals.{stepChecks, runChecks, stepNumber, stepped}
 use Rattle.flood.specs.Run.{runTo}

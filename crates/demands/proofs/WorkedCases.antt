@@ -19,7 +19,8 @@ use Rattle.ledger.specs.Runs.{runFine}
 use Rattle.ledger.specs.Flows.{gone, sent, came, offSide, offSquare, offGrid}
 use Rattle.ledger.specs.Record.{leavesIn, lastIn, addedIn, squareRecord, recordOf, roomSlots, newestRecord}
 use Rattle.ledger.specs.After.{remains, newDepth, depthsFit, newOutflow, lateRows, stepRecord, worldAfter}
-use Rattle.ledger.specs.TakeBack.{oneEach, watersFine, timesFine, heldAndGone, cameAndAdded, depthBefore, squareRestorable, restorable, worldBefore, backRows, backNumber, takenBack}
+use Rattle.ledger.specs.Checks.{oneEach, watersFine, timesFine}
+use Rattle.ledger.specs.TakeBack.{heldAndGone, cameAndAdded, depthBefore, squareRestorable, restorable, worldBefore, backRows, backNumber, takenBack}
 use Rattle.flood.specs.Drops.{sideDrop, dropsOf}
 use Rattle.flood.specs.Step.{squareCandidates, candidates, leavesFor, addedFor, stepLength, stepLasts}
 use Rattle.flood.specs.Refusals.{groundsFine, endFine, checkRows, stepNumber, stepped}

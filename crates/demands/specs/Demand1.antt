@@ -7,10 +7,10 @@ use Prim.Native.Nat.{ℕ, zero, suc, _≤_, _<_}
 use lib.ListN.{length}
 use Rattle.reckon.specs.Tests.{refusal}
 use Rattle.rule.specs.declared.rules.Rules.{Rules}
-use Rattle.ledger.specs.Runs.{Plan, World, world}
+use Rattle.ledger.specs.Runs.{Plan, World, world, seenOf}
 use Rattle.ledger.specs.After.{lateRows}
 use Rattle.ledger.specs.TakeBack.{backRows, backNumber, takenBack}
-use Rattle.ledger.specs.Engine.{seenOf, ringOf}
+use Rattle.ledger.specs.Record.{ringOf}
 use Rattle.flood.specs.Drops.{Given}
 use Rattle.flood.specs.Step.{stepMoves}
 use Rattle.flood.specs.Refusals.{stepChecks, runChecks, stepNumber, stepped}
@@ -18,7 +18,7 @@ use Rattle.flood.specs.Run.{Ended, ended, runTo, freshRows, freshNumber, freshL
 use Rattle.sight.specs.Arrows.{arrowRows, arrowNumber}
 use Rattle.sight.specs.WetRows.{WetRowed, wetRefusals, wetNumber}
 use Rattle.sight.specs.declared.wet_rows.Wet.{Wet}
-use Rattle.exports.specs.Refusals.{lastCheck}
+use Rattle.exports.specs.Answers.{lastCheck}
 use Rattle.demands.specs.Table.{TableSays}
 use Rattle.demands.specs.Determined.{Determined}
 use Rattle.demands.specs.Loader.{LoaderRefuses}

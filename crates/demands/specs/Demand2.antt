@@ -13,11 +13,10 @@ use Rattle.grid.specs.Squares.{squares, sides}
 use Rattle.rule.specs.Length.{lengthAt, lastsFor}
 use Rattle.rule.specs.Weighing.{heightOf, slopeOf, criticalSpeed, weighed, mostDrop}
 use Rattle.rule.specs.declared.rules.Rules.{Rules}
-use Rattle.ledger.specs.Runs.{Plan, World}
+use Rattle.ledger.specs.Runs.{Plan, World, Seen, seenOf}
 use Rattle.ledger.specs.Flows.{Leaves, shut, gone, came, offGrid}
 use Rattle.ledger.specs.Record.{squareWords, wordPlace, newestRecord, recordOf}
 use Rattle.ledger.specs.TakeBack.{backNumber, takenBack}
-use Rattle.ledger.specs.Engine.{Seen, seenOf}
 use Rattle.ledger.specs.Walls.{Walled, reaches, drains, intoWalls, Untouched}
 use Rattle.ledger.specs.declared.runs.Run.{Run}
 use Rattle.flood.specs.Drops.{Given, dropsOf}

@@ -12,11 +12,10 @@ use Rattle.trials.specs.Ring.{slotAgo, ringFine}
 use Rattle.trials.specs.Room.{recordIn}
 use Rattle.grid.specs.Squares.{squares}
 use Rattle.rule.specs.declared.rules.Rules.{Rules}
-use Rattle.ledger.specs.Runs.{Plan, World, world}
+use Rattle.ledger.specs.Runs.{Plan, World, world, seenOf}
 use Rattle.ledger.specs.Flows.{shut}
 use Rattle.ledger.specs.Record.{recordSize, roomSlots}
-use Rattle.ledger.specs.TakeBack.{backNumber, takenBack}
-use Rattle.ledger.specs.Engine.{seenOf, lookRows}
+use Rattle.ledger.specs.TakeBack.{backNumber, takenBack, lookRows}
 use Rattle.ledger.specs.declared.runs.Run.{Run}
 use Rattle.ledger.specs.declared.runs.Answer.the-variants.{Done}
 use Rattle.flood.specs.Drops.{Given}

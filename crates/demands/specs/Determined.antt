@@ -13,7 +13,7 @@ use Rattle.reckon.specs.Tables.{RainBy, InflowBy, RainAdded, InflowAdded, RainF
 use Rattle.trials.specs.Ring.{SlotsIn, SlotStart, SlotAfter, SlotBefore, KeptAfter, RingFine}
 use Rattle.grid.specs.Squares.{ShapeJudged, SquaresOf, SquareFound, NextColumn, BesideOn, OppositeOf, RimJudged}
 use Rattle.grid.specs.Marks.{ClosedJudged, ExitJudged, MarksJudged, InflowSquaresJudged}
-use Rattle.grid.specs.Masks.{RowMasked, OnesOf, NextFound}
+use Rattle.grid.specs.Masks.{RowMasked, OnesOf, NextFound, Masked}
 use Rattle.grid.specs.declared.squares.Shape.{Shape}
 use Rattle.rule.specs.Drops.{DropTo, DropOff}
 use Rattle.rule.specs.Length.{Shorter, HeldLength, IsUpdate, LastsFor}
@@ -22,8 +22,9 @@ use Rattle.rule.specs.Weighing.{Weighs}
 use Rattle.rule.specs.declared.rules.Rules.{Rules}
 use Rattle.ledger.specs.Runs.{Plan, World, world, RunFine}
 use Rattle.ledger.specs.Record.{SizeOf, HeldBefore, Lasted, Leaving, LastBefore, AddedBy, GoneFrom, SentTo, CameTo, OffFrom, HeadPut, SquarePut, ClosedPut}
-use Rattle.ledger.specs.Settle.{SettlesTo}
-use Rattle.ledger.specs.TakeBack.{OneEach, WatersJudged, TimesJudged, TakesBack}
+use Rattle.ledger.specs.inner.Settle.{SettlesTo}
+use Rattle.ledger.specs.Checks.{OneEach, WatersJudged, TimesJudged}
+use Rattle.ledger.specs.TakeBack.{TakesBack}
 use Rattle.ledger.specs.declared.runs.Run.{Run}
 use Rattle.ledger.specs.declared.runs.Answer.{Answer}
 use Rattle.ledger.specs.declared.settle.Settled.{Settled}
@@ -33,7 +34,7 @@ use Rattle.flood.specs.Run.{RunsTo, Freshens}
 use Rattle.flood.specs.Fill.{MakesStep}
 use Rattle.flood.specs.declared.run.Ran.{Ran}
 use Rattle.sight.specs.Arrows.{Sees}
-use Rattle.sight.specs.WetRows.{Masked, OnesIn, WetRowed}
+use Rattle.sight.specs.WetRows.{OnesIn, WetRowed}
 use Rattle.sight.specs.declared.wet_rows.Wet.{Wet}
 use Rattle.text.specs.Reading.{ByteIs, WordAt, FieldAt, FieldsAt, RestOfLine, LineOf, NextLine, LineCount}
 use Rattle.text.specs.Reading as Reading

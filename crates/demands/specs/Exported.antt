@@ -10,9 +10,8 @@ use lib.Ieee.{Float}
 use Rattle.reckon.specs.Tests.{_unless_}
 use Rattle.rule.specs.declared.rules.Rules.{Rules}
 use Rattle.ledger.specs.declared.runs.Run.{Run}
-use Rattle.ledger.specs.Runs.{Plan, World}
-use Rattle.ledger.specs.Engine.{seenOf, ringOf}
-use Rattle.ledger.specs.Record.{newestRecord}
+use Rattle.ledger.specs.Runs.{Plan, World, seenOf}
+use Rattle.ledger.specs.Record.{ringOf, newestRecord}
 use Rattle.ledger.specs.After.{lateRows}
 use Rattle.ledger.specs.TakeBack.{backRows}
 use Rattle.flood.specs.Drops.{Given}
@@ -22,8 +21,8 @@ use Rattle.flood.specs.Run.{runTo, freshRows}
 use Rattle.sight.specs.Arrows.{view, arrowRows}
 use Rattle.sight.specs.WetRows.{wetRefusals}
 use Rattle.sheet.specs.Sheet.{Rooms}
-use Rattle.exports.specs.Numbers.{runValueFrom, runNumbers, runSize, countSize, bothSized}
-use Rattle.exports.specs.Refusals.{lastCheck}
+use Rattle.exports.specs.Numbers.{runValueFrom, bothSized}
+use Rattle.exports.specs.Answers.{runNumbers, runSize, countSize, lastCheck}
 use Rattle.exports.specs.Steps.{ExportsFresh, ExportsStep, ExportsRun, ExportsBack, ranSized}
 use Rattle.exports.specs.Sights.{ExportsArrow, ExportsWet, arrowSized}
 use Rattle.exports.specs.Sheets.{ExportsRead, ExportsMeadow, sheetSized}

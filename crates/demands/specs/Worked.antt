@@ -17,8 +17,7 @@ use Rattle.grid.specs.Squares.{east}
 use Rattle.rule.specs.declared.rules.Rules.{Rules}
 use Rattle.rule.specs.Weighing.{greatestDrop, heightOf, slopeOf, criticalSpeed, manningSpeed, speedOf, mostThrough, totalOf}
 use Rattle.rule.specs.Length.{candidatesOf}
-use Rattle.ledger.specs.Runs.{Plan, World}
-use Rattle.ledger.specs.Engine.{seenOf}
+use Rattle.ledger.specs.Runs.{Plan, World, seenOf}
 use Rattle.ledger.specs.TakeBack.{backNumber, takenBack}
 use Rattle.flood.specs.Drops.{Given, dropsOf}
 use Rattle.flood.specs.Step.{stepMoves}

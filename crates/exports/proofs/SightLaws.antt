@@ -11,7 +11,8 @@ use Rattle.reckon.specs.Tests.{pick}
 use Rattle.reckon.proofs.TestLaws.{pick-true, pick-false}
 use Rattle.ledger.specs.Runs.{Plan, World}
 use Rattle.sight.specs.Arrows.{Sees}
-use Rattle.sight.specs.WetRows.{WetRowed, counted, onesOver, wetMasks, wetNumber}
+use Rattle.sight.specs.WetRows.{WetRowed, counted, onesOver, wetNumber}
+use Rattle.grid.specs.Masks.{wetMasks}
 use Rattle.sight.specs.declared.speeds.Arrow.{Arrow}
 use Rattle.sight.specs.declared.arrows.Sight.{Sight}
 use Rattle.sight.specs.declared.arrows.Sight.the-variants.{Closed, Dry, Still, Moving, Refused}

@@ -11,11 +11,10 @@ use Rattle.reckon.specs.Lists.{filled}
 use Rattle.reckon.proofs.TestLaws.{pick-true, pick-false}
 use Rattle.grid.specs.Squares.{squares}
 use Rattle.rule.specs.declared.rules.Rules.{Rules}
-use Rattle.ledger.specs.Runs.{Plan, World}
-use Rattle.ledger.specs.Record.{newestRecord}
+use Rattle.ledger.specs.Runs.{Plan, World, seenOf}
 use Rattle.ledger.specs.Flows.{shut}
+use Rattle.ledger.specs.Record.{newestRecord}
 use Rattle.ledger.specs.After.{worldAfter}
-use Rattle.ledger.specs.Engine.{seenOf}
 use Rattle.ledger.specs.TakeBack.{TakesBack, backNumber, takenBack, worldBefore}
 use Rattle.ledger.specs.declared.runs.Answer.{Answer}
 use Rattle.flood.specs.Drops.{Given}

@@ -10,7 +10,8 @@ use lib.Ieee.{Float}
 use Rattle.reckon.specs.Tests.{pick}
 use Rattle.ledger.specs.Runs.{Plan, World}
 use Rattle.sight.specs.Arrows.{seenAt}
-use Rattle.sight.specs.WetRows.{onesOver, wetMasks, wetNumber}
+use Rattle.sight.specs.WetRows.{onesOver, wetNumber}
+use Rattle.grid.specs.Masks.{wetMasks}
 use Rattle.sight.specs.declared.arrows.Sight.{Sight}
 use Rattle.sight.specs.declared.arrows.Sight.the-variants.{Closed, Dry, Still, Moving, Refused}
 use Rattle.sight.specs.declared.wet_rows.Wet.{Wet}

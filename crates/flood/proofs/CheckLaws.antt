@@ -18,10 +18,11 @@ use Rattle.grid.proofs.SquareLaws.{ranges-of-fine}
 use Rattle.rule.specs.Rules.{sideFine, rulesFine}
 use Rattle.rule.specs.declared.rules.Rules.{Rules}
 use Rattle.rule.proofs.RuleLaws.{rules-are, ground-is}
-use Rattle.ledger.specs.Runs.{Plan, World, plan, runFine}
+use Rattle.ledger.specs.Runs.{Plan, World, plan, runValuesFine, runFine, Seen, seenOf}
 use Rattle.ledger.specs.Flows.{shut}
-use Rattle.ledger.specs.TakeBack.{Watered, oneEach, watersFine}
-use Rattle.ledger.specs.Engine.{Seen, seenOf, lookRows, ringOf}
+use Rattle.ledger.specs.Record.{ringOf}
+use Rattle.ledger.specs.Checks.{Watered, oneEach, watersFine}
+use Rattle.ledger.specs.TakeBack.{lookRows}
 use Rattle.ledger.specs.declared.runs.Run.{Run}
 use Rattle.flood.specs.Drops.{Given}
 use Rattle.flood.specs.Ready.{Ready}
@@ -86,7 +87,7 @@ module _ (p : Plan) (g : Given) (five ring : Bool) (v : Seen) where
   rows-named = tt
 
   tested : refusal (checkRows p g five ring v) ≡ 0 → Tested p g five ring v
-  unfolding checkRows
+  unfolding checkRows runValuesFine
   tested e =
       let rows = refusal-passed _ rows-named e in
       let lent = every-each _ (rows .0) in
@@ -122,7 +123,8 @@ module _ (p : Plan) (g : Given) (five ring : Bool) (v : Seen) where
       }
 
   module _ (t : Tested p g five ring v) where
-    run-fine : every (ring ∷ leb (v .clock) lastClock ∷ leb 1 (v .length) ∷ leb (v .length) mostLength ∷ leb (v .outflow) mostOutflow ∷ []) ≡ true
+    run-fine : runValuesFine ring (v .clock) (v .length) (v .outflow) ≡ true
+    unfolding runValuesFine
     run-fine =
         let s = t .seen-fine in
         each-every _ (t .ring-fine, (s .clock-to, (s .length-from, (s .length-to, (s .outflow-to, tt)))))

@@ -15,11 +15,10 @@ use Rattle.rule.specs.Weighing.{weighed}
 use Rattle.rule.specs.Length.{lengthAt, lastsFor}
 use Rattle.rule.specs.declared.rules.Rules.{Rules}
 use Rattle.rule.proofs.WeighingLaws.{weighed-dry, weighed-le}
-use Rattle.ledger.specs.Runs.{Plan, World}
+use Rattle.ledger.specs.Runs.{Plan, World, seenOf}
 use Rattle.ledger.specs.Flows.{Leaves, shut}
 use Rattle.ledger.specs.Record.{squareRecord, recordOf, SquarePut}
 use Rattle.ledger.specs.After.{stepRecord}
-use Rattle.ledger.specs.Engine.{seenOf}
 use Rattle.ledger.proofs.RecordLaws.{Begun, begun-open, begun-closed}
 use Rattle.flood.specs.Drops.{Ground, Given, dropsOf}
 use Rattle.flood.specs.Step.{candidates, leavesFor, addedFor, stepLength, stepLasts, stepMoves}

@@ -20,7 +20,7 @@ use Rattle.rule.specs.declared.rules.Rules.{Rules}
 use Rattle.ledger.specs.Runs.{Plan, answered, plan}
 use Rattle.ledger.specs.Flows.{shut}
 use Rattle.ledger.specs.Record.{roomSlots}
-use Rattle.ledger.specs.TakeBack.{oneEach}
+use Rattle.ledger.specs.Checks.{oneEach}
 use Rattle.ledger.specs.declared.runs.Run.{Run}
 use Rattle.ledger.specs.declared.runs.Answer.the-variants.{Done, Refused}
 use Rattle.flood.specs.Run.{freshRows, freshNumber, freshRun, freshLasts, Freshens}

@@ -17,10 +17,10 @@ use Rattle.grid.specs.Marks.{exit}
 use Rattle.rule.specs.Weighing.{weighed}
 use Rattle.rule.proofs.WeighingLaws.{fourOf, weighed-le, weighed-none}
 use Rattle.rule.proofs.LengthLaws.{length-from, length-to, lasts-from, lasts-to}
-use Rattle.ledger.specs.Runs.{Plan}
+use Rattle.ledger.specs.Runs.{Plan, Seen}
 use Rattle.ledger.specs.Flows.{shut, gone}
-use Rattle.ledger.specs.Engine.{Seen, Owed}
 use Rattle.ledger.specs.Walls.{Walled}
+use Rattle.ledger.specs.inner.Engine.{Owed}
 use Rattle.flood.specs.Drops.{Ground, Given, sideDrop, dropsOf}
 use Rattle.flood.specs.Step.{candidates, leavesFor, stepLength, stepLasts, stepMoves}
 use Rattle.flood.specs.Ready.{Ready}

@@ -16,10 +16,9 @@ use Rattle.reckon.proofs.TestLaws.{pick-true, pick-false, refusal-both}
 use Rattle.trials.specs.Ring.{ringFine, slotAfter, keptAfter}
 use Rattle.trials.proofs.RingLaws.{Ring, fine-ring, ring-fine, ring-after}
 use Rattle.trials.proofs.RoomLaws.{slots-stored}
-use Rattle.ledger.specs.Runs.{Plan, World}
-use Rattle.ledger.specs.Record.{recordSize, roomSlots}
+use Rattle.ledger.specs.Runs.{Plan, World, seenOf}
+use Rattle.ledger.specs.Record.{recordSize, roomSlots, ringOf}
 use Rattle.ledger.specs.After.{lateRows, stepRecord, worldAfter}
-use Rattle.ledger.specs.Engine.{seenOf, ringOf}
 use Rattle.ledger.proofs.ReadBack.{step-long}
 use Rattle.ledger.proofs.EngineLaws.{look-seen, valid-after}
 use Rattle.flood.specs.Drops.{Given}

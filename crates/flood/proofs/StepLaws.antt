@@ -16,12 +16,11 @@ use Rattle.reckon.proofs.TestLaws.{not-both, no-more, pick-true, pick-false, or
 use Rattle.trials.specs.Ring.{ringFine}
 use Rattle.trials.proofs.RingLaws.{fine-ring}
 use Rattle.grid.specs.Squares.{squares}
-use Rattle.ledger.specs.Runs.{Plan, World, answered}
+use Rattle.ledger.specs.Runs.{Plan, World, answered, Seen, seenOf}
 use Rattle.ledger.specs.Flows.{shut, gone, came}
-use Rattle.ledger.specs.Record.{recordSize, roomSlots, leavesIn, lastedIn}
-use Rattle.ledger.specs.After.{Moves, remains, newDepth, depthsFit, newOutflow, lateRows, stepRecord, worldAfter}
-use Rattle.ledger.specs.Settle.{settleNumber, settled, written, Settles, SettlesTo}
-use Rattle.ledger.specs.Engine.{Seen, seenOf, ringOf}
+use Rattle.ledger.specs.Record.{recordSize, roomSlots, leavesIn, lastedIn, ringOf}
+use Rattle.ledger.specs.After.{Moves, remains, newDepth, depthsFit, newOutflow, lateRows, stepRecord, worldAfter, worldWith}
+use Rattle.ledger.specs.inner.Settle.{movesIn, settleNumber, settled, Settles, SettlesTo}
 use Rattle.ledger.proofs.ReadBack.{step-long, step-lasted, step-gone, settled-is, late-settled}
 use Rattle.flood.specs.Drops.{Given}
 use Rattle.flood.specs.Step.{addedFor, leavesFor, stepLength, stepLasts, stepMoves}
@@ -111,10 +110,10 @@ module _ (p : Plan) (g : Given) (w : World) (passed : refusal (stepChecks p g (r
         let long = is-ready .waters .marks-long in
         let number-is : settleNumber p rec held w ≡ stepNumber p g w
         = rw (e, l) (sym (number-late ∙ late-settled p m w long (le-leb _ _ timely))) in
-        let written-is : written p rec held w ≡ worldAfter p m w = rw (e, l) (settled-is p m w long) in
+        let written-is : worldWith p (movesIn rec held) w rec ≡ worldAfter p m w = rw (e, l) (settled-is p m w long) in
         record {
           number = t .number ∙ number-is;
-          world-is = t .world-is ∙ (ap (λ (k : ℕ). pick (eqb k 0) (written p rec held w) w) number-is ∙ ap (λ (x : World). pick (eqb (stepNumber p g w) 0) x w) written-is);
+          world-is = t .world-is ∙ (ap (λ (k : ℕ). pick (eqb k 0) (worldWith p (movesIn rec held) w rec) w) number-is ∙ ap (λ (x : World). pick (eqb (stepNumber p g w) 0) x w) written-is);
         }
 
 -- ---- the public step

@@ -9,10 +9,9 @@ use Rattle.reckon.specs.Tests.{refusal}
 use Rattle.reckon.specs.Ranges.{mostLength}
 use Rattle.grid.specs.Squares.{squares}
 use Rattle.rule.specs.Weighing.{weighed}
-use Rattle.ledger.specs.Runs.{Plan, World}
+use Rattle.ledger.specs.Runs.{Plan, World, seenOf}
 use Rattle.ledger.specs.Flows.{shut}
-use Rattle.ledger.specs.Record.{recordSize, SquarePut, ClosedPut}
-use Rattle.ledger.specs.Engine.{seenOf, ringOf}
+use Rattle.ledger.specs.Record.{recordSize, SquarePut, ClosedPut, ringOf}
 use Rattle.flood.specs.Drops.{Ground, Given, dropsOf}
 use Rattle.flood.specs.Ready.{Flows}
 use Rattle.flood.specs.Refusals.{stepChecks, stepNumber, stepped}

@@ -10,9 +10,8 @@ use Rattle.reckon.specs.Tables.{rainKind, inflowKind, tableFine}
 use Rattle.grid.specs.Squares.{squares, FineShape}
 use Rattle.grid.specs.Marks.{inflowSquaresFine}
 use Rattle.rule.specs.Rules.{RulesInRange, GroundInRange}
-use Rattle.ledger.specs.Runs.{Plan}
+use Rattle.ledger.specs.Runs.{Plan, Seen}
 use Rattle.ledger.specs.Flows.{shut}
-use Rattle.ledger.specs.Engine.{Seen}
 use Rattle.flood.specs.Drops.{Ground, Given}
 
 -- marks, beds and depths are lent whole

@@ -8,17 +8,18 @@ use Prim.Native.Nat.{ℕ, _%_}
 use lib.Dec.{eqb, leb}
 use lib.ListN.{getD}
 use Rattle.reckon.specs.Tests.{pick, every, allBelow, Row, _unless_, refusal}
-use Rattle.reckon.specs.Ranges.{mostLength, lastClock, mostOutflow}
+use Rattle.reckon.specs.Ranges.{lastClock}
 use Rattle.reckon.specs.Tables.{rainKind, inflowKind, tableFine}
 use Rattle.grid.specs.Squares.{squares, shapeFine}
 use Rattle.grid.specs.Marks.{marksFine, inflowSquaresFine}
 use Rattle.rule.specs.Rules.{sideFine, groundFine, rulesFine}
 use Rattle.rule.specs.declared.rules.Rules.{Rules}
-use Rattle.ledger.specs.Runs.{Plan, World, answered}
+use Rattle.ledger.specs.Runs.{Plan, World, Seen, seenOf, runValuesFine, answered}
 use Rattle.ledger.specs.Flows.{shut}
+use Rattle.ledger.specs.Record.{ringOf}
 use Rattle.ledger.specs.After.{lateRows, worldAfter}
-use Rattle.ledger.specs.TakeBack.{oneEach, watersFine}
-use Rattle.ledger.specs.Engine.{Seen, seenOf, ringOf, StepRule}
+use Rattle.ledger.specs.Checks.{oneEach, watersFine}
+use Rattle.ledger.specs.inner.Engine.{StepRule}
 use Rattle.ledger.specs.declared.runs.Answer.{Answer}
 use Rattle.flood.specs.Drops.{Ground, Given}
 use Rattle.flood.specs.Step.{stepMoves}
@@ -56,7 +57,7 @@ module _ (p : Plan) (g : Given) where
       -- "q, step limits, U .. out of range; end not a multiple of U or out of range"
       ∷ 5 unless five
       -- "K = 0, or a run value out of range"
-      ∷ 6 unless every (ring ∷ leb (v .clock) lastClock ∷ leb 1 (v .length) ∷ leb (v .length) mostLength ∷ leb (v .outflow) mostOutflow ∷ [])
+      ∷ 6 unless runValuesFine ring (v .clock) (v .length) (v .outflow)
       ∷ []
 
   -- a step's rows 1 to 6

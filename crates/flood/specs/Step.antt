@@ -9,10 +9,9 @@ use Rattle.reckon.specs.Tables.{rainAdded, inflowAdded}
 use Rattle.grid.specs.Squares.{squares}
 use Rattle.rule.specs.Weighing.{weighed}
 use Rattle.rule.specs.Length.{candidatesOf, lengthAt, lastsFor}
-use Rattle.ledger.specs.Runs.{Plan}
+use Rattle.ledger.specs.Runs.{Plan, Seen}
 use Rattle.ledger.specs.Flows.{Leaves, shut}
 use Rattle.ledger.specs.After.{Moves}
-use Rattle.ledger.specs.Engine.{Seen}
 use Rattle.flood.specs.Drops.{Ground, Given, dropsOf}
 
 -- ---- amounts, by how long the step lasts

@@ -7,7 +7,7 @@ use grid::squares::shape_fine;
 use grid::squares::squares_of;
 use ledger::runs::Answer;
 use ledger::runs::Run;
-use ledger::take_back::one_each;
+use ledger::checks::one_each;
 use rule::rules::Rules;
 use rule::rules::rules_fine;
 use rule::rules::side_fine;
@@ -21,7 +21,7 @@ ghost use Rattle.grid.specs.Squares.{shapeFine, squares};
 ghost use Rattle.grid.specs.Marks.{Marked, closed};
 ghost use Rattle.rule.specs.Rules.{sideFine};
 ghost use Rattle.ledger.specs.Runs.{plan};
-ghost use Rattle.ledger.specs.TakeBack.{oneEach};
+ghost use Rattle.ledger.specs.Checks.{oneEach};
 ghost use Rattle.flood.specs.Run.{Freshens, freshNumber};
 
 // Refusal 1: the shape and D are in range, and marks and last leaving have one number a square.

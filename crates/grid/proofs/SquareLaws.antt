@@ -54,9 +54,6 @@ module _ (s : Shape) where
   pub square-in : (i : ℕ) → squareAt s (i / s .columns) (i % s .columns) ≡ i
   square-in i = div-add-mod' i (s .columns)
 
-  pub row-within : {i : ℕ} → 0 < s .columns → i < squares s → i / s .columns < s .rows
-  row-within p h = div-lt-iff-lt-mul p .1 h
-
   pub column-within : (i : ℕ) {column : ℕ} → 0 < s .columns → column ≡ i % s .columns → column < s .columns
   column-within i p e = rw e (mod-lt i p)
 
@@ -117,17 +114,6 @@ module _ (s : Shape) where
       go : Dec (i + 1 ≡ squares s) → i + 1 < squares s
       go (yes e) = absurd (d (rw e (mul-mod-left (s .rows) (s .columns))))
       go (no e) = omega arith
-
-  pub beside-le : {i : ℕ} → i < squares s → (side : ℕ) → beside s i side ≤ squares s
-  unfolding beside
-  beside-le h zero = pick-both (λ (j : ℕ). j ≤ squares s) _ (omega arith) (omega arith)
-  beside-le h (suc zero) = pick-both (λ (j : ℕ). j ≤ squares s) _ (omega arith) (omega arith)
-  beside-le {i} h (suc (suc zero)) = go (decLt (i + s .columns) (squares s))
-    where
-      go : Dec (i + s .columns < squares s) → beside s i south ≤ squares s
-      go (yes l) = rw (south-some i {side = south} refl l) (omega arith)
-      go (no l) = rw (south-none i {side = south} refl (omega arith)) (omega arith)
-  beside-le h (suc (suc (suc _))) = pick-both (λ (j : ℕ). j ≤ squares s) _ (omega arith) (omega arith)
 
 pub opposite-opposite : (side : ℕ) → side < sides → opposite (opposite side) ≡ side
 unfolding opposite

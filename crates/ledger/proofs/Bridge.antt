@@ -12,11 +12,11 @@ use Rattle.reckon.proofs.TestLaws.{pick-true, pick-false, refusal-first, refusa
 use Rattle.trials.specs.Ring.{slotBefore}
 use Rattle.trials.specs.Series.{Outcome, Engine, State, refused, done, andThen, looked, fromRecord, restored, stepped, step, takeBack}
 use Rattle.trials.proofs.StepLaws.{not-done}
-use Rattle.ledger.specs.Runs.{Plan, World, runFine}
-use Rattle.ledger.specs.Record.{roomSlots, newestRecord}
+use Rattle.ledger.specs.Runs.{Plan, World, Seen, seenOf}
+use Rattle.ledger.specs.Record.{roomSlots, newestRecord, ringOf}
 use Rattle.ledger.specs.After.{Moves, remains, newDepth, depthsFit, newOutflow, lateRows, stepRecord, worldAfter}
-use Rattle.ledger.specs.TakeBack.{restorable, worldBefore, backRows, backNumber, takenBack}
-use Rattle.ledger.specs.Engine.{Seen, seenOf, ringOf, bare, StepRule, outcome, lookRows, madeNumber, engine, stateOf}
+use Rattle.ledger.specs.TakeBack.{restorable, worldBefore, backRows, backNumber, takenBack, lookRows}
+use Rattle.ledger.specs.inner.Engine.{bare, StepRule, outcome, madeNumber, engine, stateOf}
 use Rattle.ledger.proofs.EngineLaws.{restorable-bare, before-bare}
 
 outcome-none : {A : Type 0} {n : ℕ} (a : A) → n ≡ 0 → outcome n a ≡ done a
@@ -42,11 +42,11 @@ module _ (p : Plan) (w : World) where
   lastRows = 10 unless not (eqb (w .run .kept) 0) ∷ 11 unless restorable p w (newestRecord p w) ∷ []
 
   number-look : {n : ℕ} → look ≡ suc n → backNumber p w ≡ suc n
-  unfolding backNumber backRows lookRows runFine
+  unfolding backNumber backRows lookRows
   number-look {n} e = refusal-first (lookRows p (ringOf p w) (seenOf w)) lastRows tt (λ z. let y : suc n ≡ 0 = sym e ∙ z in omega arith) ∙ e
 
   number-last : look ≡ 0 → backNumber p w ≡ refusal lastRows
-  unfolding backNumber backRows lookRows runFine
+  unfolding backNumber backRows lookRows
   number-last e = refusal-second (lookRows p (ringOf p w) (seenOf w)) lastRows tt e
 
   number-none : look ≡ 0 → w .run .kept ≡ 0 → backNumber p w ≡ 10

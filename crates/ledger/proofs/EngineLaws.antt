@@ -14,17 +14,18 @@ use Rattle.reckon.specs.Ranges.{mostDepth, mostLength, lastClock, mostOutflow, 
 use Rattle.reckon.proofs.TestLaws.{or-right, or-of, every-each, each-every, all-at, all-of, refusal-passed, passed-refusal, refusal-both, pick-true}
 use Rattle.reckon.proofs.ListLaws.{length-filled, filled-in, filled-skipped}
 use Rattle.trials.specs.Series.{done}
-use Rattle.trials.specs.Owes.{Laws}
+use Rattle.trials.specs.inner.Owes.{Laws}
 use Rattle.trials.proofs.RoomLaws.{slots-stored, read-stored, read-other}
 use Rattle.trials.proofs.StepLaws.{not-done}
 use Rattle.grid.specs.Squares.{squares, shapeFine}
 use Rattle.grid.specs.Marks.{marksFine}
-use Rattle.ledger.specs.Runs.{Plan, World}
+use Rattle.ledger.specs.Runs.{Plan, World, Seen, seenOf, runValuesFine}
 use Rattle.ledger.specs.Flows.{shut, gone, came, offGrid}
 use Rattle.ledger.specs.Record.{recordSize, lastedIn, leavesIn, lastIn, roomSlots}
 use Rattle.ledger.specs.After.{Moves, remains, newDepth, depthsFit, newOutflow, lateRows, stepRecord, worldAfter}
-use Rattle.ledger.specs.TakeBack.{oneEach, watersFine, timesFine, heldAndGone, cameAndAdded, depthBefore, squareRestorable, restorable, worldBefore}
-use Rattle.ledger.specs.Engine.{Seen, seenOf, bare, StepRule, outcome, lookRows, madeNumber, engine, Owed}
+use Rattle.ledger.specs.Checks.{oneEach, watersFine, timesFine}
+use Rattle.ledger.specs.TakeBack.{heldAndGone, cameAndAdded, depthBefore, squareRestorable, restorable, worldBefore, lookRows}
+use Rattle.ledger.specs.inner.Engine.{bare, StepRule, outcome, madeNumber, engine, Owed}
 use Rattle.ledger.proofs.ReadBack.{step-long, step-held, step-lasted, step-off, step-came, step-gone, step-last, step-added}
 
 -- a room filled in part, and then in the same places with the old numbers, is as it was
@@ -78,7 +79,7 @@ module _ (p : Plan) where
         (leb-true _ _ (both .0), leb-true _ _ (both .1 .0))
 
     pub look-seen : refusal (lookRows p ring v) ≡ 0 → Looks ring v
-    unfolding lookRows oneEach
+    unfolding lookRows oneEach runValuesFine
     look-seen e =
         let rows = refusal-passed (lookRows p ring v) tt e in
         let sizes = every-each _ (rows .0) in
@@ -105,7 +106,7 @@ module _ (p : Plan) where
         (λ i inside. or-of (shut p i) _ (λ e. each-every _ (omega (arith, le-leb, L .depth-to i inside e, L .last-to i inside e))))
 
     pub seen-look : Looks ring v → refusal (lookRows p ring v) ≡ 0
-    unfolding lookRows oneEach
+    unfolding lookRows oneEach runValuesFine
     seen-look L =
         passed-refusal _
         (each-every _ (L .shape-fine, omega (arith, eq-eqb)), (L .marks-fine, (waters-of L, (each-every _ (L .ring-fine, omega (arith, le-leb)), tt))))

@@ -17,7 +17,8 @@ use Rattle.grid.specs.Squares.{squares, FineShape, Stands, NextColumn}
 use Rattle.grid.proofs.SquareLaws.{carried, column-within}
 use Rattle.ledger.specs.Runs.{Plan}
 use Rattle.ledger.specs.Flows.{offSquare, offGrid}
-use Rattle.ledger.specs.Record.{leavesIn, Walked}
+use Rattle.ledger.specs.Record.{leavesIn}
+use Rattle.ledger.specs.inner.Walks.{Walked}
 
 -- ---- where a walk stands
 

@@ -15,7 +15,6 @@ use Rattle.grid.specs.Squares.{squares}
 use Rattle.ledger.specs.Runs.{Plan, World}
 use Rattle.ledger.specs.Flows.{Leaves, shut, gone, came, offGrid}
 use Rattle.ledger.specs.Record.{recordSize, roomSlots, recordOf}
-use Rattle.ledger.specs.declared.runs.Run.{Run}
 
 -- What a step moves: the amounts through the sides, what is added to each square, how long it lasts (ms), the length it leaves held.
 pub record Moves : Type 0 where
@@ -53,13 +52,13 @@ module _ (p : Plan) (m : Moves) (w : World) where
   unfoldable pub stepRecord : List ℕ
   stepRecord = recordOf p (w .run .length) (m .lasts) (m .leaves) (λ i. getD (w .lasts) i 0) (m .added)
 
-  -- "P is then the sum of the four"; "A step writes the slot after the newest .. and kept rises by one up to K"
-  unfoldable pub worldAfter : World
-  worldAfter =
+  -- "P is then the sum of the four"; "A step writes the slot after the newest .. and kept rises by one up to K": with a record as written
+  abbrev pub worldWith : List ℕ → World
+  worldWith rec =
       record {
         depths = filled (squares (p .shape)) (shut p) newDepth (w .depths);
         lasts = filled (squares (p .shape)) (shut p) (gone (m .leaves)) (w .lasts);
-        records = storedIn (recordSize p) (w .records) (slotAfter (roomSlots p (w .records)) (w .run .newest)) stepRecord;
+        records = storedIn (recordSize p) (w .records) (slotAfter (roomSlots p (w .records)) (w .run .newest)) rec;
         run =
             record {
               clock = w .run .clock + m .lasts;
@@ -69,3 +68,7 @@ module _ (p : Plan) (m : Moves) (w : World) where
               newest = slotAfter (roomSlots p (w .records)) (w .run .newest);
             };
       }
+
+  -- the world after the step: with the step's own record
+  unfoldable pub worldAfter : World
+  worldAfter = worldWith stepRecord

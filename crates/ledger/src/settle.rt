@@ -2,18 +2,17 @@
 // Nothing lent but the working room is written before both are decided.
 ghost use mathlib.Core.Path.{_≡_};
 ghost use mathlib.Core.Bool.{false};
-ghost use Prim.Native.Nat.{_+_, _<_, _≤_};
+ghost use Prim.Native.Nat.{_+_, _<_};
 ghost use lib.ListN.{length, set};
 ghost use Rattle.reckon.specs.Tests.{pick};
 ghost use Rattle.reckon.specs.Lists.{filled};
-ghost use Rattle.reckon.specs.Ranges.{mostDepth};
 ghost use Rattle.grid.specs.Squares.{Stands, squares, west};
 ghost use Rattle.grid.specs.Marks.{closed};
 ghost use Rattle.ledger.specs.Runs.{plan, world};
 ghost use Rattle.ledger.specs.Flows.{came, gone};
 ghost use Rattle.ledger.specs.Record.{Recorded, addedIn, leavesIn, wordPlace};
-ghost use Rattle.ledger.specs.After.{newOutflow};
-ghost use Rattle.ledger.specs.Settle.{GatheredAll, GatheredOne, Gathers, Settles, SettlesTo, SmallLeaving, SmallSquare, depthBy, depthsBy, movesIn, written};
+ghost use Rattle.ledger.specs.After.{newOutflow, worldWith};
+ghost use Rattle.ledger.specs.inner.Settle.{GatheredAll, GatheredOne, Gathers, Settles, SettlesTo, SmallLeaving, SmallSquare, depthBy, depthsBy, movesIn};
 use crate::record::Found;
 use crate::record::UNFIT;
 use crate::record::added_by;
@@ -29,6 +28,7 @@ use grid::squares::Shape;
 use grid::squares::next_column;
 use grid::squares::on_rim;
 use grid::squares::squares_of;
+use reckon::copying::copy_into;
 use reckon::numbers::number;
 use reckon::ranges::MOST_DEPTH;
 use reckon::ranges::MOST_OUTFLOW;
@@ -123,19 +123,6 @@ fn gather(shape: Shape, marks: &[u8], rec: &[u32], depths: &[u32], fresh: &mut [
     }
 }
 
-// Copies numbers over as many others.
-fn copy(from: &[u32], to: &mut [u32])
-    requires { ⌜ length (now to) ≡ length (now from) ⌝ }
-    ensures { λ _. ⌜ now (to .exit) ≡ now (from .entry) ⌝ }
-{
-    let count = from.len();
-    let mut i = 0;
-    while i < count {
-        to[i] = from[i];
-        i += 1;
-    }
-}
-
 // Writes the last leaving of a square that is not closed. A dry square has sent nothing.
 fn write_last(marks: &[u8], rec: &[u32], depths: &[u32], square: usize, lasts: &mut [u32])
     requires { ⌜ (square < length (now marks)) × (wordPlace square west < length (now rec)) × (square < length (now depths)) × (square < length (now lasts)) ⌝ }
@@ -182,16 +169,14 @@ fn write(
     requires { ⌜ Settles (plan shape (now marks)) (now rec) held (world (now depths) (now lasts) (now records) run) ⌝ }
     requires { ⌜ now fresh ≡ depthsBy (plan shape (now marks)) (now rec) (now depths) ⌝ }
     requires { ⌜ outflow ≡ newOutflow (plan shape (now marks)) (movesIn (now rec) held) (world (now depths) (now lasts) (now records) run) ⌝ }
-    ensures { λ r. ⌜ world (now (depths .exit)) (now (lasts .exit)) (now (records .exit)) r ≡ written (plan shape (now (marks .entry))) (now (rec .entry)) held (world (now (depths .entry)) (now (lasts .entry)) (now (records .entry)) run) ⌝ }
+    ensures { λ r. ⌜ world (now (depths .exit)) (now (lasts .exit)) (now (records .exit)) r ≡ worldWith (plan shape (now (marks .entry))) (movesIn (now (rec .entry)) held) (world (now (depths .entry)) (now (lasts .entry)) (now (records .entry)) run) (now (rec .entry)) ⌝ }
 {
     let size = record_size(shape);
     let slots = trials::slots_in(size, records.len());
     let slot = trials::slot_after(slots, run.newest);
-    let at = trials::slot_start(size, slot);
-    let end = at + size;
-    copy(rec, &mut records[at..end]);
+    copy_into(rec, records, trials::slot_start(size, slot));
     write_lasts(shape, marks, rec, depths, lasts);
-    copy(fresh, depths);
+    copy_into(fresh, depths, 0);
     Run {
         clock: run.clock + lasted(rec),
         length: held,

@@ -1,19 +1,24 @@
 // The take-back: the newest record's step undone. It reads the newest record, marks, depths, last leaving and run; the record room is
 // not written.
 ghost use mathlib.Core.Path.{_≡_};
-ghost use mathlib.Core.Bool.{_||_, false, true};
+ghost use mathlib.Core.Bool.{false, true};
 ghost use mathlib.Core.List.{[], _∷_};
 ghost use Prim.Native.Nat.{_+_, _<_, _≤_};
 ghost use lib.ListN.{getD, length, set};
 ghost use Rattle.reckon.specs.Tests.{allBelow, every, pick};
 ghost use Rattle.reckon.specs.Lists.{filled};
-ghost use Rattle.reckon.specs.Ranges.{waterFine};
-ghost use Rattle.grid.specs.Squares.{FineShape, Stands, shapeFine, squares, west};
+ghost use Rattle.grid.specs.Squares.{Stands, shapeFine, squares, west};
 ghost use Rattle.grid.specs.Marks.{closed};
 ghost use Rattle.ledger.specs.Runs.{ofDepths, plan, world};
 ghost use Rattle.ledger.specs.Flows.{came, gone};
-ghost use Rattle.ledger.specs.Record.{Recorded, Walked, addedIn, headWords, lastIn, lastWord, lastedIn, leavesIn, wordPlace};
-ghost use Rattle.ledger.specs.TakeBack.{Led, Looked, OneEach, Restores, TakesBack, TimesJudged, Watered, WatersJudged, depthBefore, oneEach, restorable, runBefore, squareRestorable};
+ghost use Rattle.ledger.specs.Record.{Recorded, addedIn, headWords, lastIn, lastWord, lastedIn, leavesIn, wordPlace};
+ghost use Rattle.ledger.specs.Checks.{oneEach};
+ghost use Rattle.ledger.specs.TakeBack.{TakesBack, depthBefore, restorable, runBefore, squareRestorable};
+ghost use Rattle.ledger.specs.inner.TakeBack.{Led, Looked, Restores};
+ghost use Rattle.ledger.specs.inner.Walks.{Walked};
+use crate::checks::one_each;
+use crate::checks::times_fine;
+use crate::checks::waters_fine;
 use crate::record::Found;
 use crate::record::UNFIT;
 use crate::record::added_by;
@@ -35,43 +40,6 @@ use grid::squares::shape_fine;
 use grid::squares::squares_of;
 use reckon::numbers::number;
 use reckon::ranges::MOST_DEPTH;
-use reckon::ranges::MOST_LENGTH;
-use reckon::ranges::water_fine;
-
-// Whether there is one number a square.
-pub fn one_each(shape: Shape, numbers: usize) -> bool
-    requires { ⌜ FineShape shape ⌝ }
-    ensures { λ r. ⌜ OneEach shape numbers r ⌝ }
-{
-    numbers == squares_of(shape)
-}
-
-// Refusal 3 for one square.
-fn square_fine(marks: &[u8], depths: &[u32], lasts: &[u32], square: usize) -> bool
-    requires { ⌜ (square < length (now marks)) × (square < length (now depths)) × (square < length (now lasts)) ⌝ }
-    ensures { λ r. ⌜ r ≡ (closed (now (marks .entry)) square || waterFine (getD (now (depths .entry)) square 0) (getD (now (lasts .entry)) square 0)) ⌝ }
-{
-    if is_closed(marks, square) {
-        return true;
-    }
-    water_fine(depths[square], lasts[square])
-}
-
-// Refusal 3: depth and last leaving of every square not closed are in range.
-pub fn waters_fine(shape: Shape, marks: &[u8], depths: &[u32], lasts: &[u32]) -> bool
-    requires { ⌜ Watered (plan shape (now marks)) (now depths) (now lasts) ⌝ }
-    ensures { λ r. ⌜ WatersJudged (plan shape (now (marks .entry))) (now (depths .entry)) (now (lasts .entry)) r ⌝ }
-{
-    let squares = squares_of(shape);
-    let mut square = 0;
-    while square < squares {
-        if !square_fine(marks, depths, lasts, square) {
-            return false;
-        }
-        square += 1;
-    }
-    true
-}
 
 // Refusal 1: the shape is in range, and marks, depths and last leaving have one number a square.
 fn sizes_fine(shape: Shape, marks: &[u8], depths: &[u32], lasts: &[u32]) -> bool
@@ -109,25 +77,6 @@ fn look(shape: Shape, run: Run, marks: &[u8], depths: &[u32], lasts: &[u32], rec
         return 10;
     }
     0
-}
-
-// Refusal 11: length held and time lasted are 1 to 60,000.
-pub fn times_fine(rec: &[u32]) -> bool
-    requires { ⌜ headWords ≤ length (now rec) ⌝ }
-    ensures { λ r. ⌜ TimesJudged (now (rec .entry)) r ⌝ }
-{
-    let held = held_before(rec);
-    let lasts = lasted(rec);
-    if held < 1 {
-        return false;
-    }
-    if MOST_LENGTH < held {
-        return false;
-    }
-    if lasts < 1 {
-        return false;
-    }
-    lasts <= MOST_LENGTH
 }
 
 // A square's depth and what left it: what its depth before is taken from.

@@ -1,3 +1,4 @@
+pub mod CopyLaws
 pub mod ListLaws
 pub mod QuotientLaws
 pub mod RootLaws

@@ -1,3 +1,4 @@
+pub mod Copying
 pub mod Lists
 pub mod Numbers
 pub mod Ranges

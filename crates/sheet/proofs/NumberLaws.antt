@@ -15,7 +15,7 @@ use Rattle.reckon.proofs.ListLaws.{length-filled}
 use Rattle.grid.specs.Squares.{squares, shapeFine}
 use Rattle.rule.specs.Rules.{sideFine, rulesFine}
 use Rattle.ledger.specs.Record.{roomSlots}
-use Rattle.ledger.specs.TakeBack.{oneEach}
+use Rattle.ledger.specs.Checks.{oneEach}
 use Rattle.flood.specs.Refusals.{checkRows}
 use Rattle.flood.specs.Run.{freshRun}
 use Rattle.sheet.specs.Lines.{runLine, asRun}

@@ -17,11 +17,10 @@ use Rattle.grid.specs.Squares.{FineShape, squares}
 use Rattle.grid.specs.declared.squares.Shape.{Shape}
 use Rattle.rule.specs.Rules.{groundFine}
 use Rattle.rule.specs.declared.rules.Rules.{Rules}
-use Rattle.ledger.specs.Runs.{world, answered}
+use Rattle.ledger.specs.Runs.{world, answered, seenOf}
 use Rattle.ledger.specs.Flows.{shut}
-use Rattle.ledger.specs.Record.{roomSlots}
-use Rattle.ledger.specs.TakeBack.{oneEach, watersFine}
-use Rattle.ledger.specs.Engine.{seenOf, ringOf}
+use Rattle.ledger.specs.Record.{roomSlots, ringOf}
+use Rattle.ledger.specs.Checks.{oneEach, watersFine}
 use Rattle.ledger.specs.declared.runs.Run.{Run}
 use Rattle.ledger.specs.declared.runs.Answer.{Answer}
 use Rattle.ledger.specs.declared.runs.Answer.the-variants.{Done, Refused}

@@ -10,22 +10,21 @@ use lib.ListN.{length, getD}
 use Rattle.reckon.specs.Tests.{pick, every, Row, _unless_, refusal}
 use Rattle.reckon.specs.Ranges.{mostDepth}
 use Rattle.reckon.proofs.TestLaws.{all-ext}
-use Rattle.reckon.proofs.ListLaws.{tabulate-ext}
 use Rattle.trials.specs.Ring.{slotsIn}
 use Rattle.grid.specs.Squares.{north, east, south, west, squares, sides, squareAt, within, beside, opposite, shapeFine}
 use Rattle.grid.specs.Marks.{Alike, marksFine}
 use Rattle.grid.proofs.SquareLaws.{opposite-small}
 use Rattle.grid.proofs.MarkLaws.{unless-closed}
-use Rattle.grid.proofs.MaskLaws.{mask-alike}
+use Rattle.grid.proofs.MaskLaws.{masks-alike}
 use Rattle.ledger.specs.declared.runs.Run.{Run}
 use Rattle.ledger.specs.Runs.{Plan, runFine}
 use Rattle.ledger.specs.Flows.{shut, sent}
 use Rattle.ledger.specs.Record.{recordSize, heldIn, lastedIn, leavesIn, roomSlots, newestRecord}
-use Rattle.ledger.specs.TakeBack.{oneEach, timesFine}
+use Rattle.ledger.specs.Checks.{oneEach, timesFine}
 use Rattle.sight.specs.Refusals.{depthsFine, sharedRows}
 use Rattle.sight.specs.Speeds.{speedOf, arrowOf}
 use Rattle.sight.specs.Arrows.{netNone, outThrough, nearDepth, throughSide, allStill, arrowBy, sighted, seenBy, view, askedFine, earlyRows, arrowRows, arrowNumber, seenAt}
-use Rattle.sight.specs.WetRows.{wetMasks, onesOver, wetRefusals, wetNumber, counted, WetRowed}
+use Rattle.sight.specs.WetRows.{onesOver, wetRefusals, wetNumber, counted, WetRowed}
 use Rattle.sight.specs.declared.speeds.Arrow.{Arrow}
 use Rattle.sight.specs.declared.wet_rows.Wet.{Wet}
 
@@ -68,11 +67,6 @@ module _ (p : Plan) {a b : List ℕ} (h : AlikeDepths p a b) where
 
   -- ---- wet rows
 
-  masks-alike : (least : ℕ) → wetMasks p a least ≡ wetMasks p b least
-  unfolding wetMasks
-  masks-alike least =
-      tabulate-ext (p .shape .rows) _ _ (λ row l. mask-alike (p .marks) (h .alike) least (row * p .shape .columns) (p .shape .columns))
-
   wet-number-alike : (least numbers : ℕ) → wetNumber p a least numbers ≡ wetNumber p b least numbers
   unfolding wetNumber wetRefusals
   wet-number-alike least numbers =
@@ -82,8 +76,8 @@ module _ (p : Plan) {a b : List ℕ} (h : AlikeDepths p a b) where
   pub wet-alike : {least : ℕ} {old : List ℕ} {r : Wet} {rows : List ℕ} → WetRowed p a least old r rows → WetRowed p b least old r rows
   wet-alike {least} {old} {r} {rows} w =
       record {
-        answer = w .answer ∙ ap₂ counted (wet-number-alike least (length old)) (ap onesOver (masks-alike least));
-        rows-are = w .rows-are ∙ ap₂ (λ (n : ℕ) (l : List ℕ). pick (eqb n 0) l old) (wet-number-alike least (length old)) (masks-alike least);
+        answer = w .answer ∙ ap₂ counted (wet-number-alike least (length old)) (ap onesOver (masks-alike (p .shape) (p .marks) (h .alike) least));
+        rows-are = w .rows-are ∙ ap₂ (λ (n : ℕ) (l : List ℕ). pick (eqb n 0) l old) (wet-number-alike least (length old)) (masks-alike (p .shape) (p .marks) (h .alike) least);
       }
 
 -- ---- arrows

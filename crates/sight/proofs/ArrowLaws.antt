@@ -12,21 +12,22 @@ use borrow.Author.Tests.{eq-eqb, ne-eqb, le-ltb, lt-ltb, ltb-true, leb-true}
 use Rattle.reckon.specs.Tests.{every, refusal}
 use Rattle.reckon.specs.Ranges.{mostDepth, mostSide}
 use Rattle.reckon.proofs.TestLaws.{pick-true, pick-false, and-both, and-false, every-each, refusal-here, refusal-later, refusal-first, refusal-second, refusal-both, refusal-passed, passed-refusal}
-use Rattle.trials.specs.Ring.{slotsIn, slotStart, ringFine}
+use Rattle.trials.specs.Ring.{slotsIn, slotStart}
 use Rattle.trials.specs.Room.{recordIn}
 use Rattle.trials.proofs.RingLaws.{slot-within}
 use Rattle.grid.specs.declared.squares.Shape.{Shape}
 use Rattle.grid.specs.Squares.{north, east, south, west, squares, squareAt, within, beside, opposite, OnGrid, Stands}
 use Rattle.grid.proofs.SquareLaws.{square-within, column-of}
 use Rattle.grid.proofs.MarkLaws.{closed-past}
-use Rattle.ledger.specs.declared.runs.Run.{Run}
 use Rattle.ledger.specs.Runs.{Plan, World, runFine}
 use Rattle.ledger.specs.Flows.{shut, sent}
 use Rattle.ledger.specs.Record.{recordSize, lastedIn, wordPlace, leavesIn, roomSlots, newestRecord}
-use Rattle.ledger.specs.TakeBack.{timesFine}
+use Rattle.ledger.specs.Checks.{timesFine}
+use Rattle.ledger.proofs.RunLaws.{run-ring}
 use Rattle.sight.specs.Refusals.{sharedRows}
-use Rattle.sight.specs.Speeds.{speedOf, arrowOf, Ranged}
-use Rattle.sight.specs.Arrows.{netNone, outThrough, nearDepth, throughSide, allStill, arrowBy, sighted, seenBy, askedFine, earlyRows, arrowRows, arrowNumber, seenAt, Laid, Timed, Sided}
+use Rattle.sight.specs.Speeds.{speedOf, arrowOf}
+use Rattle.sight.specs.inner.Arrows.{Ranged, Laid, Timed, Sided}
+use Rattle.sight.specs.Arrows.{netNone, outThrough, nearDepth, throughSide, allStill, arrowBy, sighted, seenBy, askedFine, earlyRows, arrowRows, arrowNumber, seenAt}
 use Rattle.sight.specs.declared.speeds.Arrow.{Arrow}
 use Rattle.sight.specs.declared.speeds.Through.{Through}
 use Rattle.sight.specs.declared.arrows.Sight.{Sight}
@@ -260,10 +261,6 @@ pub record Open (p : Plan) (D : ℕ) (w : World) (row column : ℕ) : Type 0 whe
   pub side-to : D ≤ mostSide
   pub newest-in : w .run .newest < roomSlots p (w .records)
 
-newest-below : (K : ℕ) (u : Run) → runFine K u ≡ true → u .newest < K
-unfolding runFine ringFine
-newest-below K u e = ltb-true _ _ (every-each _ (every-each _ e .0) .1 .1 .0)
-
 module _ (p : Plan) (D : ℕ) (w : World) (row column : ℕ) {n : ℕ} (e : n ≡ refusal (earlyRows p D w row column)) where
   pub opened : n ≡ 0 → Open p D w row column
   unfolding earlyRows sharedRows askedFine
@@ -276,7 +273,7 @@ module _ (p : Plan) (D : ℕ) (w : World) (row column : ℕ) {n : ℕ} (e : n �
         shared = l;
         on-grid = record { fine = l .sizes .fine; row-in = ltb-true _ _ (asked .1 .1 .0); column-in = ltb-true _ _ (asked .1 .1 .1 .0) };
         side-to = leb-true _ _ (asked .1 .0);
-        newest-in = newest-below _ (w .run) (late .0);
+        newest-in = run-ring _ (w .run) (late .0) .newest-below;
       }
 
   pub seen-refused : (n ≡ 0 → ⊥) → Refused n ≡ seenAt p D w row column

@@ -14,7 +14,7 @@ use Rattle.grid.specs.Squares.{squares, shapeFine}
 use Rattle.grid.proofs.SquareLaws.{ranges-of-fine}
 use Rattle.ledger.specs.Runs.{Plan}
 use Rattle.ledger.specs.Flows.{shut}
-use Rattle.ledger.specs.TakeBack.{oneEach, watersFine, Watered}
+use Rattle.ledger.specs.Checks.{oneEach, watersFine, Watered}
 use Rattle.sight.specs.Refusals.{depthsFine, sharedRows}
 
 -- a last test after tests that hold decides alone

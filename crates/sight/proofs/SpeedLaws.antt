@@ -15,7 +15,8 @@ use lib.Ieee.Fits.{up-pos, down-pos}
 use lib.Ieee.Scale.{round-same}
 use borrow.Author.Tests.{eq-eqb, ne-eqb, lt-ltb, le-ltb}
 use Rattle.reckon.proofs.TestLaws.{pick-true, pick-false}
-use Rattle.sight.specs.Speeds.{zero64, quotientOf, pace, speedOf, arrowOf, Ranged}
+use Rattle.sight.specs.Speeds.{zero64, quotientOf, pace, speedOf, arrowOf}
+use Rattle.sight.specs.inner.Arrows.{Ranged}
 use Rattle.sight.specs.declared.speeds.Through.{Through}
 
 -- ---- a quotient

@@ -3,19 +3,19 @@
 use mathlib.Core.Path.{_≡_}
 use mathlib.Core.Bool.{Bool, true, false, _&&_, not}
 use mathlib.Core.List.{List, [], _∷_, _++_}
-use Prim.Native.Nat.{ℕ, zero, suc, _+_, _≤_, _<_, _^_}
+use Prim.Native.Nat.{ℕ, zero, suc, _+_}
 use lib.Dec.{eqb, leb, ltb}
-use lib.ListN.{length, getD}
+use lib.ListN.{getD}
 use Rattle.reckon.specs.Tests.{pick, every, Row, _unless_, refusal}
-use Rattle.reckon.specs.Ranges.{mostSide, mostDepth, mostLength}
+use Rattle.reckon.specs.Ranges.{mostSide}
 use Rattle.grid.specs.declared.squares.Shape.{Shape}
-use Rattle.grid.specs.Squares.{north, east, south, west, squares, squareAt, within, beside}
+use Rattle.grid.specs.Squares.{north, east, south, west, squareAt, within, beside}
 use Rattle.ledger.specs.declared.runs.Run.{Run}
 use Rattle.ledger.specs.Runs.{Plan, World, world, runFine}
 use Rattle.ledger.specs.Flows.{shut, sent}
-use Rattle.ledger.specs.Record.{lastedIn, leavesIn, roomSlots, newestRecord, Recorded}
-use Rattle.ledger.specs.TakeBack.{timesFine}
-use Rattle.sight.specs.Refusals.{depthsFine, sharedRows}
+use Rattle.ledger.specs.Record.{lastedIn, leavesIn, roomSlots, newestRecord}
+use Rattle.ledger.specs.Checks.{timesFine}
+use Rattle.sight.specs.Refusals.{sharedRows}
 use Rattle.sight.specs.Speeds.{speedOf, arrowOf}
 use Rattle.sight.specs.declared.speeds.Arrow.{Arrow}
 use Rattle.sight.specs.declared.speeds.Through.{Through}
@@ -102,25 +102,3 @@ module _ (p : Plan) (D : ℕ) (w : World) (row column : ℕ) where
 
 abbrev pub Sees : Plan → ℕ → World → ℕ → ℕ → Sight → Type 0
 Sees p D w row column a = a ≡ seenAt p D w row column
-
--- ---- inside
-
--- depths and a record, each of its size, the depths in range
-pub record Laid (p : Plan) (depths rec : List ℕ) : Type 0 where
-  pub recorded : Recorded p rec
-  pub depths-long : length depths ≡ squares (p .shape)
-  pub depths-fine : depthsFine p depths ≡ true
-
--- D and how long the record's step lasted, in range
-pub record Timed (D : ℕ) (rec : List ℕ) : Type 0 where
-  pub side-to : D ≤ mostSide
-  pub lasted-some : 1 ≤ lastedIn rec
-  pub lasted-to : lastedIn rec ≤ mostLength
-
--- what went through a side, with its ranges
-pub record Sided (p : Plan) (depths rec : List ℕ) (i side : ℕ) (t : Through) : Type 0 where
-  pub is : t ≡ throughSide p depths rec i side
-  pub out-small : t .out < 2 ^ 32
-  pub back-small : t .back < 2 ^ 32
-  pub deep-low : getD depths i 0 ≤ t .deep
-  pub deep-to : t .deep ≤ mostDepth + mostDepth

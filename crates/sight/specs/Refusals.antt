@@ -11,7 +11,7 @@ use Rattle.grid.specs.Squares.{squares, shapeFine}
 use Rattle.grid.specs.Marks.{marksFine}
 use Rattle.ledger.specs.Runs.{Plan}
 use Rattle.ledger.specs.Flows.{shut}
-use Rattle.ledger.specs.TakeBack.{oneEach}
+use Rattle.ledger.specs.Checks.{oneEach}
 
 -- 3: "depth .. of a square not closed out of range"
 unfoldable pub depthsFine : Plan → List ℕ → Bool

@@ -7,7 +7,8 @@ ghost use Rattle.reckon.specs.Tests.{every, refusal};
 ghost use Rattle.grid.specs.Squares.{Stands, sides};
 ghost use Rattle.grid.specs.Marks.{closed};
 ghost use Rattle.ledger.specs.Runs.{plan};
-ghost use Rattle.sight.specs.Arrows.{Laid, Sees, Sided, Timed, askedFine, earlyRows, netNone, seenBy, view};
+ghost use Rattle.sight.specs.Arrows.{Sees, askedFine, earlyRows, netNone, seenBy, view};
+ghost use Rattle.sight.specs.inner.Arrows.{Laid, Sided, Timed};
 use crate::refusals::shared_refusal;
 use crate::speeds::Arrow;
 use crate::speeds::Through;
@@ -27,7 +28,7 @@ use ledger::record::record_size;
 use ledger::record::sent_to;
 use ledger::runs::Run;
 use ledger::runs::run_fine;
-use ledger::take_back::times_fine;
+use ledger::checks::times_fine;
 use reckon::numbers::number;
 use reckon::ranges::MOST_SIDE;
 

@@ -4,13 +4,13 @@ ghost use mathlib.Core.List.{[], _∷_};
 ghost use Rattle.reckon.specs.Tests.{every, refusal};
 ghost use Rattle.grid.specs.Squares.{shapeFine};
 ghost use Rattle.ledger.specs.Runs.{plan};
-ghost use Rattle.ledger.specs.TakeBack.{Watered, oneEach};
+ghost use Rattle.ledger.specs.Checks.{Watered, oneEach};
 ghost use Rattle.sight.specs.Refusals.{depthsFine, sharedRows};
 use grid::marks::marks_fine;
 use grid::squares::Shape;
 use grid::squares::shape_fine;
-use ledger::take_back::one_each;
-use ledger::take_back::waters_fine;
+use ledger::checks::one_each;
+use ledger::checks::waters_fine;
 
 // Refusal 1: the shape is in range, and marks and depths have one number a square.
 fn sizes_fine(shape: Shape, marks: &[u8], depths: &[u32]) -> bool

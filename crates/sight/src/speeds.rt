@@ -2,7 +2,8 @@
 // difference is rounded once.
 ghost use mathlib.Core.Path.{_≡_};
 ghost use Prim.Native.Nat.{_<_, _^_, _≤_};
-ghost use Rattle.sight.specs.Speeds.{Ranged, arrowOf, quotientOf, speedOf};
+ghost use Rattle.sight.specs.Speeds.{arrowOf, quotientOf, speedOf};
+ghost use Rattle.sight.specs.inner.Arrows.{Ranged};
 
 // The speed towards the east and towards the north, in m/s.
 pub struct Arrow {

@@ -1,5 +1,5 @@
 // Trials that can be taken back: the ring of slots that a record room is, as code over plain numbers; and, in specs/, what a series
-// of steps and take-backs means for any engine (Series.antt), what an engine owes (Owes.antt), and in proofs/ that demand 3 then holds.
+// of steps and take-backs means for any engine (Series.antt), what an engine owes (inner/Owes.antt), and in proofs/ that demand 3 then holds.
 //
 //   slots_in       how many records a room holds
 //   slot_start     where a slot begins

@@ -8,9 +8,8 @@ use borrow.Author.Tests.{not-true, not-false}
 use borrow.Author.Needs.{needs}
 use Rattle.reckon.specs.Tests.{Row, refusal}
 use Rattle.reckon.proofs.TestLaws.{each-every, every-fails, refusal-here, refusal-later, passed-refusal}
-use Rattle.ledger.specs.Runs.{plan, runFine, world}
-use Rattle.ledger.specs.Record.{roomSlots}
-use Rattle.ledger.specs.Engine.{seenOf, ringOf}
+use Rattle.ledger.specs.Runs.{plan, runFine, world, seenOf}
+use Rattle.ledger.specs.Record.{roomSlots, ringOf}
 use Rattle.flood.specs.Drops.{given, ground}
 use Rattle.flood.specs.Refusals.{checkRows}
 use Rattle.flood.proofs.CheckLaws.{fails-by, holds-by, lent-fine, lent-marked, lent-ground, lent-water, run-fine-by}

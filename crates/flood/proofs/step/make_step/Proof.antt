@@ -6,8 +6,7 @@ use native.Mathlib.Omega.{arith}
 use borrow.Author.Tests.{not-true, not-false}
 use borrow.Author.Needs.{needs}
 use Rattle.reckon.specs.Ranges.{mostLength, lastClock}
-use Rattle.ledger.specs.Runs.{plan, world}
-use Rattle.ledger.specs.Engine.{seenOf}
+use Rattle.ledger.specs.Runs.{plan, world, seenOf}
 use Rattle.flood.specs.Drops.{ground, given}
 use Rattle.flood.specs.Added.{addedFits}
 use Rattle.flood.proofs.RuleLaws.{step-lasts-to}

@@ -13,7 +13,7 @@ use Rattle.reckon.proofs.ListLaws.{filled-none, sum-none, sum-more}
 use Rattle.ledger.specs.Runs.{plan}
 use Rattle.ledger.specs.Flows.{offSquare}
 use Rattle.ledger.specs.Record.{leavesIn}
-use Rattle.ledger.specs.Settle.{depthsBy}
+use Rattle.ledger.specs.inner.Settle.{depthsBy}
 use Rattle.ledger.proofs.FlowLaws.{off-small, off-sum-small}
 use Rattle.ledger.proofs.WalkLaws.{Walk, walk-none, walk-stands, walk-column, walk-next, walk-end, nothing, filled-long, filled-put}
 use Rattle.ledger.proofs.SettleLaws.{fits, gathered-at, gathered-unfit, gathered-fit}

@@ -1,5 +1,5 @@
--- A step whose record is worked out but not yet written, settled: refused by 8 or 9, or written to the world. What the ledger's inner
--- function gives; `settled-is` joins it to the world after a step.
+-- A step whose record is worked out but not yet written, settled: refused by 8 or 9, or written to the world. `settled-is`
+-- joins it to the world after a step.
 -- Assumes nothing.
 use mathlib.Core.Path.{_≡_}
 use mathlib.Core.Bool.{Bool, true, false, _||_}
@@ -10,13 +10,12 @@ use lib.ListN.{length, getD, set}
 use Rattle.reckon.specs.Tests.{pick, Row, _unless_, refusal}
 use Rattle.reckon.specs.Lists.{filled}
 use Rattle.reckon.specs.Ranges.{mostDepth, mostLength, lastClock, mostOutflow}
-use Rattle.trials.specs.Ring.{slotAfter, keptAfter}
-use Rattle.trials.specs.Room.{storedIn}
 use Rattle.grid.specs.Squares.{squares, FineShape}
 use Rattle.ledger.specs.Runs.{Plan, World, ofDepths}
 use Rattle.ledger.specs.Flows.{shut, gone}
-use Rattle.ledger.specs.Record.{recordSize, lastedIn, leavesIn, addedIn, roomSlots, Recorded, Walked}
-use Rattle.ledger.specs.After.{Moves, newDepth, depthsFit, newOutflow}
+use Rattle.ledger.specs.Record.{recordSize, lastedIn, leavesIn, addedIn, roomSlots, Recorded}
+use Rattle.ledger.specs.After.{Moves, newDepth, depthsFit, newOutflow, worldWith}
+use Rattle.ledger.specs.inner.Walks.{Walked}
 use Rattle.ledger.specs.declared.record.Found.{Found}
 
 -- what a record says was moved, with the length that the step leaves held
@@ -30,24 +29,8 @@ module _ (p : Plan) (rec : List ℕ) (length : ℕ) (w : World) where
   unfoldable pub settleNumber : ℕ
   settleNumber = refusal settleRows
 
-  unfoldable pub written : World
-  written =
-      record {
-        depths = filled (squares (p .shape)) (shut p) (newDepth p (movesIn rec length) w) (w .depths);
-        lasts = filled (squares (p .shape)) (shut p) (gone (leavesIn rec)) (w .lasts);
-        records = storedIn (recordSize p) (w .records) (slotAfter (roomSlots p (w .records)) (w .run .newest)) rec;
-        run =
-            record {
-              clock = w .run .clock + lastedIn rec;
-              length = length;
-              outflow = newOutflow p (movesIn rec length) w;
-              kept = keptAfter (roomSlots p (w .records)) (w .run .kept);
-              newest = slotAfter (roomSlots p (w .records)) (w .run .newest);
-            };
-      }
-
   unfoldable pub settled : World
-  settled = pick (eqb settleNumber 0) written w
+  settled = pick (eqb settleNumber 0) (worldWith p (movesIn rec length) w rec) w
 
 -- ---- what is asked, and what the public function gives
 
@@ -70,7 +53,7 @@ pub record SettlesTo (p : Plan) (rec : List ℕ) (newLength : ℕ) (w : World) (
   pub number : refused ≡ settleNumber p rec newLength w
   pub world-is : after ≡ settled p rec newLength w
 
--- ---- inside
+-- ---- what the functions inside ask and give
 
 -- the new depth that a record gives a square, and all of them
 abbrev pub depthBy : Plan → List ℕ → List ℕ → ℕ → ℕ

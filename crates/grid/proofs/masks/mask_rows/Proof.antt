@@ -1,11 +1,11 @@
--- `sight::wet_rows::mask_rows` meets its contract: row after row, what is filled so far is the masks of the rows passed.
+-- `grid::masks::mask_rows` meets its contract: row after row, what is filled so far is the masks of the rows passed.
 -- Assumes nothing.
 use Prim.Native.Nat.{_≤_, _-_, zero-le}
 use native.Mathlib.Omega.{arith}
 use Rattle.grid.proofs.SquareLaws.{row-fits}
-use Rattle.sight.proofs.WetLaws.{Rowed, rowed-none, rowed-long, rowed-more, masks-whole}
-use Rattle.sight.proofs.wet_rows.mask_rows.Statement.{statement}
-use Rattle.sight.proofs.wet_rows.mask_rows.Tie as tie
+use Rattle.grid.proofs.MaskLaws.{Rowed, rowed-none, rowed-long, rowed-more, masks-whole}
+use Rattle.grid.proofs.masks.mask_rows.Statement.{statement}
+use Rattle.grid.proofs.masks.mask_rows.Tie as tie
 
 abbrev Inv-loop : tie.InvT-loop
 Inv-loop marks depths least rows₀ count columns row₀ first₀ rows row first = (row ≤ count) × Rowed marks depths least columns rows₀ rows row first
@@ -22,7 +22,7 @@ row-mask-requires c κs =
     record {
       columns-high = c .before .before .before .before .before .pre .fine .columns-high;
       marks-long = omega (arith, c .before .before .before .before .before .pre .marks-long, c .before .loop .inv .1 .0);
-      numbers-long = omega (arith, c .before .before .before .before .before .pre .depths-long, c .before .loop .inv .1 .0);
+      depths-long = omega (arith, c .before .before .before .before .before .pre .depths-long, c .before .loop .inv .1 .0);
     }
 
 mul-rows : tie.Need-mul-rows Inv-loop μ-loop
@@ -59,7 +59,9 @@ same-length : tie.Need-same-length Inv-loop μ-loop
 same-length c = rowed-long _ _ _ _ _ _ (c .before .loop .inv .1)
 
 returns : tie.Need-returns Inv-loop μ-loop
-returns c = masks-whole _ _ _ _ (c .before .before .before .before .before .pre .rows-long) (c .loop-test .left) (c .before .loop .inv .1 .1)
+returns c =
+    let turn = c .before in
+    masks-whole _ _ _ _ _ _ (turn .before .before .before .before .pre .rows-long) (c .loop-test .left) (turn .loop .inv .1)
 
 pub mask-rows-spec : {M : Type 1} → statement M
 mask-rows-spec =
