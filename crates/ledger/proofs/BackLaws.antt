@@ -114,7 +114,7 @@ module _ (p : Plan) (w : World) (rec : List ℕ) where
 -- ---- refusals before 11
 
 module _ (p : Plan) (w : World) where
-  abbrev sized : Bool
+  abbrev pub sized : Bool
   sized = every (shapeFine (p .shape) ∷ oneEach p (p .marks) ∷ oneEach p (w .depths) ∷ oneEach p (w .lasts) ∷ [])
 
   pub watered-of : sized ≡ true → Watered p (w .depths) (w .lasts)

@@ -22,13 +22,13 @@ use grid::squares::WEST;
 use grid::squares::beside_on;
 use grid::squares::square_at;
 use grid::squares::squares_of;
+use ledger::checks::times_fine;
 use ledger::record::lasted;
 use ledger::record::leaving;
 use ledger::record::record_size;
 use ledger::record::sent_to;
 use ledger::runs::Run;
 use ledger::runs::run_fine;
-use ledger::checks::times_fine;
 use reckon::numbers::number;
 use reckon::ranges::MOST_SIDE;
 
