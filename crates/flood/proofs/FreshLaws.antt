@@ -90,23 +90,21 @@ done-is : {k : ℕ} {u v : Run} → k ≡ 0 → u ≡ v → Done u ≡ answered 
 unfolding answered
 done-is e q = rw e (ap Done q)
 
-module _ (p : Plan) (r : Rules) (records before : List ℕ) {n : ℕ} (e : n ≡ freshNumber p r before records) where
-  pub fresh-refused : (n ≡ 0 → ⊥) → Freshens p r records before (Refused n) before
+module _ (p : Plan) (r : Rules) (before records : List ℕ) {n : ℕ} (e : n ≡ freshNumber p r before records) where
+  pub fresh-refused : (n ≡ 0 → ⊥) → Freshens p r before records (Refused n) before
   unfolding freshLasts
   fresh-refused d =
       record {
-        answer = refused-is n (freshRun p r before records) d e;
+        answer = refused-is n (freshRun r (roomSlots p records)) d e;
         lasts-are = sym (pick-false _ _ (ne-eqb _ _ (λ z. d (e ∙ z))));
       }
 
   pub fresh-done :
-      n ≡ 0 → {lasts : List ℕ} {slots : ℕ} → lasts ≡ filled (squares (p .shape)) (shut p) (λ i. 0) before → slots ≡ roomSlots p records →
-      Freshens p r records before (Done (record { clock = 0; length = r .longest; outflow = 0; kept = 0; newest = slots - 1 })) lasts
-  unfolding freshLasts freshRun
-  fresh-done z {slots = slots} q k =
+      n ≡ 0 → {lasts : List ℕ} {slots : ℕ} {u : Run} → lasts ≡ filled (squares (p .shape)) (shut p) (λ i. 0) before → slots ≡ roomSlots p records →
+      u ≡ freshRun r slots → Freshens p r before records (Done u) lasts
+  unfolding freshLasts
+  fresh-done z q k f =
       record {
-        answer =
-            done-is (sym e ∙ z)
-            (ap (λ (s : ℕ). record { clock = 0; length = r .longest; outflow = 0; kept = 0; newest = s - 1 }) k);
+        answer = done-is (sym e ∙ z) (f ∙ ap (freshRun r) k);
         lasts-are = q ∙ sym (pick-true _ _ (eq-eqb _ _ (sym e ∙ z)));
       }

@@ -22,13 +22,15 @@ use Rattle.ledger.specs.After.{lateRows, stepRecord, worldAfter}
 use Rattle.ledger.specs.Engine.{seenOf, ringOf}
 use Rattle.ledger.proofs.ReadBack.{step-long}
 use Rattle.ledger.proofs.EngineLaws.{look-seen, valid-after}
-use Rattle.flood.specs.Drops.{Given}
-use Rattle.flood.specs.Step.{stepLasts, stepMoves}
-use Rattle.flood.specs.Refusals.{stepChecks, runChecks, stepNumber, stepped, floodRule}
+use Rattle.moves.specs.Given.{Given}
+use Rattle.moves.specs.Moves.{stepLasts, stepMoves}
+use Rattle.flood.specs.Refusals.{stepChecks, runChecks}
+use Rattle.flood.specs.Step.{stepNumber, stepped, floodRule}
 use Rattle.flood.specs.Run.{Ended, ended, goOn, runFrom, runTo}
-use Rattle.flood.specs.Fill.{MakesStep}
+use Rattle.flood.specs.Step.{MakesStep}
 use Rattle.flood.proofs.CheckLaws.{ready, ring-is, checks-named, checks-after}
-use Rattle.flood.proofs.RuleLaws.{flood-owed, step-lasts-from}
+use Rattle.moves.proofs.MoveLaws.{step-lasts-from}
+use Rattle.flood.proofs.RuleLaws.{flood-owed}
 
 -- rows 1 to 6 pass
 abbrev pub Valid : Plan → Given → World → Type 0

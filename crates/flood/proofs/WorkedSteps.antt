@@ -20,10 +20,11 @@ use Rattle.ledger.specs.Flows.{gone, sent, came, offSide, offSquare, offGrid}
 use Rattle.ledger.specs.Record.{leavesIn, lastIn, addedIn, squareRecord, recordOf, roomSlots, newestRecord}
 use Rattle.ledger.specs.Runs.{runFine}
 use Rattle.ledger.specs.TakeBack.{oneEach, watersFine, timesFine, heldAndGone, cameAndAdded, depthBefore, squareRestorable, restorable, worldBefore, backRows, backNumber, takenBack}
-use Rattle.flood.specs.Drops.{sideDrop, dropsOf}
-use Rattle.flood.specs.Refusals.{groundsFine, endFine, checkRows, stepNumber, stepped}
+use Rattle.moves.specs.Drops.{sideDrop, dropsOf}
+use Rattle.flood.specs.Refusals.{groundsFine, endFine, checkRows}
+use Rattle.flood.specs.Step.{stepNumber, stepped}
 use Rattle.flood.specs.Run.{goOn, runFrom, runTo, freshRun}
-use Rattle.flood.specs.Step.{squareCandidates, candidates, leavesFor, addedFor, stepLength, stepLasts}
+use Rattle.moves.specs.Moves.{squareCandidates, candidates, leavesFor, addedFor, stepLength, stepLasts}
 use Rattle.flood.specs.Worked.{worldCases}
 
 pub world-cases : AsSaid worldCases

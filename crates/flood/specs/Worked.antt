@@ -6,10 +6,10 @@ use lib.ListN.{length, replicate}
 use Rattle.reckon.specs.Worked.{Case, _should-be_}
 use Rattle.rule.specs.Worked.{sheetRules}
 use Rattle.ledger.specs.Runs.{Plan, World, world}
-use Rattle.ledger.specs.Record.{recordSize}
+use Rattle.ledger.specs.Record.{recordSize, roomSlots}
 use Rattle.ledger.specs.TakeBack.{backNumber, takenBack}
-use Rattle.flood.specs.Drops.{Given, given, ground}
-use Rattle.flood.specs.Refusals.{stepNumber, stepped}
+use Rattle.moves.specs.Given.{Given, given, ground}
+use Rattle.flood.specs.Step.{stepNumber, stepped}
 use Rattle.flood.specs.Run.{runTo, freshRun}
 
 -- one row of squares, with beds of 0 and roughness 100, by the sheet's rules and without rain or inflow
@@ -24,7 +24,7 @@ abbrev freshOn : List ℕ → List ℕ → World
 freshOn marks depths =
     let lasts = replicate {A = ℕ} (length marks) 0 in
     let records = replicate {A = ℕ} (recordSize (row marks)) 0 in
-    world depths lasts records (freshRun (row marks) sheetRules lasts records)
+    world depths lasts records (freshRun sheetRules (roomSlots (row marks) records))
 
 abbrev next : List ℕ → World → World
 next marks w = stepped (row marks) (flat marks) w

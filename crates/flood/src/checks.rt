@@ -32,7 +32,7 @@ ghost use Rattle.ledger.specs.Runs.{plan, world};
 ghost use Rattle.ledger.specs.Record.{roomSlots};
 ghost use Rattle.ledger.specs.TakeBack.{oneEach};
 ghost use Rattle.ledger.specs.Engine.{seenOf, ringOf};
-ghost use Rattle.flood.specs.Drops.{given, ground};
+ghost use Rattle.moves.specs.Given.{given, ground};
 ghost use Rattle.flood.specs.Refusals.{Checks, checkRows, endFine, groundsFine};
 
 // Refusal 2 for the ground of one square.

@@ -14,7 +14,7 @@ longest = 64
 
 -- the most squares that a grid has
 abbrev pub mostSquares : ℕ
-mostSquares = 4096
+mostSquares = longest * longest
 
 -- "V for north, east, south and west": the sides in this order
 abbrev pub north : ℕ

@@ -11,7 +11,7 @@ use Rattle.reckon.proofs.TestLaws.{each-every, every-fails, refusal-here, refus
 use Rattle.ledger.specs.Runs.{plan, runFine, world}
 use Rattle.ledger.specs.Record.{roomSlots}
 use Rattle.ledger.specs.Engine.{seenOf, ringOf}
-use Rattle.flood.specs.Drops.{given, ground}
+use Rattle.moves.specs.Given.{given, ground}
 use Rattle.flood.specs.Refusals.{checkRows}
 use Rattle.flood.proofs.CheckLaws.{fails-by, holds-by, lent-fine, lent-marked, lent-ground, lent-water, run-fine-by}
 use Rattle.flood.proofs.checks.checked.Statement.{statement}
