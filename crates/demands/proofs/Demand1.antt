@@ -19,10 +19,10 @@ use Rattle.ledger.specs.After.{lateRows}
 use Rattle.ledger.specs.declared.runs.Answer.{Answer}
 use Rattle.ledger.specs.declared.settle.Settled.{Settled}
 use Rattle.ledger.proofs.Bridge.{refused-stays}
-use Rattle.flood.specs.Drops.{Given}
-use Rattle.flood.specs.Refusals.{checkRows, runChecks, stepNumber, stepped, Steps}
-use Rattle.flood.specs.Run.{runTo, RunsTo, freshRows, freshNumber, freshLasts, Freshens}
-use Rattle.flood.specs.Fill.{MakesStep}
+use Rattle.moves.specs.Given.{Given}
+use Rattle.flood.specs.Refusals.{checkRows, runChecks}
+use Rattle.flood.specs.Step.{stepNumber, stepped, Steps, MakesStep}
+use Rattle.flood.specs.Run.{runTo, RunsTo, stepsOn, freshRows, freshNumber, freshLasts, Freshens}
 use Rattle.flood.specs.declared.run.Ran.{Ran}
 use Rattle.flood.proofs.CheckLaws.{run-checks-step}
 use Rattle.flood.proofs.RunToLaws.{Valid, refused-is, still-valid, clock-on, whole, run-ends, run-refused, run-steps, run-checked, run-passed}
@@ -33,7 +33,7 @@ use Rattle.sight.specs.declared.wet_rows.Wet.{Wet}
 use Rattle.text.specs.Writing.{Wrote}
 use Rattle.sheet.specs.Sheet.{Rooms, Reads, roomsAfter}
 use Rattle.sheet.specs.declared.reading.Sheet.{Sheet}
-use Rattle.demands.specs.Demand1.{FirstFails, here, later, TableSays, ExactlyWhen, One, ReckonDetermined, TrialsDetermined, GridDetermined, RuleDetermined, LedgerDetermined, FloodDetermined, SightDetermined, TextDetermined, SheetDetermined, ExportsDetermined, RefusalsLeave, stepsOn, StopsBefore, Demand1}
+use Rattle.demands.specs.Demand1.{FirstFails, here, later, TableSays, ExactlyWhen, One, ReckonDetermined, TrialsDetermined, GridDetermined, RuleDetermined, LedgerDetermined, MovesDetermined, FloodDetermined, SightDetermined, TextDetermined, SheetDetermined, ExportsDetermined, RefusalsLeave, StopsBefore, Demand1}
 
 -- ---- one outcome
 
@@ -64,7 +64,7 @@ step-on-one a b x y = same-four (x .number ∙ sym (y .number)) (x .world-is ∙
 taken-one : {p : Plan} {w : World} → One {Out = Answer × (List ℕ × List ℕ)} (λ o. TakesBack p w (o .0) (o .1 .0) (o .1 .1))
 taken-one a b x y = λ j. ((x .answer ∙ sym (y .answer)) j, ((x .depths-are ∙ sym (y .depths-are)) j, (x .lasts-are ∙ sym (y .lasts-are)) j))
 
-fresh-one : {p : Plan} {r : Rules} {records before : List ℕ} → One {Out = Answer × List ℕ} (λ o. Freshens p r records before (o .0) (o .1))
+fresh-one : {p : Plan} {r : Rules} {before records : List ℕ} → One {Out = Answer × List ℕ} (λ o. Freshens p r before records (o .0) (o .1))
 fresh-one a b x y = λ j. ((x .answer ∙ sym (y .answer)) j, (x .lasts-are ∙ sym (y .lasts-are)) j)
 
 step-one : {p : Plan} {g : Given} {w : World} → One {Out = Answer × (List ℕ × (List ℕ × List ℕ))} (λ o. Steps p g w (o .0) (o .1 .0) (o .1 .1 .0) (o .1 .1 .1))
@@ -178,11 +178,23 @@ ledger-determined =
       take-back = λ p w. taken-one;
     }
 
+moves-determined : MovesDetermined
+moves-determined =
+    record {
+      step-length = λ p o depths clock held. exactly;
+      add-water =
+          λ p g start end old a b x y.
+          let same = x .fits-is ∙ sym (y .fits-is) in
+          (same, λ t. x .stored t ∙ sym (y .stored (sym same ∙ t)));
+      fill = λ p o depths lasts added held ms. exactly;
+    }
+
 flood-determined : FloodDetermined
 flood-determined =
     record {
       check = λ p g end w. exactly;
-      fresh = λ p r records before. fresh-one;
+      fresh = λ p r before records. fresh-one;
+      fresh-run = λ r slots. exactly;
       step = λ p g w. step-one;
       step-on = λ p g w. step-on-one;
       run-to = λ p g end w. run-one;
@@ -396,6 +408,7 @@ demand-1 =
       grid = grid-determined;
       rule = rule-determined;
       ledger = ledger-determined;
+      moves = moves-determined;
       flood = flood-determined;
       sight = sight-determined;
       text = text-determined;

@@ -35,14 +35,16 @@ use Rattle.ledger.specs.Walls.{Untouched}
 use Rattle.ledger.proofs.ReadBack.{step-long, closed-read}
 use Rattle.ledger.proofs.Walls.{goes-where, after-untouched, back-untouched}
 use Rattle.ledger.specs.declared.runs.Run.{Run}
-use Rattle.flood.specs.Drops.{Given, ground, given, sideDrop, dropsOf}
-use Rattle.flood.specs.Step.{squareCandidates, candidates, leavesFor, addedFor, stepLength, stepLasts, stepMoves}
-use Rattle.flood.specs.Refusals.{groundsFine, checkRows, stepChecks, runChecks, stepNumber, stepped}
+use Rattle.moves.specs.Given.{Given, ground, given}
+use Rattle.moves.specs.Drops.{sideDrop, dropsOf}
+use Rattle.moves.specs.Moves.{squareCandidates, candidates, leavesFor, addedFor, stepLength, stepLasts, stepMoves}
+use Rattle.flood.specs.Refusals.{groundsFine, checkRows, stepChecks, runChecks}
+use Rattle.flood.specs.Step.{stepNumber, stepped}
 use Rattle.flood.specs.Run.{Ended, ended, goOn, runFrom, runTo, freshRows, freshNumber, freshRun, freshLasts}
 use Rattle.sight.specs.Arrows.{view, seenAt}
 use Rattle.sight.proofs.Alike.{AlikeDepths, AlikeRecords, arrow-alike, wet-alike}
 use Rattle.flood.proofs.CheckLaws.{checks-named, ready, ring-is}
-use Rattle.flood.proofs.RuleLaws.{leaves-open, flood-walled}
+use Rattle.moves.proofs.MoveLaws.{leaves-open, flood-walled}
 use Rattle.flood.proofs.RunToLaws.{made-is, refused-is}
 use Rattle.demands.specs.Demand2.{StepGives, SameOpen, SameGiven, SameRecord, SameRoom, SameWorld, SameEnd, NoneDepends, NoneAltered, WallRule, Demand2}
 
@@ -430,7 +432,7 @@ module _ (p : Plan) where
     unfolding freshNumber freshRows
     fresh-number-same = rw (one-each-same L, slots-same R)
 
-    fresh-run-same : freshRun p r lasts records ≡ freshRun p r others rooms
+    fresh-run-same : freshRun r (roomSlots p records) ≡ freshRun r (roomSlots p rooms)
     unfolding freshRun
     fresh-run-same = rw (slots-same R)
 

@@ -33,9 +33,10 @@ use Rattle.ledger.proofs.Bridge.{outcome-then, refused-stays, back-bridge, step
 use Rattle.ledger.proofs.EngineLaws.{Looks, seen-look, engine-laws}
 use Rattle.ledger.specs.declared.runs.Run.{Run}
 use Rattle.ledger.specs.declared.runs.Answer.the-variants.{Done}
-use Rattle.flood.specs.Drops.{Given}
-use Rattle.flood.specs.Step.{stepMoves}
-use Rattle.flood.specs.Refusals.{runChecks, stepNumber, stepped, floodRule}
+use Rattle.moves.specs.Given.{Given}
+use Rattle.moves.specs.Moves.{stepMoves}
+use Rattle.flood.specs.Refusals.{runChecks}
+use Rattle.flood.specs.Step.{stepNumber, stepped, floodRule}
 use Rattle.flood.specs.Run.{Ended, ended, goOn, runFrom, runTo, freshRows, freshNumber, freshRun, freshLasts, Freshens}
 use Rattle.flood.proofs.CheckLaws.{each-long}
 use Rattle.flood.proofs.FreshLaws.{fresh-sizes, fresh-slots}
@@ -326,16 +327,16 @@ module _ (p : Plan) where
 
   -- ---- what `fresh` answers is a fresh run
 
-  module _ (r : Rules) (depths records before lasts : List ℕ) (u : Run) (a : Freshens p r records before (Done u) lasts) where
+  module _ (r : Rules) (depths records before lasts : List ℕ) (u : Run) (a : Freshens p r before records (Done u) lasts) where
     record Freshened : Type 0 where
       number : freshNumber p r before records ≡ 0
-      run-is : u ≡ freshRun p r before records
+      run-is : u ≡ freshRun r (roomSlots p records)
 
     freshened : Freshened
     unfolding answered
     freshened = go (freshNumber p r before records) refl (a .answer)
       where
-        go : (n : ℕ) → freshNumber p r before records ≡ n → Done u ≡ answered n (freshRun p r before records) → Freshened
+        go : (n : ℕ) → freshNumber p r before records ≡ n → Done u ≡ answered n (freshRun r (roomSlots p records)) → Freshened
         go zero z e = record { number = z; run-is = cc }
         go (suc n) z e = absurd (let y : _≡_ {A = ℕ} 0 1 = cc in omega arith)
 
@@ -353,7 +354,7 @@ module _ (p : Plan) where
     tests-passed = refusal-passed (freshRows p r before records) tt (freshened .number)
 
     abbrev f : World
-    f = world depths lasts records (freshRun p r before records)
+    f = world depths lasts records (freshRun r (roomSlots p records))
 
     lasts-cleared : lasts ≡ filled (squares (p .shape)) (shut p) (λ i. 0) before
     unfolding freshLasts

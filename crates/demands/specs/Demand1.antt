@@ -32,11 +32,13 @@ use Rattle.ledger.specs.Engine.{seenOf, ringOf}
 use Rattle.ledger.specs.declared.runs.Run.{Run}
 use Rattle.ledger.specs.declared.runs.Answer.{Answer}
 use Rattle.ledger.specs.declared.settle.Settled.{Settled}
-use Rattle.flood.specs.Drops.{Given}
-use Rattle.flood.specs.Step.{stepMoves}
-use Rattle.flood.specs.Refusals.{stepChecks, runChecks, stepNumber, stepped, Steps, Checks}
-use Rattle.flood.specs.Run.{Ended, ended, runTo, RunsTo, freshRows, freshNumber, freshLasts, Freshens}
-use Rattle.flood.specs.Fill.{MakesStep}
+use Rattle.moves.specs.Given.{Ground, Given}
+use Rattle.moves.specs.Moves.{stepMoves}
+use Rattle.moves.specs.inner.Added.{WaterAdded}
+use Rattle.moves.specs.inner.Fill.{LengthWorked, RecordFilled}
+use Rattle.flood.specs.Refusals.{stepChecks, runChecks, Checks}
+use Rattle.flood.specs.Step.{stepNumber, stepped, Steps, MakesStep}
+use Rattle.flood.specs.Run.{Ended, ended, runTo, RunsTo, stepsOn, freshRows, freshNumber, freshLasts, Freshens, FreshRunMade}
 use Rattle.flood.specs.declared.run.Ran.{Ran}
 use Rattle.sight.specs.Arrows.{Sees, arrowRows, arrowNumber}
 use Rattle.sight.specs.WetRows.{Masked, OnesIn, WetRowed, wetRefusals, wetNumber}
@@ -135,9 +137,17 @@ pub record LedgerDetermined : Type 0 where
       One {Out = Settled × (List ℕ × (List ℕ × List ℕ))} (λ o. SettlesTo p rec held w (o .0 .refused) (world (o .1 .0) (o .1 .1 .0) (o .1 .1 .1) (o .0 .run)))
   pub take-back : (p : Plan) (w : World) → One {Out = Answer × (List ℕ × List ℕ)} (λ o. TakesBack p w (o .0) (o .1 .0) (o .1 .1))
 
+-- `add_water` writes a working room, which is promised only where every square can hold what is added
+pub record MovesDetermined : Type 0 where
+  pub step-length : (p : Plan) (o : Ground) (depths : List ℕ) (clock held : ℕ) → One (LengthWorked p o depths clock held)
+  pub add-water : (p : Plan) (g : Given) (start end : ℕ) (old : List ℕ) (a b : Bool × List ℕ) →
+      WaterAdded p g start end old (a .0) (a .1) → WaterAdded p g start end old (b .0) (b .1) → (a .0 ≡ b .0) × (a .0 ≡ true → a .1 ≡ b .1)
+  pub fill : (p : Plan) (o : Ground) (depths lasts added : List ℕ) (held ms : ℕ) → One (RecordFilled p o depths lasts added held ms)
+
 pub record FloodDetermined : Type 0 where
   pub check : (p : Plan) (g : Given) (end : ℕ) (w : World) → One (Checks p g end w)
-  pub fresh : (p : Plan) (r : Rules) (records before : List ℕ) → One {Out = Answer × List ℕ} (λ o. Freshens p r records before (o .0) (o .1))
+  pub fresh : (p : Plan) (r : Rules) (before records : List ℕ) → One {Out = Answer × List ℕ} (λ o. Freshens p r before records (o .0) (o .1))
+  pub fresh-run : (r : Rules) (slots : ℕ) → One (FreshRunMade r slots)
   pub step : (p : Plan) (g : Given) (w : World) → One {Out = Answer × (List ℕ × (List ℕ × List ℕ))} (λ o. Steps p g w (o .0) (o .1 .0) (o .1 .1 .0) (o .1 .1 .1))
   pub step-on : (p : Plan) (g : Given) (w : World) →
       One {Out = Settled × (List ℕ × (List ℕ × List ℕ))} (λ o. MakesStep p g w (o .0 .refused) (world (o .1 .0) (o .1 .1 .0) (o .1 .1 .1) (o .0 .run)))
@@ -225,11 +235,6 @@ pub record RefusalsLeave (p : Plan) : Type 0 where
 
 -- ---- "A run to a stated clock stops before the step refused"
 
--- so many public steps, one after the other
-unfoldable pub stepsOn : Plan → Given → ℕ → World → World
-stepsOn p g zero w = w
-stepsOn p g (suc n) w = stepped p g (stepsOn p g n w)
-
 -- "A run to an end makes steps while clock < end .. If one of its steps is refused, it gives that number with the steps made and leaves
 -- the state before that step"
 pub record StopsBefore (p : Plan) (g : Given) (end : ℕ) (w : World) (e : Ended) : Type 0 where
@@ -248,6 +253,7 @@ pub record Demand1 : Type 0 where
   pub grid : GridDetermined
   pub rule : RuleDetermined
   pub ledger : LedgerDetermined
+  pub moves : MovesDetermined
   pub flood : FloodDetermined
   pub sight : SightDetermined
   pub text : TextDetermined

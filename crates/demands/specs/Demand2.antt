@@ -15,14 +15,16 @@ use Rattle.rule.specs.Weighing.{weighed}
 use Rattle.rule.specs.declared.rules.Rules.{Rules}
 use Rattle.ledger.specs.Runs.{Plan, World}
 use Rattle.ledger.specs.Flows.{Leaves, shut, gone, came, offGrid}
-use Rattle.ledger.specs.Record.{squareWords, recordSize, wordPlace, heldIn, lastedIn, newestRecord}
+use Rattle.ledger.specs.Record.{squareWords, recordSize, wordPlace, heldIn, lastedIn, newestRecord, roomSlots}
 use Rattle.ledger.specs.TakeBack.{backNumber, takenBack}
 use Rattle.ledger.specs.Engine.{Seen, seenOf}
 use Rattle.ledger.specs.Walls.{Walled, Goes, Untouched}
 use Rattle.ledger.specs.declared.runs.Run.{Run}
-use Rattle.flood.specs.Drops.{Given, dropsOf}
-use Rattle.flood.specs.Step.{candidates, addedFor, stepMoves}
-use Rattle.flood.specs.Refusals.{runChecks, stepNumber, stepped}
+use Rattle.moves.specs.Given.{Given}
+use Rattle.moves.specs.Drops.{dropsOf}
+use Rattle.moves.specs.Moves.{candidates, addedFor, stepMoves}
+use Rattle.flood.specs.Refusals.{runChecks}
+use Rattle.flood.specs.Step.{stepNumber, stepped}
 use Rattle.sight.specs.Arrows.{view, seenAt}
 use Rattle.sight.specs.WetRows.{WetRowed}
 use Rattle.sight.specs.declared.wet_rows.Wet.{Wet}
@@ -114,7 +116,7 @@ module _ (p : Plan) where
     pub take-back : (w v : World) → SameWorld w v → (backNumber p w ≡ backNumber p v) × SameWorld (takenBack p w) (takenBack p v)
     pub fresh : (r : Rules) (lasts others records rooms : List ℕ) → SameOpen lasts others → SameRoom records rooms →
         (freshNumber p r lasts records ≡ freshNumber p r others rooms)
-        × (freshRun p r lasts records ≡ freshRun p r others rooms)
+        × (freshRun r (roomSlots p records) ≡ freshRun r (roomSlots p rooms))
         × SameOpen (freshLasts p r lasts records) (freshLasts p r others rooms)
     pub check : (g h : Given) (end : ℕ) (w v : World) → SameGiven g h → SameWorld w v → refusal (runChecks p g end w) ≡ refusal (runChecks p h end v)
     -- an arrow is lent depths, the record room and the run
