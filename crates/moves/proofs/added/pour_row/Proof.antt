@@ -1,12 +1,9 @@
 -- `moves::added::pour_row` meets its contract: the square of a row is on the grid.
 -- Assumes nothing.
-use mathlib.Core.Path.{_≡_, refl, sym, _∙_, ap, ap₂}
-use mathlib.Core.List.{List}
-use mathlib.Core.Bool.{true, false}
-use Prim.Native.Nat.{ℕ, _<_}
+use mathlib.Core.Path.{_≡_, refl, sym, _∙_, ap₂}
+use Prim.Native.Nat.{ℕ, _+_, _<_}
 use native.Mathlib.Omega.{arith}
-use lib.Dec.{leb}
-use lib.ListN.{length, set, length-set}
+use lib.ListN.{set, length-set}
 use borrow.Author.Tests.{le-leb, lt-leb}
 use borrow.Author.Needs.{needs}
 use Rattle.reckon.specs.Ranges.{mostDepth}
@@ -19,15 +16,46 @@ use Rattle.moves.specs.inner.Added.{amountAt, rowSquare}
 use Rattle.moves.proofs.added.pour_row.Statement.{statement}
 use Rattle.moves.proofs.added.pour_row.Tie as tie
 
-within : (c : tie.After-square-at) → c .square-at .result < squares (c .before .before .before .before .before .before .before .args .shape)
+-- ---- the places, each by the one before it
+
+abbrev begin : tie.After-number → tie.Start
+begin c = c .before .before .before
+
+abbrev to-square : tie.After-square-at → tie.After-inflow-added
+to-square c = c .before .before
+
+-- ---- what is known there
+
+abbrev start : tie.After-inflow-added → tie.Start
+start c = begin (c .before .before)
+
+-- the square of the row, and what is added to it
+abbrev at : tie.Start → ℕ
+at s = rowSquare (s .args .shape) (s .args .rules) (s .args .inflow .now) (s .args .start) (s .args .end) (s .args .rain) (s .args .j)
+
+abbrev amount : tie.Start → ℕ
+amount s = amountAt (s .args .shape) (s .args .rules) (s .args .inflow .now) (s .args .start) (s .args .end) (s .args .rain) (at s)
+
+amount-is : (c : tie.After-inflow-added) → start c .args .rain + c .inflow-added .result ≡ amount (start c)
+amount-is c =
+    let s = start c in
+    amount-made (s .args .shape) (s .args .rules) (s .args .inflow .now) (s .args .start) (s .args .end) (s .args .rain) (s .args .j)
+    (s .pre .0 .column-in (s .args .j) (s .pre .2)) (c .before .before .number .ensures) (c .before .number2 .ensures)
+    (c .inflow-added .ensures)
+
+within : (c : tie.After-square-at) → c .square-at .result < squares (start (to-square c) .args .shape)
 within c =
-    let at-number2 = c .before .before .before in
-    let at-number = at-number2 .before in
-    let start = at-number .before .before .before in
-    let a = start .pre .0 in
-    let j = start .args .j in
-    omega
-    (arith, c .square-at .ensures, square-within (start .args .shape) {row = at-number .number .result} {column = at-number2 .number2 .result} (omega (arith, a .row-in j (start .pre .2))) (omega (arith, a .column-in j (start .pre .2))))
+    let at-number2 = to-square c .before in
+    let s = start (to-square c) in
+    let a = s .pre .0 in
+    omega (
+      arith,
+      c .square-at .ensures,
+      square-within (s .args .shape) {row = at-number2 .before .number .result} {column = at-number2 .number2 .result}
+      (omega (arith, a .row-in (s .args .j) (s .pre .2))) (omega (arith, a .column-in (s .args .j) (s .pre .2))),
+    )
+
+-- ---- the answers
 
 mul-number : tie.Need-mul-number
 mul-number c = search needs
@@ -49,43 +77,37 @@ inflow-added-requires c κs = search needs
 
 add-amount : tie.Need-add-amount
 add-amount c =
-    let at-number = c .before .before in
-    let start = at-number .before .before .before in
-    omega
-    (arith, inflow-le (start .args .inflow .now) (at-number .number .result) (c .before .number2 .result) (start .args .rules .«square_side») (start .pre .0 .table), c .inflow-added .ensures)
+    let s = start c in
+    omega (
+      arith,
+      inflow-le (s .args .inflow .now) (c .before .before .number .result) (c .before .number2 .result) (s .args .rules .«square_side»)
+      (s .pre .0 .table),
+      c .inflow-added .ensures,
+    )
 
 cast-if1 : tie.Need-cast-if1
 cast-if1 c = search needs
 
 returns : tie.Need-returns
 returns c =
-    let at-number2 = c .before .before in
-    let at-number = at-number2 .before in
-    let start = at-number .before .before .before in
-    let e = amount-made (start .args .shape) (start .args .rules) (start .args .inflow .now) (start .args .start) (start .args .end)
-    (start .args .rain) (start .args .j) (start .pre .0 .column-in (start .args .j) (start .pre .2)) (at-number .number .ensures)
-    (at-number2 .number2 .ensures) (c .before .inflow-added .ensures) in record {
-      fits-is = sym
-          (lt-leb (amountAt (start .args .shape) (start .args .rules) (start .args .inflow .now) (start .args .start) (start .args .end) (start .args .rain) (rowSquare (start .args .shape) (start .args .rules) (start .args .inflow .now) (start .args .start) (start .args .end) (start .args .rain) (start .args .j))) mostDepth (omega arith));
-      stored = λ t. not-both t refl;
-      long = refl;
-    }
+    let e = amount-is (c .before) in
+    record { fits-is = sym (lt-leb (amount (start (c .before))) mostDepth (omega arith)); stored = λ t. not-both t refl; long = refl }
 
 square-at-requires : tie.Need-square-at-requires
 square-at-requires c κs =
-    let start = c .before .before .before .before .before .before in
-    let a = start .pre .0 in record {
+    let s = start (c .before) in
+    let a = s .pre .0 in
+    record {
       fine = a .fine;
-      row-in = omega (arith, a .row-in (start .args .j) (start .pre .2));
-      column-in =
-          omega (arith, a .column-in (start .args .j) (start .pre .2));
+      row-in = omega (arith, a .row-in (s .args .j) (s .pre .2));
+      column-in = omega (arith, a .column-in (s .args .j) (s .pre .2));
     }
 
 cast-room : tie.Need-cast-room
 cast-room c = search needs
 
 mul-room : tie.Need-mul-room
-mul-room c = omega (arith, within c, c .before .before .before .before .before .before .before .pre .0 .fine .few)
+mul-room c = omega (arith, within c, start (to-square c) .pre .0 .fine .few)
 
 slice-write-room : tie.Need-slice-write-room
 slice-write-room c = omega (arith, within c)
@@ -95,19 +117,15 @@ same-length c = search needs
 
 returns-2 : tie.Need-returns-2
 returns-2 c =
-    let at-inflow-added = c .before .before in
-    let at-number2 = at-inflow-added .before in
-    let at-number = at-number2 .before in
-    let start = at-number .before .before .before in
-    let e = amount-made (start .args .shape) (start .args .rules) (start .args .inflow .now) (start .args .start) (start .args .end)
-    (start .args .rain) (start .args .j) (start .pre .0 .column-in (start .args .j) (start .pre .2)) (at-number .number .ensures)
-    (at-number2 .number2 .ensures) (at-inflow-added .inflow-added .ensures) in record {
-      fits-is = sym
-          (le-leb (amountAt (start .args .shape) (start .args .rules) (start .args .inflow .now) (start .args .start) (start .args .end) (start .args .rain) (rowSquare (start .args .shape) (start .args .rules) (start .args .inflow .now) (start .args .start) (start .args .end) (start .args .rain) (start .args .j))) mostDepth (omega arith));
-      stored = λ t. ap₂ (λ (i v : ℕ). set (start .args .room .now) i v)
-          (c .square-at .ensures ∙ ap₂ (squareAt (start .args .shape)) (at-number .number .ensures) (at-number2 .number2 .ensures)) e;
-      long
-          = length-set (start .args .room .now) (c .square-at .result) _;
+    let at-number2 = to-square c .before in
+    let s = start (to-square c) in
+    let e = amount-is (to-square c) in
+    record {
+      fits-is = sym (le-leb (amount s) mostDepth (omega arith));
+      stored =
+          λ t. ap₂ (λ (i v : ℕ). set (s .args .room .now) i v)
+          (c .square-at .ensures ∙ ap₂ (squareAt (s .args .shape)) (at-number2 .before .number .ensures) (at-number2 .number2 .ensures)) e;
+      long = length-set (s .args .room .now) (c .square-at .result) _;
     }
 
 pub pour-row-spec : {M : Type 1} → statement M
