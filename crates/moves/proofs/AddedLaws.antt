@@ -20,7 +20,7 @@ use Rattle.reckon.proofs.TestLaws.{not-both, pick-true, pick-false, no-more, an
 use Rattle.reckon.proofs.ListLaws.{length-filled, filled-in, filled-skipped, is-filled, filled-store, filled-keep}
 use Rattle.reckon.proofs.TableLaws.{inflow-none, rain-le, fine-fits}
 use Rattle.grid.specs.Squares.{squares, squareAt, FineShape}
-use Rattle.grid.specs.Marks.{closed, inflowRow, inflowColumn, inflowSquareFine, inflowSquaresFine}
+use Rattle.grid.specs.Marks.{closed, inflowWords, inflowRow, inflowColumn, inflowSquareFine, inflowSquaresFine}
 use Rattle.grid.specs.declared.squares.Shape.{Shape}
 use Rattle.grid.proofs.SquareLaws.{square-in, square-within, row-of, column-of}
 use Rattle.rule.specs.declared.rules.Rules.{Rules}
@@ -83,7 +83,7 @@ module _ (s : Shape) (inflow : List ℕ) (j : ℕ) where
   unfolding onSquare
   row-for i e =
       let a = eqb-true _ _ (and-left _ _ e) in
-      let b = eqb-true _ _ (and-right (eqb (getD inflow (5 * j) 0) (i / s .columns)) _ e) in
+      let b = eqb-true _ _ (and-right (eqb (getD inflow (inflowWords * j) 0) (i / s .columns)) _ e) in
       ap₂ (squareAt s) a b ∙ square-in s i
 
   -- and counts for it
@@ -179,11 +179,11 @@ module _ (s : Shape) (r : Rules) (inflow : List ℕ) (start end rain : ℕ) wher
   amount-made j hc a b e = rw (e, a, b, row-of s (inflowRow inflow j) hc, column-of s (inflowRow inflow j) hc)
 
   -- a square that no row is for gets the rain alone
-  pub dry-of-rows : (i : ℕ) → left (length inflow / 5) i ≡ true → amount i ≡ rain
+  pub dry-of-rows : (i : ℕ) → left (length inflow / inflowWords) i ≡ true → amount i ≡ rain
   unfolding amountAt
   dry-of-rows i e =
       let n : (t : ℕ) → inflowBy inflow (i / s .columns) (i % s .columns) (r .«square_side») t ≡ 0
-      = λ t. inflow-none inflow (i / s .columns) (i % s .columns) (r .«square_side») t (left-at (length inflow / 5) i e) in
+      = λ t. inflow-none inflow (i / s .columns) (i % s .columns) (r .«square_side») t (left-at (length inflow / inflowWords) i e) in
       rw (n end, n start) (add-zero rain)
 
 -- ---- rain and inflow together
@@ -199,7 +199,7 @@ module _ (p : Plan) (r : Rules) (rain inflow : List ℕ) (start end : ℕ) (b : 
   s = p .shape
 
   abbrev rows : ℕ
-  rows = length inflow / 5
+  rows = length inflow / inflowWords
 
   abbrev added : ℕ → ℕ
   added = addedFor p g start end

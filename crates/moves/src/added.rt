@@ -12,6 +12,7 @@ ghost use Prim.Native.Nat.{_/_, _<_};
 ghost use lib.ListN.{length};
 ghost use Rattle.reckon.specs.Tests.{pick};
 ghost use Rattle.grid.specs.Squares.{squares};
+ghost use Rattle.grid.specs.Marks.{inflowWords};
 ghost use Rattle.ledger.specs.Runs.{plan};
 ghost use Rattle.moves.specs.inner.Added.{Between, PouredAll, PouredRow, Pours, Rained, RainedAll, WaterAdded, tables};
 
@@ -65,7 +66,7 @@ fn pour_row(
     j: usize,
     room: &mut [u32],
 ) -> bool
-    requires { ⌜ (Pours shape rules (now inflow) start end rain) × (length (now room) ≡ squares shape) × (j < length (now inflow) / 5) ⌝ }
+    requires { ⌜ (Pours shape rules (now inflow) start end rain) × (length (now room) ≡ squares shape) × (j < length (now inflow) / inflowWords) ⌝ }
     ensures { λ r. ⌜ PouredRow shape rules (now (inflow .entry)) start end rain j (now (room .entry)) r (now (room .exit)) ⌝ }
 {
     let row = number(inflow, INFLOW_WORDS * j);

@@ -11,7 +11,7 @@ use Rattle.reckon.specs.Lists.{filled}
 use Rattle.reckon.specs.Ranges.{mostDepth, mostSide, lastClock}
 use Rattle.reckon.specs.Tables.{inflowKind, onSquare, inflowAdded, Fits}
 use Rattle.grid.specs.Squares.{squares, squareAt, FineShape}
-use Rattle.grid.specs.Marks.{closed, inflowRow, inflowColumn}
+use Rattle.grid.specs.Marks.{closed, inflowWords, inflowRow, inflowColumn}
 use Rattle.grid.specs.declared.squares.Shape.{Shape}
 use Rattle.rule.specs.declared.rules.Rules.{Rules}
 use Rattle.ledger.specs.Runs.{Plan}
@@ -55,8 +55,8 @@ module _ (s : Shape) (r : Rules) (inflow : List ℕ) (start end rain : ℕ) wher
     pub table : Fits inflowKind inflow end
     pub ordered : start ≤ end
     pub rain-to : rain < 2 ^ 60
-    pub row-in : (j : ℕ) → j < length inflow / 5 → inflowRow inflow j < s .rows
-    pub column-in : (j : ℕ) → j < length inflow / 5 → inflowColumn inflow j < s .columns
+    pub row-in : (j : ℕ) → j < length inflow / inflowWords → inflowRow inflow j < s .rows
+    pub column-in : (j : ℕ) → j < length inflow / inflowWords → inflowColumn inflow j < s .columns
 
   -- row j worked: whether its square can hold what is added, and if so it stands there
   pub record PouredRow (j : ℕ) (old : List ℕ) (done : Bool) (new : List ℕ) : Type 0 where
@@ -65,8 +65,8 @@ module _ (s : Shape) (r : Rules) (inflow : List ℕ) (start end rain : ℕ) wher
     pub long : length new ≡ length old
 
   pub record PouredAll (old : List ℕ) (done : Bool) (new : List ℕ) : Type 0 where
-    pub fits-is : done ≡ allBelow (length inflow / 5) (λ j. leb (amountAt (rowSquare j)) mostDepth)
-    pub stored : done ≡ true → new ≡ filled (squares s) (unreached (length inflow / 5)) amountAt old
+    pub fits-is : done ≡ allBelow (length inflow / inflowWords) (λ j. leb (amountAt (rowSquare j)) mostDepth)
+    pub stored : done ≡ true → new ≡ filled (squares s) (unreached (length inflow / inflowWords)) amountAt old
     pub long : length new ≡ length old
 
 -- ---- both

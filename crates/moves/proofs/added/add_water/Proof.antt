@@ -53,8 +53,7 @@ returns c =
 pour-all-requires : tie.Need-pour-all-requires
 pour-all-requires c κs =
     let at-rain-all = rained (c .before .before) in
-    let s = start at-rain-all in
-    (
+    let s = start at-rain-all in (
       pours (p s) (s .args .rules) (s .args .rain .now) (s .args .inflow .now) (s .args .start) (s .args .end) (s .pre .0) (fallen at-rain-all .rain-added .ensures),
       at-rain-all .rain-all .ensures .long ∙ s .pre .1,
     )

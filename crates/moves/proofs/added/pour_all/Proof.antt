@@ -12,6 +12,7 @@ use Rattle.reckon.specs.Lists.{filled}
 use Rattle.reckon.specs.Ranges.{mostDepth}
 use Rattle.reckon.proofs.TestLaws.{not-both, all-none, all-more, all-fails, all-whole}
 use Rattle.grid.specs.Squares.{squares}
+use Rattle.grid.specs.Marks.{inflowWords}
 use Rattle.moves.specs.inner.Added.{amountAt, unreached, rowSquare}
 use Rattle.moves.proofs.AddedLaws.{pour-none, poured-turn}
 use Rattle.moves.proofs.added.pour_all.Statement.{statement}
@@ -19,13 +20,13 @@ use Rattle.moves.proofs.added.pour_all.Tie as tie
 
 abbrev Inv-loop : tie.InvT-loop
 Inv-loop shape rules inflow start end rain room₀ rows j₀ room j =
-    (j ≤ length inflow / 5)
+    (j ≤ length inflow / inflowWords)
     × (length room ≡ squares shape)
     × (room ≡ filled (squares shape) (unreached shape rules inflow start end rain j) (amountAt shape rules inflow start end rain) room₀)
     × (allBelow j (λ k. leb (amountAt shape rules inflow start end rain (rowSquare shape rules inflow start end rain k)) mostDepth) ≡ true)
 
 abbrev μ-loop : tie.MeasureT-loop
-μ-loop shape rules inflow start end rain room₀ rows j₀ room j = length inflow / 5 - j
+μ-loop shape rules inflow start end rain room₀ rows j₀ room j = length inflow / inflowWords - j
 
 loop-holds : tie.Need-loop-holds Inv-loop μ-loop
 loop-holds c =
@@ -76,7 +77,7 @@ same-length-2 c = c .before .loop .inv .1 ∙ sym (c .before .before .before .be
 returns-2 : tie.Need-returns-2 Inv-loop μ-loop
 returns-2 c =
     let start = c .before .before .before .before in
-    let e : c .before .loop .j ≡ length (start .args .inflow .now) / 5 = omega arith in record {
+    let e : c .before .loop .j ≡ length (start .args .inflow .now) / inflowWords = omega arith in record {
       fits-is = sym
           (all-whole _ (c .before .loop .inv .3) e);
       stored = λ t. c .before .loop .inv .2 ∙ ap

@@ -52,7 +52,7 @@ within c =
       arith,
       c .square-at .ensures,
       square-within (s .args .shape) {row = at-number2 .before .number .result} {column = at-number2 .number2 .result}
-      (omega (arith, a .row-in (s .args .j) (s .pre .2))) (omega (arith, a .column-in (s .args .j) (s .pre .2))),
+          (omega (arith, a .row-in (s .args .j) (s .pre .2))) (omega (arith, a .column-in (s .args .j) (s .pre .2))),
     )
 
 -- ---- the answers
@@ -81,7 +81,7 @@ add-amount c =
     omega (
       arith,
       inflow-le (s .args .inflow .now) (c .before .before .number .result) (c .before .number2 .result) (s .args .rules .«square_side»)
-      (s .pre .0 .table),
+          (s .pre .0 .table),
       c .inflow-added .ensures,
     )
 

@@ -61,8 +61,7 @@ squares-of-requires c κs = begin (c .before .before .before) .pre .0 .flows .li
 loop-holds : tie.Need-loop-holds Inv-loop μ-loop
 loop-holds c =
     let at-put-head = c .before .before .before in
-    let s = begin (at-put-head .before) in
-    (
+    let s = begin (at-put-head .before) in (
       omega arith,
       sym (zero-mod (s .args .shape .columns)),
       begun-none (s .args .rec .now) (s .pre .0 .record-long) (at-put-head .put-head .ensures),
@@ -71,8 +70,7 @@ loop-holds c =
 fill-square-requires : tie.Need-fill-square-requires Inv-loop μ-loop
 fill-square-requires c κs =
     let at-loop = to-square c in
-    let f = start at-loop .pre .0 in
-    (
+    let f = start at-loop .pre .0 in (
       record { flows = f .flows; added-long = f .added-long; lasts-for = f .lasts-for; record-long = at-loop .loop .inv .2 .long },
       record { fine = f .flows .lies .sited .fine; inside = omega arith; column-is = at-loop .loop .inv .1 },
     )
@@ -94,12 +92,11 @@ loop-again : tie.Need-loop-again Inv-loop μ-loop
 loop-again c =
     let at-fill-square = turned (c .before) in
     let at-loop = to-square (at-fill-square .before) in
-    let s = start at-loop in
-    (
+    let s = start at-loop in (
       omega arith,
       carried (s .args .shape) (at-loop .loop .square) (at-loop .loop .inv .1) (c .next-column .ensures),
       fill-turn (p s) (o s) (s .args .depths .now) (s .args .lasts .now) (s .args .added .now) (s .args .held) (s .args .lasting)
-      (at-loop .loop .square) (omega arith) (at-loop .loop .inv .2) (at-fill-square .fill-square .ensures),
+          (at-loop .loop .square) (omega arith) (at-loop .loop .inv .2) (at-fill-square .fill-square .ensures),
     )
 
 same-length : tie.Need-same-length Inv-loop μ-loop

@@ -141,11 +141,10 @@ put-square-requires-2 c κs =
     let at-number2 = at-number3 .before in
     let at-number = weighing at-weigh in
     let s = start (at-number .before) in
-    let d = s .pre .0 .flows .lies .depths-to (s .args .square) (s .pre .1 .inside) (is-open (at-number .before)) in
-    (
+    let d = s .pre .0 .flows .lies .depths-to (s .args .square) (s .pre .1 .inside) (is-open (at-number .before)) in (
       omega (arith, s .pre .0 .record-long, s .pre .1 .inside),
       words-fit (s .args .rules) (at-number2 .number2 .result) (at-number3 .number3 .result) (s .args .lasting)
-      (at-number2 .before .drops-of .result) {d = at-number .number .result} (omega (arith, at-number .number .ensures)) (at-weigh .weigh .ensures),
+          (at-number2 .before .drops-of .result) {d = at-number .number .result} (omega (arith, at-number .number .ensures)) (at-weigh .weigh .ensures),
     )
 
 same-length-3 : tie.Need-same-length-3

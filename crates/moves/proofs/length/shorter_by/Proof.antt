@@ -1,22 +1,48 @@
 -- `moves::length::shorter_by` meets its contract: a closed or a dry square has no candidate.
 -- Assumes nothing.
-use mathlib.Core.Path.{_≡_, sym, _∙_, ap}
+use mathlib.Core.Path.{_≡_, sym, _∙_}
+use mathlib.Core.Bool.{false}
 use borrow.Author.Needs.{needs}
-use Rattle.ledger.specs.Runs.{plan}
-use Rattle.moves.specs.Given.{ground}
+use Rattle.ledger.specs.Runs.{Plan, plan}
+use Rattle.ledger.specs.Flows.{shut}
+use Rattle.moves.specs.Given.{Ground, ground}
 use Rattle.moves.proofs.DropLaws.{candidacy}
 use Rattle.moves.proofs.LengthLaws.{least-closed, least-open, least-dry, shorter-made}
 use Rattle.moves.proofs.length.shorter_by.Statement.{statement}
 use Rattle.moves.proofs.length.shorter_by.Tie as tie
+
+-- ---- the places, each by the one before it
+
+abbrev begin : tie.After-is-closed → tie.Start
+begin c = c .before .before .before .before .before
+
+abbrev weighed : tie.After-number2 → tie.After-number
+weighed c = c .before .before .before
+
+-- ---- what is known there
+
+abbrev p : tie.Start → Plan
+p s = plan (s .args .shape) (s .args .marks .now)
+
+abbrev o : tie.Start → Ground
+o s = ground (s .args .rules) (s .args .beds .now) (s .args .roughness .now)
+
+abbrev start : tie.Else1 → tie.Start
+start c = begin (c .before)
+
+is-open : (c : tie.Else1) → shut (p (start c)) (start c .args .square) ≡ false
+is-open c = sym (c .before .is-closed .ensures) ∙ c .if1 .left
+
+-- ---- the answers
 
 is-closed-requires : tie.Need-is-closed-requires
 is-closed-requires c κs = search needs
 
 returns : tie.Need-returns
 returns c =
-    let start = c .before .before .before .before .before .before in
+    let s = begin (c .before) in
     sym
-    (least-closed (plan (start .args .shape) (start .args .marks .now)) (ground (start .args .rules) (start .args .beds .now) (start .args .roughness .now)) (start .args .depths .now) (start .args .best) (start .args .square) (sym (c .before .is-closed .ensures) ∙ c .if1 .taken))
+    (least-closed (p s) (o s) (s .args .depths .now) (s .args .best) (s .args .square) (sym (c .before .is-closed .ensures) ∙ c .if1 .taken))
 
 number-requires : tie.Need-number-requires
 number-requires c κs = search needs
@@ -24,10 +50,10 @@ number-requires c κs = search needs
 returns-2 : tie.Need-returns-2
 returns-2 c =
     let at-if1 = c .before .before in
-    let at-is-closed = at-if1 .before in
-    let start = at-is-closed .before .before .before .before .before in
+    let s = start at-if1 in
     sym
-    (least-dry (plan (start .args .shape) (start .args .marks .now)) (ground (start .args .rules) (start .args .beds .now) (start .args .roughness .now)) (start .args .depths .now) (start .args .best) (start .args .square) (sym (at-is-closed .is-closed .ensures) ∙ at-if1 .if1 .left) (sym (c .before .number .ensures) ∙ c .if2 .taken))
+    (least-dry (p s) (o s) (s .args .depths .now) (s .args .best) (s .args .square) (is-open at-if1)
+    (sym (c .before .number .ensures) ∙ c .if2 .taken))
 
 drops-of-requires : tie.Need-drops-of-requires
 drops-of-requires c κs = search needs
@@ -37,24 +63,22 @@ number-requires-2 c κs = search needs
 
 shorter-requires : tie.Need-shorter-requires
 shorter-requires c κs =
-    let at-number = c .before .before .before in
-    let at-if1 = at-number .before in
-    let at-is-closed = at-if1 .before in
-    let start = at-is-closed .before .before .before .before .before in
-    candidacy (plan (start .args .shape) (start .args .marks .now))
-    (ground (start .args .rules) (start .args .beds .now) (start .args .roughness .now)) (start .args .depths .now) (start .pre .0)
-    (start .args .square) (start .pre .1 .inside) (sym (at-is-closed .is-closed .ensures) ∙ at-if1 .if1 .left)
+    let at-number = weighed c in
+    let s = start (at-number .before) in
+    candidacy (p s) (o s) (s .args .depths .now) (s .pre .0) (s .args .square) (s .pre .1 .inside) (is-open (at-number .before))
     (at-number .number .ensures) (c .number2 .ensures) (c .before .drops-of .ensures)
 
 returns-3 : tie.Need-returns-3
 returns-3 c =
-    let at-drops-of = c .before .before in
-    let at-number = at-drops-of .before .before in
-    let at-if1 = at-number .before in
-    let at-is-closed = at-if1 .before in
-    let start = at-is-closed .before .before .before .before .before in
+    let at-number2 = c .before in
+    let at-number = weighed at-number2 in
+    let s = start (at-number .before) in
     sym
-    (least-open (plan (start .args .shape) (start .args .marks .now)) (ground (start .args .rules) (start .args .beds .now) (start .args .roughness .now)) (start .args .depths .now) (start .args .best) (start .args .square) (sym (at-is-closed .is-closed .ensures) ∙ at-if1 .if1 .left) ∙ sym (c .shorter .ensures ∙ shorter-made (start .args .rules) (start .args .best) (at-number .number .ensures) (c .before .number2 .ensures) (at-drops-of .drops-of .ensures)))
+    (least-open (p s) (o s) (s .args .depths .now) (s .args .best) (s .args .square) (is-open (at-number .before))
+    ∙ sym
+    (c .shorter .ensures
+    ∙ shorter-made (s .args .rules) (s .args .best) (at-number .number .ensures) (at-number2 .number2 .ensures)
+    (at-number2 .before .drops-of .ensures)))
 
 pub shorter-by-spec : {M : Type 1} → statement M
 shorter-by-spec =
