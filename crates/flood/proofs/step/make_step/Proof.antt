@@ -132,7 +132,7 @@ add-water-requires c κs =
               inflow-squares = r .inflow-squares;
             };
         ordered = omega arith;
-        end-to = c .before .if1 .left;
+        end-to = omega (arith, c .before .if1 .left);
       },
       s .pre .1 .1,
     )
