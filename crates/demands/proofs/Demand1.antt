@@ -8,7 +8,8 @@ use Rattle.ledger.specs.Runs.{Plan}
 use Rattle.ledger.specs.TakeBack.{backRows, backNumber}
 use Rattle.ledger.specs.After.{lateRows}
 use Rattle.ledger.proofs.Bridge.{refused-stays}
-use Rattle.flood.specs.Refusals.{checkRows, stepNumber}
+use Rattle.flood.specs.Refusals.{checkRows}
+use Rattle.flood.specs.Step.{stepNumber}
 use Rattle.flood.specs.Run.{freshRows, freshNumber, freshLasts}
 use Rattle.flood.proofs.RunToLaws.{refused-is, run-checked}
 use Rattle.sight.specs.Refusals.{sharedRows}

@@ -38,13 +38,16 @@ use Rattle.ledger.specs.Walls.{Walled, Untouched}
 use Rattle.ledger.proofs.ReadBack.{step-long, closed-read}
 use Rattle.ledger.proofs.Walls.{goes-where, walls-stay-dry, after-untouched, back-untouched}
 use Rattle.ledger.specs.declared.runs.Run.{Run}
-use Rattle.flood.specs.Drops.{Given, ground, given, sideDrop, dropsOf}
-use Rattle.flood.specs.Step.{squareCandidates, candidates, leavesFor, addedFor, stepLength, stepLasts, stepMoves}
-use Rattle.flood.specs.Refusals.{groundsFine, checkRows, stepChecks, runChecks, stepNumber, stepped}
+use Rattle.moves.specs.Given.{Given, ground}
+use Rattle.moves.specs.Given.{given}
+use Rattle.moves.specs.Drops.{sideDrop, dropsOf}
+use Rattle.moves.specs.Moves.{squareCandidates, candidates, leavesFor, addedFor, stepLength, stepLasts, stepMoves}
+use Rattle.flood.specs.Refusals.{groundsFine, checkRows, stepChecks, runChecks}
+use Rattle.flood.specs.Step.{stepNumber, stepped}
 use Rattle.flood.specs.Run.{Ended, ended, goOn, runFrom, runTo, freshRows, freshNumber, freshRun, freshLasts}
 use Rattle.sight.proofs.Alike.{AlikeDepths, AlikeRecords, arrow-alike, wet-alike}
 use Rattle.flood.proofs.CheckLaws.{checks-named, ready, ring-is}
-use Rattle.flood.proofs.RuleLaws.{leaves-open, covered, flood-walled}
+use Rattle.moves.proofs.MoveLaws.{leaves-open, covered, flood-walled}
 use Rattle.flood.proofs.RunToLaws.{made-is, refused-is}
 use Rattle.demands.specs.Closed.{SameOpen, SameGiven, SameRecord, SameRoom, SameWorld, SameEnd}
 use Rattle.demands.specs.Demand2.{RootsAre, StepGives, NoneDepends, NoneAltered, WallRule, Demand2}

@@ -33,9 +33,10 @@ use Rattle.ledger.proofs.Bridge.{outcome-then, refused-stays, back-bridge, step
 use Rattle.ledger.proofs.EngineLaws.{Looks, seen-look, engine-laws}
 use Rattle.ledger.specs.declared.runs.Run.{Run}
 use Rattle.ledger.specs.declared.runs.Answer.the-variants.{Done}
-use Rattle.flood.specs.Drops.{Given}
-use Rattle.flood.specs.Step.{stepMoves}
-use Rattle.flood.specs.Refusals.{runChecks, stepNumber, stepped, floodRule}
+use Rattle.moves.specs.Given.{Given}
+use Rattle.moves.specs.Moves.{stepMoves}
+use Rattle.flood.specs.Refusals.{runChecks}
+use Rattle.flood.specs.Step.{stepNumber, stepped, floodRule}
 use Rattle.flood.specs.Run.{Ended, ended, goOn, runFrom, runTo, freshRows, freshNumber, freshRun, freshLasts, Freshens}
 use Rattle.flood.proofs.CheckLaws.{each-long}
 use Rattle.flood.proofs.FreshLaws.{fresh-sizes, fresh-slots}

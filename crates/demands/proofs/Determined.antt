@@ -10,10 +10,9 @@ use Rattle.ledger.specs.inner.Settle.{SettlesTo}
 use Rattle.ledger.specs.TakeBack.{TakesBack}
 use Rattle.ledger.specs.declared.runs.Answer.{Answer}
 use Rattle.ledger.specs.declared.settle.Settled.{Settled}
-use Rattle.flood.specs.Drops.{Given}
-use Rattle.flood.specs.Refusals.{Steps}
+use Rattle.moves.specs.Given.{Given}
+use Rattle.flood.specs.Step.{Steps, MakesStep}
 use Rattle.flood.specs.Run.{RunsTo, Freshens}
-use Rattle.flood.specs.Fill.{MakesStep}
 use Rattle.flood.specs.declared.run.Ran.{Ran}
 use Rattle.sight.specs.WetRows.{WetRowed}
 use Rattle.sight.specs.declared.wet_rows.Wet.{Wet}

@@ -16,8 +16,9 @@ use Rattle.rule.specs.declared.rules.Rules.{Rules}
 use Rattle.ledger.specs.Runs.{Plan, World}
 use Rattle.ledger.specs.After.{lateRows}
 use Rattle.ledger.specs.TakeBack.{backRows, backNumber}
-use Rattle.flood.specs.Drops.{Given}
-use Rattle.flood.specs.Refusals.{checkRows, runChecks, stepNumber}
+use Rattle.moves.specs.Given.{Given}
+use Rattle.flood.specs.Refusals.{checkRows, runChecks}
+use Rattle.flood.specs.Step.{stepNumber}
 use Rattle.flood.specs.Run.{Ended, runTo, freshRows, freshNumber}
 use Rattle.flood.proofs.RunToLaws.{run-checked}
 use Rattle.sight.specs.Refusals.{sharedRows}

@@ -11,10 +11,11 @@ use Rattle.reckon.proofs.TestLaws.{refusal-second}
 use Rattle.ledger.specs.Runs.{Plan, World, seenOf}
 use Rattle.ledger.specs.After.{lateRows}
 use Rattle.ledger.specs.Record.{ringOf}
-use Rattle.flood.specs.Step.{stepMoves}
+use Rattle.moves.specs.Moves.{stepMoves}
 use Rattle.exports.specs.Answers.{lastCheck}
-use Rattle.flood.specs.Drops.{Given}
-use Rattle.flood.specs.Refusals.{stepChecks, runChecks, stepNumber, stepped}
+use Rattle.moves.specs.Given.{Given}
+use Rattle.flood.specs.Refusals.{stepChecks, runChecks}
+use Rattle.flood.specs.Step.{stepNumber, stepped}
 use Rattle.flood.specs.Run.{runTo}
 use Rattle.flood.proofs.CheckLaws.{checks-named, run-checks-step}
 use Rattle.flood.proofs.RunToLaws.{Valid, still-valid, clock-on, whole, run-ends, run-refused, run-steps, run-passed}

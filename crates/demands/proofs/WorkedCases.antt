@@ -21,9 +21,10 @@ use Rattle.ledger.specs.Record.{leavesIn, lastIn, addedIn, squareRecord, record
 use Rattle.ledger.specs.After.{remains, newDepth, depthsFit, newOutflow, lateRows, stepRecord, worldAfter}
 use Rattle.ledger.specs.Checks.{oneEach, watersFine, timesFine}
 use Rattle.ledger.specs.TakeBack.{heldAndGone, cameAndAdded, depthBefore, squareRestorable, restorable, worldBefore, backRows, backNumber, takenBack}
-use Rattle.flood.specs.Drops.{sideDrop, dropsOf}
-use Rattle.flood.specs.Step.{squareCandidates, candidates, leavesFor, addedFor, stepLength, stepLasts}
-use Rattle.flood.specs.Refusals.{groundsFine, endFine, checkRows, stepNumber, stepped}
+use Rattle.moves.specs.Drops.{sideDrop, dropsOf}
+use Rattle.moves.specs.Moves.{squareCandidates, candidates, leavesFor, addedFor, stepLength, stepLasts}
+use Rattle.flood.specs.Refusals.{groundsFine, endFine, checkRows}
+use Rattle.flood.specs.Step.{stepNumber, stepped}
 use Rattle.flood.specs.Run.{goOn, runFrom, runTo, freshRun}
 use Rattle.text.specs.Reading.{isByte, wordAt, isDigit, digitsOf, valueFrom, wellFormed, numberOf, numberAt, fieldAt, before, readFields, ended, readRest, readLine, padded, asFields, lineLength, nextLine, lineFrom}
 use Rattle.text.specs.Writing.{digitsIn, decimal, fieldText, fieldsText, restText, lineText}

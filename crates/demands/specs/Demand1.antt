@@ -11,9 +11,10 @@ use Rattle.ledger.specs.Runs.{Plan, World, world, seenOf}
 use Rattle.ledger.specs.After.{lateRows}
 use Rattle.ledger.specs.TakeBack.{backRows, backNumber, takenBack}
 use Rattle.ledger.specs.Record.{ringOf}
-use Rattle.flood.specs.Drops.{Given}
-use Rattle.flood.specs.Step.{stepMoves}
-use Rattle.flood.specs.Refusals.{stepChecks, runChecks, stepNumber, stepped}
+use Rattle.moves.specs.Given.{Given}
+use Rattle.moves.specs.Moves.{stepMoves}
+use Rattle.flood.specs.Refusals.{stepChecks, runChecks}
+use Rattle.flood.specs.Step.{stepNumber, stepped}
 use Rattle.flood.specs.Run.{Ended, ended, runTo, freshRows, freshNumber, freshLasts}
 use Rattle.sight.specs.Arrows.{arrowRows, arrowNumber}
 use Rattle.sight.specs.WetRows.{WetRowed, wetRefusals, wetNumber}

@@ -19,9 +19,11 @@ use Rattle.ledger.specs.Record.{squareWords, wordPlace, newestRecord, recordOf}
 use Rattle.ledger.specs.TakeBack.{backNumber, takenBack}
 use Rattle.ledger.specs.Walls.{Walled, reaches, drains, intoWalls, Untouched}
 use Rattle.ledger.specs.declared.runs.Run.{Run}
-use Rattle.flood.specs.Drops.{Given, dropsOf}
-use Rattle.flood.specs.Step.{candidates, addedFor, stepMoves}
-use Rattle.flood.specs.Refusals.{runChecks, stepNumber, stepped}
+use Rattle.moves.specs.Given.{Given}
+use Rattle.moves.specs.Drops.{dropsOf}
+use Rattle.moves.specs.Moves.{candidates, addedFor, stepMoves}
+use Rattle.flood.specs.Refusals.{runChecks}
+use Rattle.flood.specs.Step.{stepNumber, stepped}
 use Rattle.sight.specs.Arrows.{view, seenAt}
 use Rattle.sight.specs.WetRows.{WetRowed}
 use Rattle.sight.specs.declared.wet_rows.Wet.{Wet}

@@ -18,8 +18,8 @@ use Rattle.ledger.specs.Record.{recordSize, roomSlots}
 use Rattle.ledger.specs.TakeBack.{backNumber, takenBack, lookRows}
 use Rattle.ledger.specs.declared.runs.Run.{Run}
 use Rattle.ledger.specs.declared.runs.Answer.the-variants.{Done}
-use Rattle.flood.specs.Drops.{Given}
-use Rattle.flood.specs.Refusals.{stepNumber, stepped}
+use Rattle.moves.specs.Given.{Given}
+use Rattle.flood.specs.Step.{stepNumber, stepped}
 use Rattle.flood.specs.Run.{runTo, Freshens}
 
 -- "any series of steps and take-backs .. a run to a clock counts as the steps it made": each step and run with its own heights, tables and rules

@@ -14,8 +14,8 @@ use Rattle.ledger.specs.Runs.{Plan, World, seenOf}
 use Rattle.ledger.specs.Record.{ringOf, newestRecord}
 use Rattle.ledger.specs.After.{lateRows}
 use Rattle.ledger.specs.TakeBack.{backRows}
-use Rattle.flood.specs.Drops.{Given}
-use Rattle.flood.specs.Step.{stepMoves}
+use Rattle.moves.specs.Given.{Given}
+use Rattle.moves.specs.Moves.{stepMoves}
 use Rattle.flood.specs.Refusals.{stepChecks}
 use Rattle.flood.specs.Run.{runTo, freshRows}
 use Rattle.sight.specs.Arrows.{view, arrowRows}

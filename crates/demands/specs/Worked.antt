@@ -19,9 +19,10 @@ use Rattle.rule.specs.Weighing.{greatestDrop, heightOf, slopeOf, criticalSpeed,
 use Rattle.rule.specs.Length.{candidatesOf}
 use Rattle.ledger.specs.Runs.{Plan, World, seenOf}
 use Rattle.ledger.specs.TakeBack.{backNumber, takenBack}
-use Rattle.flood.specs.Drops.{Given, dropsOf}
-use Rattle.flood.specs.Step.{stepMoves}
-use Rattle.flood.specs.Refusals.{stepNumber, stepped}
+use Rattle.moves.specs.Given.{Given}
+use Rattle.moves.specs.Drops.{dropsOf}
+use Rattle.moves.specs.Moves.{stepMoves}
+use Rattle.flood.specs.Step.{stepNumber, stepped}
 use Rattle.sight.specs.Speeds.{zero64, quotientOf}
 use Rattle.sight.specs.Arrows.{view, seenAt}
 use Rattle.sight.specs.declared.arrows.Sight.the-variants.{Moving}

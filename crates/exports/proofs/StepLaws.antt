@@ -12,14 +12,16 @@ use Rattle.reckon.proofs.TestLaws.{pick-true, pick-false}
 use Rattle.grid.specs.Squares.{squares}
 use Rattle.rule.specs.declared.rules.Rules.{Rules}
 use Rattle.ledger.specs.Runs.{Plan, World, seenOf}
+use Rattle.ledger.specs.Runs.{Plan, World}
+use Rattle.ledger.specs.Record.{newestRecord, roomSlots}
 use Rattle.ledger.specs.Flows.{shut}
 use Rattle.ledger.specs.Record.{newestRecord}
 use Rattle.ledger.specs.After.{worldAfter}
 use Rattle.ledger.specs.TakeBack.{TakesBack, backNumber, takenBack, worldBefore}
 use Rattle.ledger.specs.declared.runs.Answer.{Answer}
-use Rattle.flood.specs.Drops.{Given}
-use Rattle.flood.specs.Step.{stepMoves}
-use Rattle.flood.specs.Refusals.{Steps, stepNumber, stepped}
+use Rattle.moves.specs.Given.{Given}
+use Rattle.moves.specs.Moves.{stepMoves}
+use Rattle.flood.specs.Step.{Steps, stepNumber, stepped}
 use Rattle.flood.specs.Run.{Ended, RunsTo, Freshens, freshNumber, freshRun, freshLasts}
 use Rattle.flood.specs.declared.run.Ran.{Ran}
 use Rattle.exports.specs.Answers.{runSize, ranSize, runNumbers, answerNumber, answerRun, ranRun}
@@ -35,7 +37,7 @@ module _ (p : Plan) (r : Rules) (records before old : List ℕ) where
       record {
         number-is = sym one;
         lasts-are = sym (refused-leaves (freshLasts p r before records) before one);
-        run-is = sym (refused-leaves (runNumbers (freshRun p r before records)) old one);
+        run-is = sym (refused-leaves (runNumbers (freshRun r (roomSlots p records))) old one);
       }
 
   fresh-stays : unlessRefused (freshNumber p r before records) (freshLasts p r before records) before ≡ freshLasts p r before records
@@ -45,18 +47,18 @@ module _ (p : Plan) (r : Rules) (records before old : List ℕ) where
 
   module _ {a : Answer} {number : ℕ} {lasts run : List ℕ} where
     pub fresh-told :
-        length old ≡ runSize → Freshens p r records before a lasts → (number ≡ answerNumber a) × (run ≡ answerRun a old) →
+        length old ≡ runSize → Freshens p r before records a lasts → (number ≡ answerNumber a) × (run ≡ answerRun a old) →
         ExportsFresh p r records before old number lasts run
     fresh-told h f t =
         let gives : freshGives p r records before old ≡ freshNumber p r before records = sized-number (eq-eqb (length old) runSize h) in
         record {
-          number-is = t .0 ∙ (ap answerNumber (f .answer) ∙ (number-answered (freshNumber p r before records) (freshRun p r before records) ∙ sym gives));
+          number-is = t .0 ∙ (ap answerNumber (f .answer) ∙ (number-answered (freshNumber p r before records) (freshRun r (roomSlots p records)) ∙ sym gives));
           lasts-are = f .lasts-are ∙ (sym fresh-stays ∙ ap (λ (n : ℕ). unlessRefused n (freshLasts p r before records) before) (sym gives));
           run-is =
               t .1
               ∙ (ap (λ (z : Answer). answerRun z old) (f .answer)
-              ∙ (run-answered (freshNumber p r before records) (freshRun p r before records) old
-              ∙ ap (λ (n : ℕ). unlessRefused n (runNumbers (freshRun p r before records)) old) (sym gives)));
+              ∙ (run-answered (freshNumber p r before records) (freshRun r (roomSlots p records)) old
+              ∙ ap (λ (n : ℕ). unlessRefused n (runNumbers (freshRun r (roomSlots p records))) old) (sym gives)));
         }
 
 -- ---- a step

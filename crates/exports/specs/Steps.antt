@@ -11,9 +11,10 @@ use Rattle.grid.specs.declared.squares.Shape.{Shape}
 use Rattle.rule.specs.declared.rules.Rules.{Rules}
 use Rattle.ledger.specs.declared.runs.Run.{Run}
 use Rattle.ledger.specs.Runs.{Plan, World}
+use Rattle.ledger.specs.Record.{roomSlots}
 use Rattle.ledger.specs.TakeBack.{backNumber, takenBack}
-use Rattle.flood.specs.Drops.{Given}
-use Rattle.flood.specs.Refusals.{stepNumber, stepped}
+use Rattle.moves.specs.Given.{Given}
+use Rattle.flood.specs.Step.{stepNumber, stepped}
 use Rattle.flood.specs.Run.{Ended, runTo, freshNumber, freshRun, freshLasts}
 use Rattle.exports.specs.Answers.{runSize, ranSize, numberIf, runNumbers, ranRun}
 
@@ -41,7 +42,7 @@ module _ (p : Plan) (r : Rules) (records before old : List ℕ) where
   pub record ExportsFresh (number : ℕ) (lasts run : List ℕ) : Type 0 where
     pub number-is : number ≡ freshGives
     pub lasts-are : lasts ≡ unlessRefused freshGives (freshLasts p r before records) before
-    pub run-is : run ≡ unlessRefused freshGives (runNumbers (freshRun p r before records)) old
+    pub run-is : run ≡ unlessRefused freshGives (runNumbers (freshRun r (roomSlots p records))) old
 
 module _ (p : Plan) (g : Given) (w : World) (old : List ℕ) where
   abbrev pub stepGives : ℕ

@@ -16,7 +16,7 @@ use rule::rules::Rules;
 ghost use mathlib.Core.Path.{_≡_};
 ghost use lib.ListN.{length};
 ghost use Rattle.ledger.specs.Runs.{plan, world};
-ghost use Rattle.flood.specs.Drops.{ground, given};
+ghost use Rattle.moves.specs.Given.{ground, given};
 ghost use Rattle.exports.specs.Answers.{answerNumber, answerRun, ranRun, ranSize, runSize};
 ghost use Rattle.exports.specs.Steps.{ExportsBack, ExportsFresh, ExportsRun, ExportsStep, rulesOf, runOf, shapeOf};
 

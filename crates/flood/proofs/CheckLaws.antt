@@ -24,8 +24,8 @@ use Rattle.ledger.specs.Record.{ringOf}
 use Rattle.ledger.specs.Checks.{Watered, oneEach, watersFine}
 use Rattle.ledger.specs.TakeBack.{lookRows}
 use Rattle.ledger.specs.declared.runs.Run.{Run}
-use Rattle.flood.specs.Drops.{Given}
-use Rattle.flood.specs.Ready.{Ready}
+use Rattle.moves.specs.Given.{Given}
+use Rattle.moves.specs.inner.Ready.{Ready}
 use Rattle.flood.specs.Refusals.{groundsFine, endFine, checkRows, stepChecks, runChecks}
 
 -- ---- what a call's answer says of the test that it is

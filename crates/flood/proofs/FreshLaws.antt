@@ -1,9 +1,9 @@
 -- Laws of a fresh run: what its checks leave as facts, one square more cleared, and its two answers.
 -- Assumes nothing.
-use mathlib.Core.Path.{_≡_, refl, sym, ap, _∙_}
+use mathlib.Core.Path.{_≡_, refl, sym, ap, ap₂, _∙_}
 use mathlib.Core.Bool.{Bool, true, false}
 use mathlib.Core.List.{List, [], _∷_}
-use Prim.Native.Nat.{ℕ, zero, suc, _+_, _-_, _<_}
+use Prim.Native.Nat.{ℕ, _+_, _<_}
 use lib.Dec.{T}
 use lib.ListN.{length, set}
 use borrow.Author.Tests.{eq-eqb, ne-eqb, not-true, eqb-false}
@@ -23,6 +23,7 @@ use Rattle.ledger.specs.Record.{roomSlots}
 use Rattle.ledger.specs.Checks.{oneEach}
 use Rattle.ledger.specs.declared.runs.Run.{Run}
 use Rattle.ledger.specs.declared.runs.Answer.the-variants.{Done, Refused}
+use Rattle.ledger.proofs.RunLaws.{answered-done, answered-refused}
 use Rattle.flood.specs.Run.{freshRows, freshNumber, freshRun, freshLasts, Freshens}
 use Rattle.flood.proofs.CheckLaws.{each-long}
 
@@ -81,32 +82,21 @@ clear-whole marks old e q = e ∙ ap (λ (n : ℕ). filled n (closed marks) (λ 
 
 -- ---- the answers
 
-refused-is : (n : ℕ) {k : ℕ} (u : Run) → (n ≡ 0 → ⊥) → n ≡ k → Refused n ≡ answered k u
-unfolding answered
-refused-is zero u d e = absurd (d refl)
-refused-is (suc n) u d e = rw (sym e)
-
-done-is : {k : ℕ} {u v : Run} → k ≡ 0 → u ≡ v → Done u ≡ answered k v
-unfolding answered
-done-is e q = rw e (ap Done q)
-
-module _ (p : Plan) (r : Rules) (records before : List ℕ) {n : ℕ} (e : n ≡ freshNumber p r before records) where
-  pub fresh-refused : (n ≡ 0 → ⊥) → Freshens p r records before (Refused n) before
+module _ (p : Plan) (r : Rules) (before records : List ℕ) {n : ℕ} (e : n ≡ freshNumber p r before records) where
+  pub fresh-refused : (n ≡ 0 → ⊥) → Freshens p r before records (Refused n) before
   unfolding freshLasts
   fresh-refused d =
       record {
-        answer = refused-is n (freshRun p r before records) d e;
+        answer = answered-refused n (freshRun r (roomSlots p records)) d ∙ ap (λ (k : ℕ). answered k (freshRun r (roomSlots p records))) e;
         lasts-are = sym (pick-false _ _ (ne-eqb _ _ (λ z. d (e ∙ z))));
       }
 
   pub fresh-done :
-      n ≡ 0 → {lasts : List ℕ} {slots : ℕ} → lasts ≡ filled (squares (p .shape)) (shut p) (λ i. 0) before → slots ≡ roomSlots p records →
-      Freshens p r records before (Done (record { clock = 0; length = r .longest; outflow = 0; kept = 0; newest = slots - 1 })) lasts
-  unfolding freshLasts freshRun
-  fresh-done z {slots = slots} q k =
+      n ≡ 0 → {lasts : List ℕ} {slots : ℕ} {u : Run} → lasts ≡ filled (squares (p .shape)) (shut p) (λ i. 0) before → slots ≡ roomSlots p records →
+      u ≡ freshRun r slots → Freshens p r before records (Done u) lasts
+  unfolding freshLasts
+  fresh-done z {u = u} q k f =
       record {
-        answer =
-            done-is (sym e ∙ z)
-            (ap (λ (s : ℕ). record { clock = 0; length = r .longest; outflow = 0; kept = 0; newest = s - 1 }) k);
+        answer = answered-done u z ∙ ap₂ answered e (f ∙ ap (freshRun r) k);
         lasts-are = q ∙ sym (pick-true _ _ (eq-eqb _ _ (sym e ∙ z)));
       }

@@ -1,38 +1,39 @@
 -- Laws of the step: once the checks have passed, 7 is decided by the clock, 8 where a square could not hold what is added, and else
 -- the ledger settles the record; and a valid world stays valid.
 -- Assumes nothing.
-use mathlib.Core.Path.{_≡_, refl, sym, ap, ap₂, _∙_, subst}
-use mathlib.Core.Bool.{Bool, true, false, _||_}
-use mathlib.Core.List.{List, [], _∷_}
+use mathlib.Core.Path.{_≡_, sym, ap, ap₂, _∙_}
+use mathlib.Core.Bool.{Bool, true, false}
+use mathlib.Core.List.{List}
 use Prim.Native.Nat.{ℕ, _+_, _-_, _≤_, _<_}
 use native.Mathlib.Nat.{le-trans}
 use native.Mathlib.Omega.{arith}
-use lib.Dec.{leb, eqb}
-use lib.ListN.{length, getD}
-use borrow.Author.Tests.{le-leb, lt-leb, leb-true, eq-eqb, ne-eqb}
-use Rattle.reckon.specs.Tests.{pick, every, allBelow, Row, _unless_, refusal}
-use Rattle.reckon.specs.Ranges.{mostDepth, mostLength, lastClock, mostOutflow}
-use Rattle.reckon.proofs.TestLaws.{not-both, no-more, pick-true, pick-false, or-right, or-of, all-at, all-of, refusal-here, refusal-later, refusal-first, refusal-second}
-use Rattle.trials.specs.Ring.{ringFine}
+use lib.Dec.{eqb}
+use lib.ListN.{length, take, replicate, length-replicate}
+use lib.Seq.{length-take-le}
+use borrow.Author.Tests.{le-leb, lt-leb, leb-true, ne-eqb}
+use Rattle.reckon.specs.Tests.{pick, refusal}
+use Rattle.reckon.specs.Ranges.{lastClock}
+use Rattle.reckon.proofs.TestLaws.{not-both, no-more, pick-false, or-right, or-of, all-at, all-of, refusal-here, refusal-later, refusal-first, refusal-second}
 use Rattle.trials.proofs.RingLaws.{fine-ring}
-use Rattle.grid.specs.Squares.{squares}
+use Rattle.grid.specs.Squares.{squares, mostSquares, FineShape, SquaresOf}
 use Rattle.ledger.specs.Runs.{Plan, World, answered, Seen, seenOf}
-use Rattle.ledger.specs.Flows.{shut, gone, came}
-use Rattle.ledger.specs.Record.{recordSize, roomSlots, leavesIn, lastedIn, ringOf}
-use Rattle.ledger.specs.After.{Moves, remains, newDepth, depthsFit, newOutflow, lateRows, stepRecord, worldAfter, worldWith}
+use Rattle.ledger.specs.Flows.{shut}
+use Rattle.ledger.specs.Record.{roomSlots, ringOf, mostRecord, SizeOf}
+use Rattle.ledger.specs.After.{Moves, newDepth, depthsFit, lateRows, stepRecord, worldAfter, worldWith}
 use Rattle.ledger.specs.inner.Settle.{movesIn, settleNumber, settled, Settles, SettlesTo}
+use Rattle.grid.specs.declared.squares.Shape.{Shape}
 use Rattle.ledger.proofs.ReadBack.{step-long, step-lasted, step-gone, settled-is, late-settled}
-use Rattle.flood.specs.Drops.{Given}
-use Rattle.flood.specs.Step.{addedFor, leavesFor, stepLength, stepLasts, stepMoves}
-use Rattle.flood.specs.Added.{tables, addedFits}
-use Rattle.flood.specs.Ready.{Ready}
+use Rattle.moves.specs.Given.{Given}
+use Rattle.moves.specs.Moves.{stepLength, stepLasts, stepMoves}
+use Rattle.moves.specs.inner.Added.{addedFits}
+use Rattle.moves.specs.inner.Ready.{Ready}
 use Rattle.rule.specs.Rules.{rulesFine}
 use Rattle.ledger.specs.declared.runs.Answer.the-variants.{Done, Refused}
 use Rattle.ledger.proofs.RunLaws.{answered-done, answered-refused}
-use Rattle.flood.specs.Refusals.{checkRows, stepChecks, stepNumber, stepped, Steps}
-use Rattle.flood.specs.Fill.{MakesStep, Passes}
+use Rattle.flood.specs.Refusals.{checkRows, stepChecks}
+use Rattle.flood.specs.Step.{stepNumber, stepped, Steps, MakesStep, Passes}
 use Rattle.flood.proofs.CheckLaws.{ready, ring-is, checks-named}
-use Rattle.flood.proofs.RuleLaws.{covered, step-length-to}
+use Rattle.moves.proofs.MoveLaws.{covered, step-length-to}
 
 module _ (p : Plan) (g : Given) (w : World) (passed : refusal (stepChecks p g (ringOf p w) (seenOf w)) ≡ 0) where
   abbrev v : Seen
@@ -115,6 +116,18 @@ module _ (p : Plan) (g : Given) (w : World) (passed : refusal (stepChecks p g (r
           number = t .number ∙ number-is;
           world-is = t .world-is ∙ (ap (λ (k : ℕ). pick (eqb k 0) (worldWith p (movesIn rec held) w rec) w) number-is ∙ ap (λ (x : World). pick (eqb (stepNumber p g w) 0) x w) written-is);
         }
+
+-- ---- the parts of the working rooms that a grid needs
+
+module _ (s : Shape) {n : ℕ} (f : FineShape s) where
+  pub record-part : SizeOf s n → n ≤ mostRecord
+  record-part e = omega (arith, f .few, e)
+
+  pub squares-part : SquaresOf s n → n ≤ mostSquares
+  squares-part e = omega (arith, f .few, e)
+
+pub part-long : {n : ℕ} (most : ℕ) → n ≤ most → length (take {A = ℕ} n (replicate most 0)) ≡ n
+part-long {n} most h = length-take-le n (replicate most 0) (omega (arith, h, length-replicate {A = ℕ} most 0))
 
 -- ---- the public step
 

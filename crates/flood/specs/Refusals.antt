@@ -1,28 +1,23 @@
--- Document 01, "Numbers given back on refusal": the table, in its order and words, for the calls that are lent everything; and the
--- public step.
+-- Document 01, "Numbers given back on refusal": the table, in its order and words, for the calls that are lent everything.
 -- Assumes nothing.
 use mathlib.Core.Path.{_≡_}
 use mathlib.Core.Bool.{Bool, _||_}
-use mathlib.Core.List.{List, [], _∷_, _++_}
+use mathlib.Core.List.{List, [], _∷_}
 use Prim.Native.Nat.{ℕ, _%_}
 use lib.Dec.{eqb, leb}
 use lib.ListN.{getD}
-use Rattle.reckon.specs.Tests.{pick, every, allBelow, Row, _unless_, refusal}
+use Rattle.reckon.specs.Tests.{every, allBelow, Row, _unless_, refusal}
 use Rattle.reckon.specs.Ranges.{lastClock}
 use Rattle.reckon.specs.Tables.{rainKind, inflowKind, tableFine}
 use Rattle.grid.specs.Squares.{squares, shapeFine}
 use Rattle.grid.specs.Marks.{marksFine, inflowSquaresFine}
 use Rattle.rule.specs.Rules.{sideFine, groundFine, rulesFine}
 use Rattle.rule.specs.declared.rules.Rules.{Rules}
-use Rattle.ledger.specs.Runs.{Plan, World, Seen, seenOf, runValuesFine, answered}
+use Rattle.ledger.specs.Runs.{Plan, World, Seen, seenOf, runValuesFine}
 use Rattle.ledger.specs.Flows.{shut}
 use Rattle.ledger.specs.Record.{ringOf}
-use Rattle.ledger.specs.After.{lateRows, worldAfter}
 use Rattle.ledger.specs.Checks.{oneEach, watersFine}
-use Rattle.ledger.specs.inner.Engine.{StepRule}
-use Rattle.ledger.specs.declared.runs.Answer.{Answer}
-use Rattle.flood.specs.Drops.{Ground, Given}
-use Rattle.flood.specs.Step.{stepMoves}
+use Rattle.moves.specs.Given.{Ground, Given}
 
 -- 2: "bed or roughness of a square not closed out of range"
 unfoldable pub groundsFine : Plan → Ground → Bool
@@ -68,28 +63,7 @@ module _ (p : Plan) (g : Given) where
   abbrev pub runChecks : ℕ → World → List Row
   runChecks end w = checkRows (every (rulesFine (g .lie .rules) ∷ endFine (g .lie .rules) end ∷ [])) (ringOf p w) (seenOf w)
 
-  -- ---- the step
-
-  -- the first number of the table that applies, 0 for none
-  unfoldable pub stepNumber : World → ℕ
-  stepNumber w = refusal (stepChecks (ringOf p w) (seenOf w) ++ lateRows p (stepMoves p g (seenOf w)) w)
-
-  -- "with the run as it was and every lent slice as it was", or the world after the step
-  unfoldable pub stepped : World → World
-  stepped w = pick (eqb (stepNumber w) 0) (worldAfter p (stepMoves p g (seenOf w)) w) w
-
--- the step as a rule of the ledger's engine
-abbrev pub floodRule : Plan → StepRule Given
-floodRule p = record { checks = λ ring g v. stepChecks p g ring v; moves = λ g v. stepMoves p g v }
-
 -- ---- what the public functions give
-
--- the answer, and the world afterwards with the run value that the answer tells
-pub record Steps (p : Plan) (g : Given) (w : World) (a : Answer) (depths lasts records : List ℕ) : Type 0 where
-  pub answer : a ≡ answered (stepNumber p g w) (stepped p g w .run)
-  pub depths-are : depths ≡ stepped p g w .depths
-  pub lasts-are : lasts ≡ stepped p g w .lasts
-  pub records-are : records ≡ stepped p g w .records
 
 -- the first of rows 1 to 6 of a run to an end that applies, 0 for none
 abbrev pub Checks : Plan → Given → ℕ → World → ℕ → Type 0

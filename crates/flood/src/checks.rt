@@ -31,7 +31,7 @@ ghost use Rattle.rule.specs.declared.rules.Rules as Declared;
 ghost use Rattle.ledger.specs.Runs.{plan, world, seenOf};
 ghost use Rattle.ledger.specs.Record.{roomSlots, ringOf};
 ghost use Rattle.ledger.specs.Checks.{oneEach};
-ghost use Rattle.flood.specs.Drops.{given, ground};
+ghost use Rattle.moves.specs.Given.{ground, given};
 ghost use Rattle.flood.specs.Refusals.{Checks, checkRows, endFine, groundsFine};
 
 // Refusal 2 for the ground of one square.

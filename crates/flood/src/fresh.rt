@@ -22,7 +22,7 @@ ghost use Rattle.grid.specs.Marks.{Marked, closed};
 ghost use Rattle.rule.specs.Rules.{sideFine};
 ghost use Rattle.ledger.specs.Runs.{plan};
 ghost use Rattle.ledger.specs.Checks.{oneEach};
-ghost use Rattle.flood.specs.Run.{Freshens, freshNumber};
+ghost use Rattle.flood.specs.Run.{Freshens, freshNumber, FreshRunMade};
 
 // Refusal 1: the shape and D are in range, and marks and last leaving have one number a square.
 fn sizes_fine(shape: Shape, rules: Rules, marks: &[u8], lasts: &[u32]) -> bool
@@ -83,20 +83,28 @@ fn clear_lasts(shape: Shape, marks: &[u8], lasts: &mut [u32])
     }
 }
 
+// The run value that a fresh run starts with, in a record room with so many slots.
+pub fn fresh_run(rules: Rules, slots: usize) -> Run
+    requires { ⌜ 0 < slots ⌝ }
+    ensures { λ r. ⌜ FreshRunMade rules slots r ⌝ }
+{
+    Run {
+        clock: 0,
+        length: rules.longest,
+        outflow: 0,
+        kept: 0,
+        newest: slots - 1,
+    }
+}
+
 // Starts a fresh run: the last leaving of squares not closed becomes 0, and the answer is the run.
 pub fn fresh(shape: Shape, rules: Rules, marks: &[u8], lasts: &mut [u32], records: &[u32]) -> Answer
-    ensures { λ r. ⌜ Freshens (plan shape (now (marks .entry))) rules (now (records .entry)) (now (lasts .entry)) r (now (lasts .exit)) ⌝ }
+    ensures { λ r. ⌜ Freshens (plan shape (now (marks .entry))) rules (now (lasts .entry)) (now (records .entry)) r (now (lasts .exit)) ⌝ }
 {
     let number = fresh_number(shape, rules, marks, lasts, records);
     if number != 0 {
         return Answer::Refused(number);
     }
     clear_lasts(shape, marks, lasts);
-    Answer::Done(Run {
-        clock: 0,
-        length: rules.longest,
-        outflow: 0,
-        kept: 0,
-        newest: slots_of(shape, records) - 1,
-    })
+    Answer::Done(fresh_run(rules, slots_of(shape, records)))
 }

@@ -5,4 +5,3 @@ pub mod RootLaws
 pub mod SizeLaws
 pub mod TableLaws
 pub mod TestLaws
-pub mod WorkedTables

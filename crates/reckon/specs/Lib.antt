@@ -6,4 +6,3 @@ pub mod RootSearch
 pub mod Roots
 pub mod Tables
 pub mod Tests
-pub mod Worked

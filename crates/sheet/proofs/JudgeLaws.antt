@@ -60,18 +60,14 @@ pub world-same : {d l l′ c c′ : List ℕ} {u u′ : Run} → l ≡ l′ → 
 world-same e f g = cc
 
 pub judge-is :
-    {number : ℕ} {lasts records : List ℕ} (shape : Shape) (r : Rules) (held : Rooms) (end : ℕ) →
-    number ≡
-    refusal
-    (runChecks (planIn shape r held) (givenIn shape r held) end
-    (world (held .depths) lasts records (record { clock = 0; length = r .longest; outflow = 0; kept = 0; newest = 0 }))) →
+    {number : ℕ} {lasts records : List ℕ} {u : Run} (shape : Shape) (r : Rules) (held : Rooms) (end : ℕ) →
+    number ≡ refusal (runChecks (planIn shape r held) (givenIn shape r held) end (world (held .depths) lasts records u)) → u ≡ freshRun r 1 →
     lasts ≡ noLasts shape r held → records ≡ noRecords shape r held → number ≡ checksIn shape r held end
-unfolding checksIn freshRun
-judge-is {number} {lasts} {records} shape r held end e l c =
+unfolding checksIn
+judge-is shape r held end e f l c =
     e
     ∙ ap (λ (w : World). refusal (runChecks (planIn shape r held) (givenIn shape r held) end w))
-    (world-same l c
-    (ap (λ (k : ℕ). record { clock = 0; length = r .longest; outflow = 0; kept = 0; newest = k - 1 }) (sym (one-slot shape r held))))
+    (world-same l c (f ∙ ap (freshRun r) (sym (one-slot shape r held))))
 
 -- ---- tables with a row too many
 

@@ -18,7 +18,7 @@ use Rattle.grid.specs.Marks.{closed}
 use Rattle.grid.proofs.MarkLaws.{closed-past}
 use Rattle.ledger.specs.Runs.{plan, world}
 use Rattle.ledger.specs.Record.{roomSlots}
-use Rattle.flood.specs.Drops.{ground, given}
+use Rattle.moves.specs.Given.{ground, given}
 use Rattle.flood.specs.Refusals.{runChecks}
 use Rattle.flood.specs.Run.{freshRun}
 use Rattle.text.proofs.ReadingLaws.{by-lt}
@@ -70,7 +70,7 @@ module _ (s : List ℕ) (before : Rooms) (h : Heading) (w : Well s before h) (la
       (take (squares (shapeOf s)) (roomsFilled s before .roughness))) t u)
       (lineTwo s .end)
       (world (take (squares (shapeOf s)) (roomsFilled s before .depths)) lasts records
-      (freshRun (plan (shapeOf s) m) (lineTwo s .rules) lasts records))) ≡ 0
+      (freshRun (lineTwo s .rules) (roomSlots (plan (shapeOf s) m) records)))) ≡ 0
 
   not-closed :
       (i : ℕ) → closed (said s .marks) i ≡ false →

@@ -24,8 +24,8 @@ use Rattle.ledger.specs.Checks.{oneEach, watersFine}
 use Rattle.ledger.specs.declared.runs.Run.{Run}
 use Rattle.ledger.specs.declared.runs.Answer.{Answer}
 use Rattle.ledger.specs.declared.runs.Answer.the-variants.{Done, Refused}
-use Rattle.flood.specs.Ready.{Ready}
-use Rattle.flood.specs.Drops.{ground, given}
+use Rattle.moves.specs.inner.Ready.{Ready}
+use Rattle.moves.specs.Given.{ground, given}
 use Rattle.flood.specs.Refusals.{groundsFine, checkRows, runChecks, stepChecks}
 use Rattle.flood.specs.Run.{Ended, runTo, freshRows, freshNumber, freshRun, freshLasts, Freshens}
 use Rattle.flood.proofs.CheckLaws.{ready, run-checks-step, checks-named}
@@ -80,17 +80,17 @@ module _ (shape : Shape) (r : Rules) (held : Rooms) (end : ℕ) (e : checksIn sh
 
   module _
       {lasts records new : List ℕ} {a : Answer} (h : lasts ≡ noLasts shape r held) (g : records ≡ noRecords shape r held)
-      (f : Freshens (planIn shape r held) r records lasts a new) where
-    same : Freshens (planIn shape r held) r (noRecords shape r held) (noLasts shape r held) a new
+      (f : Freshens (planIn shape r held) r lasts records a new) where
+    same : Freshens (planIn shape r held) r (noLasts shape r held) (noRecords shape r held) a new
     same =
-        subst (λ (c : List ℕ). Freshens (planIn shape r held) r c (noLasts shape r held) a new) g
-        (subst (λ (l : List ℕ). Freshens (planIn shape r held) r records l a new) h f)
+        subst (λ (c : List ℕ). Freshens (planIn shape r held) r (noLasts shape r held) c a new) g
+        (subst (λ (l : List ℕ). Freshens (planIn shape r held) r l records a new) h f)
 
-    pub starts : a ≡ Done (freshRun (planIn shape r held) r (noLasts shape r held) (noRecords shape r held))
+    pub starts : a ≡ Done (freshRun r (roomSlots (planIn shape r held) (noRecords shape r held)))
     unfolding answered
     starts =
         same .answer
-        ∙ ap (λ (k : ℕ). answered k (freshRun (planIn shape r held) r (noLasts shape r held) (noRecords shape r held))) fresh-zero
+        ∙ ap (λ (k : ℕ). answered k (freshRun r (roomSlots (planIn shape r held) (noRecords shape r held)))) fresh-zero
 
     pub starts-lasts : new ≡ noLasts shape r held
     starts-lasts = same .lasts-are ∙ lasts-zero
@@ -106,7 +106,7 @@ pub run-printed :
     x ≡ runTo (planIn (h .shape) (h .rules) held) (givenIn (h .shape) (h .rules) held) (h .end) (world (held .depths) lasts records u) →
     lasts ≡ noLasts (h .shape) (h .rules) held → records ≡ noRecords (h .shape) (h .rules) held →
     u ≡
-    freshRun (planIn (h .shape) (h .rules) held) (h .rules) (noLasts (h .shape) (h .rules) held) (noRecords (h .shape) (h .rules) held) →
+    freshRun (h .rules) (roomSlots (planIn (h .shape) (h .rules) held) (noRecords (h .shape) (h .rules) held)) →
     Prints (endedText (planIn (h .shape) (h .rules) held) x) old new k → Prints (runText h held) old new k
 unfolding runText
 run-printed h held {old = old} {new} {k = k} e l c u w =
@@ -138,7 +138,7 @@ pub run-passes :
     Handed shape r held beds roughness depths lasts records →
     refusal
     (runChecks (planIn shape r held) (given (ground r beds roughness) (held .rain) (held .inflow)) end
-    (world depths lasts records (freshRun (planIn shape r held) r lasts records))) ≡ 0
+    (world depths lasts records (freshRun r (roomSlots (planIn shape r held) records)))) ≡ 0
 unfolding checksIn checkRows freshRun oneEach watersFine waterFine groundsFine
 run-passes shape r held end e beds roughness depths lasts records g =
     let rows = refusal-passed _ tt e in

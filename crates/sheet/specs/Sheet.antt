@@ -15,8 +15,8 @@ use Rattle.grid.specs.declared.squares.Shape.{Shape}
 use Rattle.rule.specs.Rules.{sideFine}
 use Rattle.rule.specs.declared.rules.Rules.{Rules}
 use Rattle.ledger.specs.Runs.{Plan, World, plan, world}
-use Rattle.ledger.specs.Record.{recordSize}
-use Rattle.flood.specs.Drops.{Given, ground, given}
+use Rattle.ledger.specs.Record.{recordSize, roomSlots}
+use Rattle.moves.specs.Given.{Given, ground, given}
 use Rattle.flood.specs.Refusals.{runChecks}
 use Rattle.flood.specs.Run.{freshRun}
 use Rattle.text.specs.Reading.{lineOf, lineFrom}
@@ -177,7 +177,7 @@ module _ (shape : Shape) (r : Rules) (held : Rooms) where
   noRecords = replicate (recordSize planIn) 0
 
   abbrev pub startIn : World
-  startIn = world (held .depths) noLasts noRecords (freshRun planIn r noLasts noRecords)
+  startIn = world (held .depths) noLasts noRecords (freshRun r (roomSlots planIn noRecords))
 
   unfoldable pub checksIn : ℕ → ℕ
   checksIn end = refusal (runChecks planIn givenIn end startIn)

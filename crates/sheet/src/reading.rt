@@ -6,11 +6,11 @@ use crate::rooms::count_rows;
 use crate::rooms::fill_cells;
 use crate::rooms::fill_rows;
 use flood::checks::check;
+use flood::fresh::fresh_run;
 use grid::squares::Shape;
 use grid::squares::shape_fine;
 use grid::squares::squares_of;
 use ledger::record::record_size;
-use ledger::runs::Run;
 use reckon::ranges::MOST_ROWS;
 use rule::rules::Rules;
 use rule::rules::side_fine;
@@ -198,13 +198,7 @@ fn judge(
     let records = [0u32; RECORD_ROOM];
     let squares = squares_of(shape);
     let size = record_size(shape);
-    let run = Run {
-        clock: 0,
-        length: rules.longest,
-        outflow: 0,
-        kept: 0,
-        newest: 0,
-    };
+    let run = fresh_run(rules, 1);
     check(
         shape,
         rules,

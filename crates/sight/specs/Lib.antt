@@ -3,4 +3,3 @@ pub mod inner
 pub mod Refusals
 pub mod Speeds
 pub mod WetRows
-pub mod Worked

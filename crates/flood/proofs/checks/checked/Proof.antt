@@ -10,7 +10,7 @@ use Rattle.reckon.specs.Tests.{Row, refusal}
 use Rattle.reckon.proofs.TestLaws.{each-every, every-fails, refusal-here, refusal-later, passed-refusal}
 use Rattle.ledger.specs.Runs.{plan, runFine, world, seenOf}
 use Rattle.ledger.specs.Record.{roomSlots, ringOf}
-use Rattle.flood.specs.Drops.{given, ground}
+use Rattle.moves.specs.Given.{ground, given}
 use Rattle.flood.specs.Refusals.{checkRows}
 use Rattle.flood.proofs.CheckLaws.{fails-by, holds-by, lent-fine, lent-marked, lent-ground, lent-water, run-fine-by}
 use Rattle.flood.proofs.checks.checked.Statement.{statement}

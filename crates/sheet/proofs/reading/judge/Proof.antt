@@ -19,21 +19,30 @@ squares-of-requires c κs = (c .before .before .before .before .before .before .
 record-size-requires : tie.Need-record-size-requires
 record-size-requires c κs = (c .before .before .before .before .before .before .before .pre)
 
+fresh-run-requires : tie.Need-fresh-run-requires
+fresh-run-requires c κs = search needs
+
 array-share-prefix-lasts : tie.Need-array-share-prefix-lasts
-array-share-prefix-lasts c = omega (arith, c .before .squares-of .ensures, c .before .before .before .before .before .before .before .before .pre .few)
+array-share-prefix-lasts c =
+    let at-squares-of = c .before .before in
+    let start = at-squares-of .before .before .before .before .before .before .before in
+    omega (arith, at-squares-of .squares-of .ensures, start .pre .few)
 
 slice-aggregate-check : tie.Need-slice-aggregate-check
 slice-aggregate-check c =
-    let at-squares-of = c .before .before in
+    let at-squares-of = c .before .before .before in
     let start = at-squares-of .before .before .before .before .before .before .before in
     sym (length-take-le _ _ (omega (arith, at-squares-of .squares-of .ensures, start .pre .few, length-replicate {A = ℕ} 4096 0)))
 
 array-share-prefix-records : tie.Need-array-share-prefix-records
-array-share-prefix-records c = omega (arith, c .before .record-size .ensures, c .before .before .before .before .before .before .before .before .before .pre .few)
+array-share-prefix-records c =
+    let at-record-size = c .before .before in
+    let start = at-record-size .before .before .before .before .before .before .before .before in
+    omega (arith, at-record-size .record-size .ensures, start .pre .few)
 
 slice-aggregate-check-2 : tie.Need-slice-aggregate-check-2
 slice-aggregate-check-2 c =
-    let at-record-size = c .before .before in
+    let at-record-size = c .before .before .before in
     let start = at-record-size .before .before .before .before .before .before .before .before in
     sym (length-take-le _ _ (omega (arith, at-record-size .record-size .ensures, start .pre .few, length-replicate {A = ℕ} 24578 0)))
 
@@ -42,11 +51,12 @@ check-requires c κs = search needs
 
 returns : tie.Need-returns
 returns c =
-    let at-record-size = c .before .before .before in
+    let at-fresh-run = c .before .before .before in
+    let at-record-size = at-fresh-run .before in
     let at-squares-of = at-record-size .before in
     let start = at-squares-of .before .before .before .before .before .before .before in
     let small : recordSize (plan (start .args .shape) []) ≤ 24578 = omega (arith, start .pre .few) in judge-is _ _ _ _
-    (c .check .ensures) (zeros-are _ _ (at-squares-of .squares-of .ensures) (start .pre .few))
+    (c .check .ensures) (at-fresh-run .fresh-run .ensures) (zeros-are _ _ (at-squares-of .squares-of .ensures) (start .pre .few))
     (zeros-are _ _ (at-record-size .record-size .ensures) small)
 
 pub judge-spec : {M : Type 1} → statement M
@@ -55,6 +65,7 @@ judge-spec =
     (tie.spec
     squares-of-requires
     record-size-requires
+    fresh-run-requires
     array-share-prefix-lasts
     slice-aggregate-check
     array-share-prefix-records
