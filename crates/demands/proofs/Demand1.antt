@@ -14,7 +14,7 @@ use Rattle.reckon.proofs.RootLaws.{root-unique}
 use Rattle.rule.specs.declared.rules.Rules.{Rules}
 use Rattle.ledger.specs.Runs.{Plan, World, world}
 use Rattle.ledger.specs.After.{lateRows}
-use Rattle.ledger.specs.TakeBack.{TakesBack, backRows, backNumber}
+use Rattle.ledger.specs.TakeBack.{TakesBack, lookRows, backRows, backNumber}
 use Rattle.ledger.specs.inner.Settle.{SettlesTo}
 use Rattle.ledger.specs.declared.runs.Answer.{Answer}
 use Rattle.ledger.specs.declared.settle.Settled.{Settled}
@@ -135,6 +135,7 @@ grid-determined =
       marks-fine = λ s marks. exactly;
       inflow-squares-fine = λ s marks rows. exactly;
       row-mask = λ marks numbers least first columns. exactly;
+      mask-rows = λ s marks depths least. exactly;
       ones = λ mask. exactly;
       next-set = λ mask column. exactly;
     }
@@ -192,7 +193,6 @@ sight-determined : SightDetermined
 sight-determined =
     record {
       arrow = λ p D w row column. exactly;
-      mask-rows = λ p depths least. exactly;
       ones-in = λ rows. exactly;
       wet-rows = λ p depths least old. wet-one;
     }
@@ -293,7 +293,7 @@ table-says rows t =
     }
 
 exactly-when : (p : Plan) → ExactlyWhen p
-unfolding stepNumber checkRows lateRows backNumber backRows freshNumber freshRows arrowNumber arrowRows earlyRows sharedRows wetNumber wetRefusals
+unfolding stepNumber checkRows lateRows backNumber lookRows backRows freshNumber freshRows arrowNumber arrowRows earlyRows sharedRows wetNumber wetRefusals
 exactly-when p =
     record {
       step = λ g w. table-says _ tt;

@@ -30,7 +30,7 @@ use Rattle.ledger.specs.Flows.{shut, gone, sent, came, offSide, offSquare, offG
 use Rattle.ledger.specs.Record.{squareWords, recordSize, wordPlace, newestRecord, leavesIn, lastIn, addedIn, squareRecord, recordOf, roomSlots, ringOf}
 use Rattle.ledger.specs.After.{Moves, remains, newDepth, depthsFit, newOutflow, lateRows, stepRecord, worldAfter}
 use Rattle.ledger.specs.Checks.{oneEach, watersFine, timesFine}
-use Rattle.ledger.specs.TakeBack.{heldAndGone, cameAndAdded, depthBefore, squareRestorable, restorable, worldBefore, backRows, backNumber, takenBack}
+use Rattle.ledger.specs.TakeBack.{heldAndGone, cameAndAdded, depthBefore, squareRestorable, restorable, worldBefore, lookRows, backRows, backNumber, takenBack}
 use Rattle.ledger.specs.Walls.{Untouched}
 use Rattle.ledger.proofs.ReadBack.{step-long, closed-read}
 use Rattle.ledger.proofs.Walls.{goes-where, after-untouched, back-untouched}
@@ -409,7 +409,7 @@ module _ (p : Plan) where
     newest-same = subst (λ (u : Run). SameRecord p (newestRecord p w) (recordIn (recordSize p) (v .records) (u .newest))) (W .run) (W .records .slots (w .run .newest))
 
     back-number-same : backNumber p w ≡ backNumber p v
-    unfolding backNumber backRows
+    unfolding backNumber lookRows backRows
     back-number-same =
         rw (
           restorable-same newest-same W,

@@ -16,7 +16,7 @@ use Rattle.reckon.specs.Tables.{RainBy, InflowBy, RainAdded, InflowAdded, RainF
 use Rattle.trials.specs.Ring.{SlotsIn, SlotStart, SlotAfter, SlotBefore, KeptAfter, RingFine}
 use Rattle.grid.specs.Squares.{ShapeJudged, SquaresOf, SquareFound, NextColumn, BesideOn, OppositeOf, RimJudged}
 use Rattle.grid.specs.Marks.{ClosedJudged, ExitJudged, MarksJudged, InflowSquaresJudged}
-use Rattle.grid.specs.Masks.{RowMasked, OnesOf, NextFound}
+use Rattle.grid.specs.Masks.{RowMasked, Masked, OnesOf, NextFound}
 use Rattle.grid.specs.declared.squares.Shape.{Shape}
 use Rattle.rule.specs.Drops.{DropTo, DropOff}
 use Rattle.rule.specs.Length.{Shorter, HeldLength, IsUpdate, LastsFor}
@@ -39,7 +39,7 @@ use Rattle.flood.specs.Run.{Ended, ended, runTo, RunsTo, freshRows, freshNumber
 use Rattle.flood.specs.Fill.{MakesStep}
 use Rattle.flood.specs.declared.run.Ran.{Ran}
 use Rattle.sight.specs.Arrows.{Sees, arrowRows, arrowNumber}
-use Rattle.sight.specs.WetRows.{Masked, OnesIn, WetRowed, wetRefusals, wetNumber}
+use Rattle.sight.specs.WetRows.{OnesIn, WetRowed, wetRefusals, wetNumber}
 use Rattle.sight.specs.declared.wet_rows.Wet.{Wet}
 use Rattle.text.specs.Reading.{ByteIs, WordAt, FieldAt, FieldsAt, RestOfLine, LineOf, NextLine, LineCount}
 use Rattle.text.specs.Reading as Reading
@@ -97,6 +97,7 @@ pub record GridDetermined : Type 0 where
   pub marks-fine : (s : Shape) (marks : List ℕ) → One (MarksJudged s marks)
   pub inflow-squares-fine : (s : Shape) (marks rows : List ℕ) → One (InflowSquaresJudged s marks rows)
   pub row-mask : (marks numbers : List ℕ) (least first columns : ℕ) → One (RowMasked marks numbers least first columns)
+  pub mask-rows : (s : Shape) (marks depths : List ℕ) (least : ℕ) → One (Masked s marks depths least)
   pub ones : (mask : ℕ) → One (OnesOf mask)
   pub next-set : (mask column : ℕ) → One (NextFound mask column)
 
@@ -146,7 +147,6 @@ pub record FloodDetermined : Type 0 where
 
 pub record SightDetermined : Type 0 where
   pub arrow : (p : Plan) (D : ℕ) (w : World) (row column : ℕ) → One (Sees p D w row column)
-  pub mask-rows : (p : Plan) (depths : List ℕ) (least : ℕ) → One (Masked p depths least)
   pub ones-in : (rows : List ℕ) → One (OnesIn rows)
   pub wet-rows : (p : Plan) (depths : List ℕ) (least : ℕ) (old : List ℕ) → One {Out = Wet × List ℕ} (λ o. WetRowed p depths least old (o .0) (o .1))
 

@@ -10,7 +10,8 @@ use lib.Ieee.{Float}
 use Rattle.reckon.specs.Tests.{pick}
 use Rattle.ledger.specs.Runs.{Plan, World}
 use Rattle.sight.specs.Arrows.{seenAt}
-use Rattle.sight.specs.WetRows.{onesOver, wetMasks, wetNumber}
+use Rattle.grid.specs.Masks.{wetMasks}
+use Rattle.sight.specs.WetRows.{onesOver, wetNumber}
 use Rattle.sight.specs.declared.arrows.Sight.{Sight}
 use Rattle.sight.specs.declared.arrows.Sight.the-variants.{Closed, Dry, Still, Moving, Refused}
 use Rattle.sight.specs.declared.wet_rows.Wet.{Wet}
@@ -59,5 +60,5 @@ module _ (p : Plan) (depths : List ℕ) (least : ℕ) (oldRows oldCount : List �
 
   pub record ExportsWet (number : ℕ) (rows count : List ℕ) : Type 0 where
     pub number-is : number ≡ wetGives
-    pub rows-are : rows ≡ unlessRefused wetGives (wetMasks p depths least) oldRows
-    pub count-is : count ≡ unlessRefused wetGives (onesOver (wetMasks p depths least) ∷ []) oldCount
+    pub rows-are : rows ≡ unlessRefused wetGives (wetMasks (p .shape) (p .marks) depths least) oldRows
+    pub count-is : count ≡ unlessRefused wetGives (onesOver (wetMasks (p .shape) (p .marks) depths least) ∷ []) oldCount
