@@ -94,8 +94,8 @@ module _ (p : Plan) (depths : List ℕ) (least : ℕ) (oldRows oldCount : List �
       let one : wetGives p depths least oldRows oldCount ≡ 1 = unsized-number _ (ne-eqb (length oldCount) countSize d) in
       record {
         number-is = sym one;
-        rows-are = sym (refused-leaves (wetMasks p depths least) oldRows one);
-        count-is = sym (refused-leaves (onesOver (wetMasks p depths least) ∷ []) oldCount one);
+        rows-are = sym (refused-leaves (wetMasks (p .shape) (p .marks) depths least) oldRows one);
+        count-is = sym (refused-leaves (onesOver (wetMasks (p .shape) (p .marks) depths least) ∷ []) oldCount one);
       }
 
   pub wet-told :
@@ -104,11 +104,11 @@ module _ (p : Plan) (depths : List ℕ) (least : ℕ) (oldRows oldCount : List �
   unfolding unlessRefused
   wet-told h f t =
       let n = wetNumber p depths least (length oldRows) in
-      let k = onesOver (wetMasks p depths least) in
+      let k = onesOver (wetMasks (p .shape) (p .marks) depths least) in
       let gives : wetGives p depths least oldRows oldCount ≡ n = sized-number (eq-eqb (length oldCount) countSize h) in
       record {
         number-is = t .0 ∙ (ap wetNumberOf (f .answer) ∙ (number-counted n k ∙ sym gives));
-        rows-are = f .rows-are ∙ ap (λ (m : ℕ). unlessRefused m (wetMasks p depths least) oldRows) (sym gives);
+        rows-are = f .rows-are ∙ ap (λ (m : ℕ). unlessRefused m (wetMasks (p .shape) (p .marks) depths least) oldRows) (sym gives);
         count-is =
             t .1
             ∙ (ap (λ (z : Wet). countIn z oldCount) (f .answer)

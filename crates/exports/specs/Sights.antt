@@ -60,5 +60,5 @@ module _ (p : Plan) (depths : List ℕ) (least : ℕ) (oldRows oldCount : List �
 
   pub record ExportsWet (number : ℕ) (rows count : List ℕ) : Type 0 where
     pub number-is : number ≡ wetGives
-    pub rows-are : rows ≡ unlessRefused wetGives (wetMasks p depths least) oldRows
-    pub count-is : count ≡ unlessRefused wetGives (onesOver (wetMasks p depths least) ∷ []) oldCount
+    pub rows-are : rows ≡ unlessRefused wetGives (wetMasks (p .shape) (p .marks) depths least) oldRows
+    pub count-is : count ≡ unlessRefused wetGives (onesOver (wetMasks (p .shape) (p .marks) depths least) ∷ []) oldCount

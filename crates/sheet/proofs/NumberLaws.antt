@@ -14,6 +14,7 @@ use Rattle.reckon.proofs.TestLaws.{not-both, every-each, each-every}
 use Rattle.reckon.proofs.ListLaws.{length-filled}
 use Rattle.grid.specs.Squares.{squares, shapeFine}
 use Rattle.rule.specs.Rules.{sideFine, rulesFine}
+use Rattle.ledger.specs.Runs.{runValuesFine}
 use Rattle.ledger.specs.Record.{roomSlots}
 use Rattle.ledger.specs.Checks.{oneEach}
 use Rattle.flood.specs.Refusals.{checkRows}
@@ -95,7 +96,7 @@ module _ (s : List ℕ) (lent : Rooms) (f : roomsFine (shapeOf s) (lineOne s .ru
   never-one q = table-one _ _ _ _ _ _ row-one q
 
   pub never-six : checksOf s ≡ 6 → ⊥
-  unfolding checksIn checkRows freshRun rulesFine
+  unfolding checksIn checkRows runValuesFine freshRun rulesFine
   never-six q =
       let both = table-six _ _ _ _ _ _ row-one q in
       let rules = every-each _ (every-each _ (both .0) .0) in
