@@ -40,9 +40,6 @@ CONSTANTS = [
     ("STILL", "exports", "STILL"),
 ]
 
-# where the rules stand in a heading, so that they go into a call from there
-HEADING_RULES = 2
-
 # the table of document 01, from 1
 REFUSALS = [
     ("SHAPE", "shape or D out of range, an array of another size than it must have, an asked square off the grid"),
@@ -139,6 +136,11 @@ def constant(crate, name):
     return kind, number.replace("_", "")
 
 
+def heading_rules():
+    """Where the rules stand in a heading, so that they go into a call from there."""
+    return re.search(r"room\[(\d+)\] = rules\.square_side;", (SOURCES / "answers.rt").read_text()).group(1)
+
+
 def functions():
     for file in ("steps.rt", "sights.rt", "sheets.rt"):
         for comment, name, parameters, result in FUNCTION.findall((SOURCES / file).read_text()):
@@ -190,7 +192,7 @@ def header():
     text += "\n"
     for name, crate, source in CONSTANTS:
         text += named(name, constant(crate, source)[1])
-    text += named("HEADING_RULES", HEADING_RULES)
+    text += named("HEADING_RULES", heading_rules())
     head, square = constant("ledger", "HEAD_WORDS")[1], constant("ledger", "SQUARE_WORDS")[1]
     text += named("RECORD_NUMBERS(rows, columns)", f"({head} + {square} * (size_t)(rows) * (size_t)(columns))", "of one record")
     text += named("STACK_BYTES", f"({max(STACK.values())} * 1024)", "suffice for every call") + "\n"
