@@ -1,4 +1,5 @@
-"""crates/exports/flood.h says what the exported functions take and give, and every exported function stands in it."""
+"""crates/exports/flood.h and tests/outside/declared.rs say what the exported functions take and give, and every exported function stands
+in them, with the stack that suffices for it."""
 
 import re
 import sys
@@ -9,14 +10,15 @@ sys.path.insert(0, str(ROOT / "tools"))
 
 import header
 
-stored = header.HEADER.read_text()
-if stored != header.header():
-    sys.exit("header: crates/exports/flood.h is not what tools/header.py makes of the sources")
+for stored, made in ((header.HEADER, header.header()), (header.DECLARED, header.declared())):
+    if stored.read_text() != made:
+        sys.exit(f"header: {stored.relative_to(ROOT)} is not what tools/header.py makes of the sources")
 
 exported = set()
 for source in header.SOURCES.glob("*.rt"):
     exported |= set(re.findall(r"extern \"C\" fn (\w+)", source.read_text()))
-declared = set(re.findall(r"\b(flood_\w+)\(", stored))
-if exported != declared:
-    sys.exit(f"header: exported and not declared, or the reverse: {sorted(exported ^ declared)}")
-print(f"header: {len(declared)} functions declared as they are exported")
+declared = set(re.findall(r"\b(flood_\w+)\(", header.header()))
+for what, names in (("declared", declared), ("measured", set(header.STACK))):
+    if exported != names:
+        sys.exit(f"header: exported and not {what}, or the reverse: {sorted(exported ^ names)}")
+print(f"header: {len(declared)} functions declared as they are exported, in C and in Rust")

@@ -57,8 +57,10 @@ tools() {
     esac
 }
 
-# archive: proves and builds target/staticlib/libexports.a
+# archive: proves and builds target/staticlib/libexports.a, unless it is newer than everything that it is made of
 archive() {
+    local made_of=(crates.txt crates '(' -type d -o -name '*.rt' -o -name '*.antt' -o -name crates.txt ')')
+    [ -n "$(find "${made_of[@]}" -newer target/staticlib/libexports.a 2>&1 | head -n 1)" ] || return 0
     if ! rt staticlib exports >"$built/staticlib.log" 2>&1; then
         echo "outside: rt staticlib exports failed:"
         tail -n 20 "$built/staticlib.log"

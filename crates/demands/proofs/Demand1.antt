@@ -5,7 +5,7 @@ use Prim.Native.Nat.{_-_}
 use borrow.Author.Tests.{ne-eqb}
 use Rattle.reckon.proofs.TestLaws.{pick-false}
 use Rattle.ledger.specs.Runs.{Plan}
-use Rattle.ledger.specs.TakeBack.{backRows, backNumber}
+use Rattle.ledger.specs.TakeBack.{backRows, backNumber, lookRows}
 use Rattle.ledger.specs.After.{lateRows}
 use Rattle.ledger.proofs.Bridge.{refused-stays}
 use Rattle.flood.specs.Refusals.{checkRows}
@@ -25,7 +25,7 @@ use Rattle.demands.proofs.Exported.{exports-exactly-when, exports-leave
 -- ---- refusals
 
 exactly-when : (p : Plan) → ExactlyWhen p
-unfolding stepNumber checkRows lateRows backNumber backRows freshNumber freshRows arrowNumber arrowRows earlyRows sharedRows wetNumber wetRefusals
+unfolding stepNumber checkRows lateRows backNumber lookRows backRows freshNumber freshRows arrowNumber arrowRows earlyRows sharedRows wetNumber wetRefusals
 exactly-when p =
     record {
       step = λ g w. table-says _ tt;

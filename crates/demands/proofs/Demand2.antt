@@ -33,13 +33,12 @@ use Rattle.ledger.specs.Flows.{shut, gone, sent, came, offSide, offSquare, offG
 use Rattle.ledger.specs.Record.{squareWords, recordSize, wordPlace, newestRecord, leavesIn, lastIn, addedIn, squareRecord, recordOf, roomSlots, ringOf}
 use Rattle.ledger.specs.After.{Moves, remains, newDepth, depthsFit, newOutflow, lateRows, stepRecord, worldAfter}
 use Rattle.ledger.specs.Checks.{oneEach, watersFine, timesFine}
-use Rattle.ledger.specs.TakeBack.{heldAndGone, cameAndAdded, depthBefore, squareRestorable, restorable, worldBefore, backRows, backNumber, takenBack}
+use Rattle.ledger.specs.TakeBack.{heldAndGone, cameAndAdded, depthBefore, squareRestorable, restorable, worldBefore, backRows, backNumber, takenBack, lookRows}
 use Rattle.ledger.specs.Walls.{Walled, Untouched}
 use Rattle.ledger.proofs.ReadBack.{step-long, closed-read}
 use Rattle.ledger.proofs.Walls.{goes-where, walls-stay-dry, after-untouched, back-untouched}
 use Rattle.ledger.specs.declared.runs.Run.{Run}
-use Rattle.moves.specs.Given.{Given, ground}
-use Rattle.moves.specs.Given.{given}
+use Rattle.moves.specs.Given.{Given, ground, given}
 use Rattle.moves.specs.Drops.{sideDrop, dropsOf}
 use Rattle.moves.specs.Moves.{squareCandidates, candidates, leavesFor, addedFor, stepLength, stepLasts, stepMoves}
 use Rattle.flood.specs.Refusals.{groundsFine, checkRows, stepChecks, runChecks}
@@ -428,7 +427,7 @@ module _ (p : Plan) where
     newest-same = subst (λ (u : Run). SameRecord p (newestRecord p w) (recordIn (recordSize p) (v .records) (u .newest))) (W .run) (W .records .slots (w .run .newest))
 
     back-number-same : backNumber p w ≡ backNumber p v
-    unfolding backNumber backRows
+    unfolding backNumber lookRows backRows
     back-number-same =
         rw (
           restorable-same newest-same W,
@@ -449,7 +448,7 @@ module _ (p : Plan) where
     unfolding freshNumber freshRows
     fresh-number-same = rw (one-each-same L, slots-same R)
 
-    fresh-run-same : freshRun p r lasts records ≡ freshRun p r others rooms
+    fresh-run-same : freshRun r (roomSlots p records) ≡ freshRun r (roomSlots p rooms)
     unfolding freshRun
     fresh-run-same = rw (slots-same R)
 

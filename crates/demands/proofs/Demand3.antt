@@ -23,7 +23,7 @@ use Rattle.trials.proofs.Standing.{never-made}
 use Rattle.grid.specs.Squares.{squares}
 use Rattle.rule.proofs.RuleLaws.{rules-are}
 use Rattle.rule.specs.declared.rules.Rules.{Rules}
-use Rattle.ledger.specs.Runs.{Plan, World, world, runFine, answered, Seen, seenOf}
+use Rattle.ledger.specs.Runs.{Plan, World, world, answered, Seen, seenOf}
 use Rattle.ledger.specs.Flows.{shut}
 use Rattle.ledger.specs.Record.{roomSlots, newestRecord}
 use Rattle.ledger.specs.After.{worldAfter}
@@ -300,11 +300,11 @@ module _ (p : Plan) where
       is-ten = refusal-here 10 _ (ap not (eq-eqb _ _ (F .kept-none)))
 
       look-passed : refusal look ≡ 0 → backNumber p f ≡ 10
-      unfolding backNumber backRows lookRows runFine
+      unfolding backNumber backRows lookRows
       look-passed e = refusal-second look lastRows tt e ∙ is-ten
 
       look-failed : (refusal look ≡ 0 → ⊥) → backNumber p f ≡ refusal look
-      unfolding backNumber backRows lookRows runFine
+      unfolding backNumber backRows lookRows
       look-failed d = refusal-first look lastRows tt d
 
       low : (a b c d : Bool) → refusal (1 unless a ∷ 2 unless b ∷ 3 unless c ∷ 6 unless d ∷ []) ≤ 6
@@ -328,16 +328,16 @@ module _ (p : Plan) where
 
   -- ---- what `fresh` answers is a fresh run
 
-  module _ (r : Rules) (depths records before lasts : List ℕ) (u : Run) (a : Freshens p r records before (Done u) lasts) where
+  module _ (r : Rules) (depths records before lasts : List ℕ) (u : Run) (a : Freshens p r before records (Done u) lasts) where
     record Freshened : Type 0 where
       number : freshNumber p r before records ≡ 0
-      run-is : u ≡ freshRun p r before records
+      run-is : u ≡ freshRun r (roomSlots p records)
 
     freshened : Freshened
     unfolding answered
     freshened = go (freshNumber p r before records) refl (a .answer)
       where
-        go : (n : ℕ) → freshNumber p r before records ≡ n → Done u ≡ answered n (freshRun p r before records) → Freshened
+        go : (n : ℕ) → freshNumber p r before records ≡ n → Done u ≡ answered n (freshRun r (roomSlots p records)) → Freshened
         go zero z e = record { number = z; run-is = cc }
         go (suc n) z e = absurd (let y : _≡_ {A = ℕ} 0 1 = cc in omega arith)
 
@@ -355,7 +355,7 @@ module _ (p : Plan) where
     tests-passed = refusal-passed (freshRows p r before records) tt (freshened .number)
 
     abbrev f : World
-    f = world depths lasts records (freshRun p r before records)
+    f = world depths lasts records (freshRun r (roomSlots p records))
 
     lasts-cleared : lasts ≡ filled (squares (p .shape)) (shut p) (λ i. 0) before
     unfolding freshLasts

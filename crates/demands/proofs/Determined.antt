@@ -20,6 +20,7 @@ use Rattle.text.specs.Writing.{Wrote}
 use Rattle.sheet.specs.Sheet.{Rooms, Reads, roomsAfter}
 use Rattle.sheet.specs.declared.reading.Sheet.{Sheet}
 use Rattle.demands.specs.Determined.{One, ReckonDetermined, TrialsDetermined, GridDetermined, RuleDetermined, LedgerDetermined, FloodDetermined, SightDetermined, TextDetermined, SheetDetermined, ExportsDetermined, Determined}
+use Rattle.demands.specs.Determined.{MovesDetermined}
 
 -- ---- one outcome
 
@@ -50,7 +51,7 @@ step-on-one a b x y = same-four (x .number ∙ sym (y .number)) (x .world-is ∙
 taken-one : {p : Plan} {w : World} → One {Out = Answer × (List ℕ × List ℕ)} (λ o. TakesBack p w (o .0) (o .1 .0) (o .1 .1))
 taken-one a b x y = λ j. ((x .answer ∙ sym (y .answer)) j, ((x .depths-are ∙ sym (y .depths-are)) j, (x .lasts-are ∙ sym (y .lasts-are)) j))
 
-fresh-one : {p : Plan} {r : Rules} {records before : List ℕ} → One {Out = Answer × List ℕ} (λ o. Freshens p r records before (o .0) (o .1))
+fresh-one : {p : Plan} {r : Rules} {before records : List ℕ} → One {Out = Answer × List ℕ} (λ o. Freshens p r before records (o .0) (o .1))
 fresh-one a b x y = λ j. ((x .answer ∙ sym (y .answer)) j, (x .lasts-are ∙ sym (y .lasts-are)) j)
 
 step-one : {p : Plan} {g : Given} {w : World} → One {Out = Answer × (List ℕ × (List ℕ × List ℕ))} (λ o. Steps p g w (o .0) (o .1 .0) (o .1 .1 .0) (o .1 .1 .1))
@@ -121,6 +122,7 @@ grid-determined =
       marks-fine = λ s marks. exactly;
       inflow-squares-fine = λ s marks rows. exactly;
       row-mask = λ marks numbers least first columns. exactly;
+      mask-rows = λ s marks depths least. exactly;
       ones = λ mask. exactly;
       next-set = λ mask column. exactly;
     }
@@ -164,11 +166,23 @@ ledger-determined =
       take-back = λ p w. taken-one;
     }
 
+moves-determined : MovesDetermined
+moves-determined =
+    record {
+      step-length = λ p o depths clock held. exactly;
+      add-water =
+          λ p g start end old a b x y.
+          let same = x .fits-is ∙ sym (y .fits-is) in
+          (same, λ t. x .stored t ∙ sym (y .stored (sym same ∙ t)));
+      fill = λ p o depths lasts added held ms. exactly;
+    }
+
 flood-determined : FloodDetermined
 flood-determined =
     record {
       check = λ p g end w. exactly;
-      fresh = λ p r records before. fresh-one;
+      fresh = λ p r before records. fresh-one;
+      fresh-run = λ r slots. exactly;
       step = λ p g w. step-one;
       step-on = λ p g w. step-on-one;
       run-to = λ p g end w. run-one;
@@ -178,7 +192,6 @@ sight-determined : SightDetermined
 sight-determined =
     record {
       arrow = λ p D w row column. exactly;
-      mask-rows = λ p depths least. exactly;
       ones-in = λ rows. exactly;
       wet-rows = λ p depths least old. wet-one;
     }
@@ -210,10 +223,10 @@ exports-determined : ExportsDetermined
 exports-determined =
     record {
       fresh =
-          λ p r records before old a b x y.
+          λ p r before records rules old a b x y.
           (λ j. ((x .number-is ∙ sym (y .number-is)) j, ((x .lasts-are ∙ sym (y .lasts-are)) j, (x .run-is ∙ sym (y .run-is)) j)));
       step =
-          λ p g w old a b x y.
+          λ p g w rules old a b x y.
           (λ j. (
             (x .number-is ∙ sym (y .number-is)) j,
             (
@@ -222,12 +235,15 @@ exports-determined =
             ),
           ));
       run-to =
-          λ p g end w old a b x y.
+          λ p g end w rules old oldSteps a b x y.
           (λ j. (
             (x .number-is ∙ sym (y .number-is)) j,
             (
               (x .depths-are ∙ sym (y .depths-are)) j,
-              ((x .lasts-are ∙ sym (y .lasts-are)) j, ((x .records-are ∙ sym (y .records-are)) j, (x .run-is ∙ sym (y .run-is)) j)),
+              (
+                (x .lasts-are ∙ sym (y .lasts-are)) j,
+                ((x .records-are ∙ sym (y .records-are)) j, ((x .run-is ∙ sym (y .run-is)) j, (x .steps-are ∙ sym (y .steps-are)) j)),
+              ),
             ),
           ));
       take-back =
@@ -236,7 +252,7 @@ exports-determined =
             (x .number-is ∙ sym (y .number-is)) j,
             ((x .depths-are ∙ sym (y .depths-are)) j, ((x .lasts-are ∙ sym (y .lasts-are)) j, (x .run-is ∙ sym (y .run-is)) j)),
           ));
-      arrow = λ p D w row column old a b x y. (λ j. ((x .number-is ∙ sym (y .number-is)) j, (x .speeds-are ∙ sym (y .speeds-are)) j));
+      arrow = λ p D w row column run old a b x y. (λ j. ((x .number-is ∙ sym (y .number-is)) j, (x .speeds-are ∙ sym (y .speeds-are)) j));
       wet-rows =
           λ p depths least old-rows old-count a b x y.
           (λ j. ((x .number-is ∙ sym (y .number-is)) j, ((x .rows-are ∙ sym (y .rows-are)) j, (x .count-is ∙ sym (y .count-is)) j)));
@@ -259,6 +275,7 @@ determined =
       grid = grid-determined;
       rule = rule-determined;
       ledger = ledger-determined;
+      moves = moves-determined;
       flood = flood-determined;
       sight = sight-determined;
       text = text-determined;

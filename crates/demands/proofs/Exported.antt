@@ -15,7 +15,7 @@ use Rattle.reckon.proofs.TestLaws.{pick-true, pick-false, and-right}
 use Rattle.rule.specs.declared.rules.Rules.{Rules}
 use Rattle.ledger.specs.Runs.{Plan, World}
 use Rattle.ledger.specs.After.{lateRows}
-use Rattle.ledger.specs.TakeBack.{backRows, backNumber}
+use Rattle.ledger.specs.TakeBack.{backRows, backNumber, lookRows}
 use Rattle.moves.specs.Given.{Given}
 use Rattle.flood.specs.Refusals.{checkRows, runChecks}
 use Rattle.flood.specs.Step.{stepNumber}
@@ -35,10 +35,9 @@ use Rattle.sheet.specs.Printed.{meadowText}
 use Rattle.sheet.specs.declared.reading.Sheet.{Sheet}
 use Rattle.sheet.specs.declared.reading.Sheet.the-variants.{Read}
 use Rattle.sheet.specs.declared.reading.Sheet.the-variants as Reading
-use Rattle.exports.specs.Numbers.{runValueFrom, bothSized}
-use Rattle.exports.specs.Answers.{runNumbers, runSize, countSize, numberIf, lastCheck}
-use Rattle.exports.specs.Steps.{unlessRefused, ExportsFresh, ExportsStep, ExportsRun, ExportsBack, freshGives, stepGives, backGives, ranSized}
-use Rattle.exports.specs.Refusals.{unlessChecks}
+use Rattle.exports.specs.Numbers.{runValueFrom, runNumbers, runSize, countSize}
+use Rattle.exports.specs.Steps.{bothSized, ExportsFresh, ExportsStep, ExportsRun, ExportsBack, freshGives, stepGives, backGives, ranSized}
+use Rattle.exports.specs.Refusals.{numberIf, lastCheck, unlessRefused, unlessChecks}
 use Rattle.exports.specs.Sights.{ExportsWet, arrowSized, sightNumber, speedsIn, wetGives}
 use Rattle.exports.specs.Sheets.{sheetSized, sheetNumber, sheetLine, headingIn}
 use Rattle.demands.specs.Closed.{SameOpen, SameGiven, SameRoom, SameWorld}
@@ -74,10 +73,10 @@ below-sized true l f e = e ∙ f (subst (λ (n : ℕ). n < 100) e l)
 below-sized false l f e = e
 
 pub exports-exactly-when : (p : Plan) → ExportsExactlyWhen p
-unfolding freshNumber freshRows stepNumber checkRows lateRows backNumber backRows arrowNumber arrowRows earlyRows sharedRows wetNumber wetRefusals numberIf seenAt seenBy
+unfolding freshNumber freshRows stepNumber checkRows lateRows backNumber lookRows backRows arrowNumber arrowRows earlyRows sharedRows wetNumber wetRefusals numberIf seenAt seenBy
 exports-exactly-when p =
     record {
-      fresh = λ r records before rules old number lasts run x. sized-says _ _ tt refl (x .number-is);
+      fresh = λ r before records rules old number lasts run x. sized-says _ _ tt refl (x .number-is);
       step = λ g w rules old number depths lasts records run x. sized-says _ _ tt refl (x .number-is);
       take-back = λ w old number depths lasts run x. sized-says _ _ tt refl (x .number-is);
       run-unsized = λ g end w rules old oldSteps number depths lasts records run steps x e. x .number-is ∙ pick-false _ _ e;
@@ -215,7 +214,7 @@ meadow-left true (b ∷ text) l o z = absurd (omega (arith, sym l ∙ z))
 pub exports-leave : (p : Plan) → ExportsLeave p
 exports-leave p =
     record {
-      fresh = λ r records before rules old number lasts run x d. (left (x .number-is) (x .lasts-are) d, left (x .number-is) (x .run-is) d);
+      fresh = λ r before records rules old number lasts run x d. (left (x .number-is) (x .lasts-are) d, left (x .number-is) (x .run-is) d);
       step = λ g w rules old number depths lasts records run x d. (
         left (x .number-is) (x .depths-are) d,
         (left (x .number-is) (x .lasts-are) d, (left (x .number-is) (x .records-are) d, left (x .number-is) (x .run-is) d)),
@@ -255,11 +254,11 @@ Equal a b = a ≡ b
 
 module _ (p : Plan) (N : NoneDepends p) where
   fresh-same : (r : Rules) (before others records rooms rules old : List ℕ) (number m : ℕ) (lasts lasts′ run run′ : List ℕ) →
-      SameOpen p before others → SameRoom p records rooms → ExportsFresh p r records before rules old number lasts run →
-      ExportsFresh p r rooms others rules old m lasts′ run′ → (number ≡ m) × (SameOpen p lasts lasts′ × (run ≡ run′))
+      SameOpen p before others → SameRoom p records rooms → ExportsFresh p r before records rules old number lasts run →
+      ExportsFresh p r others rooms rules old m lasts′ run′ → (number ≡ m) × (SameOpen p lasts lasts′ × (run ≡ run′))
   fresh-same r before others records rooms rules old number m lasts lasts′ run run′ L R x y =
       let same = N .fresh r before others records rooms L R in
-      let q : freshGives p r records before rules old ≡ freshGives p r rooms others rules old = ap (numberIf (bothSized rules old)) (same .0) in
+      let q : freshGives p r before records rules old ≡ freshGives p r others rooms rules old = ap (numberIf (bothSized rules old)) (same .0) in
       (
         x .number-is ∙ (q ∙ sym (y .number-is)),
         (unless-both (SameOpen p) q (same .1 .1) L (x .lasts-are) (y .lasts-are), unless-both Equal q (ap runNumbers (same .1 .0)) refl (x .run-is) (y .run-is)),

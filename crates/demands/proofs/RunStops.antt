@@ -12,14 +12,15 @@ use Rattle.ledger.specs.Runs.{Plan, World, seenOf}
 use Rattle.ledger.specs.After.{lateRows}
 use Rattle.ledger.specs.Record.{ringOf}
 use Rattle.moves.specs.Moves.{stepMoves}
-use Rattle.exports.specs.Answers.{lastCheck}
+use Rattle.exports.specs.Refusals.{lastCheck}
 use Rattle.moves.specs.Given.{Given}
 use Rattle.flood.specs.Refusals.{stepChecks, runChecks}
 use Rattle.flood.specs.Step.{stepNumber, stepped}
 use Rattle.flood.specs.Run.{runTo}
 use Rattle.flood.proofs.CheckLaws.{checks-named, run-checks-step}
 use Rattle.flood.proofs.RunToLaws.{Valid, still-valid, clock-on, whole, run-ends, run-refused, run-steps, run-passed}
-use Rattle.demands.specs.Demand1.{stepsOn, StopsBefore}
+use Rattle.flood.specs.Run.{stepsOn}
+use Rattle.demands.specs.Demand1.{StopsBefore}
 
 -- the number of rows 7, 8 and 9
 late-row : (a b c : Bool) → (refusal (7 unless a ∷ 8 unless b ∷ 9 unless c ∷ []) ≡ 0 → ⊥) → lastCheck < refusal (7 unless a ∷ 8 unless b ∷ 9 unless c ∷ [])

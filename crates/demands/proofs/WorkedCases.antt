@@ -15,12 +15,12 @@ use Rattle.rule.specs.Drops.{dropOff}
 use Rattle.rule.specs.Length.{candidate, counts, sideCandidates, candidatesOf, leastFrom, heldBetween, freshLength, isUpdate, lengthAt, lastsFor}
 use Rattle.rule.specs.Rules.{sideFine, groundFine, rulesFine}
 use Rattle.rule.specs.Weighing.{lesserPositive, leastDrop, greatestDrop, dropSum, heightOf, slopeOf, criticalSpeed, manningSpeed, speedOf, mostThrough, totalOf, throughSides, weighed}
-use Rattle.ledger.specs.Runs.{runFine}
+use Rattle.ledger.specs.Runs.{runFine, runValuesFine}
 use Rattle.ledger.specs.Flows.{gone, sent, came, offSide, offSquare, offGrid}
 use Rattle.ledger.specs.Record.{leavesIn, lastIn, addedIn, squareRecord, recordOf, roomSlots, newestRecord}
 use Rattle.ledger.specs.After.{remains, newDepth, depthsFit, newOutflow, lateRows, stepRecord, worldAfter}
 use Rattle.ledger.specs.Checks.{oneEach, watersFine, timesFine}
-use Rattle.ledger.specs.TakeBack.{heldAndGone, cameAndAdded, depthBefore, squareRestorable, restorable, worldBefore, backRows, backNumber, takenBack}
+use Rattle.ledger.specs.TakeBack.{heldAndGone, cameAndAdded, depthBefore, squareRestorable, restorable, worldBefore, backRows, backNumber, takenBack, lookRows}
 use Rattle.moves.specs.Drops.{sideDrop, dropsOf}
 use Rattle.moves.specs.Moves.{squareCandidates, candidates, leavesFor, addedFor, stepLength, stepLasts}
 use Rattle.flood.specs.Refusals.{groundsFine, endFine, checkRows}
@@ -38,7 +38,7 @@ use Rattle.sight.specs.Arrows.{outThrough, nearDepth, throughSide, allStill, ar
 use Rattle.demands.specs.Worked.{bytesOf, SheetCases, OtherSheetCases, NumberCases, ProvedCases}
 
 sheet-cases : SheetCases
-unfolding pick every allBelow firstFailing refusal tabulate filled joined placed sumBelow waterFine rootFrom rootOf rowGives given rainBy onSquare inflowBy rowFine tableFine slotAfter slotBefore ringFine recordIn beside opposite onRim shapeFine closed exit markFine marksFine inflowSquareFine inflowSquaresFine dropOff candidate counts sideCandidates candidatesOf leastFrom heldBetween freshLength isUpdate lengthAt lastsFor sideFine groundFine rulesFine lesserPositive leastDrop greatestDrop dropSum heightOf slopeOf criticalSpeed manningSpeed speedOf mostThrough totalOf throughSides weighed runFine gone sent came offSide offSquare offGrid leavesIn lastIn addedIn squareRecord recordOf roomSlots newestRecord remains newDepth depthsFit newOutflow lateRows stepRecord worldAfter oneEach watersFine timesFine heldAndGone cameAndAdded depthBefore squareRestorable restorable worldBefore backRows backNumber takenBack sideDrop dropsOf squareCandidates candidates leavesFor addedFor stepLength stepLasts groundsFine endFine checkRows stepNumber stepped goOn runFrom runTo freshRun isByte wordAt isDigit digitsOf valueFrom wellFormed numberOf numberAt fieldAt before readFields ended readRest readLine padded asFields lineLength nextLine lineFrom digitsIn decimal fieldText fieldsText restText lineText asGrid gridLine asRun runLine noCell closedCell asOpen openCell markedCell placedCell cellLine cellsRead rowsRead tableRows badLine cellsFilled tablesFilled roomsFine checksIn headingOf judged sheetOf refusedText cellText cellsText madeText endedText runText sheetText meadowText depthsFine sharedRows quotientOf Speeds.speedOf outThrough nearDepth throughSide allStill arrowBy sighted seenBy askedFine earlyRows arrowRows arrowNumber seenAt Ieee.sub bytesOf
+unfolding pick every allBelow firstFailing refusal tabulate filled joined placed sumBelow waterFine rootFrom rootOf rowGives given rainBy onSquare inflowBy rowFine tableFine slotAfter slotBefore ringFine recordIn beside opposite onRim shapeFine closed exit markFine marksFine inflowSquareFine inflowSquaresFine dropOff candidate counts sideCandidates candidatesOf leastFrom heldBetween freshLength isUpdate lengthAt lastsFor sideFine groundFine rulesFine lesserPositive leastDrop greatestDrop dropSum heightOf slopeOf criticalSpeed manningSpeed speedOf mostThrough totalOf throughSides weighed runValuesFine runFine gone sent came offSide offSquare offGrid leavesIn lastIn addedIn squareRecord recordOf roomSlots newestRecord remains newDepth depthsFit newOutflow lateRows stepRecord worldAfter oneEach watersFine timesFine heldAndGone cameAndAdded depthBefore squareRestorable restorable worldBefore lookRows backRows backNumber takenBack sideDrop dropsOf squareCandidates candidates leavesFor addedFor stepLength stepLasts groundsFine endFine checkRows stepNumber stepped goOn runFrom runTo freshRun isByte wordAt isDigit digitsOf valueFrom wellFormed numberOf numberAt fieldAt before readFields ended readRest readLine padded asFields lineLength nextLine lineFrom digitsIn decimal fieldText fieldsText restText lineText asGrid gridLine asRun runLine noCell closedCell asOpen openCell markedCell placedCell cellLine cellsRead rowsRead tableRows badLine cellsFilled tablesFilled roomsFine checksIn headingOf judged sheetOf refusedText cellText cellsText madeText endedText runText sheetText meadowText depthsFine sharedRows quotientOf Speeds.speedOf outThrough nearDepth throughSide allStill arrowBy sighted seenBy askedFine earlyRows arrowRows arrowNumber seenAt Ieee.sub bytesOf
 sheet-cases =
     record {
       printed = refl;
@@ -61,7 +61,7 @@ sheet-cases =
     }
 
 other-sheet-cases : OtherSheetCases
-unfolding pick every allBelow firstFailing refusal tabulate filled joined placed sumBelow waterFine rootFrom rootOf rowGives given rainBy onSquare inflowBy rowFine tableFine slotAfter slotBefore ringFine recordIn beside opposite onRim shapeFine closed exit markFine marksFine inflowSquareFine inflowSquaresFine dropOff candidate counts sideCandidates candidatesOf leastFrom heldBetween freshLength isUpdate lengthAt lastsFor sideFine groundFine rulesFine lesserPositive leastDrop greatestDrop dropSum heightOf slopeOf criticalSpeed manningSpeed speedOf mostThrough totalOf throughSides weighed runFine gone sent came offSide offSquare offGrid leavesIn lastIn addedIn squareRecord recordOf roomSlots newestRecord remains newDepth depthsFit newOutflow lateRows stepRecord worldAfter oneEach watersFine timesFine heldAndGone cameAndAdded depthBefore squareRestorable restorable worldBefore backRows backNumber takenBack sideDrop dropsOf squareCandidates candidates leavesFor addedFor stepLength stepLasts groundsFine endFine checkRows stepNumber stepped goOn runFrom runTo freshRun isByte wordAt isDigit digitsOf valueFrom wellFormed numberOf numberAt fieldAt before readFields ended readRest readLine padded asFields lineLength nextLine lineFrom digitsIn decimal fieldText fieldsText restText lineText asGrid gridLine asRun runLine noCell closedCell asOpen openCell markedCell placedCell cellLine cellsRead rowsRead tableRows badLine cellsFilled tablesFilled roomsFine checksIn headingOf judged sheetOf refusedText cellText cellsText madeText endedText runText sheetText meadowText depthsFine sharedRows quotientOf Speeds.speedOf outThrough nearDepth throughSide allStill arrowBy sighted seenBy askedFine earlyRows arrowRows arrowNumber seenAt Ieee.sub bytesOf
+unfolding pick every allBelow firstFailing refusal tabulate filled joined placed sumBelow waterFine rootFrom rootOf rowGives given rainBy onSquare inflowBy rowFine tableFine slotAfter slotBefore ringFine recordIn beside opposite onRim shapeFine closed exit markFine marksFine inflowSquareFine inflowSquaresFine dropOff candidate counts sideCandidates candidatesOf leastFrom heldBetween freshLength isUpdate lengthAt lastsFor sideFine groundFine rulesFine lesserPositive leastDrop greatestDrop dropSum heightOf slopeOf criticalSpeed manningSpeed speedOf mostThrough totalOf throughSides weighed runValuesFine runFine gone sent came offSide offSquare offGrid leavesIn lastIn addedIn squareRecord recordOf roomSlots newestRecord remains newDepth depthsFit newOutflow lateRows stepRecord worldAfter oneEach watersFine timesFine heldAndGone cameAndAdded depthBefore squareRestorable restorable worldBefore lookRows backRows backNumber takenBack sideDrop dropsOf squareCandidates candidates leavesFor addedFor stepLength stepLasts groundsFine endFine checkRows stepNumber stepped goOn runFrom runTo freshRun isByte wordAt isDigit digitsOf valueFrom wellFormed numberOf numberAt fieldAt before readFields ended readRest readLine padded asFields lineLength nextLine lineFrom digitsIn decimal fieldText fieldsText restText lineText asGrid gridLine asRun runLine noCell closedCell asOpen openCell markedCell placedCell cellLine cellsRead rowsRead tableRows badLine cellsFilled tablesFilled roomsFine checksIn headingOf judged sheetOf refusedText cellText cellsText madeText endedText runText sheetText meadowText depthsFine sharedRows quotientOf Speeds.speedOf outThrough nearDepth throughSide allStill arrowBy sighted seenBy askedFine earlyRows arrowRows arrowNumber seenAt Ieee.sub bytesOf
 other-sheet-cases =
     record {
       exit-drops = refl;

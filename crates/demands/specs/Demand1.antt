@@ -3,7 +3,7 @@
 -- Assumes nothing.
 use mathlib.Core.Path.{_≡_}
 use mathlib.Core.List.{List, _++_}
-use Prim.Native.Nat.{ℕ, zero, suc, _≤_, _<_}
+use Prim.Native.Nat.{ℕ, _≤_, _<_}
 use lib.ListN.{length}
 use Rattle.reckon.specs.Tests.{refusal}
 use Rattle.rule.specs.declared.rules.Rules.{Rules}
@@ -15,11 +15,11 @@ use Rattle.moves.specs.Given.{Given}
 use Rattle.moves.specs.Moves.{stepMoves}
 use Rattle.flood.specs.Refusals.{stepChecks, runChecks}
 use Rattle.flood.specs.Step.{stepNumber, stepped}
-use Rattle.flood.specs.Run.{Ended, ended, runTo, freshRows, freshNumber, freshLasts}
+use Rattle.flood.specs.Run.{Ended, ended, runTo, freshRows, freshNumber, freshLasts, stepsOn}
 use Rattle.sight.specs.Arrows.{arrowRows, arrowNumber}
 use Rattle.sight.specs.WetRows.{WetRowed, wetRefusals, wetNumber}
 use Rattle.sight.specs.declared.wet_rows.Wet.{Wet}
-use Rattle.exports.specs.Answers.{lastCheck}
+use Rattle.exports.specs.Refusals.{lastCheck}
 use Rattle.demands.specs.Table.{TableSays}
 use Rattle.demands.specs.Determined.{Determined}
 use Rattle.demands.specs.Loader.{LoaderRefuses}
@@ -48,11 +48,6 @@ pub record RefusalsLeave (p : Plan) : Type 0 where
       (wetNumber p depths least (length old) ≡ 0 → ⊥) → rows ≡ old
 
 -- ---- "A run to a stated clock stops before the step refused"
-
--- so many public steps, one after the other
-unfoldable pub stepsOn : Plan → Given → ℕ → World → World
-stepsOn p g zero w = w
-stepsOn p g (suc n) w = stepped p g (stepsOn p g n w)
 
 -- "A run to an end makes steps while clock < end .. If one of its steps is refused, it gives that number with the steps made and leaves
 -- the state before that step"

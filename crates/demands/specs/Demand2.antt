@@ -15,7 +15,7 @@ use Rattle.rule.specs.Weighing.{heightOf, slopeOf, criticalSpeed, weighed, most
 use Rattle.rule.specs.declared.rules.Rules.{Rules}
 use Rattle.ledger.specs.Runs.{Plan, World, Seen, seenOf}
 use Rattle.ledger.specs.Flows.{Leaves, shut, gone, came, offGrid}
-use Rattle.ledger.specs.Record.{squareWords, wordPlace, newestRecord, recordOf}
+use Rattle.ledger.specs.Record.{squareWords, wordPlace, newestRecord, recordOf, roomSlots}
 use Rattle.ledger.specs.TakeBack.{backNumber, takenBack}
 use Rattle.ledger.specs.Walls.{Walled, reaches, drains, intoWalls, Untouched}
 use Rattle.ledger.specs.declared.runs.Run.{Run}
@@ -91,7 +91,7 @@ module _ (p : Plan) where
     pub take-back : (w v : World) → SameWorld p w v → (backNumber p w ≡ backNumber p v) × SameWorld p (takenBack p w) (takenBack p v)
     pub fresh : (r : Rules) (lasts others records rooms : List ℕ) → SameOpen p lasts others → SameRoom p records rooms →
         (freshNumber p r lasts records ≡ freshNumber p r others rooms)
-        × (freshRun p r lasts records ≡ freshRun p r others rooms)
+        × (freshRun r (roomSlots p records) ≡ freshRun r (roomSlots p rooms))
         × SameOpen p (freshLasts p r lasts records) (freshLasts p r others rooms)
     pub check : (g h : Given) (end : ℕ) (w v : World) → SameGiven p g h → SameWorld p w v → refusal (runChecks p g end w) ≡ refusal (runChecks p h end v)
     -- an arrow is lent depths, the record room and the run

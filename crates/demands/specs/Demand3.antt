@@ -108,10 +108,10 @@ module _ (p : Plan) where
 
   -- "from a fresh run": whatever `fresh` may answer, with any depths
   pub record Demand3 : Type 0 where
-    pub fresh-is : (r : Rules) (depths records before lasts : List ℕ) (u : Run) → Freshens p r records before (Done u) lasts → Fresh (world depths lasts records u)
+    pub fresh-is : (r : Rules) (depths records before lasts : List ℕ) (u : Run) → Freshens p r before records (Done u) lasts → Fresh (world depths lasts records u)
     pub never-made : (f : World) → Fresh f → (cs : List Call) → NeverMade f (series cs (start f))
     pub back-of-fresh : (f : World) → Fresh f → BackOfFresh f
     -- after `fresh` only the depths remain to be good
-    pub fresh-ten : (r : Rules) (depths records before lasts : List ℕ) (u : Run) → Freshens p r records before (Done u) lasts →
+    pub fresh-ten : (r : Rules) (depths records before lasts : List ℕ) (u : Run) → Freshens p r before records (Done u) lasts →
         length depths ≡ squares (p .shape) → ((i : ℕ) → i < squares (p .shape) → shut p i ≡ false → getD depths i 0 ≤ mostDepth) →
         backNumber p (world depths lasts records u) ≡ 10

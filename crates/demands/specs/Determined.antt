@@ -3,7 +3,6 @@
 use mathlib.Core.Path.{_≡_}
 use mathlib.Core.List.{List}
 use Prim.Native.Nat.{ℕ}
-use lib.ListN.{length}
 use lib.Ieee.{Float}
 use Rattle.reckon.specs.Numbers.{Lesser, Greater, PartOf}
 use Rattle.reckon.specs.Numbers as Numbers
@@ -28,10 +27,10 @@ use Rattle.ledger.specs.TakeBack.{TakesBack}
 use Rattle.ledger.specs.declared.runs.Run.{Run}
 use Rattle.ledger.specs.declared.runs.Answer.{Answer}
 use Rattle.ledger.specs.declared.settle.Settled.{Settled}
-use Rattle.moves.specs.Given.{Given}
+use Rattle.moves.specs.Given.{Given, Ground}
 use Rattle.flood.specs.Step.{Steps, MakesStep}
 use Rattle.flood.specs.Refusals.{Checks}
-use Rattle.flood.specs.Run.{RunsTo, Freshens}
+use Rattle.flood.specs.Run.{RunsTo, Freshens, FreshRunMade}
 use Rattle.flood.specs.declared.run.Ran.{Ran}
 use Rattle.sight.specs.Arrows.{Sees}
 use Rattle.sight.specs.WetRows.{OnesIn, WetRowed}
@@ -45,6 +44,9 @@ use Rattle.sheet.specs.declared.reading.Sheet.{Sheet}
 use Rattle.exports.specs.Steps.{ExportsFresh, ExportsStep, ExportsRun, ExportsBack}
 use Rattle.exports.specs.Sights.{ExportsArrow, ExportsWet}
 use Rattle.exports.specs.Sheets.{ExportsRead, ExportsMeadow}
+use mathlib.Core.Bool.{Bool, true}
+use Rattle.moves.specs.inner.Fill.{LengthWorked, RecordFilled}
+use Rattle.moves.specs.inner.Added.{WaterAdded}
 
 -- any two outcomes that a contract allows are equal
 abbrev pub One : {Out : Type 0} → (Out → Type 0) → Type 0
@@ -90,6 +92,7 @@ pub record GridDetermined : Type 0 where
   pub marks-fine : (s : Shape) (marks : List ℕ) → One (MarksJudged s marks)
   pub inflow-squares-fine : (s : Shape) (marks rows : List ℕ) → One (InflowSquaresJudged s marks rows)
   pub row-mask : (marks numbers : List ℕ) (least first columns : ℕ) → One (RowMasked marks numbers least first columns)
+  pub mask-rows : (s : Shape) (marks depths : List ℕ) (least : ℕ) → One (Masked s marks depths least)
   pub ones : (mask : ℕ) → One (OnesOf mask)
   pub next-set : (mask column : ℕ) → One (NextFound mask column)
 
@@ -99,7 +102,7 @@ pub record RuleDetermined : Type 0 where
   pub shorter : (r : Rules) (best depth roughness : ℕ) (drops : List ℕ) → One (Shorter r best depth roughness drops)
   pub held-length : (r : Rules) (candidate : ℕ) → One (HeldLength r candidate)
   pub is-update : (r : Rules) (clock : ℕ) → One (IsUpdate r clock)
-  pub lasts-for : (r : Rules) (clock length : ℕ) → One (LastsFor r clock length)
+  pub lasts-for : (r : Rules) (clock held : ℕ) → One (LastsFor r clock held)
   pub side-fine : (r : Rules) → One (SideFine r)
   pub rules-fine : (r : Rules) → One (RulesFine r)
   pub ground-fine : (bed roughness : ℕ) → One (GroundFine bed roughness)
@@ -128,9 +131,17 @@ pub record LedgerDetermined : Type 0 where
       One {Out = Settled × (List ℕ × (List ℕ × List ℕ))} (λ o. SettlesTo p rec held w (o .0 .refused) (world (o .1 .0) (o .1 .1 .0) (o .1 .1 .1) (o .0 .run)))
   pub take-back : (p : Plan) (w : World) → One {Out = Answer × (List ℕ × List ℕ)} (λ o. TakesBack p w (o .0) (o .1 .0) (o .1 .1))
 
+-- `add_water` is lent a working room too: what is left in that where a square could not hold what is added is not promised
+pub record MovesDetermined : Type 0 where
+  pub step-length : (p : Plan) (o : Ground) (depths : List ℕ) (clock held : ℕ) → One (LengthWorked p o depths clock held)
+  pub add-water : (p : Plan) (g : Given) (start end : ℕ) (old : List ℕ) (a b : Bool × List ℕ) →
+      WaterAdded p g start end old (a .0) (a .1) → WaterAdded p g start end old (b .0) (b .1) → (a .0 ≡ b .0) × (a .0 ≡ true → a .1 ≡ b .1)
+  pub fill : (p : Plan) (o : Ground) (depths lasts added : List ℕ) (held ms : ℕ) → One (RecordFilled p o depths lasts added held ms)
+
 pub record FloodDetermined : Type 0 where
   pub check : (p : Plan) (g : Given) (end : ℕ) (w : World) → One (Checks p g end w)
-  pub fresh : (p : Plan) (r : Rules) (records before : List ℕ) → One {Out = Answer × List ℕ} (λ o. Freshens p r records before (o .0) (o .1))
+  pub fresh : (p : Plan) (r : Rules) (before records : List ℕ) → One {Out = Answer × List ℕ} (λ o. Freshens p r before records (o .0) (o .1))
+  pub fresh-run : (r : Rules) (slots : ℕ) → One (FreshRunMade r slots)
   pub step : (p : Plan) (g : Given) (w : World) → One {Out = Answer × (List ℕ × (List ℕ × List ℕ))} (λ o. Steps p g w (o .0) (o .1 .0) (o .1 .1 .0) (o .1 .1 .1))
   pub step-on : (p : Plan) (g : Given) (w : World) →
       One {Out = Settled × (List ℕ × (List ℕ × List ℕ))} (λ o. MakesStep p g w (o .0 .refused) (world (o .1 .0) (o .1 .1 .0) (o .1 .1 .1) (o .0 .run)))
@@ -139,7 +150,6 @@ pub record FloodDetermined : Type 0 where
 
 pub record SightDetermined : Type 0 where
   pub arrow : (p : Plan) (D : ℕ) (w : World) (row column : ℕ) → One (Sees p D w row column)
-  pub mask-rows : (p : Plan) (depths : List ℕ) (least : ℕ) → One (Masked p depths least)
   pub ones-in : (rows : List ℕ) → One (OnesIn rows)
   pub wet-rows : (p : Plan) (depths : List ℕ) (least : ℕ) (old : List ℕ) → One {Out = Wet × List ℕ} (λ o. WetRowed p depths least old (o .0) (o .1))
 
@@ -167,20 +177,21 @@ pub record SheetDetermined : Type 0 where
 
 -- what other languages call
 pub record ExportsDetermined : Type 0 where
-  pub fresh : (p : Plan) (r : Rules) (records before old : List ℕ) →
-      One {Out = ℕ × (List ℕ × List ℕ)} (λ o. ExportsFresh p r records before old (o .0) (o .1 .0) (o .1 .1))
-  pub step : (p : Plan) (g : Given) (w : World) (old : List ℕ) →
-      One {Out = ℕ × (List ℕ × (List ℕ × (List ℕ × List ℕ)))} (λ o. ExportsStep p g w old (o .0) (o .1 .0) (o .1 .1 .0) (o .1 .1 .1 .0) (o .1 .1 .1 .1))
-  pub run-to : (p : Plan) (g : Given) (end : ℕ) (w : World) (old : List ℕ) →
-      One {Out = ℕ × (List ℕ × (List ℕ × (List ℕ × List ℕ)))} (λ o. ExportsRun p g end w old (o .0) (o .1 .0) (o .1 .1 .0) (o .1 .1 .1 .0) (o .1 .1 .1 .1))
+  pub fresh : (p : Plan) (r : Rules) (before records rules old : List ℕ) →
+      One {Out = ℕ × (List ℕ × List ℕ)} (λ o. ExportsFresh p r before records rules old (o .0) (o .1 .0) (o .1 .1))
+  pub step : (p : Plan) (g : Given) (w : World) (rules old : List ℕ) →
+      One {Out = ℕ × (List ℕ × (List ℕ × (List ℕ × List ℕ)))} (λ o. ExportsStep p g w rules old (o .0) (o .1 .0) (o .1 .1 .0) (o .1 .1 .1 .0) (o .1 .1 .1 .1))
+  pub run-to : (p : Plan) (g : Given) (end : ℕ) (w : World) (rules old oldSteps : List ℕ) →
+      One {Out = ℕ × (List ℕ × (List ℕ × (List ℕ × (List ℕ × List ℕ))))}
+      (λ o. ExportsRun p g end w rules old oldSteps (o .0) (o .1 .0) (o .1 .1 .0) (o .1 .1 .1 .0) (o .1 .1 .1 .1 .0) (o .1 .1 .1 .1 .1))
   pub take-back : (p : Plan) (w : World) (old : List ℕ) →
       One {Out = ℕ × (List ℕ × (List ℕ × List ℕ))} (λ o. ExportsBack p w old (o .0) (o .1 .0) (o .1 .1 .0) (o .1 .1 .1))
-  pub arrow : (p : Plan) (D : ℕ) (w : World) (row column : ℕ) (old : List Float) →
-      One {Out = ℕ × List Float} (λ o. ExportsArrow p D w row column old (o .0) (o .1))
-  pub wet-rows : (p : Plan) (depths : List ℕ) (least : ℕ) (old-rows old-count : List ℕ) →
-      One {Out = ℕ × (List ℕ × List ℕ)} (λ o. ExportsWet p depths least old-rows old-count (o .0) (o .1 .0) (o .1 .1))
-  pub read-sheet : (text : List ℕ) (before : Rooms) (old-heading old-line : List ℕ) →
-      One {Out = ℕ × (Rooms × (List ℕ × List ℕ))} (λ o. ExportsRead text before old-heading old-line (o .0) (o .1 .0) (o .1 .1 .0) (o .1 .1 .1))
+  pub arrow : (p : Plan) (D : ℕ) (w : World) (row column : ℕ) (run : List ℕ) (old : List Float) →
+      One {Out = ℕ × List Float} (λ o. ExportsArrow p D w row column run old (o .0) (o .1))
+  pub wet-rows : (p : Plan) (depths : List ℕ) (least : ℕ) (oldRows oldCount : List ℕ) →
+      One {Out = ℕ × (List ℕ × List ℕ)} (λ o. ExportsWet p depths least oldRows oldCount (o .0) (o .1 .0) (o .1 .1))
+  pub read-sheet : (text : List ℕ) (before : Rooms) (oldHeading oldLine : List ℕ) →
+      One {Out = ℕ × (Rooms × (List ℕ × List ℕ))} (λ o. ExportsRead text before oldHeading oldLine (o .0) (o .1 .0) (o .1 .1 .0) (o .1 .1 .1))
   pub meadow : (text old : List ℕ) → One {Out = ℕ × List ℕ} (λ o. ExportsMeadow text old (o .0) (o .1))
 
 -- ---- all of it
@@ -191,6 +202,7 @@ pub record Determined : Type 0 where
   pub grid : GridDetermined
   pub rule : RuleDetermined
   pub ledger : LedgerDetermined
+  pub moves : MovesDetermined
   pub flood : FloodDetermined
   pub sight : SightDetermined
   pub text : TextDetermined

@@ -21,9 +21,9 @@ use Rattle.flood.specs.Run.{runTo, freshRows}
 use Rattle.sight.specs.Arrows.{view, arrowRows}
 use Rattle.sight.specs.WetRows.{wetRefusals}
 use Rattle.sheet.specs.Sheet.{Rooms}
-use Rattle.exports.specs.Numbers.{runValueFrom, bothSized}
-use Rattle.exports.specs.Answers.{runNumbers, runSize, countSize, lastCheck}
-use Rattle.exports.specs.Steps.{ExportsFresh, ExportsStep, ExportsRun, ExportsBack, ranSized}
+use Rattle.exports.specs.Numbers.{runValueFrom, runNumbers, runSize, countSize}
+use Rattle.exports.specs.Steps.{bothSized, ExportsFresh, ExportsStep, ExportsRun, ExportsBack, ranSized}
+use Rattle.exports.specs.Refusals.{lastCheck}
 use Rattle.exports.specs.Sights.{ExportsArrow, ExportsWet, arrowSized}
 use Rattle.exports.specs.Sheets.{ExportsRead, ExportsMeadow, sheetSized}
 use Rattle.demands.specs.Table.{TableSays}
@@ -35,7 +35,7 @@ use Rattle.demands.specs.Closed.{SameOpen, SameGiven, SameRecord, SameRo
 
 module _ (p : Plan) where
   pub record ExportsExactlyWhen : Type 0 where
-    pub fresh : (r : Rules) (records before rules old : List ℕ) (number : ℕ) (lasts run : List ℕ) → ExportsFresh p r records before rules old number lasts run →
+    pub fresh : (r : Rules) (before records rules old : List ℕ) (number : ℕ) (lasts run : List ℕ) → ExportsFresh p r before records rules old number lasts run →
         TableSays (1 unless bothSized rules old ∷ freshRows p r before records) number
     pub step : (g : Given) (w : World) (rules old : List ℕ) (number : ℕ) (depths lasts records run : List ℕ) →
         ExportsStep p g w rules old number depths lasts records run →
@@ -62,7 +62,7 @@ module _ (p : Plan) where
   -- ---- "and the run and everything lent stay as they were"
 
   pub record ExportsLeave : Type 0 where
-    pub fresh : (r : Rules) (records before rules old : List ℕ) (number : ℕ) (lasts run : List ℕ) → ExportsFresh p r records before rules old number lasts run →
+    pub fresh : (r : Rules) (before records rules old : List ℕ) (number : ℕ) (lasts run : List ℕ) → ExportsFresh p r before records rules old number lasts run →
         (number ≡ 0 → ⊥) → (lasts ≡ before) × (run ≡ old)
     pub step : (g : Given) (w : World) (rules old : List ℕ) (number : ℕ) (depths lasts records run : List ℕ) →
         ExportsStep p g w rules old number depths lasts records run →
@@ -92,8 +92,8 @@ module _ (p : Plan) where
 
   pub record ExportsNoneDepends : Type 0 where
     pub fresh : (r : Rules) (before others records rooms rules old : List ℕ) (number m : ℕ) (lasts lasts′ run run′ : List ℕ) →
-        SameOpen p before others → SameRoom p records rooms → ExportsFresh p r records before rules old number lasts run →
-        ExportsFresh p r rooms others rules old m lasts′ run′ →
+        SameOpen p before others → SameRoom p records rooms → ExportsFresh p r before records rules old number lasts run →
+        ExportsFresh p r others rooms rules old m lasts′ run′ →
         (number ≡ m) × (SameOpen p lasts lasts′ × (run ≡ run′))
     pub step : (g h : Given) (w v : World) (rules old : List ℕ) (number m : ℕ) (depths depths′ lasts lasts′ records records′ run run′ : List ℕ) →
         SameGiven p g h → SameWorld p w v → ExportsStep p g w rules old number depths lasts records run →

@@ -138,13 +138,8 @@ pub run-passes :
     Handed shape r held beds roughness depths lasts records →
     refusal
     (runChecks (planIn shape r held) (given (ground r beds roughness) (held .rain) (held .inflow)) end
-<<<<<<< HEAD
     (world depths lasts records (freshRun r (roomSlots (planIn shape r held) records)))) ≡ 0
-unfolding checksIn checkRows freshRun oneEach watersFine waterFine groundsFine
-=======
-    (world depths lasts records (freshRun (planIn shape r held) r lasts records))) ≡ 0
 unfolding checksIn checkRows runValuesFine freshRun oneEach watersFine waterFine groundsFine
->>>>>>> 67c0916dbff7ae0a9ad6997c33570f92f8824ce5
 run-passes shape r held end e beds roughness depths lasts records g =
     let rows = refusal-passed _ tt e in
     let lent = every-each _ (rows .0) in

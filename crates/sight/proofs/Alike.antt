@@ -67,7 +67,7 @@ module _ (p : Plan) {a b : List ℕ} (h : AlikeDepths p a b) where
 
   -- ---- wet rows
 
-  wet-number-alike : (least numbers : ℕ) → wetNumber p a least numbers ≡ wetNumber p b least numbers
+  pub wet-number-alike : (least numbers : ℕ) → wetNumber p a least numbers ≡ wetNumber p b least numbers
   unfolding wetNumber wetRefusals
   wet-number-alike least numbers =
       ap (λ (rows : List Row). refusal (rows ++ (5 unless leb least mostDepth ∷ []))) (shared-alike (eqb numbers (p .shape .rows)))
