@@ -6,3 +6,4 @@ pub mod Roots
 pub mod Tables
 pub mod Tests
 pub mod Worked
+pub mod inner

@@ -16,8 +16,8 @@ use Rattle.reckon.proofs.TestLaws.{pick-true, pick-false, pick-both}
 use Rattle.reckon.proofs.QuotientLaws.{div-mono}
 use Rattle.reckon.proofs.RootLaws.{root-mono}
 use Rattle.reckon.specs.Ranges.{mostLength}
-use Rattle.rule.specs.Rules.{RulesInRange}
-use Rattle.rule.specs.Weighing.{lesserPositive, leastDrop, heightOf, slopeOf, mostDrop, DropsInRange, SquareInRange}
+use Rattle.rule.specs.inner.InRange.{RulesInRange, mostDrop, DropsInRange, SquareInRange}
+use Rattle.rule.specs.Weighing.{lesserPositive, leastDrop, heightOf, slopeOf}
 use Rattle.rule.specs.Length.{candidate, counts, sideCandidates, candidatesOf, leastFrom, heldBetween, freshLength, isUpdate, lengthAt, lastsFor}
 use Rattle.rule.specs.declared.rules.Rules.{Rules}
 use Rattle.rule.proofs.WeighingLaws.{slope-root, positive-first, positive-second, positive-both, positive-le}

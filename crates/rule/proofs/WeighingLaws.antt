@@ -17,7 +17,8 @@ use Rattle.reckon.proofs.TestLaws.{pick-true, pick-false, pick-both}
 use Rattle.reckon.proofs.QuotientLaws.{div-mono, le-scaled}
 use Rattle.reckon.proofs.RootLaws.{root-is, root-right, root-le, root-over}
 use Rattle.reckon.specs.Ranges.{mostDepth, mostSide, mostRoughness, mostLength}
-use Rattle.rule.specs.Weighing.{lesserPositive, leastDrop, greatestDrop, dropSum, heightOf, slopeOf, criticalSpeed, manningSpeed, speedOf, mostThrough, totalOf, throughSides, weighed, mostDrop, DropsInRange, SquareInRange}
+use Rattle.rule.specs.Weighing.{lesserPositive, leastDrop, greatestDrop, dropSum, heightOf, slopeOf, criticalSpeed, manningSpeed, speedOf, mostThrough, totalOf, throughSides, weighed}
+use Rattle.rule.specs.inner.InRange.{mostDrop, DropsInRange, SquareInRange}
 use Rattle.rule.specs.declared.rules.Rules.{Rules}
 
 -- ---- the three roots: what the functions give, and how large they are

@@ -3,3 +3,4 @@ pub mod Length
 pub mod Rules
 pub mod Weighing
 pub mod Worked
+pub mod inner

@@ -1,3 +1,4 @@
 pub mod Reading
 pub mod Worked
 pub mod Writing
+pub mod inner

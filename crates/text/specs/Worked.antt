@@ -3,7 +3,7 @@
 use mathlib.Core.List.{List, [], _∷_}
 use Prim.Native.Nat.{ℕ}
 use Rattle.reckon.specs.Worked.{Case, _should-be_}
-use Rattle.text.specs.Reading.{numberAt, readLine, nextLine, lineCount}
+use Rattle.text.specs.Reading.{numberAt, readLine, nextLine}
 use Rattle.text.specs.Reading.Reading.{read, unread}
 use Rattle.text.specs.Writing.{decimal, lineText}
 use Rattle.text.specs.declared.reading.Number.the-variants.{Is, Not}
@@ -40,7 +40,6 @@ lineCases =
     readLine runLine 0 runWord 5 should-be read (100 ∷ 1_000 ∷ 1_000 ∷ 1_000 ∷ 1_000 ∷ []) 28
     ∷ lineText runWord (100 ∷ 1_000 ∷ 1_000 ∷ 1_000 ∷ 1_000 ∷ []) should-be runLine
     ∷ nextLine runLine 0 should-be 28
-    ∷ lineCount runLine should-be 1
     ∷ readLine (114 ∷ 97 ∷ 105 ∷ 110 ∷ 9 ∷ 48 ∷ 9 ∷ 57 ∷ 9 ∷ 51 ∷ 10 ∷ []) 0 rainWord 3 should-be read (0 ∷ 9 ∷ 3 ∷ []) 11
     ∷ readLine (114 ∷ 97 ∷ 105 ∷ 110 ∷ 9 ∷ 48 ∷ 9 ∷ 57 ∷ 9 ∷ 51 ∷ 13 ∷ 10 ∷ []) 0 rainWord 3 should-be unread
     ∷ readLine (114 ∷ 97 ∷ 105 ∷ 110 ∷ 9 ∷ 48 ∷ 9 ∷ 57 ∷ 9 ∷ 51 ∷ []) 0 rainWord 3 should-be unread
