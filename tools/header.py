@@ -67,7 +67,7 @@ CONSTANTS = [
     ("FLOOD_CLOSED", "sights.rt", "CLOSED"),
     ("FLOOD_DRY", "sights.rt", "DRY"),
     ("FLOOD_STILL", "sights.rt", "STILL"),
-    ("FLOOD_OUT_ROOM", "../../sheet/src/answer.rt", "OUT_ROOM"),
+    ("FLOOD_OUT_ROOM", "../../answer/src/program.rt", "OUT_ROOM"),
 ]
 
 

@@ -10,7 +10,7 @@ use lib.Ieee.{Float}
 use Rattle.reckon.specs.Tests.{Row, _unless_, refusal}
 use Rattle.reckon.specs.Numbers.{Lesser, Greater, PartOf}
 use Rattle.reckon.specs.Numbers as Numbers
-use Rattle.reckon.specs.Ranges.{WaterFine}
+use Rattle.reckon.specs.Ranges.{WaterFine, SideFine}
 use Rattle.reckon.specs.Roots.{Root}
 use Rattle.reckon.specs.Tables.{RainBy, InflowBy, RainAdded, InflowAdded, RainFine, InflowFine}
 use Rattle.trials.specs.Ring.{SlotsIn, SlotStart, SlotAfter, SlotBefore, KeptAfter, RingFine}
@@ -20,7 +20,7 @@ use Rattle.grid.specs.Masks.{RowMasked, OnesOf, NextFound}
 use Rattle.grid.specs.declared.squares.Shape.{Shape}
 use Rattle.rule.specs.Drops.{DropTo, DropOff}
 use Rattle.rule.specs.Length.{Shorter, HeldLength, IsUpdate, LastsFor}
-use Rattle.rule.specs.Rules.{SideFine, RulesFine, GroundFine}
+use Rattle.rule.specs.Rules.{RulesFine, GroundFine}
 use Rattle.rule.specs.Weighing.{Weighs}
 use Rattle.rule.specs.declared.rules.Rules.{Rules}
 use Rattle.ledger.specs.Runs.{Plan, World, world, RunFine}
@@ -41,11 +41,11 @@ use Rattle.flood.specs.declared.run.Ran.{Ran}
 use Rattle.sight.specs.Arrows.{Sees, arrowRows, arrowNumber}
 use Rattle.sight.specs.WetRows.{Masked, OnesIn, WetRowed, wetRefusals, wetNumber}
 use Rattle.sight.specs.declared.wet_rows.Wet.{Wet}
-use Rattle.text.specs.Reading.{ByteIs, WordAt, FieldAt, FieldsAt, RestOfLine, LineOf, NextLine, LineCount}
+use Rattle.text.specs.Reading.{ByteIs, WordAt, FieldAt, FieldsAt, RestOfLine, LineOf}
 use Rattle.text.specs.Reading as Reading
 use Rattle.text.specs.Writing.{PutByte, PutWord, PutNumber, PutField, PutFields, PutLine}
 use Rattle.sheet.specs.Sheet.{Rooms, Reads}
-use Rattle.sheet.specs.Printed.{Prints, meadowText}
+use Rattle.answer.specs.Program.{Prints, meadowText}
 use Rattle.sheet.specs.declared.reading.Sheet.{Sheet}
 use Rattle.exports.specs.Steps.{ExportsFresh, ExportsStep, ExportsRun, ExportsBack}
 use Rattle.exports.specs.Sights.{ExportsArrow, ExportsWet}
@@ -107,7 +107,7 @@ pub record RuleDetermined : Type 0 where
   pub held-length : (r : Rules) (candidate : ℕ) → One (HeldLength r candidate)
   pub is-update : (r : Rules) (clock : ℕ) → One (IsUpdate r clock)
   pub lasts-for : (r : Rules) (clock length : ℕ) → One (LastsFor r clock length)
-  pub side-fine : (r : Rules) → One (SideFine r)
+  pub side-fine : (side : ℕ) → One (SideFine side)
   pub rules-fine : (r : Rules) → One (RulesFine r)
   pub ground-fine : (bed roughness : ℕ) → One (GroundFine bed roughness)
   pub weigh : (r : Rules) (depth last roughness ms : ℕ) (drops : List ℕ) → One (Weighs r depth last roughness ms drops)
@@ -158,8 +158,6 @@ pub record TextDetermined : Type 0 where
   pub fields-at : (text : List ℕ) (at count : ℕ) → One (FieldsAt text at count)
   pub rest-of-line : (text : List ℕ) (at count : ℕ) → One (RestOfLine text at count)
   pub line-of : (text : List ℕ) (at : ℕ) (word : List ℕ) (count : ℕ) → One (LineOf text at word count)
-  pub next-line : (text : List ℕ) (at : ℕ) → One (NextLine text at)
-  pub line-count : (text : List ℕ) → One (LineCount text)
   pub put-byte : (byte at : ℕ) (room : List ℕ) → One {Out = ℕ × List ℕ} (λ o. PutByte byte at room (o .1) (o .0))
   pub put-word : (word : List ℕ) (at : ℕ) (room : List ℕ) → One {Out = ℕ × List ℕ} (λ o. PutWord word at room (o .1) (o .0))
   pub put-number : (n at : ℕ) (room : List ℕ) → One {Out = ℕ × List ℕ} (λ o. PutNumber n at room (o .1) (o .0))

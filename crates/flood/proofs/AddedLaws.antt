@@ -15,7 +15,8 @@ use borrow.Author.Tests.{eqb-true, eq-eqb, leb-true, le-leb, lt-leb, not-true, n
 use Rattle.reckon.specs.Tests.{pick, every, allBelow}
 use Rattle.reckon.specs.Lists.{filled}
 use Rattle.reckon.specs.Ranges.{mostDepth}
-use Rattle.reckon.specs.Tables.{rainKind, inflowKind, onSquare, rainAdded, inflowAdded, inflowBy, Fits}
+use Rattle.reckon.specs.Tables.{rainKind, inflowKind, onSquare, rainAdded, inflowAdded, inflowBy}
+use Rattle.reckon.specs.inner.Fits.{Fits}
 use Rattle.reckon.proofs.TestLaws.{not-both, pick-true, pick-false, no-more, and-left, and-right, and-both, or-right, or-of, every-each, all-none, all-at, all-of, all-fails, all-beside, all-some}
 use Rattle.reckon.proofs.ListLaws.{length-filled, filled-in, filled-skipped, is-filled, filled-store, filled-keep}
 use Rattle.reckon.proofs.TableLaws.{inflow-none, rain-le, fine-fits}

@@ -14,9 +14,7 @@ use Rattle.reckon.proofs.TestLaws.{pick-true, pick-false, pick-both}
 use Rattle.grid.specs.Squares.{squares, within, beside}
 use Rattle.grid.specs.Marks.{exit}
 use Rattle.rule.specs.Drops.{dropTo, dropOff}
-use Rattle.rule.specs.Rules.{GroundInRange}
-use Rattle.rule.specs.Weighing.{mostDrop, DropsInRange, SquareInRange, Weighable}
-use Rattle.rule.specs.Length.{Candidacy}
+use Rattle.rule.specs.inner.InRange.{GroundInRange, mostDrop, DropsInRange, SquareInRange, Weighable, Candidacy}
 use Rattle.rule.specs.declared.rules.Rules.{Rules}
 use Rattle.rule.proofs.DropLaws.{off-le}
 use Rattle.reckon.specs.Ranges.{mostDepth, mostLength}

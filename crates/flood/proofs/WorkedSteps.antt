@@ -3,7 +3,7 @@
 use mathlib.Core.Path.{refl}
 use Rattle.reckon.specs.Tests.{pick, every, allBelow, refusal}
 use Rattle.reckon.specs.Lists.{tabulate, filled, joined, placed, sumBelow}
-use Rattle.reckon.specs.Ranges.{waterFine}
+use Rattle.reckon.specs.Ranges.{waterFine, sideFine}
 use Rattle.reckon.specs.Roots.{rootFrom, rootOf}
 use Rattle.reckon.specs.Tables.{given, rainBy, inflowBy, tableFine}
 use Rattle.reckon.specs.Worked.{AsSaid}
@@ -13,7 +13,7 @@ use Rattle.grid.specs.Squares.{beside, opposite, onRim, shapeFine}
 use Rattle.grid.specs.Marks.{closed, exit, markFine, marksFine, inflowSquaresFine}
 use Rattle.rule.specs.Drops.{dropOff}
 use Rattle.rule.specs.Length.{counts, sideCandidates, candidatesOf, heldBetween, freshLength, isUpdate, lengthAt, lastsFor}
-use Rattle.rule.specs.Rules.{sideFine, groundFine, rulesFine}
+use Rattle.rule.specs.Rules.{groundFine, rulesFine}
 use Rattle.rule.specs.Weighing.{lesserPositive, leastDrop, greatestDrop, dropSum, heightOf, slopeOf, criticalSpeed, manningSpeed, speedOf, mostThrough, totalOf, throughSides, weighed}
 use Rattle.ledger.specs.After.{remains, newDepth, depthsFit, newOutflow, lateRows, stepRecord, worldAfter}
 use Rattle.ledger.specs.Flows.{gone, sent, came, offSide, offSquare, offGrid}

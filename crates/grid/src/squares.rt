@@ -20,6 +20,9 @@ pub const WEST: usize = 3;
 // The most rows, and the most columns.
 const LONGEST: usize = 64;
 
+// The most squares that a grid has: rooms of one number a square are this long.
+pub const MOST_SQUARES: usize = LONGEST * LONGEST;
+
 // Whether there are 1 to 64 rows and 1 to 64 columns.
 pub fn shape_fine(shape: Shape) -> bool
     ensures { λ r. ⌜ ShapeJudged shape r ⌝ }

@@ -10,7 +10,7 @@ use Rattle.reckon.specs.Lists.{joined, placed}
 use Rattle.trials.specs.Ring.{slotsIn}
 use Rattle.trials.specs.Room.{recordIn}
 use Rattle.grid.specs.declared.squares.Shape.{Shape}
-use Rattle.grid.specs.Squares.{north, east, south, west, squares, FineShape}
+use Rattle.grid.specs.Squares.{north, east, south, west, squares, mostSquares, FineShape}
 use Rattle.ledger.specs.Runs.{Plan, World, plan}
 use Rattle.ledger.specs.Flows.{Leaves, shut, gone, sent, came, offSquare, offGrid}
 use Rattle.ledger.specs.declared.record.Found.{Found}
@@ -31,6 +31,10 @@ addedWord = 5
 
 abbrev pub recordSize : Plan → ℕ
 recordSize p = headWords + squareWords * squares (p .shape)
+
+-- the words of the largest record
+abbrev pub mostRecord : ℕ
+mostRecord = headWords + squareWords * mostSquares
 
 -- ---- a record read
 

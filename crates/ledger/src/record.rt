@@ -14,6 +14,7 @@ ghost use Rattle.ledger.specs.Flows.{offSide};
 ghost use Rattle.ledger.specs.Record.{AddedBy, CameTo, ClosedPut, GoneFrom, HeadPut, HeldBefore, LastBefore, Lasted, Leaving, OffFrom, Recorded, SentTo, SizeOf, SquarePut, addedWord, headWords, lastWord, leavesIn, squareWords, wordPlace};
 use grid::marks::is_closed;
 use grid::squares::EAST;
+use grid::squares::MOST_SQUARES;
 use grid::squares::NORTH;
 use grid::squares::SOUTH;
 use grid::squares::Shape;
@@ -25,13 +26,16 @@ use grid::squares::squares_of;
 use reckon::numbers::number;
 
 // The words before the squares, and those of a square: its four sides, then these two.
-const HEAD_WORDS: usize = 2;
+pub const HEAD_WORDS: usize = 2;
 
-const SQUARE_WORDS: usize = 6;
+pub const SQUARE_WORDS: usize = 6;
 
 const LAST_WORD: usize = 4;
 
 const ADDED_WORD: usize = 5;
+
+// The words of the largest record.
+pub const MOST_RECORD: usize = HEAD_WORDS + SQUARE_WORDS * MOST_SQUARES;
 
 // What a walk over the squares finds: whether each passes its test, and if so what left the grid.
 pub(crate) struct Found {

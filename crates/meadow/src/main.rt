@@ -1,6 +1,6 @@
 // Reads a sheet from standard input, runs it to its end, and writes the water that it leaves, or its refusal.
-use sheet::answer::OUT_ROOM;
-use sheet::answer::meadow_of;
+use answer::program::OUT_ROOM;
+use answer::program::meadow_of;
 
 // One byte more than are taken, so that a text that is too long is seen to be.
 const TEXT_ROOM: usize = 65_537;

@@ -6,7 +6,7 @@ use native.Mathlib.Omega.{arith}
 use lib.ListN.{length-replicate}
 use lib.Seq.{length-take-le}
 use borrow.Author.Needs.{needs}
-use Rattle.grid.specs.Squares.{squares}
+use Rattle.grid.specs.Squares.{squares, mostSquares}
 use Rattle.sheet.specs.declared.lines.GridLine.{GridLine}
 use Rattle.sheet.proofs.JudgeLaws.{said-from, decided-bad, decided-good}
 use Rattle.sheet.proofs.reading.decide.Statement.{statement}
@@ -27,7 +27,7 @@ slice-aggregate-read-body-4 c = search needs
 read-body-requires : tie.Need-read-body-requires
 read-body-requires c κs =
     let start = c .before .before .before .before .before in
-    ((start .pre .0, start .pre .1, start .pre .2), (omega (arith, start .pre .2 .few, length-replicate {A = ℕ} 4096 0), omega (arith, start .pre .2 .few, length-replicate {A = ℕ} 4096 0), omega (arith, start .pre .2 .few, length-replicate {A = ℕ} 4096 0), omega (arith, start .pre .2 .few, length-replicate {A = ℕ} 4096 0)))
+    ((start .pre .0, start .pre .1, start .pre .2), (omega (arith, start .pre .2 .few, length-replicate {A = ℕ} mostSquares 0), omega (arith, start .pre .2 .few, length-replicate {A = ℕ} mostSquares 0), omega (arith, start .pre .2 .few, length-replicate {A = ℕ} mostSquares 0), omega (arith, start .pre .2 .few, length-replicate {A = ℕ} mostSquares 0)))
 
 returns : tie.Need-returns
 returns c = decided-bad (c .before .before .before .before .before .before .read-body .ensures) (c .if1 .taken)
@@ -45,7 +45,7 @@ slice-aggregate-judge-body c =
     let at-read-body = c .before .before .before .before .before .before .before .before .before in
     let start = at-read-body .before .before .before .before .before .before in
     sym
-    (length-take-le _ _ (omega (arith, start .pre .2 .few, c .before .squares-of .ensures, at-read-body .read-body .kept .1 .1 .0, length-replicate {A = ℕ} 4096 0)))
+    (length-take-le _ _ (omega (arith, start .pre .2 .few, c .before .squares-of .ensures, at-read-body .read-body .kept .1 .1 .0, length-replicate {A = ℕ} mostSquares 0)))
 
 array-share-prefix-beds : tie.Need-array-share-prefix-beds
 array-share-prefix-beds c =
@@ -58,7 +58,7 @@ slice-aggregate-judge-body-2 c =
     let at-read-body = at-squares-of .before .before .before .before .before .before .before .before in
     let start = at-read-body .before .before .before .before .before .before in
     sym
-    (length-take-le _ _ (omega (arith, start .pre .2 .few, at-squares-of .squares-of .ensures, at-read-body .read-body .kept .1 .1 .1 .0, length-replicate {A = ℕ} 4096 0)))
+    (length-take-le _ _ (omega (arith, start .pre .2 .few, at-squares-of .squares-of .ensures, at-read-body .read-body .kept .1 .1 .1 .0, length-replicate {A = ℕ} mostSquares 0)))
 
 array-share-prefix-roughness : tie.Need-array-share-prefix-roughness
 array-share-prefix-roughness c =
@@ -72,7 +72,7 @@ slice-aggregate-judge-body-3 c =
     let at-read-body = at-squares-of .before .before .before .before .before .before .before .before in
     let start = at-read-body .before .before .before .before .before .before in
     sym
-    (length-take-le _ _ (omega (arith, start .pre .2 .few, at-squares-of .squares-of .ensures, at-read-body .read-body .kept .1 .1 .1 .1 .0, length-replicate {A = ℕ} 4096 0)))
+    (length-take-le _ _ (omega (arith, start .pre .2 .few, at-squares-of .squares-of .ensures, at-read-body .read-body .kept .1 .1 .1 .1 .0, length-replicate {A = ℕ} mostSquares 0)))
 
 array-share-prefix-depths : tie.Need-array-share-prefix-depths
 array-share-prefix-depths c =
@@ -86,7 +86,7 @@ slice-aggregate-judge-body-4 c =
     let at-read-body = at-squares-of .before .before .before .before .before .before .before .before in
     let start = at-read-body .before .before .before .before .before .before in
     sym
-    (length-take-le _ _ (omega (arith, start .pre .2 .few, at-squares-of .squares-of .ensures, at-read-body .read-body .kept .1 .1 .1 .1 .1 .0, length-replicate {A = ℕ} 4096 0)))
+    (length-take-le _ _ (omega (arith, start .pre .2 .few, at-squares-of .squares-of .ensures, at-read-body .read-body .kept .1 .1 .1 .1 .1 .0, length-replicate {A = ℕ} mostSquares 0)))
 
 judge-body-requires : tie.Need-judge-body-requires
 judge-body-requires c κs =
@@ -96,7 +96,7 @@ judge-body-requires c κs =
     let start = at-read-body .before .before .before .before .before .before in
     let s = ap (λ (g : GridLine). g .shape) (start .pre .0) in
     let n = ap squares s in
-    ((start .pre .2, s, at-read-body .read-body .ensures .body-is (at-if1 .if1 .left)), said-from _ 4096 (at-squares-of .squares-of .ensures ∙ n) (omega (arith, start .pre .2 .few, n)) (at-read-body .read-body .ensures .rooms-are (at-if1 .if1 .left)))
+    ((start .pre .2, s, at-read-body .read-body .ensures .body-is (at-if1 .if1 .left)), said-from _ mostSquares (at-squares-of .squares-of .ensures ∙ n) (omega (arith, start .pre .2 .few, n)) (at-read-body .read-body .ensures .rooms-are (at-if1 .if1 .left)))
 
 returns-2 : tie.Need-returns-2
 returns-2 c =

@@ -7,8 +7,9 @@ use native.Mathlib.Omega.{arith}
 use lib.ListN.{length-replicate}
 use lib.Seq.{length-take-le}
 use borrow.Author.Needs.{needs}
+use Rattle.grid.specs.Squares.{mostSquares}
 use Rattle.ledger.specs.Runs.{plan}
-use Rattle.ledger.specs.Record.{recordSize}
+use Rattle.ledger.specs.Record.{recordSize, mostRecord}
 use Rattle.sheet.proofs.JudgeLaws.{zeros-are, judge-is}
 use Rattle.sheet.proofs.reading.judge.Statement.{statement}
 use Rattle.sheet.proofs.reading.judge.Tie as tie
@@ -26,7 +27,7 @@ slice-aggregate-check : tie.Need-slice-aggregate-check
 slice-aggregate-check c =
     let at-squares-of = c .before .before in
     let start = at-squares-of .before .before .before .before .before .before .before in
-    sym (length-take-le _ _ (omega (arith, at-squares-of .squares-of .ensures, start .pre .few, length-replicate {A = ℕ} 4096 0)))
+    sym (length-take-le _ _ (omega (arith, at-squares-of .squares-of .ensures, start .pre .few, length-replicate {A = ℕ} mostSquares 0)))
 
 array-share-prefix-records : tie.Need-array-share-prefix-records
 array-share-prefix-records c = omega (arith, c .before .record-size .ensures, c .before .before .before .before .before .before .before .before .before .pre .few)
@@ -35,7 +36,7 @@ slice-aggregate-check-2 : tie.Need-slice-aggregate-check-2
 slice-aggregate-check-2 c =
     let at-record-size = c .before .before in
     let start = at-record-size .before .before .before .before .before .before .before .before in
-    sym (length-take-le _ _ (omega (arith, at-record-size .record-size .ensures, start .pre .few, length-replicate {A = ℕ} 24578 0)))
+    sym (length-take-le _ _ (omega (arith, at-record-size .record-size .ensures, start .pre .few, length-replicate {A = ℕ} mostRecord 0)))
 
 check-requires : tie.Need-check-requires
 check-requires c κs = search needs
@@ -45,7 +46,7 @@ returns c =
     let at-record-size = c .before .before .before in
     let at-squares-of = at-record-size .before in
     let start = at-squares-of .before .before .before .before .before .before .before in
-    let small : recordSize (plan (start .args .shape) []) ≤ 24578 = omega (arith, start .pre .few) in judge-is _ _ _ _
+    let small : recordSize (plan (start .args .shape) []) ≤ mostRecord = omega (arith, start .pre .few) in judge-is _ _ _ _
     (c .check .ensures) (zeros-are _ _ (at-squares-of .squares-of .ensures) (start .pre .few))
     (zeros-are _ _ (at-record-size .record-size .ensures) small)
 

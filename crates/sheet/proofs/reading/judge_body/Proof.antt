@@ -1,11 +1,13 @@
 -- `sheet::reading::judge_body` meets its contract: one row too many shows as well as all of them.
 -- Assumes nothing.
 use mathlib.Core.Path.{sym}
-use Prim.Native.Nat.{ℕ}
+use Prim.Native.Nat.{ℕ, _*_}
 use native.Mathlib.Omega.{arith}
 use lib.ListN.{length-replicate}
 use lib.Seq.{length-take-le}
 use borrow.Author.Needs.{needs}
+use Rattle.reckon.specs.Tables.{rainKind, inflowKind}
+use Rattle.sheet.specs.inner.Reading.{lookedRows}
 use Rattle.sheet.proofs.ReadLaws.{plain-rain, plain-inflow}
 use Rattle.sheet.proofs.JudgeLaws.{rain-rows-at, inflow-rows-at, table-taken, body-judged}
 use Rattle.sheet.proofs.reading.judge_body.Statement.{statement}
@@ -55,7 +57,7 @@ slice-aggregate-judge c =
     let at-fill-rows = c .before .before .before .before .before .before in
     let at-looked-at = at-fill-rows .before .before .before .before in
     sym
-    (length-take-le _ _ (omega (arith, at-looked-at .looked-at .ensures, at-fill-rows .fill-rows .kept .1 .1 .1 .1 .1 .0, length-replicate {A = ℕ} 195 0)))
+    (length-take-le _ _ (omega (arith, at-looked-at .looked-at .ensures, at-fill-rows .fill-rows .kept .1 .1 .1 .1 .1 .0, length-replicate {A = ℕ} (rainKind .width * lookedRows) 0)))
 
 array-share-prefix-inflow : tie.Need-array-share-prefix-inflow
 array-share-prefix-inflow c = search needs
@@ -65,7 +67,7 @@ slice-aggregate-judge-2 c =
     let at-fill-rows2 = c .before .before .before in
     let at-looked-at2 = at-fill-rows2 .before .before .before .before .before .before .before in
     sym
-    (length-take-le _ _ (omega (arith, at-looked-at2 .looked-at2 .ensures, at-fill-rows2 .fill-rows2 .kept .1 .1 .1 .1 .1 .0, length-replicate {A = ℕ} 325 0)))
+    (length-take-le _ _ (omega (arith, at-looked-at2 .looked-at2 .ensures, at-fill-rows2 .fill-rows2 .kept .1 .1 .1 .1 .1 .0, length-replicate {A = ℕ} (inflowKind .width * lookedRows) 0)))
 
 judge-requires : tie.Need-judge-requires
 judge-requires c κs = c .before .before .before .before .before .before .before .before .before .before .before .before .before .before .before .before .before .pre .0 .0
@@ -78,8 +80,8 @@ returns c =
     let at-looked-at = at-looked-at2 .before in
     let start = at-looked-at .before .before .before .before .before .before in
     body-judged _ (start .pre .0 .1) (start .pre .0 .2) (start .pre .1) (at-looked-at .looked-at .ensures)
-    (at-looked-at2 .looked-at2 .ensures) (table-taken _ _ _ 3 (omega arith) _ _ (at-fill-rows .fill-rows .ensures))
-    (table-taken _ _ _ 5 (omega arith) _ _ (at-fill-rows2 .fill-rows2 .ensures)) (c .judge .ensures)
+    (at-looked-at2 .looked-at2 .ensures) (table-taken _ _ _ (rainKind .width) (omega arith) _ _ (at-fill-rows .fill-rows .ensures))
+    (table-taken _ _ _ (inflowKind .width) (omega arith) _ _ (at-fill-rows2 .fill-rows2 .ensures)) (c .judge .ensures)
 
 pub judge-body-spec : {M : Type 1} → statement M
 judge-body-spec =

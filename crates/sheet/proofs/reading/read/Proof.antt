@@ -1,7 +1,7 @@
 -- `sheet::reading::read` meets its contract: each refusal in its order, and then the rooms are filled.
 -- Assumes nothing.
 use mathlib.Core.Bool.{true}
-use mathlib.Core.Path.{_≡_, refl}
+use mathlib.Core.Path.{_≡_}
 use native.Mathlib.Omega.{arith}
 use borrow.Author.Tests.{not-true, not-false}
 use borrow.Author.Needs.{needs}
@@ -37,9 +37,9 @@ decide-requires c κs =
     let at-grid-line = at-if1 .before .before in
     let start = at-grid-line .before .before .before .before .before .before .before .before in
     let held = rooms (start .args .marks .now) (start .args .beds .now) (start .args .roughness .now) (start .args .depths .now) (start .args .rain .now) (start .args .inflow .now) in
-    let f : roomsFine (at-grid-line .grid-line .result .shape) (at-grid-line .grid-line .result .rules) held ≡ true =
+    let f : roomsFine (at-grid-line .grid-line .result .shape) (at-grid-line .grid-line .result .side) held ≡ true =
     (holds-by (c .before .rooms-fine .ensures) (c .if2 .left)) in
-    ((at-grid-line .grid-line .ensures), (not-false _ (at-if1 .if1 .left)), rooms-shape (at-grid-line .grid-line .result .shape) (at-grid-line .grid-line .result .rules) held f)
+    ((at-grid-line .grid-line .ensures), (not-false _ (at-if1 .if1 .left)), rooms-shape (at-grid-line .grid-line .result .shape) (at-grid-line .grid-line .result .side) held f)
 
 returns-3 : tie.Need-returns-3
 unfolding roomsFine
@@ -51,7 +51,7 @@ returns-3 c =
     let at-grid-line = at-if1 .before .before in
     let start = at-grid-line .before .before .before .before .before .before .before .before in
     let held = rooms (start .args .marks .now) (start .args .beds .now) (start .args .roughness .now) (start .args .depths .now) (start .args .rain .now) (start .args .inflow .now) in
-    let f : roomsFine (at-grid-line .grid-line .result .shape) (at-grid-line .grid-line .result .rules) held ≡ true =
+    let f : roomsFine (at-grid-line .grid-line .result .shape) (at-grid-line .grid-line .result .side) held ≡ true =
     (holds-by (at-rooms-fine .rooms-fine .ensures) (at-if2 .if2 .left)) in refused-verdict _ (at-grid-line .grid-line .ensures) held
     (not-false _ (at-if1 .if1 .left)) f (at-decide .decide .ensures) (c .if3 .taken)
 
@@ -63,9 +63,9 @@ fill-cells-requires c κs =
     let at-grid-line = at-rooms-fine .before .before .before .before in
     let start = at-grid-line .before .before .before .before .before .before .before .before in
     let held = rooms (start .args .marks .now) (start .args .beds .now) (start .args .roughness .now) (start .args .depths .now) (start .args .rain .now) (start .args .inflow .now) in
-    let f : roomsFine (at-grid-line .grid-line .result .shape) (at-grid-line .grid-line .result .rules) held ≡ true =
+    let f : roomsFine (at-grid-line .grid-line .result .shape) (at-grid-line .grid-line .result .side) held ≡ true =
     (holds-by (at-rooms-fine .rooms-fine .ensures) (at-if2 .if2 .left)) in
-    (rooms-shape (at-grid-line .grid-line .result .shape) (at-grid-line .grid-line .result .rules) held f, rooms-cells (at-grid-line .grid-line .result .shape) (at-grid-line .grid-line .result .rules) held f)
+    (rooms-shape (at-grid-line .grid-line .result .shape) (at-grid-line .grid-line .result .side) held f, rooms-cells (at-grid-line .grid-line .result .shape) (at-grid-line .grid-line .result .side) held f)
 
 slice-aggregate-fill-rows : tie.Need-slice-aggregate-fill-rows
 slice-aggregate-fill-rows c = search needs
@@ -83,12 +83,12 @@ fill-rows-requires c κs =
     let start = at-grid-line .before .before .before .before .before .before .before .before in
     let held = rooms (start .args .marks .now) (start .args .beds .now) (start .args .roughness .now) (start .args .depths .now)
     (start .args .rain .now) (start .args .inflow .now) in
-    let f : roomsFine (at-grid-line .grid-line .result .shape) (at-grid-line .grid-line .result .rules) held ≡ true =
+    let f : roomsFine (at-grid-line .grid-line .result .shape) (at-grid-line .grid-line .result .side) held ≡ true =
     (holds-by (at-rooms-fine .rooms-fine .ensures) (at-if2 .if2 .left)) in
     let few = rain-few (start .args .text .now)
     (no-check _ (at-grid-line .grid-line .ensures) held (not-false _ (at-if1 .if1 .left)) f (at-decide .decide .ensures) (at-if3 .if3 .left)) in
     let rows = rain-rows-at (at-decide .decide .ensures .body-is (at-if3 .if3 .left)) in
-    ((omega arith, plain-rain), (omega (arith, rows), omega (arith, few, rooms-tables (at-grid-line .grid-line .result .shape) (at-grid-line .grid-line .result .rules) held f .0, (at-decide .decide .ensures .body-is (at-if3 .if3 .left)) .rain-rows-are)))
+    ((omega arith, plain-rain), (omega (arith, rows), omega (arith, few, rooms-tables (at-grid-line .grid-line .result .shape) (at-grid-line .grid-line .result .side) held f .0, (at-decide .decide .ensures .body-is (at-if3 .if3 .left)) .rain-rows-are)))
 
 slice-aggregate-fill-rows-2 : tie.Need-slice-aggregate-fill-rows-2
 slice-aggregate-fill-rows-2 c = search needs
@@ -107,12 +107,12 @@ fill-rows-requires-2 c κs =
     let start = at-grid-line .before .before .before .before .before .before .before .before in
     let held = rooms (start .args .marks .now) (start .args .beds .now) (start .args .roughness .now) (start .args .depths .now)
     (start .args .rain .now) (start .args .inflow .now) in
-    let f : roomsFine (at-grid-line .grid-line .result .shape) (at-grid-line .grid-line .result .rules) held ≡ true =
+    let f : roomsFine (at-grid-line .grid-line .result .shape) (at-grid-line .grid-line .result .side) held ≡ true =
     (holds-by (at-rooms-fine .rooms-fine .ensures) (at-if2 .if2 .left)) in
     let few = inflow-few (start .args .text .now)
     (no-check _ (at-grid-line .grid-line .ensures) held (not-false _ (at-if1 .if1 .left)) f (at-decide .decide .ensures) (at-if3 .if3 .left)) in
     let rows = inflow-rows-at (at-decide .decide .ensures .body-is (at-if3 .if3 .left)) in
-    ((omega arith, plain-inflow), (omega (arith, rows), omega (arith, few, rooms-tables (at-grid-line .grid-line .result .shape) (at-grid-line .grid-line .result .rules) held f .1, (at-decide .decide .ensures .body-is (at-if3 .if3 .left)) .inflow-rows-are)))
+    ((omega arith, plain-inflow), (omega (arith, rows), omega (arith, few, rooms-tables (at-grid-line .grid-line .result .shape) (at-grid-line .grid-line .result .side) held f .1, (at-decide .decide .ensures .body-is (at-if3 .if3 .left)) .inflow-rows-are)))
 
 same-length : tie.Need-same-length
 same-length c =
@@ -154,9 +154,9 @@ returns-4 c =
     let at-grid-line = at-if1 .before .before in
     let start = at-grid-line .before .before .before .before .before .before .before .before in
     let held = rooms (start .args .marks .now) (start .args .beds .now) (start .args .roughness .now) (start .args .depths .now) (start .args .rain .now) (start .args .inflow .now) in
-    let f : roomsFine (at-grid-line .grid-line .result .shape) (at-grid-line .grid-line .result .rules) held ≡ true =
+    let f : roomsFine (at-grid-line .grid-line .result .shape) (at-grid-line .grid-line .result .side) held ≡ true =
     (holds-by (at-rooms-fine .rooms-fine .ensures) (at-if2 .if2 .left)) in read-well _ (at-grid-line .grid-line .ensures) held
-    (not-false _ (at-if1 .if1 .left)) f (at-decide .decide .ensures) (at-if3 .if3 .left) refl (at-fill-cells .fill-cells .ensures)
+    (not-false _ (at-if1 .if1 .left)) f (at-decide .decide .ensures) (at-if3 .if3 .left) (at-fill-cells .fill-cells .ensures)
     (at-fill-rows .fill-rows .ensures) (at-fill-rows2 .fill-rows2 .ensures)
 
 pub read-spec : {M : Type 1} → statement M

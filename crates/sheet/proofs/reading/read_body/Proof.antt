@@ -5,6 +5,7 @@ use Prim.Native.Nat.{ℕ, _+_}
 use native.Mathlib.Omega.{arith}
 use borrow.Author.Tests.{not-true, not-false}
 use borrow.Author.Needs.{needs}
+use Rattle.sheet.specs.Sheet.{firstCell}
 use Rattle.sheet.proofs.ReadLaws.{body-run, body-cells, body-rest, body-good, body-room, plain-rain, plain-inflow}
 use Rattle.sheet.proofs.reading.read_body.Statement.{statement}
 use Rattle.sheet.proofs.reading.read_body.Tie as tie
@@ -151,7 +152,7 @@ returns-3 c =
     body-rest _ (start .pre .0 .0) (start .pre .0 .1) (at-run-line .run-line .ensures) (not-false _ (at-if1 .if1 .left))
     (at-fill-cells .fill-cells .ensures) (omega (arith, at-squares-of .squares-of .ensures, at-if2 .if2 .left))
     (at-count-rows .count-rows .ensures) (at-count-rows2 .count-rows2 .ensures) (at-if3 .if3 .taken)
-    (c .bad-body3 .ensures ∙ ap (λ (k : ℕ). k + at-count-rows .count-rows .result .count + at-count-rows2 .count-rows2 .result .count + 3) (at-squares-of .squares-of .ensures))
+    (c .bad-body3 .ensures ∙ ap (λ (k : ℕ). k + at-count-rows .count-rows .result .count + at-count-rows2 .count-rows2 .result .count + firstCell) (at-squares-of .squares-of .ensures))
 
 same-length-9 : tie.Need-same-length-9
 same-length-9 c =

@@ -20,7 +20,7 @@ squares-of-requires : tie.Need-squares-of-requires Inv-loop μ-loop
 squares-of-requires c κs = c .before .before .before .before .before .pre .0
 
 loop-holds : tie.Need-loop-holds Inv-loop μ-loop
-loop-holds c = (omega arith, filling-none _ _ _ _ _ _ _)
+loop-holds c = (omega arith, filling-none _ _ _ _)
 
 div-cell-line : tie.Need-div-cell-line Inv-loop μ-loop
 div-cell-line c = omega (arith, c .before .before .before .before .before .before .before .before .pre .0 .columns-low)
@@ -73,7 +73,7 @@ loop-again c =
     let at-loop = at-cell-line .before .before in
     let at-squares-of = at-loop .before in
     let start = at-squares-of .before .before .before .before .before .before in
-    (omega arith, filling-more _ _ _ (at-loop .loop .inv .1) (at-cell-line .cell-line .ensures) (not-false _ (at-if1 .if1 .left)) (omega (arith, at-squares-of .squares-of .ensures, start .pre .1 .0)) (omega (arith, at-squares-of .squares-of .ensures, start .pre .1 .1)) (omega (arith, at-squares-of .squares-of .ensures, start .pre .1 .2)) (omega (arith, at-squares-of .squares-of .ensures, start .pre .1 .3)) (record { marks = at-put-cell .put-cell .ensures .0; beds = at-put-cell .put-cell .ensures .1; roughness = at-put-cell .put-cell .ensures .2; depths = at-put-cell .put-cell .ensures .3 }))
+    (omega arith, filling-more _ _ _ (at-loop .loop .inv .1) (at-cell-line .cell-line .ensures) (not-false _ (at-if1 .if1 .left)) (record { marks = omega (arith, at-squares-of .squares-of .ensures, start .pre .1 .0); beds = omega (arith, at-squares-of .squares-of .ensures, start .pre .1 .1); roughness = omega (arith, at-squares-of .squares-of .ensures, start .pre .1 .2); depths = omega (arith, at-squares-of .squares-of .ensures, start .pre .1 .3) }) (record { marks = at-put-cell .put-cell .ensures .0; beds = at-put-cell .put-cell .ensures .1; roughness = at-put-cell .put-cell .ensures .2; depths = at-put-cell .put-cell .ensures .3 }))
 
 same-length-5 : tie.Need-same-length-5 Inv-loop μ-loop
 same-length-5 c = long-marks _ _ _ (c .before .loop .inv .1)

@@ -1,11 +1,12 @@
--- `sheet::answer::run_sheet` meets its contract: the checks have passed, so the fresh run is made.
+-- `answer::program::run_sheet` meets its contract: the checks have passed, so the fresh run is made.
 -- Assumes nothing.
 use mathlib.Core.Path.{sym, _∙_}
 use borrow.Author.Needs.{needs}
 use Rattle.sheet.specs.Sheet.{rooms}
-use Rattle.sheet.proofs.RunLaws.{run-shape, run-marks, run-depths, starts, starts-lasts, never-refused, same-run, run-printed}
-use Rattle.sheet.proofs.answer.run_sheet.Statement.{statement}
-use Rattle.sheet.proofs.answer.run_sheet.Tie as tie
+use Rattle.sheet.proofs.RunLaws.{run-shape, run-marks, run-depths}
+use Rattle.answer.proofs.RunLaws.{starts, starts-lasts, never-refused, same-run, run-printed}
+use Rattle.answer.proofs.program.run_sheet.Statement.{statement}
+use Rattle.answer.proofs.program.run_sheet.Tie as tie
 
 fresh-requires : tie.Need-fresh-requires
 fresh-requires c κs = search needs

@@ -1,18 +1,23 @@
--- What the inner functions ask and give. No public promise names these.
+-- What the functions inside `read` give one another. No public promise names these.
 -- Assumes nothing.
 use mathlib.Core.Path.{_≡_}
 use mathlib.Core.List.{List}
 use Prim.Native.Nat.{ℕ, zero, suc, _+_, _≤_}
+use Rattle.reckon.specs.Ranges.{mostRows}
 use Rattle.grid.specs.Squares.{squares}
 use Rattle.grid.specs.declared.squares.Shape.{Shape}
 use Rattle.text.specs.Reading.{lineFrom}
-use Rattle.sheet.specs.Sheet.{Rooms, lineTwo, shapeOf, cellsAt, rainAt, rainRows, inflowAt, inflowRows, badLine, cellsRead, rowsRead, cellsFilled, checksOf}
+use Rattle.sheet.specs.Sheet.{Cells, lineTwo, shapeOf, cellsAt, rainAt, rainRows, inflowAt, inflowRows, badLine, cellsRead, rowsRead, cellsFilled, allCells, checksOf}
 use Rattle.sheet.specs.declared.rooms.Scan.{Scan}
 use Rattle.sheet.specs.declared.reading.Body.{Body}
 use Rattle.sheet.specs.declared.reading.Verdict.{Verdict}
 
+-- of a table as many rows are looked at: one too many is enough to refuse it
+abbrev pub lookedRows : ℕ
+lookedRows = mostRows + 1
+
 -- cell lines from p on, read into rooms
-pub record CellsRead (s : List ℕ) (p : ℕ) (shape : Shape) (r : Scan) (before after : Rooms) : Type 0 where
+pub record CellsRead (s : List ℕ) (p : ℕ) (shape : Shape) (r : Scan) (before after : Cells) : Type 0 where
   pub count-is : r .count ≡ cellsRead s p shape
   pub next-is : r .next ≡ lineFrom s p (r .count)
   pub rooms-are : after ≡ cellsFilled s p (shape .columns) (r .count) before
@@ -36,10 +41,10 @@ pub record BodyIs (s : List ℕ) (b : Body) : Type 0 where
   pub inflow-rows-are : b .«inflow_rows» ≡ inflowRows s
 
 -- the text after line 1, its squares read into rooms
-pub record TextRead (s : List ℕ) (b : Body) (before after : Rooms) : Type 0 where
+pub record TextRead (s : List ℕ) (b : Body) (before after : Cells) : Type 0 where
   pub bad-is : b .bad ≡ badLine s
   pub body-is : b .bad ≡ 0 → BodyIs s b
-  pub rooms-are : b .bad ≡ 0 → after ≡ cellsFilled s (cellsAt s) (shapeOf s .columns) (squares (shapeOf s)) before
+  pub rooms-are : b .bad ≡ 0 → after ≡ allCells s before
 
 -- 12 where a line is bad, or else the number of the check that fails
 unfoldable pub numberOf : ℕ → ℕ → ℕ

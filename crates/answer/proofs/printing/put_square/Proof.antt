@@ -1,4 +1,4 @@
--- `sheet::answer::put_square` meets its contract: a closed square has no line.
+-- `answer::printing::put_square` meets its contract: a closed square has no line.
 -- Assumes nothing.
 use mathlib.Core.Path.{sym, ap, _∙_}
 use Prim.Native.Nat.{_/_, _%_}
@@ -6,10 +6,10 @@ use native.Mathlib.Omega.{arith}
 use lib.ListN.{length}
 use borrow.Author.Needs.{needs}
 use Rattle.ledger.specs.Runs.{plan}
 use Rattle.sheet.specs.Lines.{cellWord}
-use Rattle.sheet.proofs.PrintLaws.{closed-written, open-text, written-as, line-as}
-use Rattle.sheet.proofs.answer.put_square.Statement.{statement}
-use Rattle.sheet.proofs.answer.put_square.Tie as tie
+use Rattle.answer.proofs.PrintLaws.{closed-written, open-text, written-as, line-as}
+use Rattle.answer.proofs.printing.put_square.Statement.{statement}
+use Rattle.answer.proofs.printing.put_square.Tie as tie
 
 is-closed-requires : tie.Need-is-closed-requires
 is-closed-requires c κs = search needs

@@ -1,4 +1,4 @@
--- `sheet::answer::meadow_of` meets its contract: the reader's refusals, and then the run's.
+-- `answer::program::meadow_of` meets its contract: the reader's refusals, and then the run's.
 -- Assumes nothing.
 use mathlib.Core.Path.{sym}
 use Prim.Native.Nat.{ℕ}
@@ -6,10 +6,10 @@ use native.Mathlib.Omega.{arith}
 use lib.ListN.{length-replicate}
 use lib.Seq.{length-take-le}
 use borrow.Author.Needs.{needs}
 use Rattle.sheet.proofs.JudgeLaws.{zeros-are}
-use Rattle.sheet.proofs.MeadowLaws.{read-as, meadow-shape, meadow-few, meadow-record, meadow-rain, meadow-inflow, meadow-checks, meadow-run, meadow-refused, meadow-long}
-use Rattle.sheet.proofs.answer.meadow_of.Statement.{statement}
-use Rattle.sheet.proofs.answer.meadow_of.Tie as tie
+use Rattle.answer.proofs.MeadowLaws.{read-as, meadow-shape, meadow-few, meadow-record, meadow-rain, meadow-inflow, meadow-checks, meadow-run, meadow-refused, meadow-long}
+use Rattle.answer.proofs.program.meadow_of.Statement.{statement}
+use Rattle.answer.proofs.program.meadow_of.Tie as tie
 
 put-refused-requires : tie.Need-put-refused-requires
 put-refused-requires c κs = search needs
