@@ -87,7 +87,7 @@ joined-within f (suc n) i h =
     by-lt i (suc n) (λ l. omega (arith, length-append (joined n f) (f n), joined-within f n i (omega arith)))
     (λ l. subst (λ (k : ℕ). length (joined k f) ≤ length (joined (suc n) f)) (let e : suc n ≡ i = omega arith in e) (le-refl _))
 
-module _ (p : Plan) (depths : List ℕ) {at : ℕ} {old : List ℕ} (fits : at + length (cellsText p depths) ≤ length old) where
+module _ (p : Plan) (depths : List ℕ) (at : ℕ) (old : List ℕ) (fits : at + length (cellsText p depths) ≤ length old) where
   so-far-fits : (i : ℕ) → i ≤ squares (p .shape) → at + length (joined i (cellText p depths)) ≤ length old
   unfolding cellsText
   so-far-fits i l = omega (arith, fits, joined-within (cellText p depths) (squares (p .shape)) i l)
@@ -182,7 +182,7 @@ module _ (p : Plan) (depths : List ℕ) (u : Run) (steps : ℕ) where
         total-short clockWord (u .clock) hc,
       )
 
-  module _ {at : ℕ} {old : List ℕ} (fits : at + length (madeText p depths u steps) ≤ length old) where
+  module _ (at : ℕ) (old : List ℕ) (fits : at + length (madeText p depths u steps) ≤ length old) where
     pub cells-fit : at + length (cellsText p depths) ≤ length old
     cells-fit = omega (arith, fits, made-length)
 

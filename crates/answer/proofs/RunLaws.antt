@@ -28,7 +28,6 @@ use Rattle.sheet.specs.Sheet.{Rooms, planIn, givenIn, noLasts, noRecords, start
 use Rattle.answer.specs.Program.{endedText, runText, Prints}
 use Rattle.sheet.specs.declared.reading.Heading.{Heading}
 use Rattle.sheet.proofs.JudgeLaws.{one-slot, world-same}
-
 use Rattle.sheet.proofs.RunLaws.{step-zero}
 
 module _ (shape : Shape) (r : Rules) (held : Rooms) (end : ℕ) (e : checksIn shape r held end ≡ 0) where

@@ -42,6 +42,11 @@ take-zeros (suc n) (suc m) h = ap (λ (l : List ℕ). 0 ∷ l) (take-zeros n m (
 pub zeros-are : (n m : ℕ) {k : ℕ} → n ≡ k → k ≤ m → take {A = ℕ} n (replicate m 0) ≡ replicate k 0
 zeros-are n m e h = take-zeros n m (omega (arith, e, h)) ∙ ap (λ (j : ℕ). replicate j 0) e
 
+-- so many first numbers of a room that is as long as one of zeros
+pub taken-long :
+    {n size : ℕ} (room : List ℕ) → n ≤ size → length room ≡ length (replicate {A = ℕ} size 0) → n ≡ length (take n room)
+taken-long {n} {size} room l e = sym (length-take-le n room (omega (arith, l, e, length-replicate {A = ℕ} size 0)))
+
 -- the first numbers of a room into which a list was put are that list
 pub take-put : (old new : List ℕ) (n : ℕ) → length new ≡ n → take n (placed old 0 new) ≡ new
 unfolding placed

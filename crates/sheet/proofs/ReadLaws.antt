@@ -51,11 +51,15 @@ run-lined s p D t = row-lined s p runWord runFields (omega arith) plain-run refl
 unread : {s : List ℕ} {b : Body} {before after : Cells} {k : ℕ} → b .bad ≡ k → (k ≡ 0 → ⊥) → k ≡ badLine s → TextRead s b before after
 unread h d e = record { bad-is = h ∙ e; body-is = λ z. absurd (d (sym h ∙ z)); rooms-are = λ z. absurd (d (sym h ∙ z)) }
 
-module _
-    (s : List ℕ) {top : GridLine} {run : RunLine} (e : top ≡ gridLine s) (t : top .found ≡ true)
-    (r : run ≡ runLine s (top .next) (top .side)) where
+-- lines 1 and 2, of which line 1 was found
+pub record HeadRead (s : List ℕ) (top : GridLine) (run : RunLine) : Type 0 where
+  pub grid-is : top ≡ gridLine s
+  pub grid-found : top .found ≡ true
+  pub run-is : run ≡ runLine s (top .next) (top .side)
+
+module _ {s : List ℕ} {top : GridLine} {run : RunLine} (k : HeadRead s top run) where
   one-lined : Lined s 0 (top .next)
-  one-lined = subst (λ (g : GridLine). Lined s 0 (g .next)) (sym e) (grid-lined s (subst (λ (g : GridLine). g .found ≡ true) e t))
+  one-lined = subst (λ (g : GridLine). Lined s 0 (g .next)) (sym (k .grid-is)) (grid-lined s (subst (λ (g : GridLine). g .found ≡ true) (k .grid-is) (k .grid-found)))
 
   one-next : top .next ≡ lineFrom s 0 1
   unfolding lineFrom
@@ -63,8 +67,8 @@ module _
 
   two-is : run ≡ lineTwo s
   two-is =
-      r
-      ∙ (ap (λ (g : GridLine). runLine s (top .next) (g .side)) e ∙ ap (λ (p : ℕ). runLine s p (gridLine s .side)) one-next)
+      k .run-is
+      ∙ (ap (λ (g : GridLine). runLine s (top .next) (g .side)) (k .grid-is) ∙ ap (λ (p : ℕ). runLine s p (gridLine s .side)) one-next)
 
   pub body-run : run .found ≡ false → {b : Body} {before after : Cells} → b .bad ≡ 2 → TextRead s b before after
   unfolding badLine
@@ -75,8 +79,8 @@ module _
   module _ (f : run .found ≡ true) where
     two-lined : Lined s (top .next) (run .next)
     two-lined =
-        subst (λ (g : RunLine). Lined s (top .next) (g .next)) (sym r)
-        (run-lined s (top .next) (top .side) (subst (λ (g : RunLine). g .found ≡ true) r f))
+        subst (λ (g : RunLine). Lined s (top .next) (g .next)) (sym (k .run-is))
+        (run-lined s (top .next) (top .side) (subst (λ (g : RunLine). g .found ≡ true) (k .run-is) f))
 
     two-next : run .next ≡ cellsAt s
     unfolding lineFrom
@@ -92,10 +96,10 @@ module _
       cells-are : CellsRead s (cellsAt s) (shapeOf s) cells before after
       cells-are =
           subst (λ (p : ℕ). CellsRead s p (shapeOf s) cells before after) two-next
-          (subst (λ (g : GridLine). CellsRead s (run .next) (g .shape) cells before after) e c)
+          (subst (λ (g : GridLine). CellsRead s (run .next) (g .shape) cells before after) (k .grid-is) c)
 
       shape-same : squares (top .shape) ≡ squares (shapeOf s)
-      shape-same = ap (λ (g : GridLine). squares (g .shape)) e
+      shape-same = ap (λ (g : GridLine). squares (g .shape)) (k .grid-is)
 
       pub body-cells : cells .count < squares (top .shape) → {b : Body} → b .bad ≡ cells .count + firstCell → TextRead s b before after
       unfolding badLine
@@ -140,8 +144,8 @@ module _
         pub body-rest :
             inflow .next < length s → {b : Body} → b .bad ≡ squares (top .shape) + rain .count + inflow .count + firstCell → TextRead s b before after
         unfolding badLine
-        body-rest l k =
-            unread k (λ z. omega (arith, z))
+        body-rest l h′ =
+            unread h′ (λ z. omega (arith, z))
             (sym
             (refusal-later 2 _ two-found
             ∙ (refusal-later _ _ cells-fine

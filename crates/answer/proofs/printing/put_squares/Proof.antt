@@ -47,7 +47,7 @@ put-square-requires : tie.Need-put-square-requires Inv-loop μ-loop
 put-square-requires c κs =
     let l = c .before .before in
     let n = counted l in
-    ((start n .pre .0 .0, omega (arith, n .squares-of .ensures, start n .pre .0 .1), omega (arith, n .squares-of .ensures, start n .pre .0 .2)), square-fits (P n) (D n) (start n .pre .1) (l .loop .square) (l .loop .inv .1) (omega (arith, n .squares-of .ensures)))
+    ((start n .pre .0 .0, omega (arith, n .squares-of .ensures, start n .pre .0 .1), omega (arith, n .squares-of .ensures, start n .pre .0 .2)), square-fits (P n) (D n) (start n .args .at) (start n .args .out .now) (start n .pre .1) (l .loop .square) (l .loop .inv .1) (omega (arith, n .squares-of .ensures)))
 
 add-square : tie.Need-add-square Inv-loop μ-loop
 add-square c = omega arith
@@ -60,12 +60,12 @@ loop-again c =
     let put = c .before .before in
     let l = turn put in
     let n = counted l in
-    (omega arith, square-written (P n) (D n) (start n .pre .1) (l .loop .square) (l .loop .inv .1) (omega (arith, n .squares-of .ensures)) (put .put-square .ensures))
+    (omega arith, square-written (P n) (D n) (start n .args .at) (start n .args .out .now) (start n .pre .1) (l .loop .square) (l .loop .inv .1) (omega (arith, n .squares-of .ensures)) (put .put-square .ensures))
 
 same-length : tie.Need-same-length Inv-loop μ-loop
 same-length c =
     let n = c .before .before in
-    squares-length (P n) (D n) (start n .pre .1) (c .before .loop .square) (c .before .loop .inv .1)
+    squares-length (P n) (D n) (start n .args .at) (start n .args .out .now) (start n .pre .1) (c .before .loop .square) (c .before .loop .inv .1)
     (omega (arith, n .squares-of .ensures))
 
 returns : tie.Need-returns Inv-loop μ-loop

@@ -1,12 +1,36 @@
 -- `answer::program::run_sheet` meets its contract: the checks have passed, so the fresh run is made.
 -- Assumes nothing.
 use mathlib.Core.Path.{sym, _∙_}
+use native.Mathlib.Omega.{arith}
 use borrow.Author.Needs.{needs}
-use Rattle.sheet.specs.Sheet.{rooms}
+use Rattle.sheet.specs.Sheet.{Rooms, rooms}
 use Rattle.sheet.proofs.RunLaws.{run-shape, run-marks, run-depths}
 use Rattle.answer.proofs.RunLaws.{starts, starts-lasts, never-refused, same-run, run-printed}
 use Rattle.answer.proofs.program.run_sheet.Statement.{statement}
 use Rattle.answer.proofs.program.run_sheet.Tie as tie
+
+-- the places, each by one after it
+abbrev start : tie.After-fresh → tie.Start
+start c = c .before .before .before .before .before .before .before .before .before .before .before .before .before .before
+
+abbrev refused : tie.After-number → tie.After-fresh
+refused c = c .before .before .before .before
+
+abbrev fresh : tie.After-run → tie.After-fresh
+fresh c = c .before .before .before .before
+
+abbrev running : tie.After-run-to → tie.After-run
+running c = c .before .before .before .before .before
+
+abbrev ran : tie.After-put-ran-arg2 → tie.After-run-to
+ran c = c .before .before .before .before .before .before .before .before
+
+abbrev printed : tie.After-slice-known10 → tie.After-put-ran
+printed c = c .before .before
+
+-- what the rooms hold
+abbrev held : tie.Start → Rooms
+held c = rooms (c .args .marks .now) (c .args .beds .now) (c .args .roughness .now) (c .args .depths .now) (c .args .rain .now) (c .args .inflow .now)
 
 fresh-requires : tie.Need-fresh-requires
 fresh-requires c κs = search needs
@@ -16,8 +40,8 @@ enum-known-number c = search needs
 
 put-refused-requires : tie.Need-put-refused-requires
 put-refused-requires c κs =
-    let start = c .before .before .before .before .before .before .before .before .before .before .before .before .before .before .before .before .before .before .before .before in
-    start .pre .0 .1
+    let s = start (refused (c .before .before)) in
+    omega (arith, s .pre .0 .1)
 
 enum-known-run : tie.Need-enum-known-run
 enum-known-run c = search needs
@@ -27,10 +51,9 @@ run-to-requires c κs = search needs
 
 put-ran-requires : tie.Need-put-ran-requires
 put-ran-requires c κs =
-    let at-run-to = c .before .before .before .before .before .before .before .before in
-    let start = at-run-to .before .before .before .before .before .before .before .before .before .before .before .before .before .before .before .before .before .before .before .before .before .before .before in
-    let held = rooms (start .args .marks .now) (start .args .beds .now) (start .args .roughness .now) (start .args .depths .now) (start .args .rain .now) (start .args .inflow .now) in
-    (run-shape (start .args .heading .shape) (start .args .heading .rules) held (start .args .heading .end) (start .pre .1 .0), start .pre .0 .0, sym (run-marks (start .args .heading .shape) (start .args .heading .rules) held (start .args .heading .end) (start .pre .1 .0)), sym (at-run-to .run-to .kept .1 .1 .1 .1 .1 .1 .1 .1 .1 .0 ∙ run-depths (start .args .heading .shape) (start .args .heading .rules) held (start .args .heading .end) (start .pre .1 .0)), start .pre .0 .1)
+    let s = start (fresh (running (ran c))) in
+    let h = s .args .heading in
+    ((run-shape (h .shape) (h .rules) (held s) (h .end) (s .pre .1 .0), sym (run-marks (h .shape) (h .rules) (held s) (h .end) (s .pre .1 .0)), sym (ran c .run-to .kept .1 .1 .1 .1 .1 .1 .1 .1 .1 .0 ∙ run-depths (h .shape) (h .rules) (held s) (h .end) (s .pre .1 .0))), (s .pre .0 .0, s .pre .0 .1))
 
 same-length : tie.Need-same-length
 same-length c = search needs
@@ -43,12 +66,11 @@ same-length-3 c = search needs
 
 returns : tie.Need-returns
 returns c =
-    let at-number = c .before .before .before .before .before in
-    let at-fresh = at-number .before .before .before .before in
-    let start = at-fresh .before .before .before .before .before .before .before .before .before .before .before .before .before .before in
-    never-refused
-    (starts (start .args .heading .shape) (start .args .heading .rules) (rooms (start .args .marks .now) (start .args .beds .now) (start .args .roughness .now) (start .args .depths .now) (start .args .rain .now) (start .args .inflow .now)) (start .args .heading .end) (start .pre .1 .0) (start .pre .1 .1 .0) (start .pre .1 .1 .1) (at-fresh .fresh .ensures))
-    (at-number .number .given .1)
+    let n = c .before .before .before .before .before in
+    let s = start (refused n) in
+    let h = s .args .heading in
+    never-refused (starts (h .shape) (h .rules) (held s) (h .end) (s .pre .1 .0) (s .pre .1 .1 .0) (s .pre .1 .1 .1) (refused n .fresh .ensures))
+    (n .number .given .1)
 
 same-length-4 : tie.Need-same-length-4
 same-length-4 c = search needs
@@ -60,21 +82,19 @@ same-length-6 : tie.Need-same-length-6
 same-length-6 c = search needs
 
 same-length-7 : tie.Need-same-length-7
-same-length-7 c = c .before .before .before .before .before .before .before .before .before .before .before .run-to .kept .1 .1 .1 .1 .1 .1 .1 .1 .1 .1 .1 .0
+same-length-7 c = ran (printed c .before) .run-to .kept .1 .1 .1 .1 .1 .1 .1 .1 .1 .1 .1 .0
 
 returns-2 : tie.Need-returns-2
 returns-2 c =
-    let at-put-ran = c .before .before in
-    let at-run-to = at-put-ran .before .before .before .before .before .before .before .before .before in
-    let at-run = at-run-to .before .before .before .before .before in
-    let at-fresh = at-run .before .before .before .before in
-    let start = at-fresh .before .before .before .before .before .before .before .before .before .before .before .before .before .before in
-    let held = rooms (start .args .marks .now) (start .args .beds .now) (start .args .roughness .now) (start .args .depths .now) (start .args .rain .now) (start .args .inflow .now) in
-    run-printed (start .args .heading) held (at-run-to .run-to .ensures .ends)
-    (starts-lasts (start .args .heading .shape) (start .args .heading .rules) held (start .args .heading .end) (start .pre .1 .0) (start .pre .1 .1 .0) (start .pre .1 .1 .1) (at-fresh .fresh .ensures))
-    (start .pre .1 .1 .1)
-    (same-run (starts (start .args .heading .shape) (start .args .heading .rules) held (start .args .heading .end) (start .pre .1 .0) (start .pre .1 .1 .0) (start .pre .1 .1 .1) (at-fresh .fresh .ensures)) (at-run .run .given .1))
-    (at-put-ran .put-ran .ensures _ _)
+    let to = ran (printed c .before) in
+    let f = fresh (running to) in
+    let s = start f in
+    let h = s .args .heading in
+    run-printed h (held s) (to .run-to .ensures .ends)
+    (starts-lasts (h .shape) (h .rules) (held s) (h .end) (s .pre .1 .0) (s .pre .1 .1 .0) (s .pre .1 .1 .1) (f .fresh .ensures))
+    (s .pre .1 .1 .1)
+    (same-run (starts (h .shape) (h .rules) (held s) (h .end) (s .pre .1 .0) (s .pre .1 .1 .0) (s .pre .1 .1 .1) (f .fresh .ensures)) (running to .run .given .1))
+    (printed c .put-ran .ensures _ _)
 
 pub run-sheet-spec : {M : Type 1} → statement M
 run-sheet-spec =
