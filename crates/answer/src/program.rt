@@ -31,7 +31,7 @@ ghost use Rattle.answer.specs.Program.{Prints, endedText, meadowText, mo
 pub const OUT_ROOM: usize = 40_960;
 
 // The most bytes and the most squares that are taken, and room for one record.
-const MOST_TEXT: usize = 65_536;
+pub const MOST_TEXT: usize = 65_536;
 
 const PROGRAM_SQUARES: usize = 1_024;
 

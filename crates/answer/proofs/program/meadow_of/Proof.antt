@@ -71,7 +71,7 @@ rooms-read c =
     let l = c .read .last in
     rooms (l .1 .0) (l .1 .1 .0) (l .1 .1 .1 .0) (l .1 .1 .1 .1 .0) (l .1 .1 .1 .1 .1 .0) (l .1 .1 .1 .1 .1 .1 .0)
 
-reads : (c : tie.After-sheet2) → Reads (start (short (read c)) .args .text .now) programRooms (Read (c .sheet2 .given .0)) (rooms-read (read c))
+reads : (c : tie.After-sheet2) → Reads (start (short (read c)) .args .text .now) programRooms (Read (c .sheet2 .given .0 .0)) (rooms-read (read c))
 reads c = read-as (c .sheet2 .given .1) (read c .read .ensures)
 
 -- what is handed on lies in the rooms
@@ -81,10 +81,10 @@ few c = omega (arith, counted c .squares-of .ensures, meadow-few _ (reads (well 
 small : (c : tie.After-record-size) → c .record-size .result ≤ headWords + squareWords * programSquares
 small c = omega (arith, c .record-size .ensures, meadow-few _ (reads (well (counted c))))
 
-rain-rows : (c : tie.After-record-size) → well (counted c) .sheet2 .given .0 .«rain_rows» ≤ mostRows
+rain-rows : (c : tie.After-record-size) → well (counted c) .sheet2 .given .0 .0 .«rain_rows» ≤ mostRows
 rain-rows c = meadow-rain _ (reads (well (counted c)))
 
-inflow-rows : (c : tie.After-record-size) → well (counted c) .sheet2 .given .0 .«inflow_rows» ≤ mostRows
+inflow-rows : (c : tie.After-record-size) → well (counted c) .sheet2 .given .0 .0 .«inflow_rows» ≤ mostRows
 inflow-rows c = meadow-inflow _ (reads (well (counted c)))
 
 put-refused-requires : tie.Need-put-refused-requires
