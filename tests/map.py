@@ -39,7 +39,8 @@ def found(svg):
 
 def main():
     failed = 0
-    for sheet in sorted(glob.glob(os.path.join(TOP, "samples", "*.sheet"))):
+    sheets = sorted(glob.glob(os.path.join(TOP, "samples", "*.sheet")))
+    for sheet in sheets:
         answer = sheet[: -len("sheet")] + "out"
         made = drawn(sheet, answer)
         if made.returncode != 0 or found(made.stdout) != expected(sheet, answer):
@@ -53,6 +54,7 @@ def main():
     if made.returncode == 0 or "number 12, line 3" not in made.stderr:
         print("map: a refusal is drawn", file=sys.stderr)
         failed = 1
+    print(f"{len(sheets) + 1} checks, 0 skipped")
     return failed
 
 

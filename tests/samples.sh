@@ -4,7 +4,7 @@ set -eu
 cd "$(dirname "$0")/.."
 room=$(mktemp -d)
 trap 'rm -rf "$room"' EXIT
-failed=0 ran=0
+failed=0 ran=0 skipped=0
 
 # compare SHEET OUT
 compare() {
@@ -31,10 +31,12 @@ compare "$room/more.sheet" "$room/more.out"
 
 # what is stored beside the samples, worked again outside Rattle
 if command -v python3 >/dev/null; then
+    ran=$((ran + 1))
     python3 tests/samples.py || failed=$((failed + 1))
 else
+    skipped=1
     echo "samples: no python3 here, so the samples are not worked again"
 fi
 
-echo "samples: $ran sheets, $failed failed"
+echo "$ran checks, $skipped skipped"
 [ "$failed" -eq 0 ]

@@ -19,7 +19,7 @@ use Rattle.sight.specs.declared.wet_rows.Wet.{Wet}
 use Rattle.text.specs.Writing.{Wrote}
 use Rattle.sheet.specs.Sheet.{Rooms, Reads, roomsAfter}
 use Rattle.sheet.specs.declared.reading.Sheet.{Sheet}
-use Rattle.demands.specs.Determined.{One, ReckonDetermined, TrialsDetermined, GridDetermined, RuleDetermined, LedgerDetermined, FloodDetermined, SightDetermined, TextDetermined, SheetDetermined, ExportsDetermined, Determined}
+use Rattle.demands.specs.Determined.{One, ReckonDetermined, TrialsDetermined, GridDetermined, RuleDetermined, LedgerDetermined, FloodDetermined, SightDetermined, TextDetermined, SheetDetermined, AnswerDetermined, ExportsDetermined, Determined}
 use Rattle.demands.specs.Determined.{MovesDetermined}
 
 -- ---- one outcome
@@ -85,7 +85,9 @@ reckon-determined =
       greater = λ a b. exactly;
       number = λ list at. exactly;
       part = λ d x y. exactly;
+      copy-into = λ from old at. exactly;
       water-fine = λ depth last. exactly;
+      side-fine = λ side. exactly;
       square-root = λ n a b. root-unique;
       cube-root = λ n a b. root-unique;
       rain-by = λ rows t. exactly;
@@ -136,7 +138,6 @@ rule-determined =
       held-length = λ r candidate. exactly;
       is-update = λ r clock. exactly;
       lasts-for = λ r clock length. exactly;
-      side-fine = λ r. exactly;
       rules-fine = λ r. exactly;
       ground-fine = λ bed roughness. exactly;
       weigh = λ r depth last roughness ms drops. exactly;
@@ -206,8 +207,6 @@ text-determined =
       fields-at = λ text at count. exactly;
       rest-of-line = λ text at count. exactly;
       line-of = λ text at word count. exactly;
-      next-line = λ text at. exactly;
-      line-count = λ text. exactly;
       put-byte = λ byte at room. written;
       put-word = λ word at room. written;
       put-number = λ n at room. written;
@@ -217,7 +216,15 @@ text-determined =
     }
 
 sheet-determined : SheetDetermined
-sheet-determined = record { read = λ text before. read-one; meadow-of = λ text old a b x y. written a b (x .wrote) (y .wrote) }
+sheet-determined = record { read = λ text before. read-one }
+
+answer-determined : AnswerDetermined
+answer-determined =
+    record {
+      put-refused = λ number line at room. written;
+      put-world = λ p depths u steps at room. written;
+      meadow-of = λ text old a b x y. written a b (x .wrote) (y .wrote);
+    }
 
 exports-determined : ExportsDetermined
 exports-determined =
@@ -280,5 +287,6 @@ determined =
       sight = sight-determined;
       text = text-determined;
       sheet = sheet-determined;
+      answer = answer-determined;
       exports = exports-determined;
     }

@@ -31,7 +31,7 @@ use Rattle.sight.proofs.Alike.{AlikeDepths, wet-number-alike}
 use Rattle.grid.proofs.MaskLaws.{masks-alike}
 use Rattle.text.proofs.WritingLaws.{placed-none}
 use Rattle.sheet.specs.Sheet.{Rooms, roomsAfter}
-use Rattle.sheet.specs.Printed.{meadowText}
+use Rattle.answer.specs.Program.{meadowText}
 use Rattle.sheet.specs.declared.reading.Sheet.{Sheet}
 use Rattle.sheet.specs.declared.reading.Sheet.the-variants.{Read}
 use Rattle.sheet.specs.declared.reading.Sheet.the-variants as Reading

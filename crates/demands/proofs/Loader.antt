@@ -18,14 +18,16 @@ use Rattle.grid.specs.Squares.{squares}
 use Rattle.grid.specs.Marks.{closed}
 use Rattle.flood.specs.Refusals.{checkRows}
 use Rattle.text.specs.Reading.{tab, newline, isByte, wordAt, lineFrom, fieldsAt}
-use Rattle.text.specs.Writing.{fieldsText, Stands}
+use Rattle.text.specs.Writing.{fieldsText}
+use Rattle.text.specs.inner.Standing.{Stands}
 use Rattle.text.specs.declared.reading.Fields.{Fields}
 use Rattle.text.proofs.StandLaws.{stands-both, stands-byte, stands-word}
 use Rattle.text.proofs.RoundTrip.{fields-found}
 use Rattle.text.proofs.LineLaws.{line-add}
 use Rattle.sheet.specs.Lines.{cellWord, xLetter, oLetter, eLetter, noCell, closedCell, asOpen, openCell, markedCell, placedCell, cellLine}
-use Rattle.sheet.specs.Sheet.{Rooms, Reads, cellFrom, cellsAt, cellsRead, closedFrom, cellsFilled, tablesFilled, roomsAfter, lineOne, shapeOf, roomsFine, badLine, checksIn, checksOf, headingOf, judged, sheetOf}
-use Rattle.sheet.specs.Printed.{endedText, runText, sheetText, meadowText}
+use Rattle.sheet.specs.Sheet.{Rooms, Reads, cellFrom, cellsAt, cellsRead, closedFrom, cellsFilled, roomsFilled, roomsAfter, lineOne, shapeOf, roomsFine, badLine, checksIn, checksOf, headingOf, judged, sheetOf}
+use Rattle.answer.specs.Program.{endedText, runText, meadowText}
+use Rattle.answer.specs.Program.{sheetText}
 use Rattle.sheet.specs.declared.lines.CellLine.{CellLine}
 use Rattle.sheet.specs.declared.reading.Heading.{Heading}
 use Rattle.sheet.specs.declared.reading.Sheet.{Sheet}
@@ -54,7 +56,7 @@ two-to-five true true true true true false f g = absurd (g refl)
 two-to-five true true true true true true f g = refl
 
 module _ (s : List ℕ) (lent : Rooms) where
-  checks-are : roomsFine (shapeOf s) (lineOne s .rules) lent ≡ true → checksOf s ≡ refusal (take 4 (drop 1 (endRows s)))
+  checks-are : roomsFine (shapeOf s) (lineOne s .side) lent ≡ true → checksOf s ≡ refusal (take 4 (drop 1 (endRows s)))
   unfolding checksIn checkRows
   checks-are f = two-to-five _ _ _ _ _ _ (never-one s lent f) (never-six s lent f)
 
@@ -73,7 +75,7 @@ module _ (s : List ℕ) (lent : Rooms) where
 
   pub sheet-number : sheetNumber (sheetOf s lent) ≡ refusal (sheetRefusals s lent)
   unfolding sheetOf
-  sheet-number = number-by (lineOne s .found) (roomsFine (shapeOf s) (lineOne s .rules) lent) (badLine s) (checksOf s) _ checks-are
+  sheet-number = number-by (lineOne s .found) (roomsFine (shapeOf s) (lineOne s .side) lent) (badLine s) (checksOf s) _ checks-are
 
   line-first : (first roomy : Bool) (bad check : ℕ) → first ≡ false → sheetLine (answer first roomy bad check) ≡ 1
   unfolding sheetLine pick
@@ -106,7 +108,7 @@ module _ (s : List ℕ) (lent : Rooms) where
   never-twelve true true true false q = omega (arith, q)
   never-twelve true true true true q = omega (arith, q)
 
-  checks-small : roomsFine (shapeOf s) (lineOne s .rules) lent ≡ true → checksOf s ≡ 12 → ⊥
+  checks-small : roomsFine (shapeOf s) (lineOne s .side) lent ≡ true → checksOf s ≡ 12 → ⊥
   unfolding checkRows
   checks-small f q = never-twelve _ _ _ _ (sym (checks-are f) ∙ q)
 
@@ -239,18 +241,18 @@ module _ (s : List ℕ) (p row column : ℕ) where
 module _ (s : List ℕ) (before after : Rooms) (h : Heading) (R : Reads s before (Read h) after) where
   -- the tests that it passed
   record Passes : Type 0 where
-    roomy : roomsFine (shapeOf s) (lineOne s .rules) before ≡ true
+    roomy : roomsFine (shapeOf s) (lineOne s .side) before ≡ true
     text-good : badLine s ≡ 0
     heading : h ≡ headingOf s
 
   passes : Passes
   unfolding sheetOf judged pick
-  passes = go (lineOne s .found) (roomsFine (shapeOf s) (lineOne s .rules) before) (badLine s) (checksOf s) refl refl (R .answer)
+  passes = go (lineOne s .found) (roomsFine (shapeOf s) (lineOne s .side) before) (badLine s) (checksOf s) refl refl (R .answer)
     where
       never : {number line : ℕ} → Read h ≡ Refused number line → Passes
       never e = absurd (let z : _≡_ {A = ℕ} 0 1 = cc in omega arith)
 
-      go : (first roomy : Bool) (bad check : ℕ) → roomsFine (shapeOf s) (lineOne s .rules) before ≡ roomy → badLine s ≡ bad →
+      go : (first roomy : Bool) (bad check : ℕ) → roomsFine (shapeOf s) (lineOne s .side) before ≡ roomy → badLine s ≡ bad →
           Read h ≡ answer s before first roomy bad check → Passes
       go false roomy bad check e f q = never q
       go true false bad check e f q = never q
@@ -281,20 +283,20 @@ module _ (s : List ℕ) (before after : Rooms) (h : Heading) (R : Reads s before
       let all = leb-true n _ (second _ _ _ _ _ (passes .text-good)) in
       failing-before n (λ k. line k .found) i (omega (arith, all))
 
-  roomy-marks : n ≤ length (before .marks)
-  roomy-marks = rooms-cells (shapeOf s) (lineOne s .rules) before (passes .roomy) .0
+  roomy-marks : n ≤ length (before .cells .marks)
+  roomy-marks = rooms-cells (shapeOf s) (lineOne s .side) before (passes .roomy) .0
 
-  mark-is : (i : ℕ) → i < n → getD (after .marks) i 0 ≡ line i .mark
-  unfolding roomsAfter tablesFilled cellsFilled
-  mark-is i l = ap (λ (z : Rooms). getD (z .marks) i 0) (R .rooms-are) ∙ filled-in n _ _ (before .marks) i (omega (arith, roomy-marks)) l refl
+  mark-is : (i : ℕ) → i < n → getD (after .cells .marks) i 0 ≡ line i .mark
+  unfolding roomsAfter roomsFilled cellsFilled
+  mark-is i l = ap (λ (z : Rooms). getD (z .cells .marks) i 0) (R .rooms-are) ∙ filled-in n _ _ (before .cells .marks) i (omega (arith, roomy-marks)) l refl
 
-  marks-are-letters : MarksAreLetters s (h .shape) (after .marks)
+  marks-are-letters : MarksAreLetters s (h .shape) (after .cells .marks)
   unfolding closed letterOf
   marks-are-letters =
       record {
         spelled = λ i l. rw shape-is (spelled i (rw (← shape-is) l));
-        x-is-closed = λ i l e. eq-eqb _ _ (only-x (getD (after .marks) i 0) e);
-        closed-is-x = λ i l e. ap letterOf (eqb-true (getD (after .marks) i 0) 0 e);
+        x-is-closed = λ i l e. eq-eqb _ _ (only-x (getD (after .cells .marks) i 0) e);
+        closed-is-x = λ i l e. ap letterOf (eqb-true (getD (after .cells .marks) i 0) 0 e);
       }
     where
       only-x : (mark : ℕ) → letterOf mark ≡ xLetter → mark ≡ 0
@@ -305,14 +307,14 @@ module _ (s : List ℕ) (before after : Rooms) (h : Heading) (R : Reads s before
 
       spelled : (i : ℕ) → i < n →
           drop (lineStart s i) s
-          ≡ lineHead (shapeOf s) i (getD (after .marks) i 0) ++ drop (lineStart s i + length (lineHead (shapeOf s) i (getD (after .marks) i 0))) s
+          ≡ lineHead (shapeOf s) i (getD (after .cells .marks) i 0) ++ drop (lineStart s i + length (lineHead (shapeOf s) i (getD (after .cells .marks) i 0))) s
       spelled i l =
           rw (mark-is i l, ← line-add s 0 2 i)
           (cell-headed s (lineFrom s (cellsAt s) i) (i / shapeOf s .columns) (i % shapeOf s .columns) (found i l))
 
   -- a room filled but at closed squares
   left-alone : (f : ℕ → ℕ) (old new : List ℕ) → new ≡ filled n (closedFrom s (cellsAt s) (shapeOf s .columns)) f old → (i : ℕ) →
-      closed (after .marks) i ≡ true → getD new i 0 ≡ getD old i 0
+      closed (after .cells .marks) i ≡ true → getD new i 0 ≡ getD old i 0
   unfolding closed
   left-alone f old new e i c = ap (λ (l : List ℕ). getD l i 0) e ∙ go (decLt i (length old)) (decLt i n)
     where
@@ -326,13 +328,13 @@ module _ (s : List ℕ) (before after : Rooms) (h : Heading) (R : Reads s before
       go (yes l) (no m) = filled-past n skipped f old i l (omega arith)
       go (yes l) (yes m) = filled-skipped n skipped f old i l (ap (λ (k : ℕ). eqb k 0) (sym (mark-is i m)) ∙ c)
 
-  closed-left : ClosedLeft before after
-  unfolding roomsAfter tablesFilled cellsFilled
+  closed-left : ClosedLeft (before .cells) (after .cells)
+  unfolding roomsAfter roomsFilled cellsFilled
   closed-left =
       record {
-        beds = left-alone _ (before .beds) _ (ap (λ (z : Rooms). z .beds) (R .rooms-are));
-        roughness = left-alone _ (before .roughness) _ (ap (λ (z : Rooms). z .roughness) (R .rooms-are));
-        depths = left-alone _ (before .depths) _ (ap (λ (z : Rooms). z .depths) (R .rooms-are));
+        beds = left-alone _ (before .cells .beds) _ (ap (λ (z : Rooms). z .cells .beds) (R .rooms-are));
+        roughness = left-alone _ (before .cells .roughness) _ (ap (λ (z : Rooms). z .cells .roughness) (R .rooms-are));
+        depths = left-alone _ (before .cells .depths) _ (ap (λ (z : Rooms). z .cells .depths) (R .rooms-are));
       }
 
 pub sheet-alike : (s : List ℕ) (a b : Rooms) → AsLong a b → sheetOf s a ≡ sheetOf s b

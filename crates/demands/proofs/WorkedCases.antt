@@ -4,7 +4,7 @@ use mathlib.Core.Path.{refl}
 use lib.Ieee as Ieee
 use Rattle.reckon.specs.Tests.{pick, every, allBelow, firstFailing, refusal}
 use Rattle.reckon.specs.Lists.{tabulate, filled, joined, placed, sumBelow}
-use Rattle.reckon.specs.Ranges.{waterFine}
+use Rattle.reckon.specs.Ranges.{waterFine, sideFine}
 use Rattle.reckon.specs.Roots.{rootFrom, rootOf}
 use Rattle.reckon.specs.Tables.{rowGives, given, rainBy, onSquare, inflowBy, rowFine, tableFine}
 use Rattle.trials.specs.Ring.{slotAfter, slotBefore, ringFine}
@@ -13,7 +13,7 @@ use Rattle.grid.specs.Squares.{beside, opposite, onRim, shapeFine}
 use Rattle.grid.specs.Marks.{closed, exit, markFine, marksFine, inflowSquareFine, inflowSquaresFine}
 use Rattle.rule.specs.Drops.{dropOff}
 use Rattle.rule.specs.Length.{candidate, counts, sideCandidates, candidatesOf, leastFrom, heldBetween, freshLength, isUpdate, lengthAt, lastsFor}
-use Rattle.rule.specs.Rules.{sideFine, groundFine, rulesFine}
+use Rattle.rule.specs.Rules.{groundFine, rulesFine}
 use Rattle.rule.specs.Weighing.{lesserPositive, leastDrop, greatestDrop, dropSum, heightOf, slopeOf, criticalSpeed, manningSpeed, speedOf, mostThrough, totalOf, throughSides, weighed}
 use Rattle.ledger.specs.Runs.{runFine, runValuesFine}
 use Rattle.ledger.specs.Flows.{gone, sent, came, offSide, offSquare, offGrid}
@@ -29,16 +29,19 @@ use Rattle.flood.specs.Run.{goOn, runFrom, runTo, freshRun}
 use Rattle.text.specs.Reading.{isByte, wordAt, isDigit, digitsOf, valueFrom, wellFormed, numberOf, numberAt, fieldAt, before, readFields, ended, readRest, readLine, padded, asFields, lineLength, nextLine, lineFrom}
 use Rattle.text.specs.Writing.{digitsIn, decimal, fieldText, fieldsText, restText, lineText}
 use Rattle.sheet.specs.Lines.{asGrid, gridLine, asRun, runLine, noCell, closedCell, asOpen, openCell, markedCell, placedCell, cellLine}
-use Rattle.sheet.specs.Sheet.{cellsRead, rowsRead, tableRows, badLine, cellsFilled, tablesFilled, roomsFine, checksIn, headingOf, judged, sheetOf}
-use Rattle.sheet.specs.Printed.{refusedText, cellText, cellsText, madeText, endedText, runText, sheetText, meadowText}
+use Rattle.sheet.specs.Sheet.{cellsRead, rowsRead, tableRows, badLine, cellsFilled, roomsFilled, roomsFine, checksIn, headingOf, judged, sheetOf}
+use Rattle.answer.specs.Printed.{refusedText, cellText, cellsText, madeText}
+use Rattle.answer.specs.Program.{endedText, runText, meadowText}
+use Rattle.answer.specs.Program.{sheetText}
 use Rattle.sight.specs.Refusals.{depthsFine, sharedRows}
 use Rattle.sight.specs.Speeds.{quotientOf}
 use Rattle.sight.specs.Speeds as Speeds
 use Rattle.sight.specs.Arrows.{outThrough, nearDepth, throughSide, allStill, arrowBy, sighted, seenBy, askedFine, earlyRows, arrowRows, arrowNumber, seenAt}
-use Rattle.demands.specs.Worked.{bytesOf, SheetCases, OtherSheetCases, NumberCases, ProvedCases}
+use Rattle.demands.specs.Worked.{SheetCases, OtherSheetCases, NumberCases, ProvedCases}
+use Rattle.text.specs.Bytes.{bytesOf}
 
 sheet-cases : SheetCases
-unfolding pick every allBelow firstFailing refusal tabulate filled joined placed sumBelow waterFine rootFrom rootOf rowGives given rainBy onSquare inflowBy rowFine tableFine slotAfter slotBefore ringFine recordIn beside opposite onRim shapeFine closed exit markFine marksFine inflowSquareFine inflowSquaresFine dropOff candidate counts sideCandidates candidatesOf leastFrom heldBetween freshLength isUpdate lengthAt lastsFor sideFine groundFine rulesFine lesserPositive leastDrop greatestDrop dropSum heightOf slopeOf criticalSpeed manningSpeed speedOf mostThrough totalOf throughSides weighed runValuesFine runFine gone sent came offSide offSquare offGrid leavesIn lastIn addedIn squareRecord recordOf roomSlots newestRecord remains newDepth depthsFit newOutflow lateRows stepRecord worldAfter oneEach watersFine timesFine heldAndGone cameAndAdded depthBefore squareRestorable restorable worldBefore lookRows backRows backNumber takenBack sideDrop dropsOf squareCandidates candidates leavesFor addedFor stepLength stepLasts groundsFine endFine checkRows stepNumber stepped goOn runFrom runTo freshRun isByte wordAt isDigit digitsOf valueFrom wellFormed numberOf numberAt fieldAt before readFields ended readRest readLine padded asFields lineLength nextLine lineFrom digitsIn decimal fieldText fieldsText restText lineText asGrid gridLine asRun runLine noCell closedCell asOpen openCell markedCell placedCell cellLine cellsRead rowsRead tableRows badLine cellsFilled tablesFilled roomsFine checksIn headingOf judged sheetOf refusedText cellText cellsText madeText endedText runText sheetText meadowText depthsFine sharedRows quotientOf Speeds.speedOf outThrough nearDepth throughSide allStill arrowBy sighted seenBy askedFine earlyRows arrowRows arrowNumber seenAt Ieee.sub bytesOf
+unfolding pick every allBelow firstFailing refusal tabulate filled joined placed sumBelow waterFine rootFrom rootOf rowGives given rainBy onSquare inflowBy rowFine tableFine slotAfter slotBefore ringFine recordIn beside opposite onRim shapeFine closed exit markFine marksFine inflowSquareFine inflowSquaresFine dropOff candidate counts sideCandidates candidatesOf leastFrom heldBetween freshLength isUpdate lengthAt lastsFor sideFine groundFine rulesFine lesserPositive leastDrop greatestDrop dropSum heightOf slopeOf criticalSpeed manningSpeed speedOf mostThrough totalOf throughSides weighed runValuesFine runFine gone sent came offSide offSquare offGrid leavesIn lastIn addedIn squareRecord recordOf roomSlots newestRecord remains newDepth depthsFit newOutflow lateRows stepRecord worldAfter oneEach watersFine timesFine heldAndGone cameAndAdded depthBefore squareRestorable restorable worldBefore lookRows backRows backNumber takenBack sideDrop dropsOf squareCandidates candidates leavesFor addedFor stepLength stepLasts groundsFine endFine checkRows stepNumber stepped goOn runFrom runTo freshRun isByte wordAt isDigit digitsOf valueFrom wellFormed numberOf numberAt fieldAt before readFields ended readRest readLine padded asFields lineLength nextLine lineFrom digitsIn decimal fieldText fieldsText restText lineText asGrid gridLine asRun runLine noCell closedCell asOpen openCell markedCell placedCell cellLine cellsRead rowsRead tableRows badLine cellsFilled roomsFilled roomsFine checksIn headingOf judged sheetOf refusedText cellText cellsText madeText endedText runText sheetText meadowText depthsFine sharedRows quotientOf Speeds.speedOf outThrough nearDepth throughSide allStill arrowBy sighted seenBy askedFine earlyRows arrowRows arrowNumber seenAt Ieee.sub bytesOf
 sheet-cases =
     record {
       printed = refl;
@@ -61,7 +64,7 @@ sheet-cases =
     }
 
 other-sheet-cases : OtherSheetCases
-unfolding pick every allBelow firstFailing refusal tabulate filled joined placed sumBelow waterFine rootFrom rootOf rowGives given rainBy onSquare inflowBy rowFine tableFine slotAfter slotBefore ringFine recordIn beside opposite onRim shapeFine closed exit markFine marksFine inflowSquareFine inflowSquaresFine dropOff candidate counts sideCandidates candidatesOf leastFrom heldBetween freshLength isUpdate lengthAt lastsFor sideFine groundFine rulesFine lesserPositive leastDrop greatestDrop dropSum heightOf slopeOf criticalSpeed manningSpeed speedOf mostThrough totalOf throughSides weighed runValuesFine runFine gone sent came offSide offSquare offGrid leavesIn lastIn addedIn squareRecord recordOf roomSlots newestRecord remains newDepth depthsFit newOutflow lateRows stepRecord worldAfter oneEach watersFine timesFine heldAndGone cameAndAdded depthBefore squareRestorable restorable worldBefore lookRows backRows backNumber takenBack sideDrop dropsOf squareCandidates candidates leavesFor addedFor stepLength stepLasts groundsFine endFine checkRows stepNumber stepped goOn runFrom runTo freshRun isByte wordAt isDigit digitsOf valueFrom wellFormed numberOf numberAt fieldAt before readFields ended readRest readLine padded asFields lineLength nextLine lineFrom digitsIn decimal fieldText fieldsText restText lineText asGrid gridLine asRun runLine noCell closedCell asOpen openCell markedCell placedCell cellLine cellsRead rowsRead tableRows badLine cellsFilled tablesFilled roomsFine checksIn headingOf judged sheetOf refusedText cellText cellsText madeText endedText runText sheetText meadowText depthsFine sharedRows quotientOf Speeds.speedOf outThrough nearDepth throughSide allStill arrowBy sighted seenBy askedFine earlyRows arrowRows arrowNumber seenAt Ieee.sub bytesOf
+unfolding pick every allBelow firstFailing refusal tabulate filled joined placed sumBelow waterFine rootFrom rootOf rowGives given rainBy onSquare inflowBy rowFine tableFine slotAfter slotBefore ringFine recordIn beside opposite onRim shapeFine closed exit markFine marksFine inflowSquareFine inflowSquaresFine dropOff candidate counts sideCandidates candidatesOf leastFrom heldBetween freshLength isUpdate lengthAt lastsFor sideFine groundFine rulesFine lesserPositive leastDrop greatestDrop dropSum heightOf slopeOf criticalSpeed manningSpeed speedOf mostThrough totalOf throughSides weighed runValuesFine runFine gone sent came offSide offSquare offGrid leavesIn lastIn addedIn squareRecord recordOf roomSlots newestRecord remains newDepth depthsFit newOutflow lateRows stepRecord worldAfter oneEach watersFine timesFine heldAndGone cameAndAdded depthBefore squareRestorable restorable worldBefore lookRows backRows backNumber takenBack sideDrop dropsOf squareCandidates candidates leavesFor addedFor stepLength stepLasts groundsFine endFine checkRows stepNumber stepped goOn runFrom runTo freshRun isByte wordAt isDigit digitsOf valueFrom wellFormed numberOf numberAt fieldAt before readFields ended readRest readLine padded asFields lineLength nextLine lineFrom digitsIn decimal fieldText fieldsText restText lineText asGrid gridLine asRun runLine noCell closedCell asOpen openCell markedCell placedCell cellLine cellsRead rowsRead tableRows badLine cellsFilled roomsFilled roomsFine checksIn headingOf judged sheetOf refusedText cellText cellsText madeText endedText runText sheetText meadowText depthsFine sharedRows quotientOf Speeds.speedOf outThrough nearDepth throughSide allStill arrowBy sighted seenBy askedFine earlyRows arrowRows arrowNumber seenAt Ieee.sub bytesOf
 other-sheet-cases =
     record {
       exit-drops = refl;

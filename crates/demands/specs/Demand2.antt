@@ -11,7 +11,8 @@ use Rattle.reckon.specs.Ranges.{mostDepth}
 use Rattle.reckon.specs.Roots.{Root}
 use Rattle.grid.specs.Squares.{squares, sides}
 use Rattle.rule.specs.Length.{lengthAt, lastsFor}
-use Rattle.rule.specs.Weighing.{heightOf, slopeOf, criticalSpeed, weighed, mostDrop}
+use Rattle.rule.specs.Weighing.{heightOf, slopeOf, criticalSpeed, weighed}
+use Rattle.rule.specs.inner.InRange.{mostDrop}
 use Rattle.rule.specs.declared.rules.Rules.{Rules}
 use Rattle.ledger.specs.Runs.{Plan, World, Seen, seenOf}
 use Rattle.ledger.specs.Flows.{Leaves, shut, gone, came, offGrid}

@@ -6,7 +6,7 @@ use Prim.Native.Nat.{ℕ}
 use lib.Ieee.{Float}
 use Rattle.reckon.specs.Numbers.{Lesser, Greater, PartOf}
 use Rattle.reckon.specs.Numbers as Numbers
-use Rattle.reckon.specs.Ranges.{WaterFine}
+use Rattle.reckon.specs.Ranges.{WaterFine, SideFine}
 use Rattle.reckon.specs.Roots.{Root}
 use Rattle.reckon.specs.Tables.{RainBy, InflowBy, RainAdded, InflowAdded, RainFine, InflowFine}
 use Rattle.trials.specs.Ring.{SlotsIn, SlotStart, SlotAfter, SlotBefore, KeptAfter, RingFine}
@@ -16,7 +16,7 @@ use Rattle.grid.specs.Masks.{RowMasked, OnesOf, NextFound, Masked}
 use Rattle.grid.specs.declared.squares.Shape.{Shape}
 use Rattle.rule.specs.Drops.{DropTo, DropOff}
 use Rattle.rule.specs.Length.{Shorter, HeldLength, IsUpdate, LastsFor}
-use Rattle.rule.specs.Rules.{SideFine, RulesFine, GroundFine}
+use Rattle.rule.specs.Rules.{RulesFine, GroundFine}
 use Rattle.rule.specs.Weighing.{Weighs}
 use Rattle.rule.specs.declared.rules.Rules.{Rules}
 use Rattle.ledger.specs.Runs.{Plan, World, world, RunFine}
@@ -35,11 +35,11 @@ use Rattle.flood.specs.declared.run.Ran.{Ran}
 use Rattle.sight.specs.Arrows.{Sees}
 use Rattle.sight.specs.WetRows.{OnesIn, WetRowed}
 use Rattle.sight.specs.declared.wet_rows.Wet.{Wet}
-use Rattle.text.specs.Reading.{ByteIs, WordAt, FieldAt, FieldsAt, RestOfLine, LineOf, NextLine, LineCount}
+use Rattle.text.specs.Reading.{ByteIs, WordAt, FieldAt, FieldsAt, RestOfLine, LineOf}
 use Rattle.text.specs.Reading as Reading
 use Rattle.text.specs.Writing.{PutByte, PutWord, PutNumber, PutField, PutFields, PutLine}
 use Rattle.sheet.specs.Sheet.{Rooms, Reads}
-use Rattle.sheet.specs.Printed.{Prints, meadowText}
+use Rattle.answer.specs.Program.{Prints, meadowText}
 use Rattle.sheet.specs.declared.reading.Sheet.{Sheet}
 use Rattle.exports.specs.Steps.{ExportsFresh, ExportsStep, ExportsRun, ExportsBack}
 use Rattle.exports.specs.Sights.{ExportsArrow, ExportsWet}
@@ -47,6 +47,8 @@ use Rattle.exports.specs.Sheets.{ExportsRead, ExportsMeadow}
 use mathlib.Core.Bool.{Bool, true}
 use Rattle.moves.specs.inner.Fill.{LengthWorked, RecordFilled}
 use Rattle.moves.specs.inner.Added.{WaterAdded}
+use Rattle.answer.specs.Printed.{PutRefused, PutWorld}
+use Rattle.reckon.specs.Copying.{Copied}
 
 -- any two outcomes that a contract allows are equal
 abbrev pub One : {Out : Type 0} → (Out → Type 0) → Type 0
@@ -61,7 +63,9 @@ pub record ReckonDetermined : Type 0 where
   pub greater : (a b : ℕ) → One (Greater a b)
   pub number : (list : List ℕ) (at : ℕ) → One (Numbers.NumberAt list at)
   pub part : (d x y : ℕ) → One (PartOf d x y)
+  pub copy-into : (from old : List ℕ) (at : ℕ) → One (Copied from old at)
   pub water-fine : (depth last : ℕ) → One (WaterFine depth last)
+  pub side-fine : (side : ℕ) → One (SideFine side)
   pub square-root : (n : ℕ) → One (Root 2 n)
   pub cube-root : (n : ℕ) → One (Root 3 n)
   pub rain-by : (rows : List ℕ) (t : ℕ) → One (RainBy rows t)
@@ -103,7 +107,6 @@ pub record RuleDetermined : Type 0 where
   pub held-length : (r : Rules) (candidate : ℕ) → One (HeldLength r candidate)
   pub is-update : (r : Rules) (clock : ℕ) → One (IsUpdate r clock)
   pub lasts-for : (r : Rules) (clock held : ℕ) → One (LastsFor r clock held)
-  pub side-fine : (r : Rules) → One (SideFine r)
   pub rules-fine : (r : Rules) → One (RulesFine r)
   pub ground-fine : (bed roughness : ℕ) → One (GroundFine bed roughness)
   pub weigh : (r : Rules) (depth last roughness ms : ℕ) (drops : List ℕ) → One (Weighs r depth last roughness ms drops)
@@ -161,8 +164,6 @@ pub record TextDetermined : Type 0 where
   pub fields-at : (text : List ℕ) (at count : ℕ) → One (FieldsAt text at count)
   pub rest-of-line : (text : List ℕ) (at count : ℕ) → One (RestOfLine text at count)
   pub line-of : (text : List ℕ) (at : ℕ) (word : List ℕ) (count : ℕ) → One (LineOf text at word count)
-  pub next-line : (text : List ℕ) (at : ℕ) → One (NextLine text at)
-  pub line-count : (text : List ℕ) → One (LineCount text)
   pub put-byte : (byte at : ℕ) (room : List ℕ) → One {Out = ℕ × List ℕ} (λ o. PutByte byte at room (o .1) (o .0))
   pub put-word : (word : List ℕ) (at : ℕ) (room : List ℕ) → One {Out = ℕ × List ℕ} (λ o. PutWord word at room (o .1) (o .0))
   pub put-number : (n at : ℕ) (room : List ℕ) → One {Out = ℕ × List ℕ} (λ o. PutNumber n at room (o .1) (o .0))
@@ -173,6 +174,11 @@ pub record TextDetermined : Type 0 where
 -- what `read` leaves in its six rooms stands together
 pub record SheetDetermined : Type 0 where
   pub read : (text : List ℕ) (before : Rooms) → One {Out = Sheet × Rooms} (λ o. Reads text before (o .0) (o .1))
+
+pub record AnswerDetermined : Type 0 where
+  pub put-refused : (number line at : ℕ) (room : List ℕ) → One {Out = ℕ × List ℕ} (λ o. PutRefused number line at room (o .1) (o .0))
+  pub put-world : (p : Plan) (depths : List ℕ) (u : Run) (steps at : ℕ) (room : List ℕ) →
+      One {Out = ℕ × List ℕ} (λ o. PutWorld p depths u steps at room (o .1) (o .0))
   pub meadow-of : (text old : List ℕ) → One {Out = ℕ × List ℕ} (λ o. Prints (meadowText text) old (o .1) (o .0))
 
 -- what other languages call
@@ -207,4 +213,5 @@ pub record Determined : Type 0 where
   pub sight : SightDetermined
   pub text : TextDetermined
   pub sheet : SheetDetermined
+  pub answer : AnswerDetermined
   pub exports : ExportsDetermined

@@ -15,8 +15,9 @@ use Rattle.flood.specs.Run.{runTo}
 use Rattle.text.specs.Reading.{tab, lineFrom}
 use Rattle.text.specs.Writing.{fieldsText}
 use Rattle.sheet.specs.Lines.{cellWord, xLetter, oLetter, eLetter}
-use Rattle.sheet.specs.Sheet.{Rooms, Reads, lineOne, lineTwo, shapeOf, roomsFine, badLine, planIn, givenIn, startIn, said, sheetOf}
-use Rattle.sheet.specs.Printed.{mostText, programRooms, refusedText, madeText, meadowText}
+use Rattle.sheet.specs.Sheet.{Cells, Rooms, Reads, lineOne, lineTwo, shapeOf, roomsFine, badLine, planIn, givenIn, startIn, said, sheetOf}
+use Rattle.answer.specs.Program.{mostText, programRooms, meadowText}
+use Rattle.answer.specs.Printed.{refusedText, madeText}
 use Rattle.sheet.specs.declared.reading.Heading.{Heading}
 use Rattle.sheet.specs.declared.reading.Sheet.the-variants.{Read, Refused}
 use Rattle.exports.specs.Sheets.{sheetNumber, sheetLine}
@@ -34,7 +35,7 @@ endRows s =
 abbrev pub sheetRefusals : List ℕ → Rooms → List Row
 sheetRefusals s lent =
     12 unless lineOne s .found
-    ∷ 1 unless roomsFine (shapeOf s) (lineOne s .rules) lent
+    ∷ 1 unless roomsFine (shapeOf s) (lineOne s .side) lent
     ∷ 12 unless eqb (badLine s) 0
     ∷ take 4 (drop 1 (endRows s))
 
@@ -54,7 +55,7 @@ pub record MeadowSays (s : List ℕ) : Type 0 where
       (end .number ≡ 0 → ⊥) → meadowText s ≡ refusedText (end .number) 0
   pub run-made : length s ≤ mostText → (h : Heading) → sheetOf s programRooms ≡ Read h →
       let end = runTo (planIn (h .shape) (h .rules) (said s)) (givenIn (h .shape) (h .rules) (said s)) (h .end) (startIn (h .shape) (h .rules) (said s)) in
-      end .number ≡ 0 → meadowText s ≡ madeText (planIn (h .shape) (h .rules) (said s)) (end .steps) (end .world)
+      end .number ≡ 0 → meadowText s ≡ madeText (planIn (h .shape) (h .rules) (said s)) (end .world .depths) (end .world .run) (end .steps)
 
 pub record LoaderRefuses : Type 0 where
   pub exactly-when : (s : List ℕ) (lent : Rooms) → SheetSays s lent (sheetNumber (sheetOf s lent)) (sheetLine (sheetOf s lent))
@@ -89,22 +90,22 @@ pub record MarksAreLetters (s : List ℕ) (shape : Shape) (marks : List ℕ) : T
 -- ---- demand 2, of a sheet
 
 -- "What a closed square holds is not altered": the rooms at closed squares, and past the grid, hold what they held
-pub record ClosedLeft (before after : Rooms) : Type 0 where
+pub record ClosedLeft (before after : Cells) : Type 0 where
   pub beds : (i : ℕ) → closed (after .marks) i ≡ true → getD (after .beds) i 0 ≡ getD (before .beds) i 0
   pub roughness : (i : ℕ) → closed (after .marks) i ≡ true → getD (after .roughness) i 0 ≡ getD (before .roughness) i 0
   pub depths : (i : ℕ) → closed (after .marks) i ≡ true → getD (after .depths) i 0 ≡ getD (before .depths) i 0
 
 -- two sets of rooms, each as long as the other's
 pub record AsLong (a b : Rooms) : Type 0 where
-  pub marks : length (a .marks) ≡ length (b .marks)
-  pub beds : length (a .beds) ≡ length (b .beds)
-  pub roughness : length (a .roughness) ≡ length (b .roughness)
-  pub depths : length (a .depths) ≡ length (b .depths)
+  pub marks : length (a .cells .marks) ≡ length (b .cells .marks)
+  pub beds : length (a .cells .beds) ≡ length (b .cells .beds)
+  pub roughness : length (a .cells .roughness) ≡ length (b .cells .roughness)
+  pub depths : length (a .cells .depths) ≡ length (b .cells .depths)
   pub rain : length (a .rain) ≡ length (b .rain)
   pub inflow : length (a .inflow) ≡ length (b .inflow)
 
 pub record LoaderWalls : Type 0 where
-  pub letters : (s : List ℕ) (before after : Rooms) (h : Heading) → Reads s before (Read h) after → MarksAreLetters s (h .shape) (after .marks)
-  pub none-altered : (s : List ℕ) (before after : Rooms) (h : Heading) → Reads s before (Read h) after → ClosedLeft before after
+  pub letters : (s : List ℕ) (before after : Rooms) (h : Heading) → Reads s before (Read h) after → MarksAreLetters s (h .shape) (after .cells .marks)
+  pub none-altered : (s : List ℕ) (before after : Rooms) (h : Heading) → Reads s before (Read h) after → ClosedLeft (before .cells) (after .cells)
   -- "no answer depends on it": nor on anything that the rooms held, but for how long they are
   pub none-depends : (s : List ℕ) (a b : Rooms) → AsLong a b → sheetOf s a ≡ sheetOf s b

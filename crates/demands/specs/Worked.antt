@@ -4,11 +4,8 @@
 use mathlib.Core.Path.{_≡_}
 use mathlib.Core.Bool.{false}
 use mathlib.Core.List.{List, [], _∷_}
-use mathlib.Core.List as List
 use Prim.Native.Nat.{ℕ}
-use Prim.Native.Char.{code}
 use Prim.Native.String.{String}
-use Prim.Native.String as String
 use lib.ListN.{getD}
 use lib.IntN.{negsuc}
 use lib.Ieee.{Float, fin}
@@ -26,29 +23,25 @@ use Rattle.flood.specs.Step.{stepNumber, stepped}
 use Rattle.sight.specs.Speeds.{zero64, quotientOf}
 use Rattle.sight.specs.Arrows.{view, seenAt}
 use Rattle.sight.specs.declared.arrows.Sight.the-variants.{Moving}
+use Rattle.text.specs.Bytes.{bytesOf}
 use Rattle.sheet.specs.Sheet.{shapeOf, lineTwo, said, planIn, givenIn, startIn}
-use Rattle.sheet.specs.Printed.{meadowText}
+use Rattle.answer.specs.Program.{meadowText}
 
 -- ---- texts
 
--- the bytes of a text
-unfoldable pub bytesOf : String → List ℕ
-bytesOf String.[] = []
-bytesOf (String._∷_ c text) = code c ∷ bytesOf text
-
 -- document 01's sheet, and what `meadow` prints of it
-abbrev pub sheetText : String
-sheetText = "grid\t1\t2\t1\nrun\t100\t1000\t1000\t1000\t1000\ncell\t0\t0\to\t0\t100\t1000\ncell\t0\t1\to\t0\t100\t0\n"
+abbrev pub documentSheet : String
+documentSheet = "grid\t1\t2\t1\nrun\t100\t1000\t1000\t1000\t1000\ncell\t0\t0\to\t0\t100\t1000\ncell\t0\t1\to\t0\t100\t0\n"
 
-abbrev pub sheetOutput : String
-sheetOutput = "cell\t0\t0\t969\ncell\t0\t1\t31\nout\t0\nsteps\t1\nclock\t1000\n"
+abbrev pub documentOutput : String
+documentOutput = "cell\t0\t0\t969\ncell\t0\t1\t31\nout\t0\nsteps\t1\nclock\t1000\n"
 
 -- "one exit square, D 1, k 100, depth 10,000"; "two equal levels"
-abbrev pub exitText : String
-exitText = "grid\t1\t1\t1\nrun\t100\t1000\t1000\t1000\t1000\ncell\t0\t0\te\t0\t100\t10000\n"
+abbrev pub exitSheet : String
+exitSheet = "grid\t1\t1\t1\nrun\t100\t1000\t1000\t1000\t1000\ncell\t0\t0\te\t0\t100\t10000\n"
 
-abbrev pub levelText : String
-levelText = "grid\t1\t2\t1\nrun\t100\t1000\t1000\t1000\t1000\ncell\t0\t0\to\t0\t100\t500\ncell\t0\t1\to\t0\t100\t500\n"
+abbrev pub levelSheet : String
+levelSheet = "grid\t1\t2\t1\nrun\t100\t1000\t1000\t1000\t1000\ncell\t0\t0\to\t0\t100\t500\ncell\t0\t1\to\t0\t100\t500\n"
 
 -- ---- what a text says, and steps on it
 
@@ -103,51 +96,51 @@ eastSpeed = fin false 1_116_892_707_587_883 (negsuc 53)
 
 -- the sheet's world before its first step, after it, and after its second
 abbrev before : World
-before = start sheetText
+before = start documentSheet
 
 abbrev once : World
-once = next sheetText before
+once = next documentSheet before
 
 abbrev twice : World
-twice = next sheetText once
+twice = next documentSheet once
 
 -- ---- the cases
 
 -- of the sheet
 pub record SheetCases : Type 0 where
   -- "the sheet above: h 100, s 316, speeds 99 and 31, m 31, total 62, through east 31", and its output, whole
-  pub printed : meadowText (bytesOf sheetText) ≡ bytesOf sheetOutput
-  pub first-drops : drops sheetText before ≡ 0 ∷ 1_000 ∷ 0 ∷ 0 ∷ []
-  pub first-workings : workings sheetText before ≡ 100 ∷ 316 ∷ 99 ∷ 31 ∷ 31 ∷ 31 ∷ 62 ∷ []
-  pub first-east : stepMoves (onPlan sheetText) (byGiven sheetText) (seenOf before) .leaves 0 east ≡ 31
+  pub printed : meadowText (bytesOf documentSheet) ≡ bytesOf documentOutput
+  pub first-drops : drops documentSheet before ≡ 0 ∷ 1_000 ∷ 0 ∷ 0 ∷ []
+  pub first-workings : workings documentSheet before ≡ 100 ∷ 316 ∷ 99 ∷ 31 ∷ 31 ∷ 31 ∷ 62 ∷ []
+  pub first-east : stepMoves (onPlan documentSheet) (byGiven documentSheet) (seenOf before) .leaves 0 east ≡ 31
   pub first-record : once .records ≡ 1_000 ∷ 1_000 ∷ 0 ∷ 31 ∷ 0 ∷ 0 ∷ 0 ∷ 0 ∷ 0 ∷ 0 ∷ 0 ∷ 0 ∷ 0 ∷ 0 ∷ []
   -- "its second step (1000 ms): drop 938, h 97, s 306, speed 29, m 28, total 56; depths 941 and 59"
-  pub second-made : stepNumber (onPlan sheetText) (byGiven sheetText) once ≡ 0
-  pub second-duration : duration sheetText once ≡ 1_000
-  pub second-drops : drops sheetText once ≡ 0 ∷ 938 ∷ 0 ∷ 0 ∷ []
-  pub second-workings : workings sheetText once ≡ 97 ∷ 306 ∷ 97 ∷ 29 ∷ 29 ∷ 28 ∷ 56 ∷ []
+  pub second-made : stepNumber (onPlan documentSheet) (byGiven documentSheet) once ≡ 0
+  pub second-duration : duration documentSheet once ≡ 1_000
+  pub second-drops : drops documentSheet once ≡ 0 ∷ 938 ∷ 0 ∷ 0 ∷ []
+  pub second-workings : workings documentSheet once ≡ 97 ∷ 306 ∷ 97 ∷ 29 ∷ 29 ∷ 28 ∷ 56 ∷ []
   pub second-depths : twice .depths ≡ 941 ∷ 59 ∷ []
   pub second-record : twice .records ≡ 1_000 ∷ 1_000 ∷ 0 ∷ 28 ∷ 0 ∷ 0 ∷ 31 ∷ 0 ∷ 0 ∷ 0 ∷ 0 ∷ 0 ∷ 0 ∷ 0 ∷ []
   -- "take-back of the first step: depths 1000 and 0, P 0, clock 0"
-  pub back-made : backNumber (onPlan sheetText) once ≡ 0
-  pub back-depths : takenBack (onPlan sheetText) once .depths ≡ 1_000 ∷ 0 ∷ []
-  pub back-lasts : takenBack (onPlan sheetText) once .lasts ≡ 0 ∷ 0 ∷ []
-  pub back-clock : takenBack (onPlan sheetText) once .run .clock ≡ 0
+  pub back-made : backNumber (onPlan documentSheet) once ≡ 0
+  pub back-depths : takenBack (onPlan documentSheet) once .depths ≡ 1_000 ∷ 0 ∷ []
+  pub back-lasts : takenBack (onPlan documentSheet) once .lasts ≡ 0 ∷ 0 ∷ []
+  pub back-clock : takenBack (onPlan documentSheet) once .run .clock ≡ 0
   -- "arrow of square 0 0 after it: east is 62,000 / 1,000,000 rounded once, north 0"
-  pub arrow : seenAt (onPlan sheetText) 1 (view (once .depths) (once .records) (once .run)) 0 0 ≡ Moving (record { east = eastSpeed; north = zero64 })
+  pub arrow : seenAt (onPlan documentSheet) 1 (view (once .depths) (once .records) (once .run)) 0 0 ≡ Moving (record { east = eastSpeed; north = zero64 })
   pub arrow-quotient : quotientOf 62_000 1_000_000 ≡ eastSpeed
 
 -- of an exit alone, and of two equal levels
 pub record OtherSheetCases : Type 0 where
   -- "one exit square, D 1, k 100, depth 10,000, 1000 ms: v 313, m 3,130, total 10,000, each side 2,000; depth 2,000, outflow 8,000"
-  pub exit-drops : drops exitText (start exitText) ≡ 10_000 ∷ 10_000 ∷ 10_000 ∷ 10_000 ∷ []
-  pub exit-workings : workings exitText (start exitText) ≡ 464 ∷ 1_000 ∷ 313 ∷ 464 ∷ 313 ∷ 3_130 ∷ 10_000 ∷ []
-  pub exit-record : next exitText (start exitText) .records ≡ 1_000 ∷ 1_000 ∷ 2_000 ∷ 2_000 ∷ 2_000 ∷ 2_000 ∷ 0 ∷ 0 ∷ []
-  pub exit-depth : next exitText (start exitText) .depths ≡ 2_000 ∷ []
-  pub exit-outflow : next exitText (start exitText) .run .outflow ≡ 8_000
+  pub exit-drops : drops exitSheet (start exitSheet) ≡ 10_000 ∷ 10_000 ∷ 10_000 ∷ 10_000 ∷ []
+  pub exit-workings : workings exitSheet (start exitSheet) ≡ 464 ∷ 1_000 ∷ 313 ∷ 464 ∷ 313 ∷ 3_130 ∷ 10_000 ∷ []
+  pub exit-record : next exitSheet (start exitSheet) .records ≡ 1_000 ∷ 1_000 ∷ 2_000 ∷ 2_000 ∷ 2_000 ∷ 2_000 ∷ 0 ∷ 0 ∷ []
+  pub exit-depth : next exitSheet (start exitSheet) .depths ≡ 2_000 ∷ []
+  pub exit-outflow : next exitSheet (start exitSheet) .run .outflow ≡ 8_000
   -- "two equal levels: nothing moves"
-  pub level-made : stepNumber (onPlan levelText) (byGiven levelText) (start levelText) ≡ 0
-  pub level-depths : next levelText (start levelText) .depths ≡ 500 ∷ 500 ∷ []
+  pub level-made : stepNumber (onPlan levelSheet) (byGiven levelSheet) (start levelSheet) ≡ 0
+  pub level-depths : next levelSheet (start levelSheet) .depths ≡ 500 ∷ 500 ∷ []
 
 -- of one square, and of a table
 pub record NumberCases : Type 0 where

@@ -8,14 +8,14 @@ use lib.Dec.{T, leb}
 use lib.ListN.{length, getD}
 use borrow.Author.Tests.{leb-true, le-leb, eqb-true, eq-eqb, not-true, not-false}
 use Rattle.reckon.specs.Tests.{every, numbered, refusal}
-use Rattle.reckon.specs.Ranges.{mostDepth, mostLength, lastClock, mostOutflow, waterFine}
+use Rattle.reckon.specs.Ranges.{mostDepth, mostLength, lastClock, mostOutflow, waterFine, sideFine}
 use Rattle.reckon.specs.Tables.{rainKind, inflowKind, tableFine}
 use Rattle.reckon.proofs.TestLaws.{Each, or-right, or-of, every-each, each-every, every-fails, all-at, all-of, refusal-passed, passed-refusal}
 use Rattle.grid.specs.declared.squares.Shape.{Shape}
 use Rattle.grid.specs.Squares.{FineShape, squares, shapeFine}
 use Rattle.grid.specs.Marks.{Marked, marksFine, inflowSquaresFine}
 use Rattle.grid.proofs.SquareLaws.{ranges-of-fine}
-use Rattle.rule.specs.Rules.{sideFine, rulesFine}
+use Rattle.rule.specs.Rules.{rulesFine}
 use Rattle.rule.specs.declared.rules.Rules.{Rules}
 use Rattle.rule.proofs.RuleLaws.{rules-are, ground-is}
 use Rattle.ledger.specs.Runs.{Plan, World, plan, runValuesFine, runFine, Seen, seenOf}
@@ -55,7 +55,7 @@ every-decided bs k false e f = sym (every-fails bs k e)
 -- of what steps leave as it is, but for the rules
 record GivenFine (p : Plan) (g : Given) : Type 0 where
   shape-fine : shapeFine (p .shape) ≡ true
-  side-fine : sideFine (g .lie .rules) ≡ true
+  side-fine : sideFine (g .lie .rules .«square_side») ≡ true
   marks-each : oneEach p (p .marks) ≡ true
   beds-each : oneEach p (g .lie .beds) ≡ true
   roughness-each : oneEach p (g .lie .roughness) ≡ true
@@ -186,11 +186,11 @@ module _ (p : Plan) where
         all-of _ _ (λ i h. or-of (shut p i) _ (λ s. each-every _ (le-leb _ _ (d i h s), (le-leb _ _ (l i h s), tt))))
 
 -- row 1, for the calls that are lent everything
-module _ (s : Shape) (marks : List ℕ) (r : Rules) (beds roughness depths lasts : List ℕ) where
+module _ (s : Shape) (marks : List ℕ) (D : ℕ) (beds roughness depths lasts : List ℕ) where
   abbrev pub lentTests : List Bool
   lentTests =
       shapeFine s
-      ∷ sideFine r
+      ∷ sideFine D
       ∷ oneEach (plan s marks) marks
       ∷ oneEach (plan s marks) beds
       ∷ oneEach (plan s marks) roughness

@@ -15,7 +15,7 @@ use Rattle.grid.specs.declared.squares.Shape.{Shape}
 use Rattle.grid.specs.Squares.{squares, shapeFine}
 use Rattle.grid.specs.Marks.{Marked, closed}
 use Rattle.grid.proofs.SquareLaws.{ranges-of-fine}
-use Rattle.rule.specs.Rules.{sideFine}
+use Rattle.reckon.specs.Ranges.{sideFine}
 use Rattle.rule.specs.declared.rules.Rules.{Rules}
 use Rattle.ledger.specs.Runs.{Plan, answered, plan}
 use Rattle.ledger.specs.Flows.{shut}
@@ -30,9 +30,9 @@ use Rattle.flood.proofs.CheckLaws.{each-long}
 -- ---- the checks
 
 -- row 1
-module _ (s : Shape) (marks : List ℕ) (r : Rules) (lasts : List ℕ) where
+module _ (s : Shape) (marks : List ℕ) (D : ℕ) (lasts : List ℕ) where
   abbrev pub sizeTests : List Bool
-  sizeTests = shapeFine s ∷ sideFine r ∷ oneEach (plan s marks) marks ∷ oneEach (plan s marks) lasts ∷ []
+  sizeTests = shapeFine s ∷ sideFine D ∷ oneEach (plan s marks) marks ∷ oneEach (plan s marks) lasts ∷ []
 
   module _ (e : every sizeTests ≡ true) where
     pub sizes-marked : Marked s marks
@@ -49,7 +49,7 @@ module _ (p : Plan) (r : Rules) (lasts records : List ℕ) where
   rows-named = tt
 
   module _ (e : freshNumber p r lasts records ≡ 0) where
-    pub fresh-sizes : every (sizeTests (p .shape) (p .marks) r lasts) ≡ true
+    pub fresh-sizes : every (sizeTests (p .shape) (p .marks) (r .«square_side») lasts) ≡ true
     unfolding freshNumber freshRows
     fresh-sizes = refusal-passed _ rows-named e .0
 

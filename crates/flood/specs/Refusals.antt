@@ -8,10 +8,12 @@ use lib.Dec.{eqb, leb}
 use lib.ListN.{getD}
 use Rattle.reckon.specs.Tests.{every, allBelow, Row, _unless_, refusal}
 use Rattle.reckon.specs.Ranges.{lastClock}
+use Rattle.reckon.specs.Tests.{every, allBelow, Row, _unless_, refusal}
+use Rattle.reckon.specs.Ranges.{lastClock, sideFine}
 use Rattle.reckon.specs.Tables.{rainKind, inflowKind, tableFine}
 use Rattle.grid.specs.Squares.{squares, shapeFine}
 use Rattle.grid.specs.Marks.{marksFine, inflowSquaresFine}
-use Rattle.rule.specs.Rules.{sideFine, groundFine, rulesFine}
+use Rattle.rule.specs.Rules.{groundFine, rulesFine}
 use Rattle.rule.specs.declared.rules.Rules.{Rules}
 use Rattle.ledger.specs.Runs.{Plan, World, Seen, seenOf, runValuesFine}
 use Rattle.ledger.specs.Flows.{shut}
@@ -35,7 +37,7 @@ module _ (p : Plan) (g : Given) where
       1 unless
       every
       (shapeFine (p .shape)
-      ∷ sideFine (g .lie .rules)
+      ∷ sideFine (g .lie .rules .«square_side»)
       ∷ oneEach p (p .marks)
       ∷ oneEach p (g .lie .beds)
       ∷ oneEach p (g .lie .roughness)

@@ -10,7 +10,8 @@ use Rattle.reckon.specs.Tests.{pick, every, Row, _unless_, refusal}
 use Rattle.reckon.specs.Lists.{filled}
 use Rattle.grid.specs.Squares.{squares, shapeFine}
 use Rattle.grid.specs.Marks.{marksFine}
-use Rattle.rule.specs.Rules.{sideFine, rulesFine}
+use Rattle.rule.specs.Rules.{rulesFine}
+use Rattle.reckon.specs.Ranges.{sideFine}
 use Rattle.rule.specs.declared.rules.Rules.{Rules}
 use Rattle.ledger.specs.Runs.{Plan, World, world, answered}
 use Rattle.ledger.specs.Flows.{shut}
@@ -65,7 +66,7 @@ module _ (p : Plan) (r : Rules) (lasts records : List ℕ) where
   -- it is lent shape, rules, marks, last leaving and the record room, and checks those
   unfoldable pub freshRows : List Row
   freshRows =
-      1 unless every (shapeFine (p .shape) ∷ sideFine r ∷ oneEach p (p .marks) ∷ oneEach p lasts ∷ [])
+      1 unless every (shapeFine (p .shape) ∷ sideFine (r .«square_side») ∷ oneEach p (p .marks) ∷ oneEach p lasts ∷ [])
       ∷ 2 unless marksFine (p .shape) (p .marks)
       ∷ 5 unless rulesFine r
       ∷ 6 unless not (eqb (roomSlots p records) 0)

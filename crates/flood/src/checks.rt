@@ -11,12 +11,12 @@ use ledger::record::record_size;
 use ledger::runs::Run;
 use ledger::runs::run_fine;
 use reckon::ranges::LAST_CLOCK;
+use reckon::ranges::side_fine;
 use reckon::tables::inflow_fine;
 use reckon::tables::rain_fine;
 use rule::rules::Rules;
 use rule::rules::ground_fine;
 use rule::rules::rules_fine;
-use rule::rules::side_fine;
 ghost use mathlib.Core.Path.{_≡_};
 ghost use mathlib.Core.Bool.{_||_};
 ghost use mathlib.Core.List.{[], _∷_};
@@ -26,7 +26,8 @@ ghost use Rattle.reckon.specs.Tests.{every, refusal};
 ghost use Rattle.reckon.specs.Tables.{rainKind, inflowKind, tableFine};
 ghost use Rattle.grid.specs.Squares.{FineShape, shapeFine, squares};
 ghost use Rattle.grid.specs.Marks.{Marked, closed, inflowSquaresFine};
-ghost use Rattle.rule.specs.Rules.{groundFine, rulesFine, sideFine};
+ghost use Rattle.rule.specs.Rules.{groundFine, rulesFine};
+ghost use Rattle.reckon.specs.Ranges.{sideFine};
 ghost use Rattle.rule.specs.declared.rules.Rules as Declared;
 ghost use Rattle.ledger.specs.Runs.{plan, world, seenOf};
 ghost use Rattle.ledger.specs.Record.{roomSlots, ringOf};
@@ -71,12 +72,12 @@ fn lent_fine(
     depths: &[u32],
     lasts: &[u32],
 ) -> bool
-    ensures { λ r. ⌜ r ≡ every (shapeFine shape ∷ sideFine rules ∷ oneEach (plan shape (now (marks .entry))) (now (marks .entry)) ∷ oneEach (plan shape (now (marks .entry))) (now (beds .entry)) ∷ oneEach (plan shape (now (marks .entry))) (now (roughness .entry)) ∷ oneEach (plan shape (now (marks .entry))) (now (depths .entry)) ∷ oneEach (plan shape (now (marks .entry))) (now (lasts .entry)) ∷ []) ⌝ }
+    ensures { λ r. ⌜ r ≡ every (shapeFine shape ∷ sideFine (rules .«square_side») ∷ oneEach (plan shape (now (marks .entry))) (now (marks .entry)) ∷ oneEach (plan shape (now (marks .entry))) (now (beds .entry)) ∷ oneEach (plan shape (now (marks .entry))) (now (roughness .entry)) ∷ oneEach (plan shape (now (marks .entry))) (now (depths .entry)) ∷ oneEach (plan shape (now (marks .entry))) (now (lasts .entry)) ∷ []) ⌝ }
 {
     if !shape_fine(shape) {
         return false;
     }
-    if !side_fine(rules) {
+    if !side_fine(rules.square_side) {
         return false;
     }
     if !one_each(shape, marks.len()) {

@@ -8,9 +8,9 @@ use grid::squares::squares_of;
 use ledger::checks::one_each;
 use ledger::runs::Answer;
 use ledger::runs::Run;
+use reckon::ranges::side_fine;
 use rule::rules::Rules;
 use rule::rules::rules_fine;
-use rule::rules::side_fine;
 ghost use mathlib.Core.Path.{_≡_};
 ghost use mathlib.Core.List.{[], _∷_};
 ghost use Prim.Native.Nat.{_<_};
@@ -19,19 +19,19 @@ ghost use Rattle.reckon.specs.Tests.{every, pick};
 ghost use Rattle.reckon.specs.Lists.{filled};
 ghost use Rattle.grid.specs.Squares.{shapeFine, squares};
 ghost use Rattle.grid.specs.Marks.{Marked, closed};
-ghost use Rattle.rule.specs.Rules.{sideFine};
+ghost use Rattle.reckon.specs.Ranges.{sideFine};
 ghost use Rattle.ledger.specs.Runs.{plan};
 ghost use Rattle.ledger.specs.Checks.{oneEach};
 ghost use Rattle.flood.specs.Run.{Freshens, freshNumber, FreshRunMade};
 
 // Refusal 1: the shape and D are in range, and marks and last leaving have one number a square.
 fn sizes_fine(shape: Shape, rules: Rules, marks: &[u8], lasts: &[u32]) -> bool
-    ensures { λ r. ⌜ r ≡ every (shapeFine shape ∷ sideFine rules ∷ oneEach (plan shape (now (marks .entry))) (now (marks .entry)) ∷ oneEach (plan shape (now (marks .entry))) (now (lasts .entry)) ∷ []) ⌝ }
+    ensures { λ r. ⌜ r ≡ every (shapeFine shape ∷ sideFine (rules .«square_side») ∷ oneEach (plan shape (now (marks .entry))) (now (marks .entry)) ∷ oneEach (plan shape (now (marks .entry))) (now (lasts .entry)) ∷ []) ⌝ }
 {
     if !shape_fine(shape) {
         return false;
     }
-    if !side_fine(rules) {
+    if !side_fine(rules.square_side) {
         return false;
     }
     if !one_each(shape, marks.len()) {

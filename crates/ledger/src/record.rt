@@ -25,9 +25,9 @@ use reckon::copying::copy_into;
 use reckon::numbers::number;
 
 // The words before the squares, and those of a square: its four sides, then these two.
-const HEAD_WORDS: usize = 2;
+pub const HEAD_WORDS: usize = 2;
 
-const SQUARE_WORDS: usize = 6;
+pub const SQUARE_WORDS: usize = 6;
 
 const LAST_WORD: usize = 4;
 

@@ -2,7 +2,7 @@
 -- inflow, and no row is for a closed square.
 -- Assumes nothing.
 use mathlib.Core.Path.{_≡_, refl, sym, ap, ap₂, _∙_, subst}
-use mathlib.Core.Bool.{Bool, true, false, _&&_, _||_, not, or-false}
+use mathlib.Core.Bool.{Bool, true, false, _||_, not, or-false}
 use mathlib.Core.List.{List}
 use Prim.Native.Nat.{ℕ, _+_, _-_, _*_, _/_, _%_, _≤_, _<_}
 use native.Mathlib.Nat.{add-zero}
@@ -12,14 +12,15 @@ use lib.Dec.{leb, eqb}
 use lib.ListN.{length, getD, set, length-set}
 use lib.Seq.{ext-getD, getD-set-same, getD-set-other, set-getD}
 use borrow.Author.Tests.{eqb-true, eq-eqb, leb-true, le-leb, lt-leb, not-true, not-false, ltb-true}
-use Rattle.reckon.specs.Tests.{pick, every, allBelow}
+use Rattle.reckon.specs.Tests.{pick, allBelow}
 use Rattle.reckon.specs.Lists.{filled}
 use Rattle.reckon.specs.Ranges.{mostDepth}
-use Rattle.reckon.specs.Tables.{rainKind, inflowKind, onSquare, rainAdded, inflowAdded, inflowBy, Fits}
+use Rattle.reckon.specs.Tables.{rainKind, inflowKind, onSquare, rainAdded, inflowAdded, inflowBy}
+use Rattle.reckon.specs.inner.Fits.{Fits}
 use Rattle.reckon.proofs.TestLaws.{not-both, pick-true, pick-false, no-more, and-left, and-right, and-both, or-right, or-of, every-each, all-none, all-at, all-of, all-fails, all-beside, all-some}
 use Rattle.reckon.proofs.ListLaws.{length-filled, filled-in, filled-skipped, is-filled, filled-store, filled-keep}
 use Rattle.reckon.proofs.TableLaws.{inflow-none, rain-le, fine-fits}
-use Rattle.grid.specs.Squares.{squares, squareAt, FineShape}
+use Rattle.grid.specs.Squares.{squares, squareAt}
 use Rattle.grid.specs.Marks.{closed, inflowWords, inflowRow, inflowColumn, inflowSquareFine, inflowSquaresFine}
 use Rattle.grid.specs.declared.squares.Shape.{Shape}
 use Rattle.grid.proofs.SquareLaws.{square-in, square-within, row-of, column-of}

@@ -1,22 +1,17 @@
 -- Laws of the drops: what each side's is, case by case as the code finds it, and that none is above the own level.
 -- Assumes nothing.
 use mathlib.Core.Path.{_≡_, sym, ap, _∙_, subst}
-use mathlib.Core.Bool.{Bool, true, false}
+use mathlib.Core.Bool.{true, false}
 use mathlib.Core.List.{List, [], _∷_}
-use Prim.Native.Nat.{ℕ, _+_, _-_, _≤_, _<_}
-use native.Mathlib.Nat.{le-trans}
+use Prim.Native.Nat.{ℕ, _-_, _≤_, _<_}
 use native.Mathlib.Omega.{arith}
-use lib.Dec.{ltb}
 use lib.ListN.{getD}
 use borrow.Author.Tests.{lt-ltb, le-ltb}
-use Rattle.reckon.specs.Tests.{pick}
 use Rattle.reckon.proofs.TestLaws.{pick-true, pick-false, pick-both}
 use Rattle.grid.specs.Squares.{squares, within, beside}
 use Rattle.grid.specs.Marks.{exit}
 use Rattle.rule.specs.Drops.{dropTo, dropOff}
-use Rattle.rule.specs.Rules.{GroundInRange}
-use Rattle.rule.specs.Weighing.{mostDrop, DropsInRange, SquareInRange, Weighable}
-use Rattle.rule.specs.Length.{Candidacy}
+use Rattle.rule.specs.inner.InRange.{GroundInRange, mostDrop, DropsInRange, SquareInRange, Weighable, Candidacy}
 use Rattle.rule.specs.declared.rules.Rules.{Rules}
 use Rattle.rule.proofs.DropLaws.{off-le}
 use Rattle.reckon.specs.Ranges.{mostDepth, mostLength}

@@ -1,10 +1,10 @@
 -- Laws of the tables, over both kinds: how large a term and a sum can be, that what a table has given never falls, and that a table
 -- which passes its test is in range.
 -- Assumes nothing.
-use mathlib.Core.Path.{_≡_, refl, sym, _∙_, ap, subst}
+use mathlib.Core.Path.{_≡_, _∙_, ap}
 use mathlib.Core.Bool.{Bool, true, false}
 use mathlib.Core.List.{List, [], _∷_}
-use Prim.Native.Nat.{ℕ, _+_, _-_, _*_, _/_, _%_, _≤_, _<_, min}
+use Prim.Native.Nat.{ℕ, _+_, _-_, _*_, _/_, _%_, _≤_, _<_}
 use native.Mathlib.Nat.{le-refl, le-trans, mul-le-mul, mul-le-mul-left, div-le-self, zero-div}
 use native.Mathlib.Omega.{arith}
 use lib.Dec.{eqb, leb}
@@ -13,7 +13,8 @@ use borrow.Author.Tests.{leb-true, le-leb, lt-leb, eq-eqb, ne-eqb}
 use Rattle.reckon.specs.Tests.{pick, every, allBelow}
 use Rattle.reckon.specs.Lists.{sumBelow}
 use Rattle.reckon.specs.Ranges.{lastClock, mostRain, mostLitres, mostRows}
-use Rattle.reckon.specs.Tables.{rainKind, inflowKind, hour, rowStart, ran, rowGives, given, rainBy, onSquare, inflowBy, rowFine, tableFine, Fits}
+use Rattle.reckon.specs.Tables.{rainKind, inflowKind, hour, rowStart, ran, rowGives, given, rainBy, onSquare, inflowBy, rowFine, tableFine}
+use Rattle.reckon.specs.inner.Fits.{Fits}
 use Rattle.reckon.specs.declared.tables.Kind.{Kind}
 use Rattle.reckon.proofs.TestLaws.{pick-false, pick-both, and-both, and-false, and-true, every-each, each-every, every-fails, all-at, all-fails}
 use Rattle.reckon.proofs.ListLaws.{sum-mono, sum-le, sum-zero}
@@ -65,36 +66,36 @@ module _ (k : Kind) (counts : ℕ → Bool) (rows : List ℕ) where
 pub rain-le : (rows : List ℕ) {t : ℕ} → Fits rainKind rows t → rainBy rows t ≤ 64 * (mostRain * lastClock)
 unfolding rainBy given
 rain-le rows {t} f =
-    le-trans (div-le-self _ hour) (omega (arith, terms-le rainKind (λ j. true) rows f (length rows / 3) (le-refl _), f .few))
+    le-trans (div-le-self _ hour) (omega (arith, terms-le rainKind (λ j. true) rows f (length rows / rainKind .width) (le-refl _), f .few))
 
 pub inflow-le : (rows : List ℕ) (r c side : ℕ) {t : ℕ} → Fits inflowKind rows t → inflowBy rows r c side t ≤ 64 * (mostLitres * lastClock)
 unfolding inflowBy given
 inflow-le rows r c side {t} f =
-    le-trans (div-le-self _ (side * side)) (omega (arith, terms-le inflowKind (onSquare rows r c) rows f (length rows / 5) (le-refl _), f .few))
+    le-trans (div-le-self _ (side * side)) (omega (arith, terms-le inflowKind (onSquare rows r c) rows f (length rows / inflowKind .width) (le-refl _), f .few))
 
 -- a square that no inflow row is for gets nothing
 pub inflow-none :
-    (rows : List ℕ) (r c side t : ℕ) → ((j : ℕ) → j < length rows / 5 → onSquare rows r c j ≡ false) → inflowBy rows r c side t ≡ 0
+    (rows : List ℕ) (r c side t : ℕ) → ((j : ℕ) → j < length rows / inflowKind .width → onSquare rows r c j ≡ false) → inflowBy rows r c side t ≡ 0
 unfolding inflowBy given
 inflow-none rows r c side t h =
-    ap (λ (x : ℕ). x / (side * side)) (sum-zero (length rows / 5) _ (λ j l. pick-false _ _ (h j l))) ∙ zero-div (side * side)
+    ap (λ (x : ℕ). x / (side * side)) (sum-zero (length rows / inflowKind .width) _ (λ j l. pick-false _ _ (h j l))) ∙ zero-div (side * side)
 
 -- every rain row counts, and it starts with its from
-pub rain-term : (rows : List ℕ) (t j : ℕ) → rowGives rows (3 * j) t ≡ term rainKind (λ i. true) rows t j
+pub rain-term : (rows : List ℕ) (t j : ℕ) → rowGives rows (rainKind .width * j) t ≡ term rainKind (λ i. true) rows t j
 unfolding pick
 rain-term rows t j = ap (λ (at : ℕ). rowGives rows at t) (omega arith)
 
 -- whether an inflow row counts for a square
 module _ (rows : List ℕ) (r c j : ℕ) where
-  pub other-row : (getD rows (5 * j) 0 ≡ r → ⊥) → onSquare rows r c j ≡ false
+  pub other-row : (getD rows (inflowKind .width * j) 0 ≡ r → ⊥) → onSquare rows r c j ≡ false
   unfolding onSquare
   other-row h = rw (ne-eqb _ _ h)
 
-  pub other-column : (getD rows (5 * j + 1) 0 ≡ c → ⊥) → onSquare rows r c j ≡ false
+  pub other-column : (getD rows (inflowKind .width * j + 1) 0 ≡ c → ⊥) → onSquare rows r c j ≡ false
   unfolding onSquare
-  other-column h = and-false (eqb (getD rows (5 * j) 0) r) _ (ne-eqb _ _ h)
+  other-column h = and-false (eqb (getD rows (inflowKind .width * j) 0) r) _ (ne-eqb _ _ h)
 
-  pub same-square : getD rows (5 * j) 0 ≡ r → getD rows (5 * j + 1) 0 ≡ c → onSquare rows r c j ≡ true
+  pub same-square : getD rows (inflowKind .width * j) 0 ≡ r → getD rows (inflowKind .width * j + 1) 0 ≡ c → onSquare rows r c j ≡ true
   unfolding onSquare
   same-square p q = and-both _ _ (eq-eqb _ _ p) (eq-eqb _ _ q)
 

@@ -6,3 +6,4 @@ pub mod RootSearch
 pub mod Roots
 pub mod Tables
 pub mod Tests
+pub mod inner

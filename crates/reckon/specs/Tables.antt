@@ -3,7 +3,7 @@
 use mathlib.Core.Path.{_≡_}
 use mathlib.Core.Bool.{Bool, true, _&&_}
 use mathlib.Core.List.{List, [], _∷_}
-use Prim.Native.Nat.{ℕ, _+_, _-_, _*_, _/_, _%_, _≤_, _<_, min}
+use Prim.Native.Nat.{ℕ, _+_, _-_, _*_, _/_, _%_, min}
 use lib.Dec.{eqb, leb}
 use lib.ListN.{length, getD}
 use Rattle.reckon.specs.Tests.{pick, every, allBelow}
@@ -18,6 +18,10 @@ rainKind = record { width = 3; lead = 0; most = mostRain }
 -- "Inflow rows: row, column, from, to, litres": "litres per second, 0 to 100,000"
 abbrev pub inflowKind : Kind
 inflowKind = record { width = 5; lead = 2; most = mostLitres }
+
+-- "192 for rain or 320 for inflow": room for the most rows
+abbrev pub tableRoom : Kind → ℕ
+tableRoom k = k .width * mostRows
 
 -- the ms of an hour
 abbrev pub hour : ℕ
@@ -45,7 +49,7 @@ rainBy rows t = given rainKind (λ j. true) rows t / hour
 
 -- the inflow row j is for the square at row r, column c
 unfoldable pub onSquare : List ℕ → ℕ → ℕ → ℕ → Bool
-onSquare rows r c j = eqb (getD rows (5 * j) 0) r && eqb (getD rows (5 * j + 1) 0) c
+onSquare rows r c j = eqb (getD rows (inflowKind .width * j) 0) r && eqb (getD rows (inflowKind .width * j + 1) 0) c
 
 -- "Inflow by t on a square: sum of litres·time run, / D²"
 unfoldable pub inflowBy : List ℕ → ℕ → ℕ → ℕ → ℕ → ℕ
@@ -72,13 +76,7 @@ tableFine k rows =
     ∷ allBelow (length rows / k .width) (λ j. rowFine (k .most) rows (rowStart k j))
     ∷ [])
 
--- ---- what is asked of a table, and what the public functions give
-
--- few enough rows, amounts and clock in range: what a table that passes its test meets (`fine-fits`)
-pub record Fits (k : Kind) (rows : List ℕ) (t : ℕ) : Type 0 where
-  pub few : length rows / k .width ≤ mostRows
-  pub amounts : (j : ℕ) → j < length rows / k .width → getD rows (rowStart k j + 2) 0 ≤ k .most
-  pub clock : t ≤ lastClock
+-- ---- what the public functions give
 
 abbrev pub RainFine : List ℕ → Bool → Type 0
 RainFine rows r = r ≡ tableFine rainKind rows

@@ -3,12 +3,11 @@
 use mathlib.Core.Path.{_≡_}
 use mathlib.Core.Bool.{Bool}
 use mathlib.Core.List.{List, [], _∷_, _++_}
-use Prim.Native.Nat.{ℕ, _-_, _*_, _/_, _%_, _≤_, min, max}
+use Prim.Native.Nat.{ℕ, _-_, _*_, _/_, _%_, min, max}
 use lib.Dec.{eqb, ltb}
 use lib.ListN.{getD}
 use Rattle.reckon.specs.Tests.{pick}
-use Rattle.reckon.specs.Ranges.{mostTolerance}
-use Rattle.rule.specs.Weighing.{heightOf, slopeOf, SquareInRange, DropsInRange}
+use Rattle.rule.specs.Weighing.{heightOf, slopeOf}
 use Rattle.rule.specs.declared.rules.Rules.{Rules}
 
 -- "take s from that side's V; the candidate is 50,000·D²·k·s / (d·h)"
@@ -55,12 +54,7 @@ lengthAt r clock held candidates = pick (isUpdate r clock) (freshLength r candid
 unfoldable pub lastsFor : Rules → ℕ → ℕ → ℕ
 lastsFor r clock length = min length (r .update - clock % r .update)
 
--- ---- what is asked, and what the public functions give
-
-pub record Candidacy (r : Rules) (d k : ℕ) (v : List ℕ) : Type 0 where
-  pub square : SquareInRange r d k
-  pub tolerance-to : r .tolerance ≤ mostTolerance
-  pub drops : DropsInRange v
+-- ---- what the public functions give
 
 abbrev pub Shorter : Rules → ℕ → ℕ → ℕ → List ℕ → ℕ → Type 0
 Shorter rules best d k v r = r ≡ leastFrom best (candidatesOf rules d k v)

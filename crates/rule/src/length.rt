@@ -9,8 +9,8 @@ ghost use mathlib.Core.Path.{_≡_};
 ghost use Prim.Native.Nat.{_<_, _≤_};
 ghost use Rattle.reckon.specs.Tests.{pick};
 ghost use Rattle.reckon.specs.Ranges.{mostTolerance};
-ghost use Rattle.rule.specs.Weighing.{mostDrop, SquareInRange};
-ghost use Rattle.rule.specs.Length.{candidate, counts, Candidacy, Shorter, HeldLength, IsUpdate, LastsFor};
+ghost use Rattle.rule.specs.inner.InRange.{mostDrop, SquareInRange, Candidacy};
+ghost use Rattle.rule.specs.Length.{candidate, counts, Shorter, HeldLength, IsUpdate, LastsFor};
 
 // How long a step may last by one side of a square with water, ms.
 fn side_candidate(rules: Rules, depth: u64, roughness: u64, drop: u64) -> u64

@@ -1,9 +1,7 @@
 pub mod JudgeLaws
 pub mod KindLaws
-pub mod MeadowLaws
 pub mod NumberLaws
 pub mod PassLaws
-pub mod PrintLaws
 pub mod ReadLaws
 pub mod RoomLaws
 pub mod RunLaws

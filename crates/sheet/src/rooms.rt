@@ -13,9 +13,9 @@ ghost use Rattle.reckon.specs.Tests.{pick};
 ghost use Rattle.reckon.specs.Lists.{placed};
 ghost use Rattle.grid.specs.Squares.{FineShape, squares};
 ghost use Rattle.text.specs.Reading.{mostFields};
-ghost use Rattle.text.specs.Writing.{plain};
-ghost use Rattle.sheet.specs.Inner.{CellsRead, RowsCounted};
-ghost use Rattle.sheet.specs.Sheet.{rowsRead, tableRows, cellsRooms};
+ghost use Rattle.text.specs.inner.Standing.{plain};
+ghost use Rattle.sheet.specs.Sheet.{cellsRooms, rowsRead, tableRows};
+ghost use Rattle.sheet.specs.inner.Reading.{CellsRead, RowsCounted};
 
 // How many lines were read, and where the line after them starts.
 pub(crate) struct Scan {

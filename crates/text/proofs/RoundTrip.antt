@@ -14,7 +14,8 @@ use borrow.Author.Tests.{le-leb, leb-true}
 use Rattle.reckon.proofs.TestLaws.{not-both, pick-true, pick-false, pick-both}
 use Rattle.text.specs.Reading.{tab, newline, mostNumber, mostFields, isByte, wordAt, isDigit, digitsOf, valueFrom, wellFormed, numberOf, numberAt, fieldAt, Reading, before, withNumber, readFields, ended, readRest, readLine, padded, asFields, FieldsAt, RestOfLine, LineOf}
 use Rattle.text.specs.Reading.Reading.{read, unread}
-use Rattle.text.specs.Writing.{decimal, fieldText, fieldsText, restText, lineText, Readable, Stands, StandAlone, AsWritten, PutNumber, PutLine}
+use Rattle.text.specs.Writing.{decimal, fieldText, fieldsText, restText, lineText, PutNumber, PutLine}
+use Rattle.text.specs.inner.Standing.{Readable, Stands, StandAlone, AsWritten}
 use Rattle.text.specs.declared.reading.Number.{Number}
 use Rattle.text.specs.declared.reading.Number.the-variants.{Is, Not}
 use Rattle.text.specs.declared.reading.Fields.{Fields}

@@ -7,7 +7,7 @@ use Prim.Native.Nat.{ℕ, zero, suc, _+_, _-_, _*_}
 use lib.Dec.{eqb, ltb, leb}
 use lib.ListN.{length, getD, drop}
 use Rattle.reckon.specs.Tests.{pick, allBelow}
-use Rattle.reckon.specs.Lists.{tabulate, sumBelow}
+use Rattle.reckon.specs.Lists.{tabulate}
 use Rattle.text.specs.declared.reading.Number.{Number}
 use Rattle.text.specs.declared.reading.Number.the-variants.{Is, Not}
 use Rattle.text.specs.declared.reading.Fields.{Fields}
@@ -143,13 +143,6 @@ unfoldable pub lineFrom : List ℕ → ℕ → ℕ → ℕ
 lineFrom s p zero = p
 lineFrom s p (suc k) = nextLine s (lineFrom s p k)
 
--- how many lines end at a byte, and how many a text has: "each line ended by a newline"
-abbrev pub endsAt : List ℕ → ℕ → ℕ
-endsAt s i = pick (eqb (getD s i 0) newline) 1 0
-
-unfoldable pub lineCount : List ℕ → ℕ
-lineCount s = sumBelow (length s) (endsAt s)
-
 -- ---- what the public functions give
 
 abbrev pub ByteIs : List ℕ → ℕ → ℕ → Bool → Type 0
@@ -172,9 +165,3 @@ RestOfLine s p count r = r ≡ restOfLine s p count
 
 abbrev pub LineOf : List ℕ → ℕ → List ℕ → ℕ → Fields → Type 0
 LineOf s p word count r = r ≡ lineOf s p word count
-
-abbrev pub NextLine : List ℕ → ℕ → ℕ → Type 0
-NextLine s p r = r ≡ nextLine s p
-
-abbrev pub LineCount : List ℕ → ℕ → Type 0
-LineCount s r = r ≡ lineCount s

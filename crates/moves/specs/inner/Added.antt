@@ -9,7 +9,8 @@ use lib.ListN.{length, set}
 use Rattle.reckon.specs.Tests.{pick, allBelow}
 use Rattle.reckon.specs.Lists.{filled}
 use Rattle.reckon.specs.Ranges.{mostDepth, mostSide, lastClock}
-use Rattle.reckon.specs.Tables.{inflowKind, onSquare, inflowAdded, Fits}
+use Rattle.reckon.specs.Tables.{inflowKind, onSquare, inflowAdded}
+use Rattle.reckon.specs.inner.Fits.{Fits}
 use Rattle.grid.specs.Squares.{squares, squareAt, FineShape}
 use Rattle.grid.specs.Marks.{closed, inflowWords, inflowRow, inflowColumn}
 use Rattle.grid.specs.declared.squares.Shape.{Shape}

@@ -9,7 +9,7 @@ use Rattle.reckon.specs.Ranges.{mostDepth, mostLength, lastClock, mostOutflow}
 use Rattle.reckon.specs.Tables.{rainKind, inflowKind, tableFine}
 use Rattle.grid.specs.Squares.{squares, FineShape}
 use Rattle.grid.specs.Marks.{inflowSquaresFine}
-use Rattle.rule.specs.Rules.{RulesInRange, GroundInRange}
+use Rattle.rule.specs.inner.InRange.{RulesInRange, GroundInRange}
 use Rattle.ledger.specs.Runs.{Plan, Seen}
 use Rattle.ledger.specs.Flows.{shut}
 use Rattle.moves.specs.Given.{Ground, Given}

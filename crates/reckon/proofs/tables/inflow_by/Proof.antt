@@ -1,7 +1,7 @@
 -- `reckon::tables::inflow_by` meets its contract: the sum so far is that of the rows passed.
 -- Assumes nothing.
 use mathlib.Core.Path.{_≡_, sym, _∙_, ap, ap₂}
-use Prim.Native.Nat.{ℕ, _+_, _-_, _*_, _/_, _≤_, _<_}
+use Prim.Native.Nat.{ℕ, _+_, _-_, _*_, _/_, _≤_}
 use native.Mathlib.Nat.{mul-le-mul, mul-pos}
 use native.Mathlib.Omega.{arith}
 use lib.ListN.{length}
@@ -14,7 +14,7 @@ use Rattle.reckon.proofs.tables.inflow_by.Tie as tie
 
 abbrev Inv-loop : tie.InvT-loop
 Inv-loop rows r c side t n sum₀ j₀ sum j =
-    (j ≤ n) × (n ≡ length rows / 5) × (sum ≡ sumBelow j (term inflowKind (onSquare rows r c) rows t))
+    (j ≤ n) × (n ≡ length rows / inflowKind .width) × (sum ≡ sumBelow j (term inflowKind (onSquare rows r c) rows t))
 
 abbrev μ-loop : tie.MeasureT-loop
 μ-loop rows r c side t n sum₀ j₀ sum j = n - j

@@ -2,7 +2,7 @@
 -- Assumes nothing.
 use mathlib.Core.Path.{_≡_, sym, _∙_, ap, ap₂, subst}
 use mathlib.Core.Bool.{true}
-use Prim.Native.Nat.{ℕ, _+_, _-_, _*_, _/_, _≤_, _<_}
+use Prim.Native.Nat.{ℕ, _+_, _-_, _/_, _≤_}
 use native.Mathlib.Omega.{arith}
 use lib.ListN.{length, getD}
 use Rattle.reckon.specs.Lists.{sumBelow}
@@ -13,7 +13,7 @@ use Rattle.reckon.proofs.tables.rain_by.Statement.{statement}
 use Rattle.reckon.proofs.tables.rain_by.Tie as tie
 
 abbrev Inv-loop : tie.InvT-loop
-Inv-loop rows t n sum₀ j₀ sum j = (j ≤ n) × (n ≡ length rows / 3) × (sum ≡ sumBelow j (term rainKind (λ i. true) rows t))
+Inv-loop rows t n sum₀ j₀ sum j = (j ≤ n) × (n ≡ length rows / rainKind .width) × (sum ≡ sumBelow j (term rainKind (λ i. true) rows t))
 
 abbrev μ-loop : tie.MeasureT-loop
 μ-loop rows t n sum₀ j₀ sum j = n - j
