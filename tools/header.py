@@ -111,8 +111,16 @@ def header():
     return text + BOTTOM
 
 
-if __name__ == "__main__":
+def main():
     if "--write" in sys.argv[1:]:
         HEADER.write_text(header())
     else:
         print(header(), end="")
+    return 0
+
+
+if __name__ == "__main__":
+    sys.path.insert(0, str(ROOT / "python"))
+    from meadow.programs import ended
+
+    ended(main, "header")
