@@ -34,8 +34,6 @@ DEPTH, *TOTALS, REFUSED = ANSWER_LINES
 # how a mark is written; the line of a closed square ends after it
 MARKS = {"x": 0, "o": 1, "e": 2}
 CLOSED = "x"
-
-
 # what a sheet has where it does not say
 USUAL_RUN = {field.name: field.usual for field in SHEET_LINES[RUN] if field.usual is not None}
 USUAL_SQUARE = {field.name: field.usual for field in SHEET_LINES[SQUARE] if field.usual is not None}
@@ -106,7 +104,7 @@ class Answer:
         self.text, self.depths, self.totals = text, {}, {}
         for line in text.splitlines():
             kind, *fields = line.split("\t")
-            if len(fields) != len(ANSWER_LINES.get(kind, [])) or not all(field.isdigit() for field in fields):
+            if len(fields) != len(ANSWER_LINES.get(kind, [])) or not all(field.isdecimal() for field in fields):
                 raise Unreadable(f"this is no line of an answer: {line}")
             values = values_of(kind, fields, ANSWER_LINES)
             if kind == REFUSED:

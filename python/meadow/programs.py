@@ -32,7 +32,7 @@ def ended(main, name):
     except Refused as refused:
         print(f"{name}: this is no sheet: number {refused.number}, line {refused.line}", file=sys.stderr)
         status = 1
-    except (OSError, Unreadable) as fault:
+    except (OSError, UnicodeDecodeError, Unreadable) as fault:
         print(f"{name}: {fault}", file=sys.stderr)
         status = 1
     sys.exit(status)
