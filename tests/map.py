@@ -58,8 +58,6 @@ def hold_refusal(checks):
     checks.hold(made.returncode == 1 and "number 12, line 3" in made.stderr, "a refusal is drawn")
 
 
-
-
 def main():
     checks = Checks("map")
     hold_samples(checks)

@@ -1,7 +1,7 @@
 #!/usr/bin/env python3
 """The pages are true of the sources: every public function stands in docs/CONTRACTS.md and in the determinacy records, every file and
 name that docs/METHOD.md cites is there, its ranges and its worked square are those of document 01 in Python, the pictures are as made,
-no table has a cell too long to read, and every path that a page names exists."""
+no table has a cell too long to read, every path that a page names exists, and README's first sheet gives README's answer."""
 import re
 import sys
 from pathlib import Path
@@ -11,6 +11,7 @@ sys.path[:0] = [str(TOP / "python"), str(TOP / "tools")]
 
 import pictures  # noqa: E402
 from meadow.counted import Checks  # noqa: E402
+from meadow.programs import printed  # noqa: E402
 from meadow.ranges import RANGES  # noqa: E402
 from meadow.worked_square import AMOUNTS  # noqa: E402
 
@@ -183,6 +184,16 @@ def hold_paths(checks):
             checks.hold(path.exists(), f"{page.relative_to(TOP)} names {path.relative_to(TOP)}, which is not there")
 
 
+def hold_first_sheet(checks):
+    """README's first sheet gives the answer that README shows, tabs being shown as spaces."""
+    text = (TOP / "README.md").read_text(encoding="utf-8")
+    sheet = re.search(r"<<'END'\n(.*?)^END$", text, re.S | re.M)
+    answer = re.search(r"^The answer, tabs shown as spaces.*?^```\n(.*?)^```", text, re.S | re.M)
+    if checks.hold(sheet and answer, "README.md has no first sheet with its answer"):
+        told = printed("meadow", sheet[1].replace(" ", "\t").encode("ascii")).decode("ascii")
+        checks.hold(told == answer[1].replace(" ", "\t"), f"README.md's first sheet gives {told!r}")
+
+
 def main():
     checks = Checks("pages")
     functions = set(library_functions())
@@ -193,6 +204,7 @@ def main():
     hold_pictures(checks)
     hold_cells(checks)
     hold_paths(checks)
+    hold_first_sheet(checks)
     checks.end()
 
 
