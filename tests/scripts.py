@@ -33,7 +33,8 @@ def hold_one_table(checks, files):
 
 
 def hold_installers(checks):
-    scripts = [path for folder in (".ci", "bin", "tests") for path in sorted((TOP / folder).rglob("*")) if path.is_file() and path.suffix in ("", ".sh")]
+    found = [path for folder in (".ci", "bin", "tests") for path in sorted((TOP / folder).rglob("*"))]
+    scripts = [path for path in found if path.is_file() and path.suffix in ("", ".sh")]
     checks.hold(TOP / "bin" / "setup" in scripts, "there is no bin/setup")
     for path in scripts:
         lines = [line for line in path.read_text(encoding="utf-8").splitlines() if not line.lstrip().startswith("#")]
