@@ -53,7 +53,15 @@ def line_of(kind, values, lines=SHEET_LINES):
     fields = lines[kind]
     if values.get("mark") == CLOSED:
         fields = fields[: place_of(kind, "mark", lines)]
-    return "\t".join([kind, *(str(values.get(field.name, field.usual)) for field in fields)])
+    return "\t".join([kind, *(said(field, values) for field in fields)])
+
+
+def said(field, values):
+    """A field's text: what is said, or what it usually is."""
+    value = values.get(field.name, field.usual)
+    if value is None:
+        raise ValueError(f"nobody says the {field.name}")
+    return str(value)
 
 
 def values_of(kind, fields, lines=SHEET_LINES):
@@ -67,6 +75,8 @@ class Sheet:
     line by name, without row and column. Every square begins closed."""
 
     def __init__(self, rows, columns, side, **run):
+        if run.keys() - USUAL_RUN.keys():
+            raise ValueError(f"a run line has no {', '.join(sorted(run.keys() - USUAL_RUN.keys()))}")
         self.rows, self.columns, self.side = rows, columns, side
         self.run = {**USUAL_RUN, **run}
         self.squares = {(row, column): {"mark": CLOSED} for row in range(rows) for column in range(columns)}

@@ -1,8 +1,9 @@
 """All that the calls of document 01 are lent, by value, and the grid that it stands on."""
 
-CLOSED, OPEN, EXIT = 0, 1, 2
-# sides in document 01's order; the side across from one is two further on
-NORTH, EAST, SOUTH, WEST = SIDES = range(4)
+# marks; an open square has the one between
+CLOSED, EXIT = 0, 2
+# north, east, south, west; the side across from one is two further on
+SIDES = range(4)
 # the numbers of one square in a record: four leaving, P before, amount added
 LAST_WORD, ADDED_WORD, WORDS_A_SQUARE = 4, 5, 6
 HEAD_WORDS = 2
