@@ -93,7 +93,7 @@ def hold_contracts(checks, functions):
 
 
 def determined():
-    """(crate, field) of each field of a determinacy record, by the crate's name in lower case."""
+    """(crate, field) of each field of a determinacy record, by the crate's name in lower case and without underscores."""
     for path in sorted((CRATES / "demands" / "specs").glob("*.antt")):
         records = re.split(r"^(?:pub )?record (\w+?)Determined\b", path.read_text(encoding="utf-8"), flags=re.M)
         for crate, body in zip(records[1::2], records[2::2]):
@@ -104,7 +104,7 @@ def determined():
 def hold_determined(checks, functions):
     """A field for each public function, and none besides."""
     fields = set(determined())
-    wanted = {(crate, name.split("::")[-1].removeprefix(EXPORTED).replace("_", "-")) for crate, name in functions}
+    wanted = {(crate.replace("_", ""), name.split("::")[-1].removeprefix(EXPORTED).replace("_", "-")) for crate, name in functions}
     for crate, name in sorted(fields | wanted):
         checks.hold((crate, name) in fields, f"no determinacy record has a field {name} for {crate}")
         checks.hold((crate, name) in wanted, f"the determinacy record of {crate} has a field {name}, which is no public function")
