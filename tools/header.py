@@ -243,9 +243,17 @@ def declared():
     return text + "".join(called_in_rust(*function) for function in functions()).rstrip("\n") + "\n"
 
 
-if __name__ == "__main__":
+def main():
     if "--write" in sys.argv[1:]:
         HEADER.write_text(header())
         DECLARED.write_text(declared())
     else:
         print(header(), end="")
+    return 0
+
+
+if __name__ == "__main__":
+    sys.path.insert(0, str(ROOT / "python"))
+    from meadow.programs import ended
+
+    ended(main, "header")
