@@ -6,10 +6,10 @@ use Prim.Native.Nat.{ℕ, _+_, _*_, _≤_, _<_}
 use native.Mathlib.Omega.{arith}
 use lib.ListN.{length, take, length-replicate}
 use borrow.Author.Tests.{le-leb, lt-leb}
-use Rattle.reckon.specs.Ranges.{mostRows}
+use Rattle.reckon.specs.Ranges.{mostTableRows}
 use Rattle.reckon.specs.Tables.{rainKind, inflowKind}
 use Rattle.reckon.proofs.TestLaws.{pick-true, pick-false}
-use Rattle.grid.specs.Squares.{FineShape, squares}
+use Rattle.grid.specs.Squares.{ShapeInRange, squares}
 use Rattle.ledger.specs.Runs.{plan}
 use Rattle.ledger.specs.Record.{headWords, squareWords, recordSize}
 use Rattle.sheet.specs.Lines.{rainWord, inflowWord}
@@ -47,8 +47,8 @@ module _ (s : List ℕ) {h : Heading} {c : Cells} {t u : List ℕ} (f : Reads s 
   same-squares : squares (h .shape) ≡ squares (shapeOf s)
   same-squares = ap squares shape-is
 
-  pub meadow-shape : FineShape (h .shape)
-  meadow-shape = subst FineShape (sym shape-is) (rooms-shape (shapeOf s) (lineOne s .side) programRooms (is-well .fine))
+  pub meadow-shape : ShapeInRange (h .shape)
+  meadow-shape = subst ShapeInRange (sym shape-is) (rooms-shape (shapeOf s) (lineOne s .side) programRooms (is-well .fine))
 
   few-squares : squares (shapeOf s) ≤ programSquares
   few-squares =
@@ -64,10 +64,10 @@ module _ (s : List ℕ) {h : Heading} {c : Cells} {t u : List ℕ} (f : Reads s 
   pub meadow-record : recordSize (plan (h .shape) []) ≤ headWords + squareWords * programSquares
   meadow-record = omega (arith, meadow-few)
 
-  pub meadow-rain : h .«rain_rows» ≤ mostRows
+  pub meadow-rain : h .«rain_rows» ≤ mostTableRows
   meadow-rain = omega (arith, rain-is, rain-few s (is-well .checks))
 
-  pub meadow-inflow : h .«inflow_rows» ≤ mostRows
+  pub meadow-inflow : h .«inflow_rows» ≤ mostTableRows
   meadow-inflow = omega (arith, inflow-is, inflow-few s (is-well .checks))
 
   after-rooms : _≡_ {A = Rooms} (record { cells = c; rain = t; inflow = u }) (roomsAfter s (Read h) programRooms)

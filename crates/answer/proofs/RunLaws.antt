@@ -20,8 +20,8 @@ use Rattle.ledger.specs.Record.{roomSlots, ringOf}
 use Rattle.ledger.specs.declared.runs.Run.{Run}
 use Rattle.ledger.specs.declared.runs.Answer.{Answer}
 use Rattle.ledger.specs.declared.runs.Answer.the-variants.{Done, Refused}
-use Rattle.flood.specs.Refusals.{checkRows}
-use Rattle.flood.specs.Run.{Ended, runTo, freshRows, freshNumber, freshRun, freshLasts, Freshens}
+use Rattle.flood.specs.Refusals.{checkRefusals}
+use Rattle.flood.specs.Run.{Ended, runTo, freshRefusals, freshNumber, freshRun, freshLasts, Freshens}
 use Rattle.flood.proofs.CheckLaws.{checks-named}
 use Rattle.sheet.specs.Sheet.{Rooms, planIn, givenIn, noLasts, noRecords, startIn, checksIn}
 use Rattle.answer.specs.Program.{endedText, runText, Prints}
@@ -31,7 +31,7 @@ use Rattle.sheet.proofs.RunLaws.{step-zero}
 
 module _ (shape : Shape) (r : Rules) (held : Rooms) (end : ℕ) (e : checksIn shape r held end ≡ 0) where
   fresh-zero : freshNumber (planIn shape r held) r (noLasts shape r held) (noRecords shape r held) ≡ 0
-  unfolding freshNumber freshRows checkRows
+  unfolding freshNumber freshRefusals checkRefusals
   fresh-zero =
       let rows = refusal-passed _ (checks-named (planIn shape r held) (givenIn shape r held) (ringOf (planIn shape r held) (startIn shape r held)) (seenOf (startIn shape r held))) (step-zero shape r held end e) in
       let lent = every-each _ (rows .0) in

@@ -9,7 +9,7 @@ ghost use mathlib.Core.Path.{_≡_};
 ghost use mathlib.Core.List.{[], _∷_};
 ghost use Prim.Native.Nat.{_+_, _<_, _≤_};
 ghost use lib.ListN.{length};
-ghost use Rattle.grid.specs.Squares.{FineShape, squares};
+ghost use Rattle.grid.specs.Squares.{ShapeInRange, squares};
 ghost use Rattle.ledger.specs.Runs.{plan};
 ghost use Rattle.text.specs.Writing.{Wrote, lineText};
 ghost use Rattle.answer.specs.Printed.{PutRefused, PutWorld, cellText, cellsText, madeText, mostRefused};
@@ -32,7 +32,7 @@ fn put_square(
     depths: &[u32],
     square: usize,
 ) -> usize
-    requires { ⌜ (FineShape shape) × (square < length (now marks)) × (square < length (now depths)) ⌝ }
+    requires { ⌜ (ShapeInRange shape) × (square < length (now marks)) × (square < length (now depths)) ⌝ }
     requires { ⌜ at + length (cellText (plan shape (now marks)) (now depths) square) ≤ length (now out) ⌝ }
     ensures { λ r. ⌜ Wrote (cellText (plan shape (now (marks .entry))) (now (depths .entry)) square) at (now (out .entry)) (now (out .exit)) r ⌝ }
 {
@@ -50,7 +50,7 @@ fn put_square(
 
 // The lines of all squares.
 fn put_squares(out: &mut [u8], at: usize, shape: Shape, marks: &[u8], depths: &[u32]) -> usize
-    requires { ⌜ (FineShape shape) × (squares shape ≡ length (now marks)) × (squares shape ≡ length (now depths)) ⌝ }
+    requires { ⌜ (ShapeInRange shape) × (squares shape ≡ length (now marks)) × (squares shape ≡ length (now depths)) ⌝ }
     requires { ⌜ at + length (cellsText (plan shape (now marks)) (now depths)) ≤ length (now out) ⌝ }
     ensures { λ r. ⌜ Wrote (cellsText (plan shape (now (marks .entry))) (now (depths .entry))) at (now (out .entry)) (now (out .exit)) r ⌝ }
 {
@@ -83,7 +83,7 @@ pub fn put_world(
     run: Run,
     steps: u64,
 ) -> usize
-    requires { ⌜ (FineShape shape) × (squares shape ≡ length (now marks)) × (squares shape ≡ length (now depths)) ⌝ }
+    requires { ⌜ (ShapeInRange shape) × (squares shape ≡ length (now marks)) × (squares shape ≡ length (now depths)) ⌝ }
     requires { ⌜ at + length (madeText (plan shape (now marks)) (now depths) run steps) ≤ length (now out) ⌝ }
     ensures { λ r. ⌜ PutWorld (plan shape (now (marks .entry))) (now (depths .entry)) run steps at (now (out .entry)) (now (out .exit)) r ⌝ }
 {

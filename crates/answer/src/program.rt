@@ -21,7 +21,7 @@ ghost use mathlib.Core.Path.{_≡_};
 ghost use mathlib.Core.List.{List};
 ghost use Prim.Native.Nat.{ℕ, _≤_};
 ghost use lib.ListN.{length};
-ghost use Rattle.grid.specs.Squares.{FineShape, squares};
+ghost use Rattle.grid.specs.Squares.{ShapeInRange, squares};
 ghost use Rattle.ledger.specs.Runs.{plan, world};
 ghost use Rattle.flood.specs.Run.{ended};
 ghost use Rattle.sheet.specs.Sheet.{checksIn, noLasts, noRecords, rooms};
@@ -39,7 +39,7 @@ const RECORD_ROOM: usize = HEAD_WORDS + SQUARE_WORDS * PROGRAM_SQUARES;
 
 // What is printed of a run that was made, and of one that was refused.
 fn put_ran(out: &mut [u8], shape: Shape, marks: &[u8], depths: &[u32], ran: Ran) -> usize
-    requires { ⌜ (FineShape shape) × (squares shape ≡ length (now marks)) × (squares shape ≡ length (now depths)) ⌝ }
+    requires { ⌜ (ShapeInRange shape) × (squares shape ≡ length (now marks)) × (squares shape ≡ length (now depths)) ⌝ }
     requires { ⌜ (squares shape ≤ programSquares) × (mostPrinted ≤ length (now out)) ⌝ }
     ensures { λ r. ⌜ ((lasts records : List ℕ) → Prints (endedText (plan shape (now (marks .entry))) (ended (ran .refused) (ran .steps) (world (now (depths .entry)) lasts records (ran .run)))) (now (out .entry)) (now (out .exit)) r) ⌝ }
 {

@@ -5,15 +5,15 @@ use Prim.Native.Nat.{_-_}
 use borrow.Author.Tests.{ne-eqb}
 use Rattle.reckon.proofs.TestLaws.{pick-false}
 use Rattle.ledger.specs.Runs.{Plan}
-use Rattle.ledger.specs.TakeBack.{backRows, backNumber, lookRows}
-use Rattle.ledger.specs.After.{lateRows}
+use Rattle.ledger.specs.TakeBack.{backRefusals, backNumber, earlyRefusals}
+use Rattle.ledger.specs.After.{lateRefusals}
 use Rattle.ledger.proofs.Bridge.{refused-stays}
-use Rattle.flood.specs.Refusals.{checkRows}
+use Rattle.flood.specs.Refusals.{checkRefusals}
 use Rattle.flood.specs.Step.{stepNumber}
-use Rattle.flood.specs.Run.{freshRows, freshNumber, freshLasts}
+use Rattle.flood.specs.Run.{freshRefusals, freshNumber, freshLasts}
 use Rattle.flood.proofs.RunToLaws.{refused-is, run-checked}
-use Rattle.sight.specs.Refusals.{sharedRows}
-use Rattle.sight.specs.Arrows.{earlyRows, arrowRows, arrowNumber}
+use Rattle.sight.specs.Refusals.{sharedRefusals}
+use Rattle.sight.specs.Arrows.{arrowEarlyRefusals, arrowRefusals, arrowNumber}
 use Rattle.sight.specs.WetRows.{wetRefusals, wetNumber}
 use Rattle.demands.specs.Demand1.{ExactlyWhen, RefusalsLeave, Demand1}
 use Rattle.demands.proofs.Table.{table-says}
@@ -25,7 +25,7 @@ use Rattle.demands.proofs.Exported.{exports-exactly-when, exports-leave
 -- ---- refusals
 
 exactly-when : (p : Plan) → ExactlyWhen p
-unfolding stepNumber checkRows lateRows backNumber lookRows backRows freshNumber freshRows arrowNumber arrowRows earlyRows sharedRows wetNumber wetRefusals
+unfolding stepNumber checkRefusals lateRefusals backNumber earlyRefusals backRefusals freshNumber freshRefusals arrowNumber arrowRefusals arrowEarlyRefusals sharedRefusals wetNumber wetRefusals
 exactly-when p =
     record {
       step = λ g w. table-says _ tt;

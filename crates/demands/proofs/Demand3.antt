@@ -27,7 +27,7 @@ use Rattle.ledger.specs.Runs.{Plan, World, world, answered, Seen, seenOf}
 use Rattle.ledger.specs.Flows.{shut}
 use Rattle.ledger.specs.Record.{roomSlots, newestRecord}
 use Rattle.ledger.specs.After.{worldAfter}
-use Rattle.ledger.specs.TakeBack.{restorable, backRows, backNumber, takenBack, lookRows}
+use Rattle.ledger.specs.TakeBack.{restorable, backRefusals, backNumber, takenBack, earlyRefusals}
 use Rattle.ledger.specs.inner.Engine.{outcome, engine, stateOf}
 use Rattle.ledger.proofs.Bridge.{outcome-then, refused-stays, back-bridge, step-bridge}
 use Rattle.ledger.proofs.EngineLaws.{Looks, seen-look, engine-laws}
@@ -37,7 +37,7 @@ use Rattle.moves.specs.Given.{Given}
 use Rattle.moves.specs.Moves.{stepMoves}
 use Rattle.flood.specs.Refusals.{runChecks}
 use Rattle.flood.specs.Step.{stepNumber, stepped, floodRule}
-use Rattle.flood.specs.Run.{Ended, ended, goOn, runFrom, runTo, freshRows, freshNumber, freshRun, freshLasts, Freshens}
+use Rattle.flood.specs.Run.{Ended, ended, goOn, runFrom, runTo, freshRefusals, freshNumber, freshRun, freshLasts, Freshens}
 use Rattle.flood.proofs.CheckLaws.{each-long}
 use Rattle.flood.proofs.FreshLaws.{fresh-sizes, fresh-slots}
 use Rattle.flood.proofs.RuleLaws.{flood-owed}
@@ -291,7 +291,7 @@ module _ (p : Plan) where
       -- ---- a take-back of the fresh run
 
       abbrev look : List Row
-      look = lookRows p (ringFine (roomSlots p (f .records)) (f .run .kept) (f .run .newest)) (seenOf f)
+      look = earlyRefusals p (ringFine (roomSlots p (f .records)) (f .run .kept) (f .run .newest)) (seenOf f)
 
       abbrev lastRows : List Row
       lastRows = 10 unless not (eqb (f .run .kept) 0) ∷ 11 unless restorable p f (newestRecord p f) ∷ []
@@ -300,11 +300,11 @@ module _ (p : Plan) where
       is-ten = refusal-here 10 _ (ap not (eq-eqb _ _ (F .kept-none)))
 
       look-passed : refusal look ≡ 0 → backNumber p f ≡ 10
-      unfolding backNumber backRows lookRows
+      unfolding backNumber backRefusals earlyRefusals
       look-passed e = refusal-second look lastRows tt e ∙ is-ten
 
       look-failed : (refusal look ≡ 0 → ⊥) → backNumber p f ≡ refusal look
-      unfolding backNumber backRows lookRows
+      unfolding backNumber backRefusals earlyRefusals
       look-failed d = refusal-first look lastRows tt d
 
       low : (a b c d : Bool) → refusal (1 unless a ∷ 2 unless b ∷ 3 unless c ∷ 6 unless d ∷ []) ≤ 6
@@ -316,7 +316,7 @@ module _ (p : Plan) where
       low true true true true = omega arith
 
       look-low : refusal look ≤ 6
-      unfolding lookRows
+      unfolding earlyRefusals
       look-low = low _ _ _ _
 
       back-of-fresh : BackOfFresh p f
@@ -350,9 +350,9 @@ module _ (p : Plan) where
         }
 
     -- the rows that it passed
-    tests-passed : Passed (freshRows p r before records)
-    unfolding freshNumber freshRows
-    tests-passed = refusal-passed (freshRows p r before records) tt (freshened .number)
+    tests-passed : Passed (freshRefusals p r before records)
+    unfolding freshNumber freshRefusals
+    tests-passed = refusal-passed (freshRefusals p r before records) tt (freshened .number)
 
     abbrev f : World
     f = world depths lasts records (freshRun r (roomSlots p records))
@@ -363,7 +363,7 @@ module _ (p : Plan) where
 
     looks-good : length depths ≡ squares (p .shape) → ((i : ℕ) → i < squares (p .shape) → shut p i ≡ false → getD depths i 0 ≤ mostDepth) →
         Looks p (ringFine (roomSlots p records) (f .run .kept) (f .run .newest)) (seenOf f)
-    unfolding freshRows freshRun
+    unfolding freshRefusals freshRun
     looks-good long low =
         let t = every-each _ (fresh-sizes p r before records (freshened .number)) in
         let slots : roomSlots p records ≡ 0 → ⊥ = fresh-slots p r before records (freshened .number) in
@@ -390,7 +390,7 @@ module _ (p : Plan) where
         backNumber p (world depths lasts records u) ≡ 10
     fresh-ten long low =
         look-passed (world depths lasts records u) fresh-is
-        (subst (λ (v : Run). refusal (lookRows p (ringFine (roomSlots p records) (v .kept) (v .newest)) (seenOf (world depths lasts records v))) ≡ 0) (sym (freshened .run-is))
+        (subst (λ (v : Run). refusal (earlyRefusals p (ringFine (roomSlots p records) (v .kept) (v .newest)) (seenOf (world depths lasts records v))) ≡ 0) (sym (freshened .run-is))
         (seen-look p _ _ (looks-good long low)))
 
   pub demand-3 : Demand3 p

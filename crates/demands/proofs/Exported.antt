@@ -14,15 +14,15 @@ use Rattle.reckon.specs.Lists.{placed}
 use Rattle.reckon.proofs.TestLaws.{pick-true, pick-false, and-right}
 use Rattle.rule.specs.declared.rules.Rules.{Rules}
 use Rattle.ledger.specs.Runs.{Plan, World}
-use Rattle.ledger.specs.After.{lateRows}
-use Rattle.ledger.specs.TakeBack.{backRows, backNumber, lookRows}
+use Rattle.ledger.specs.After.{lateRefusals}
+use Rattle.ledger.specs.TakeBack.{backRefusals, backNumber, earlyRefusals}
 use Rattle.moves.specs.Given.{Given}
-use Rattle.flood.specs.Refusals.{checkRows, runChecks}
+use Rattle.flood.specs.Refusals.{checkRefusals, runChecks}
 use Rattle.flood.specs.Step.{stepNumber}
-use Rattle.flood.specs.Run.{Ended, runTo, freshRows, freshNumber}
+use Rattle.flood.specs.Run.{Ended, runTo, freshRefusals, freshNumber}
 use Rattle.flood.proofs.RunToLaws.{run-checked}
-use Rattle.sight.specs.Refusals.{sharedRows}
-use Rattle.sight.specs.Arrows.{view, earlyRows, arrowRows, arrowNumber, sighted, seenBy, seenAt}
+use Rattle.sight.specs.Refusals.{sharedRefusals}
+use Rattle.sight.specs.Arrows.{view, arrowEarlyRefusals, arrowRefusals, arrowNumber, sighted, seenBy, seenAt}
 use Rattle.sight.specs.WetRows.{wetRefusals, wetNumber, onesOver}
 use Rattle.sight.specs.declared.speeds.Arrow.{Arrow}
 use Rattle.sight.specs.declared.arrows.Sight.{Sight}
@@ -73,7 +73,7 @@ below-sized true l f e = e ∙ f (subst (λ (n : ℕ). n < 100) e l)
 below-sized false l f e = e
 
 pub exports-exactly-when : (p : Plan) → ExportsExactlyWhen p
-unfolding freshNumber freshRows stepNumber checkRows lateRows backNumber lookRows backRows arrowNumber arrowRows earlyRows sharedRows wetNumber wetRefusals numberIf seenAt seenBy
+unfolding freshNumber freshRefusals stepNumber checkRefusals lateRefusals backNumber earlyRefusals backRefusals arrowNumber arrowRefusals arrowEarlyRefusals sharedRefusals wetNumber wetRefusals numberIf seenAt seenBy
 exports-exactly-when p =
     record {
       fresh = λ r before records rules old number lasts run x. sized-says _ _ tt refl (x .number-is);

@@ -16,7 +16,7 @@ use Rattle.reckon.proofs.TestLaws.{not-both, pick-true, pick-false, failing-bef
 use Rattle.reckon.proofs.ListLaws.{length-filled, filled-in, filled-past, filled-skipped}
 use Rattle.grid.specs.Squares.{squares}
 use Rattle.grid.specs.Marks.{closed}
-use Rattle.flood.specs.Refusals.{checkRows}
+use Rattle.flood.specs.Refusals.{checkRefusals}
 use Rattle.text.specs.Reading.{tab, newline, isByte, wordAt, lineFrom, fieldsAt}
 use Rattle.text.specs.Writing.{fieldsText}
 use Rattle.text.specs.inner.Standing.{Stands}
@@ -35,7 +35,7 @@ use Rattle.sheet.specs.declared.reading.Sheet.the-variants.{Read, Refused}
 use Rattle.sheet.proofs.SheetLaws.{rooms-cells}
 use Rattle.sheet.proofs.NumberLaws.{never-one, never-six}
 use Rattle.exports.specs.Sheets.{sheetNumber, sheetLine}
-use Rattle.demands.specs.Loader.{endRows, sheetRefusals, SheetSays, MeadowSays, LoaderRefuses, letterOf, lineHead, lineStart, MarksAreLetters, ClosedLeft, AsLong, LoaderWalls}
+use Rattle.demands.specs.Loader.{endRefusals, sheetRefusals, SheetSays, MeadowSays, LoaderRefuses, letterOf, lineHead, lineStart, MarksAreLetters, ClosedLeft, AsLong, LoaderWalls}
 use Rattle.demands.proofs.Table.{table-says}
 
 -- ---- the number and the line of a sheet
@@ -56,8 +56,8 @@ two-to-five true true true true true false f g = absurd (g refl)
 two-to-five true true true true true true f g = refl
 
 module _ (s : List ℕ) (lent : Rooms) where
-  checks-are : roomsFine (shapeOf s) (lineOne s .side) lent ≡ true → checksOf s ≡ refusal (take 4 (drop 1 (endRows s)))
-  unfolding checksIn checkRows
+  checks-are : roomsFine (shapeOf s) (lineOne s .side) lent ≡ true → checksOf s ≡ refusal (take 4 (drop 1 (endRefusals s)))
+  unfolding checksIn checkRefusals
   checks-are f = two-to-five _ _ _ _ _ _ (never-one s lent f) (never-six s lent f)
 
   -- the answer by its three tests and two numbers
@@ -109,11 +109,11 @@ module _ (s : List ℕ) (lent : Rooms) where
   never-twelve true true true true q = omega (arith, q)
 
   checks-small : roomsFine (shapeOf s) (lineOne s .side) lent ≡ true → checksOf s ≡ 12 → ⊥
-  unfolding checkRows
+  unfolding checkRefusals
   checks-small f q = never-twelve _ _ _ _ (sym (checks-are f) ∙ q)
 
   sheet-says : SheetSays s lent (sheetNumber (sheetOf s lent)) (sheetLine (sheetOf s lent))
-  unfolding sheetOf checkRows
+  unfolding sheetOf checkRefusals
   sheet-says =
       record {
         number-is = rw sheet-number (table-says _ tt);

@@ -9,7 +9,7 @@ use native.Mathlib.Omega.{arith}
 use Rattle.reckon.specs.Tests.{pick, _unless_, refusal}
 use Rattle.reckon.proofs.TestLaws.{refusal-second}
 use Rattle.ledger.specs.Runs.{Plan, World, seenOf}
-use Rattle.ledger.specs.After.{lateRows}
+use Rattle.ledger.specs.After.{lateRefusals}
 use Rattle.ledger.specs.Record.{ringOf}
 use Rattle.moves.specs.Moves.{stepMoves}
 use Rattle.exports.specs.Refusals.{lastCheck}
@@ -33,9 +33,9 @@ late-row true true true d = absurd (d refl)
 module _ (p : Plan) (g : Given) (end : ℕ) (w : World) where
   -- a step whose checks pass is refused by none of their numbers
   late-number : (now : World) → Valid p g now → (stepNumber p g now ≡ 0 → ⊥) → lastCheck < stepNumber p g now
-  unfolding stepNumber lateRows
+  unfolding stepNumber lateRefusals
   late-number now v d =
-      let e = refusal-second (stepChecks p g (ringOf p now) (seenOf now)) (lateRows p (stepMoves p g (seenOf now)) now) (checks-named p g (ringOf p now) (seenOf now)) v in
+      let e = refusal-second (stepChecks p g (ringOf p now) (seenOf now)) (lateRefusals p (stepMoves p g (seenOf now)) now) (checks-named p g (ringOf p now) (seenOf now)) v in
       rw e (late-row _ _ _ (λ z. d (e ∙ z)))
 
   -- where a run has come to after some steps, all made and each before the end

@@ -8,15 +8,15 @@ use lib.ListN.{length}
 use Rattle.reckon.specs.Tests.{refusal}
 use Rattle.rule.specs.declared.rules.Rules.{Rules}
 use Rattle.ledger.specs.Runs.{Plan, World, world, seenOf}
-use Rattle.ledger.specs.After.{lateRows}
-use Rattle.ledger.specs.TakeBack.{backRows, backNumber, takenBack}
+use Rattle.ledger.specs.After.{lateRefusals}
+use Rattle.ledger.specs.TakeBack.{backRefusals, backNumber, takenBack}
 use Rattle.ledger.specs.Record.{ringOf}
 use Rattle.moves.specs.Given.{Given}
 use Rattle.moves.specs.Moves.{stepMoves}
 use Rattle.flood.specs.Refusals.{stepChecks, runChecks}
 use Rattle.flood.specs.Step.{stepNumber, stepped}
-use Rattle.flood.specs.Run.{Ended, ended, runTo, freshRows, freshNumber, freshLasts, stepsOn}
-use Rattle.sight.specs.Arrows.{arrowRows, arrowNumber}
+use Rattle.flood.specs.Run.{Ended, ended, runTo, freshRefusals, freshNumber, freshLasts, stepsOn}
+use Rattle.sight.specs.Arrows.{arrowRefusals, arrowNumber}
 use Rattle.sight.specs.WetRows.{WetRowed, wetRefusals, wetNumber}
 use Rattle.sight.specs.declared.wet_rows.Wet.{Wet}
 use Rattle.exports.specs.Refusals.{lastCheck}
@@ -28,12 +28,12 @@ use Rattle.demands.specs.Exported.{ExportsExactlyWhen, ExportsLeave}
 -- ---- "A refusal gives one number from the table in document 01, exactly when that table says"
 
 pub record ExactlyWhen (p : Plan) : Type 0 where
-  pub step : (g : Given) (w : World) → TableSays (stepChecks p g (ringOf p w) (seenOf w) ++ lateRows p (stepMoves p g (seenOf w)) w) (stepNumber p g w)
-  pub take-back : (w : World) → TableSays (backRows p w) (backNumber p w)
-  pub fresh : (r : Rules) (lasts records : List ℕ) → TableSays (freshRows p r lasts records) (freshNumber p r lasts records)
+  pub step : (g : Given) (w : World) → TableSays (stepChecks p g (ringOf p w) (seenOf w) ++ lateRefusals p (stepMoves p g (seenOf w)) w) (stepNumber p g w)
+  pub take-back : (w : World) → TableSays (backRefusals p w) (backNumber p w)
+  pub fresh : (r : Rules) (lasts records : List ℕ) → TableSays (freshRefusals p r lasts records) (freshNumber p r lasts records)
   -- a run before its first step, and `check`
   pub check : (g : Given) (end : ℕ) (w : World) → TableSays (runChecks p g end w) (refusal (runChecks p g end w))
-  pub arrow : (D : ℕ) (w : World) (row column : ℕ) → TableSays (arrowRows p D w row column) (arrowNumber p D w row column)
+  pub arrow : (D : ℕ) (w : World) (row column : ℕ) → TableSays (arrowRefusals p D w row column) (arrowNumber p D w row column)
   pub wet-rows : (depths : List ℕ) (least numbers : ℕ) → TableSays (wetRefusals p depths least numbers) (wetNumber p depths least numbers)
 
 -- ---- "the run and everything lent stay as they were"

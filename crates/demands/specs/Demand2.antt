@@ -10,7 +10,7 @@ use Rattle.reckon.specs.Tests.{refusal}
 use Rattle.reckon.specs.Ranges.{mostDepth}
 use Rattle.reckon.specs.Roots.{Root}
 use Rattle.grid.specs.Squares.{squares, sides}
-use Rattle.rule.specs.Length.{lengthAt, lastsFor}
+use Rattle.rule.specs.Length.{lengthAt, durationFor}
 use Rattle.rule.specs.Weighing.{heightOf, slopeOf, criticalSpeed, weighed}
 use Rattle.rule.specs.inner.InRange.{mostDrop}
 use Rattle.rule.specs.declared.rules.Rules.{Rules}
@@ -48,7 +48,7 @@ module _ (p : Plan) where
     amounts = stepMoves p g (seenOf w) .leaves
 
     abbrev duration : ℕ
-    duration = stepMoves p g (seenOf w) .lasts
+    duration = stepMoves p g (seenOf w) .duration
 
     -- of a step that is made
     pub record StepGives : Type 0 where
@@ -70,7 +70,7 @@ module _ (p : Plan) where
       -- "when the clock is a multiple of U it is worked afresh .. the run holds it until the next such clock"
       pub length-is : stepped p g w .run .length ≡ lengthAt (g .lie .rules) (w .run .clock) (w .run .length) (candidates p (g .lie) (w .depths))
       -- "The step lasts the smaller of that length and the time to the next multiple of U"
-      pub duration-is : duration ≡ lastsFor (g .lie .rules) (w .run .clock) (stepped p g w .run .length)
+      pub duration-is : duration ≡ durationFor (g .lie .rules) (w .run .clock) (stepped p g w .run .length)
       pub clock : stepped p g w .run .clock ≡ w .run .clock + duration
       -- no square sends more than it holds, so that "old − four leaving" is not cut off at 0
       pub covered : (i : ℕ) → shut p i ≡ false → gone amounts i ≤ getD (w .depths) i 0

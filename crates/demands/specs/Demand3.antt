@@ -15,7 +15,7 @@ use Rattle.rule.specs.declared.rules.Rules.{Rules}
 use Rattle.ledger.specs.Runs.{Plan, World, world, seenOf}
 use Rattle.ledger.specs.Flows.{shut}
 use Rattle.ledger.specs.Record.{recordSize, roomSlots}
-use Rattle.ledger.specs.TakeBack.{backNumber, takenBack, lookRows}
+use Rattle.ledger.specs.TakeBack.{backNumber, takenBack, earlyRefusals}
 use Rattle.ledger.specs.declared.runs.Run.{Run}
 use Rattle.ledger.specs.declared.runs.Answer.the-variants.{Done}
 use Rattle.moves.specs.Given.{Given}
@@ -103,7 +103,7 @@ module _ (p : Plan) where
 
   -- a take-back of a fresh run: 10 where shape, marks, depths, P and room are good, and never 11
   pub record BackOfFresh (f : World) : Type 0 where
-    pub ten : refusal (lookRows p (ringFine (roomSlots p (f .records)) (f .run .kept) (f .run .newest)) (seenOf f)) ≡ 0 → backNumber p f ≡ 10
+    pub ten : refusal (earlyRefusals p (ringFine (roomSlots p (f .records)) (f .run .kept) (f .run .newest)) (seenOf f)) ≡ 0 → backNumber p f ≡ 10
     pub never-eleven : backNumber p f ≡ 11 → ⊥
 
   -- "from a fresh run": whatever `fresh` may answer, with any depths

@@ -6,20 +6,20 @@ use Prim.Native.Nat.{ℕ}
 use lib.Ieee.{Float}
 use Rattle.reckon.specs.Numbers.{Lesser, Greater, PartOf}
 use Rattle.reckon.specs.Numbers as Numbers
-use Rattle.reckon.specs.Ranges.{WaterFine, SideFine}
+use Rattle.reckon.specs.Ranges.{WaterJudged, SideJudged}
 use Rattle.reckon.specs.Roots.{Root}
-use Rattle.reckon.specs.Tables.{RainBy, InflowBy, RainAdded, InflowAdded, RainFine, InflowFine}
-use Rattle.trials.specs.Ring.{SlotsIn, SlotStart, SlotAfter, SlotBefore, KeptAfter, RingFine}
+use Rattle.reckon.specs.Tables.{RainBy, InflowBy, RainAdded, InflowAdded, RainJudged, InflowJudged}
+use Rattle.trials.specs.Ring.{SlotsIn, SlotStart, SlotAfter, SlotBefore, KeptAfter, RingJudged}
 use Rattle.grid.specs.Squares.{ShapeJudged, SquaresOf, SquareFound, NextColumn, BesideOn, OppositeOf, RimJudged}
 use Rattle.grid.specs.Marks.{ClosedJudged, ExitJudged, MarksJudged, InflowSquaresJudged}
 use Rattle.grid.specs.Masks.{RowMasked, OnesOf, NextFound, Masked}
 use Rattle.grid.specs.declared.squares.Shape.{Shape}
 use Rattle.rule.specs.Drops.{DropTo, DropOff}
-use Rattle.rule.specs.Length.{Shorter, HeldLength, IsUpdate, LastsFor}
-use Rattle.rule.specs.Rules.{RulesFine, GroundFine}
+use Rattle.rule.specs.Length.{Shorter, HeldLength, IsUpdate, DurationFor}
+use Rattle.rule.specs.Rules.{RulesJudged, GroundJudged}
 use Rattle.rule.specs.Weighing.{Weighs}
 use Rattle.rule.specs.declared.rules.Rules.{Rules}
-use Rattle.ledger.specs.Runs.{Plan, World, world, RunFine}
+use Rattle.ledger.specs.Runs.{Plan, World, world, RunJudged}
 use Rattle.ledger.specs.Record.{SizeOf, HeldBefore, Lasted, Leaving, LastBefore, AddedBy, GoneFrom, SentTo, CameTo, OffFrom, HeadPut, SquarePut, ClosedPut}
 use Rattle.ledger.specs.inner.Settle.{SettlesTo}
 use Rattle.ledger.specs.Checks.{OneEach, WatersJudged, TimesJudged}
@@ -64,16 +64,16 @@ pub record ReckonDetermined : Type 0 where
   pub number : (list : List ℕ) (at : ℕ) → One (Numbers.NumberAt list at)
   pub part : (d x y : ℕ) → One (PartOf d x y)
   pub copy-into : (from old : List ℕ) (at : ℕ) → One (Copied from old at)
-  pub water-fine : (depth last : ℕ) → One (WaterFine depth last)
-  pub side-fine : (side : ℕ) → One (SideFine side)
+  pub water-fine : (depth last : ℕ) → One (WaterJudged depth last)
+  pub side-fine : (side : ℕ) → One (SideJudged side)
   pub square-root : (n : ℕ) → One (Root 2 n)
   pub cube-root : (n : ℕ) → One (Root 3 n)
   pub rain-by : (rows : List ℕ) (t : ℕ) → One (RainBy rows t)
   pub inflow-by : (rows : List ℕ) (r c side t : ℕ) → One (InflowBy rows r c side t)
   pub rain-added : (rows : List ℕ) (start end : ℕ) → One (RainAdded rows start end)
   pub inflow-added : (rows : List ℕ) (r c side start end : ℕ) → One (InflowAdded rows r c side start end)
-  pub rain-fine : (rows : List ℕ) → One (RainFine rows)
-  pub inflow-fine : (rows : List ℕ) → One (InflowFine rows)
+  pub rain-fine : (rows : List ℕ) → One (RainJudged rows)
+  pub inflow-fine : (rows : List ℕ) → One (InflowJudged rows)
 
 pub record TrialsDetermined : Type 0 where
   pub slots-in : (size numbers : ℕ) → One (SlotsIn size numbers)
@@ -81,7 +81,7 @@ pub record TrialsDetermined : Type 0 where
   pub slot-after : (k newest : ℕ) → One (SlotAfter k newest)
   pub slot-before : (k newest : ℕ) → One (SlotBefore k newest)
   pub kept-after : (k kept : ℕ) → One (KeptAfter k kept)
-  pub ring-fine : (k kept newest : ℕ) → One (RingFine k kept newest)
+  pub ring-fine : (k kept newest : ℕ) → One (RingJudged k kept newest)
 
 pub record GridDetermined : Type 0 where
   pub shape-fine : (s : Shape) → One (ShapeJudged s)
@@ -106,9 +106,9 @@ pub record RuleDetermined : Type 0 where
   pub shorter : (r : Rules) (best depth roughness : ℕ) (drops : List ℕ) → One (Shorter r best depth roughness drops)
   pub held-length : (r : Rules) (candidate : ℕ) → One (HeldLength r candidate)
   pub is-update : (r : Rules) (clock : ℕ) → One (IsUpdate r clock)
-  pub lasts-for : (r : Rules) (clock held : ℕ) → One (LastsFor r clock held)
-  pub rules-fine : (r : Rules) → One (RulesFine r)
-  pub ground-fine : (bed roughness : ℕ) → One (GroundFine bed roughness)
+  pub duration-for : (r : Rules) (clock held : ℕ) → One (DurationFor r clock held)
+  pub rules-fine : (r : Rules) → One (RulesJudged r)
+  pub ground-fine : (bed roughness : ℕ) → One (GroundJudged bed roughness)
   pub weigh : (r : Rules) (depth last roughness ms : ℕ) (drops : List ℕ) → One (Weighs r depth last roughness ms drops)
 
 -- `settle` is lent a working room too, `fresh`, and what is left in that is not promised: the one exception
@@ -126,7 +126,7 @@ pub record LedgerDetermined : Type 0 where
   pub put-head : (rec : List ℕ) (held lasts : ℕ) → One (HeadPut rec held lasts)
   pub put-square : (rec : List ℕ) (square : ℕ) (leaves : List ℕ) (last added : ℕ) → One (SquarePut rec square leaves last added)
   pub put-closed : (rec : List ℕ) (square : ℕ) → One (ClosedPut rec square)
-  pub run-fine : (k : ℕ) (u : Run) → One (RunFine k u)
+  pub run-fine : (k : ℕ) (u : Run) → One (RunJudged k u)
   pub one-each : (s : Shape) (numbers : ℕ) → One (OneEach s numbers)
   pub waters-fine : (p : Plan) (depths lasts : List ℕ) → One (WatersJudged p depths lasts)
   pub times-fine : (rec : List ℕ) → One (TimesJudged rec)

@@ -12,13 +12,13 @@ use Rattle.rule.specs.declared.rules.Rules.{Rules}
 use Rattle.ledger.specs.declared.runs.Run.{Run}
 use Rattle.ledger.specs.Runs.{Plan, World, seenOf}
 use Rattle.ledger.specs.Record.{ringOf, newestRecord}
-use Rattle.ledger.specs.After.{lateRows}
-use Rattle.ledger.specs.TakeBack.{backRows}
+use Rattle.ledger.specs.After.{lateRefusals}
+use Rattle.ledger.specs.TakeBack.{backRefusals}
 use Rattle.moves.specs.Given.{Given}
 use Rattle.moves.specs.Moves.{stepMoves}
 use Rattle.flood.specs.Refusals.{stepChecks}
-use Rattle.flood.specs.Run.{runTo, freshRows}
-use Rattle.sight.specs.Arrows.{view, arrowRows}
+use Rattle.flood.specs.Run.{runTo, freshRefusals}
+use Rattle.sight.specs.Arrows.{view, arrowRefusals}
 use Rattle.sight.specs.WetRows.{wetRefusals}
 use Rattle.sheet.specs.Sheet.{Rooms}
 use Rattle.exports.specs.Numbers.{runValueFrom, runNumbers, runSize, countSize}
@@ -36,12 +36,12 @@ use Rattle.demands.specs.Closed.{SameOpen, SameGiven, SameRecord, SameRo
 module _ (p : Plan) where
   pub record ExportsExactlyWhen : Type 0 where
     pub fresh : (r : Rules) (before records rules old : List ℕ) (number : ℕ) (lasts run : List ℕ) → ExportsFresh p r before records rules old number lasts run →
-        TableSays (1 unless bothSized rules old ∷ freshRows p r before records) number
+        TableSays (1 unless bothSized rules old ∷ freshRefusals p r before records) number
     pub step : (g : Given) (w : World) (rules old : List ℕ) (number : ℕ) (depths lasts records run : List ℕ) →
         ExportsStep p g w rules old number depths lasts records run →
-        TableSays (1 unless bothSized rules old ∷ (stepChecks p g (ringOf p w) (seenOf w) ++ lateRows p (stepMoves p g (seenOf w)) w)) number
+        TableSays (1 unless bothSized rules old ∷ (stepChecks p g (ringOf p w) (seenOf w) ++ lateRefusals p (stepMoves p g (seenOf w)) w)) number
     pub take-back : (w : World) (old : List ℕ) (number : ℕ) (depths lasts run : List ℕ) → ExportsBack p w old number depths lasts run →
-        TableSays (1 unless eqb (length old) runSize ∷ backRows p w) number
+        TableSays (1 unless eqb (length old) runSize ∷ backRefusals p w) number
     -- a run's own number is that of its checks or of the step that it stopped before
     pub run-unsized : (g : Given) (end : ℕ) (w : World) (rules old oldSteps : List ℕ) (number : ℕ) (depths lasts records run steps : List ℕ) →
         ExportsRun p g end w rules old oldSteps number depths lasts records run steps → ranSized p g end w rules old oldSteps ≡ false → number ≡ 1
@@ -51,7 +51,7 @@ module _ (p : Plan) where
     -- closed, dry and still have numbers past every refusal's
     pub arrow : (D : ℕ) (w : World) (row column : ℕ) (run : List ℕ) (old : List Float) (number : ℕ) (speeds : List Float) →
         ExportsArrow p D w row column run old number speeds → number < 100 →
-        TableSays (1 unless arrowSized p D w row column run old ∷ arrowRows p D w row column) number
+        TableSays (1 unless arrowSized p D w row column run old ∷ arrowRefusals p D w row column) number
     pub wet-rows : (depths : List ℕ) (least : ℕ) (oldRows oldCount : List ℕ) (number : ℕ) (rows count : List ℕ) →
         ExportsWet p depths least oldRows oldCount number rows count →
         TableSays (1 unless eqb (length oldCount) countSize ∷ wetRefusals p depths least (length oldRows)) number

@@ -26,8 +26,8 @@ use Rattle.demands.specs.Table.{TableSays}
 -- ---- demand 1: "A refusal gives one number from the table in document 01, exactly when that table says"
 
 -- the rows of a run to the sheet's end, from a fresh run on what the sheet says
-abbrev pub endRows : List ℕ → List Row
-endRows s =
+abbrev pub endRefusals : List ℕ → List Row
+endRefusals s =
     runChecks (planIn (shapeOf s) (lineTwo s .rules) (said s)) (givenIn (shapeOf s) (lineTwo s .rules) (said s)) (lineTwo s .end)
     (startIn (shapeOf s) (lineTwo s .rules) (said s))
 
@@ -37,7 +37,7 @@ sheetRefusals s lent =
     12 unless lineOne s .found
     ∷ 1 unless roomsFine (shapeOf s) (lineOne s .side) lent
     ∷ 12 unless eqb (badLine s) 0
-    ∷ take 4 (drop 1 (endRows s))
+    ∷ take 4 (drop 1 (endRefusals s))
 
 -- the number of a sheet, and its line: "12 with its number from 1", else 0
 pub record SheetSays (s : List ℕ) (lent : Rooms) (number line : ℕ) : Type 0 where

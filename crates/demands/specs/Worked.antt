@@ -72,7 +72,7 @@ module _ (text : String) where
   steepest w = greatestDrop (drops w)
 
   abbrev duration : World → ℕ
-  duration w = stepMoves onPlan byGiven (seenOf w) .lasts
+  duration w = stepMoves onPlan byGiven (seenOf w) .duration
 
   -- h, s, critical and Manning speed, v, m and the total of square 0, which has roughness 100
   abbrev workings : World → List ℕ

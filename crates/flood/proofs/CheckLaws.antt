@@ -12,7 +12,7 @@ use Rattle.reckon.specs.Ranges.{mostDepth, mostLength, lastClock, mostOutflow, 
 use Rattle.reckon.specs.Tables.{rainKind, inflowKind, tableFine}
 use Rattle.reckon.proofs.TestLaws.{Each, or-right, or-of, every-each, each-every, every-fails, all-at, all-of, refusal-passed, passed-refusal}
 use Rattle.grid.specs.declared.squares.Shape.{Shape}
-use Rattle.grid.specs.Squares.{FineShape, squares, shapeFine}
+use Rattle.grid.specs.Squares.{ShapeInRange, squares, shapeFine}
 use Rattle.grid.specs.Marks.{Marked, marksFine, inflowSquaresFine}
 use Rattle.grid.proofs.SquareLaws.{ranges-of-fine}
 use Rattle.rule.specs.Rules.{rulesFine}
@@ -21,12 +21,12 @@ use Rattle.rule.proofs.RuleLaws.{rules-are, ground-is}
 use Rattle.ledger.specs.Runs.{Plan, World, plan, runValuesFine, runFine, Seen, seenOf}
 use Rattle.ledger.specs.Flows.{shut}
 use Rattle.ledger.specs.Record.{ringOf}
-use Rattle.ledger.specs.Checks.{Watered, oneEach, watersFine}
-use Rattle.ledger.specs.TakeBack.{lookRows}
+use Rattle.ledger.specs.Checks.{WaterLent, oneEach, watersFine}
+use Rattle.ledger.specs.TakeBack.{earlyRefusals}
 use Rattle.ledger.specs.declared.runs.Run.{Run}
 use Rattle.moves.specs.Given.{Given}
 use Rattle.moves.specs.inner.Ready.{Ready}
-use Rattle.flood.specs.Refusals.{groundsFine, endFine, checkRows, stepChecks, runChecks}
+use Rattle.flood.specs.Refusals.{groundsFine, endFine, checkRefusals, stepChecks, runChecks}
 
 -- ---- what a call's answer says of the test that it is
 
@@ -82,12 +82,12 @@ record Tested (p : Plan) (g : Given) (five ring : Bool) (v : Seen) : Type 0 wher
   ring-fine : ring ≡ true
 
 module _ (p : Plan) (g : Given) (five ring : Bool) (v : Seen) where
-  rows-named : T (numbered (checkRows p g five ring v))
-  unfolding checkRows
+  rows-named : T (numbered (checkRefusals p g five ring v))
+  unfolding checkRefusals
   rows-named = tt
 
-  tested : refusal (checkRows p g five ring v) ≡ 0 → Tested p g five ring v
-  unfolding checkRows runValuesFine
+  tested : refusal (checkRefusals p g five ring v) ≡ 0 → Tested p g five ring v
+  unfolding checkRefusals runValuesFine
   tested e =
       let rows = refusal-passed _ rows-named e in
       let lent = every-each _ (rows .0) in
@@ -129,8 +129,8 @@ module _ (p : Plan) (g : Given) (five ring : Bool) (v : Seen) where
         let s = t .seen-fine in
         each-every _ (t .ring-fine, (s .clock-to, (s .length-from, (s .length-to, (s .outflow-to, tt)))))
 
-    passes : refusal (checkRows p g five ring v) ≡ 0
-    unfolding checkRows
+    passes : refusal (checkRefusals p g five ring v) ≡ 0
+    unfolding checkRefusals
     passes =
         let q = t .given-fine in
         let s = t .seen-fine in
@@ -148,8 +148,8 @@ module _ (p : Plan) (g : Given) (five ring : Bool) (v : Seen) where
           ),
         )
 
-    looks : refusal (lookRows p ring v) ≡ 0
-    unfolding lookRows
+    looks : refusal (earlyRefusals p ring v) ≡ 0
+    unfolding earlyRefusals
     looks =
         let q = t .given-fine in
         let s = t .seen-fine in
@@ -199,7 +199,7 @@ module _ (s : Shape) (marks : List ℕ) (D : ℕ) (beds roughness depths lasts :
       ∷ []
 
   module _ (e : every lentTests ≡ true) where
-    pub lent-fine : FineShape s
+    pub lent-fine : ShapeInRange s
     lent-fine = ranges-of-fine s (every-each _ e .0)
 
     pub lent-marked : Marked s marks
@@ -210,7 +210,7 @@ module _ (s : Shape) (marks : List ℕ) (D : ℕ) (beds roughness depths lasts :
         let t = every-each _ e in
         (lent-marked, each-long (plan s marks) _ (t .1 .1 .1 .0), each-long (plan s marks) _ (t .1 .1 .1 .1 .0))
 
-    pub lent-water : Watered (plan s marks) depths lasts
+    pub lent-water : WaterLent (plan s marks) depths lasts
     lent-water =
         let t = every-each _ e in
         record {
@@ -291,7 +291,7 @@ module _ (p : Plan) (g : Given) (ring : Bool) (v : Seen) where
     ring-is = all-tests .ring-fine
 
     -- what a take-back checks before 10 has passed too
-    pub checks-look : refusal (lookRows p ring v) ≡ 0
+    pub checks-look : refusal (earlyRefusals p ring v) ≡ 0
     checks-look = looks p g (rulesFine (g .lie .rules)) ring v all-tests
 
 -- ---- a run to an end

@@ -24,7 +24,7 @@ use Rattle.ledger.specs.Checks.{oneEach}
 use Rattle.ledger.specs.declared.runs.Run.{Run}
 use Rattle.ledger.specs.declared.runs.Answer.the-variants.{Done, Refused}
 use Rattle.ledger.proofs.RunLaws.{answered-done, answered-refused}
-use Rattle.flood.specs.Run.{freshRows, freshNumber, freshRun, freshLasts, Freshens}
+use Rattle.flood.specs.Run.{freshRefusals, freshNumber, freshRun, freshLasts, Freshens}
 use Rattle.flood.proofs.CheckLaws.{each-long}
 
 -- ---- the checks
@@ -44,18 +44,18 @@ module _ (s : Shape) (marks : List ℕ) (D : ℕ) (lasts : List ℕ) where
     sizes-lent = (sizes-marked, each-long (plan s marks) _ (every-each _ e .1 .1 .1 .0))
 
 module _ (p : Plan) (r : Rules) (lasts records : List ℕ) where
-  rows-named : T (numbered (freshRows p r lasts records))
-  unfolding freshRows
+  rows-named : T (numbered (freshRefusals p r lasts records))
+  unfolding freshRefusals
   rows-named = tt
 
   module _ (e : freshNumber p r lasts records ≡ 0) where
     pub fresh-sizes : every (sizeTests (p .shape) (p .marks) (r .«square_side») lasts) ≡ true
-    unfolding freshNumber freshRows
+    unfolding freshNumber freshRefusals
     fresh-sizes = refusal-passed _ rows-named e .0
 
     -- K is not 0
     pub fresh-slots : roomSlots p records ≡ 0 → ⊥
-    unfolding freshNumber freshRows
+    unfolding freshNumber freshRefusals
     fresh-slots = eqb-false _ _ (not-true _ (refusal-passed _ rows-named e .1 .1 .1 .0))
 
 -- ---- last leaving cleared below i, and then of square i

@@ -3,7 +3,7 @@
 use Rattle.rule.proofs.LengthLaws.{length-from, length-to, lasts-from, lasts-to}
 use Rattle.ledger.specs.Runs.{Plan}
 use Rattle.ledger.specs.inner.Engine.{Owed}
-use Rattle.moves.specs.Moves.{stepLasts}
+use Rattle.moves.specs.Moves.{stepDuration}
 use Rattle.flood.specs.Step.{floodRule}
 use Rattle.moves.proofs.MoveLaws.{covered, step-length-from, step-length-to, step-lasts-from, step-lasts-to}
 use Rattle.flood.proofs.CheckLaws.{ready, checks-look, checks-named}
@@ -17,5 +17,5 @@ flood-owed p =
       lasts-to = λ ring g v e. step-lasts-to p g v (ready p g ring v e);
       length-from = λ ring g v e. step-length-from p g v (ready p g ring v e);
       length-to = λ ring g v e. step-length-to p g v (ready p g ring v e);
-      covered = λ ring g v e i h s. covered p (g .lie) (v .depths) (v .lasts) (stepLasts p g v) i s;
+      covered = λ ring g v e i h s. covered p (g .lie) (v .depths) (v .lasts) (stepDuration p g v) i s;
     }

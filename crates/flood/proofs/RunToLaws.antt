@@ -15,11 +15,11 @@ use Rattle.trials.proofs.RingLaws.{Ring, fine-ring, ring-fine, ring-after}
 use Rattle.trials.proofs.RoomLaws.{slots-stored}
 use Rattle.ledger.specs.Runs.{Plan, World, seenOf}
 use Rattle.ledger.specs.Record.{recordSize, roomSlots, ringOf}
-use Rattle.ledger.specs.After.{lateRows, stepRecord, worldAfter}
+use Rattle.ledger.specs.After.{lateRefusals, stepRecord, worldAfter}
 use Rattle.ledger.proofs.ReadBack.{step-long}
 use Rattle.ledger.proofs.EngineLaws.{look-seen, valid-after}
 use Rattle.moves.specs.Given.{Given}
-use Rattle.moves.specs.Moves.{stepLasts, stepMoves}
+use Rattle.moves.specs.Moves.{stepDuration, stepMoves}
 use Rattle.flood.specs.Refusals.{stepChecks, runChecks}
 use Rattle.flood.specs.Step.{stepNumber, stepped, floodRule}
 use Rattle.flood.specs.Run.{Ended, ended, goOn, runFrom, runTo}
@@ -43,7 +43,7 @@ module _ (p : Plan) (g : Given) (w : World) where
   unfolding stepped
   refused-is d = pick-false _ _ (ne-eqb _ _ d)
 
-  late-passed : stepNumber p g w ≡ 0 → refusal (lateRows p (stepMoves p g (seenOf w)) w) ≡ 0
+  late-passed : stepNumber p g w ≡ 0 → refusal (lateRefusals p (stepMoves p g (seenOf w)) w) ≡ 0
   unfolding stepNumber
   late-passed e = refusal-both (stepChecks p g (ringOf p w) (seenOf w)) _ (checks-named p g (ringOf p w) (seenOf w)) e .1
 
@@ -82,7 +82,7 @@ module _ (p : Plan) (g : Given) (w : World) where
         }))
 
     -- the clock goes on
-    clock-after : stepped p g w .run .clock ≡ w .run .clock + stepLasts p g (seenOf w)
+    clock-after : stepped p g w .run .clock ≡ w .run .clock + stepDuration p g (seenOf w)
     unfolding worldAfter
     clock-after = ap (λ (x : World). x .run .clock) (made-is made)
 

@@ -15,22 +15,22 @@ use Rattle.reckon.specs.Tests.{pick, refusal}
 use Rattle.reckon.specs.Ranges.{lastClock}
 use Rattle.reckon.proofs.TestLaws.{not-both, no-more, pick-false, or-right, or-of, all-at, all-of, refusal-here, refusal-later, refusal-first, refusal-second}
 use Rattle.trials.proofs.RingLaws.{fine-ring}
-use Rattle.grid.specs.Squares.{squares, mostSquares, FineShape, SquaresOf}
+use Rattle.grid.specs.Squares.{squares, mostSquares, ShapeInRange, SquaresOf}
 use Rattle.ledger.specs.Runs.{Plan, World, answered, Seen, seenOf}
 use Rattle.ledger.specs.Flows.{shut}
 use Rattle.ledger.specs.Record.{roomSlots, ringOf, mostRecord, SizeOf}
-use Rattle.ledger.specs.After.{Moves, newDepth, depthsFit, lateRows, stepRecord, worldAfter, worldWith}
+use Rattle.ledger.specs.After.{Moves, newDepth, depthsFit, lateRefusals, stepRecord, worldAfter, worldWith}
 use Rattle.ledger.specs.inner.Settle.{movesIn, settleNumber, settled, Settles, SettlesTo}
 use Rattle.grid.specs.declared.squares.Shape.{Shape}
 use Rattle.ledger.proofs.ReadBack.{step-long, step-lasted, step-gone, settled-is, late-settled}
 use Rattle.moves.specs.Given.{Given}
-use Rattle.moves.specs.Moves.{stepLength, stepLasts, stepMoves}
+use Rattle.moves.specs.Moves.{stepLength, stepDuration, stepMoves}
 use Rattle.moves.specs.inner.Added.{addedFits}
 use Rattle.moves.specs.inner.Ready.{Ready}
 use Rattle.rule.specs.Rules.{rulesFine}
 use Rattle.ledger.specs.declared.runs.Answer.the-variants.{Done, Refused}
 use Rattle.ledger.proofs.RunLaws.{answered-done, answered-refused}
-use Rattle.flood.specs.Refusals.{checkRows, stepChecks}
+use Rattle.flood.specs.Refusals.{checkRefusals, stepChecks}
 use Rattle.flood.specs.Step.{stepNumber, stepped, Steps, MakesStep, Passes}
 use Rattle.flood.proofs.CheckLaws.{ready, ring-is, checks-named}
 use Rattle.moves.proofs.MoveLaws.{covered, step-length-to}
@@ -49,35 +49,35 @@ module _ (p : Plan) (g : Given) (w : World) (passed : refusal (stepChecks p g (r
   is-ready = ready p g (ringOf p w) v passed
 
   -- the checks pass, so that the late rows decide
-  number-late : stepNumber p g w ≡ refusal (lateRows p m w)
+  number-late : stepNumber p g w ≡ refusal (lateRefusals p m w)
   unfolding stepNumber
-  number-late = refusal-second (stepChecks p g (ringOf p w) v) (lateRows p m w) (checks-named p g (ringOf p w) v) passed
+  number-late = refusal-second (stepChecks p g (ringOf p w) v) (lateRefusals p m w) (checks-named p g (ringOf p w) v) passed
 
   -- a refused step leaves the world as it was
   refused-by : {n : ℕ} → (n ≡ 0 → ⊥) → n ≡ stepNumber p g w → MakesStep p g w n w
   unfolding stepped
   refused-by d e = record { number = e; world-is = sym (pick-false _ _ (ne-eqb _ _ (λ z. d (e ∙ z)))) }
 
-  pub step-seven : lastClock < clock + stepLasts p g v → MakesStep p g w 7 w
-  unfolding lateRows
+  pub step-seven : lastClock < clock + stepDuration p g v → MakesStep p g w 7 w
+  unfolding lateRefusals
   step-seven h = refused-by (λ z. omega arith) (sym (number-late ∙ refusal-here 7 _ (lt-leb _ _ h)))
 
-  module _ (timely : clock + stepLasts p g v ≤ lastClock) where
+  module _ (timely : clock + stepDuration p g v ≤ lastClock) where
     -- what is added is part of the new depth
     added-under : (i : ℕ) → m .added i ≤ newDepth p m w i
     unfolding newDepth
     added-under i = omega arith
 
     -- where all new depths fit, so does all that is added
-    fits-all : depthsFit p m w ≡ true → addedFits p g clock (clock + stepLasts p g v) ≡ true
+    fits-all : depthsFit p m w ≡ true → addedFits p g clock (clock + stepDuration p g v) ≡ true
     unfolding depthsFit addedFits
     fits-all t =
         all-of (squares (p .shape)) _
         (λ i l. or-of (shut p i) _
         (λ c. le-leb _ _ (le-trans (added-under i) (leb-true _ _ (or-right (shut p i) _ (all-at (squares (p .shape)) _ t i l) c)))))
 
-    pub step-eight : addedFits p g clock (clock + stepLasts p g v) ≡ false → MakesStep p g w 8 w
-    unfolding lateRows
+    pub step-eight : addedFits p g clock (clock + stepDuration p g v) ≡ false → MakesStep p g w 8 w
+    unfolding lateRefusals
     step-eight e =
         refused-by (λ z. omega arith)
         (sym (number-late ∙ (refusal-later 7 _ (le-leb _ _ timely) ∙ refusal-here 8 _ (no-more _ (λ t. not-both {A = ⊥} (fits-all t) e)))))
@@ -100,7 +100,7 @@ module _ (p : Plan) (g : Given) (w : World) (passed : refusal (stepChecks p g (r
           clock-to = rw (step-lasted p m w) timely;
           length-to = step-length-to p g v r;
           depths-to = r .flows .lies .depths-to;
-          covered = λ i h s. rw (step-gone p m w i h s) (covered p (g .lie) (w .depths) (w .lasts) (stepLasts p g v) i s);
+          covered = λ i h s. rw (step-gone p m w i h s) (covered p (g .lie) (w .depths) (w .lasts) (stepDuration p g v) i s);
         })
 
     pub step-settled :
@@ -119,7 +119,7 @@ module _ (p : Plan) (g : Given) (w : World) (passed : refusal (stepChecks p g (r
 
 -- ---- the parts of the working rooms that a grid needs
 
-module _ (s : Shape) {n : ℕ} (f : FineShape s) where
+module _ (s : Shape) {n : ℕ} (f : ShapeInRange s) where
   pub record-part : SizeOf s n → n ≤ mostRecord
   record-part e = omega (arith, f .few, e)
 
@@ -134,11 +134,11 @@ part-long {n} most h = length-take-le n (replicate most 0) (omega (arith, h, len
 module _ (p : Plan) (g : Given) (w : World) where
   -- rows 1 to 6 refuse
   pub step-checked :
-      {five : Bool} {n : ℕ} → five ≡ rulesFine (g .lie .rules) → n ≡ refusal (checkRows p g five (ringOf p w) (seenOf w)) → (n ≡ 0 → ⊥) →
+      {five : Bool} {n : ℕ} → five ≡ rulesFine (g .lie .rules) → n ≡ refusal (checkRefusals p g five (ringOf p w) (seenOf w)) → (n ≡ 0 → ⊥) →
       Steps p g w (Refused n) (w .depths) (w .lasts) (w .records)
   unfolding stepNumber stepped
   step-checked {five} {n} f e d =
-      let r : n ≡ refusal (stepChecks p g (ringOf p w) (seenOf w)) = e ∙ ap (λ (b : Bool). refusal (checkRows p g b (ringOf p w) (seenOf w))) f in
+      let r : n ≡ refusal (stepChecks p g (ringOf p w) (seenOf w)) = e ∙ ap (λ (b : Bool). refusal (checkRefusals p g b (ringOf p w) (seenOf w))) f in
       let number-is : n ≡ stepNumber p g w = r ∙ sym (first (λ z. d (r ∙ z))) in
       let stays : stepped p g w ≡ w = refused-stays (λ z. d (number-is ∙ z)) in
       record {
@@ -155,8 +155,8 @@ module _ (p : Plan) (g : Given) (w : World) where
       refused-stays z = pick-false _ _ (ne-eqb _ _ z)
 
   -- they pass: what the inner step gives
-  pub passes-checks : {five : Bool} {n : ℕ} → five ≡ rulesFine (g .lie .rules) → n ≡ refusal (checkRows p g five (ringOf p w) (seenOf w)) → n ≡ 0 → Passes p g w
-  passes-checks f e z = record { checked = sym (ap (λ (b : Bool). refusal (checkRows p g b (ringOf p w) (seenOf w))) f) ∙ (sym e ∙ z) }
+  pub passes-checks : {five : Bool} {n : ℕ} → five ≡ rulesFine (g .lie .rules) → n ≡ refusal (checkRefusals p g five (ringOf p w) (seenOf w)) → n ≡ 0 → Passes p g w
+  passes-checks f e z = record { checked = sym (ap (λ (b : Bool). refusal (checkRefusals p g b (ringOf p w) (seenOf w))) f) ∙ (sym e ∙ z) }
 
   module _ {n : ℕ} {after : World} (m : MakesStep p g w n after) where
     pub step-refused : (n ≡ 0 → ⊥) → Steps p g w (Refused n) (after .depths) (after .lasts) (after .records)

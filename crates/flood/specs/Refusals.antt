@@ -31,8 +31,8 @@ endFine r end = every (leb end lastClock ∷ eqb (end % r .update) 0 ∷ [])
 
 module _ (p : Plan) (g : Given) where
   -- rows 1 to 6, where `five` is row 5's test and `ring` says whether K, kept and newest are in range
-  unfoldable pub checkRows : Bool → Bool → Seen → List Row
-  checkRows five ring v =
+  unfoldable pub checkRefusals : Bool → Bool → Seen → List Row
+  checkRefusals five ring v =
       -- "shape or D out of range, a slice not one number a square"
       1 unless
       every
@@ -59,11 +59,11 @@ module _ (p : Plan) (g : Given) where
 
   -- a step's rows 1 to 6
   abbrev pub stepChecks : Bool → Seen → List Row
-  stepChecks ring v = checkRows (rulesFine (g .lie .rules)) ring v
+  stepChecks ring v = checkRefusals (rulesFine (g .lie .rules)) ring v
 
   -- rows 1 to 6 of a run to an end
   abbrev pub runChecks : ℕ → World → List Row
-  runChecks end w = checkRows (every (rulesFine (g .lie .rules) ∷ endFine (g .lie .rules) end ∷ [])) (ringOf p w) (seenOf w)
+  runChecks end w = checkRefusals (every (rulesFine (g .lie .rules) ∷ endFine (g .lie .rules) end ∷ [])) (ringOf p w) (seenOf w)
 
 -- ---- what the public functions give
 

@@ -64,8 +64,8 @@ freshRun r k = record { clock = 0; length = r .longest; outflow = 0; kept = 0; n
 
 module _ (p : Plan) (r : Rules) (lasts records : List ℕ) where
   -- it is lent shape, rules, marks, last leaving and the record room, and checks those
-  unfoldable pub freshRows : List Row
-  freshRows =
+  unfoldable pub freshRefusals : List Row
+  freshRefusals =
       1 unless every (shapeFine (p .shape) ∷ sideFine (r .«square_side») ∷ oneEach p (p .marks) ∷ oneEach p lasts ∷ [])
       ∷ 2 unless marksFine (p .shape) (p .marks)
       ∷ 5 unless rulesFine r
@@ -73,7 +73,7 @@ module _ (p : Plan) (r : Rules) (lasts records : List ℕ) where
       ∷ []
 
   unfoldable pub freshNumber : ℕ
-  freshNumber = refusal freshRows
+  freshNumber = refusal freshRefusals
 
   -- "P 0 on squares not closed"
   unfoldable pub freshLasts : List ℕ

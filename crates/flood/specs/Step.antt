@@ -4,7 +4,7 @@ use mathlib.Core.List.{List}
 use Prim.Native.Nat.{ℕ, _+_}
 use Rattle.reckon.specs.Tests.{pick, refusal}
 use Rattle.ledger.specs.Runs.{Plan, World, answered, seenOf}
-use Rattle.ledger.specs.After.{lateRows, worldAfter}
+use Rattle.ledger.specs.After.{lateRefusals, worldAfter}
 use Rattle.moves.specs.Given.{Given}
 use mathlib.Core.Path.{_≡_}
 use mathlib.Core.List.{List, _++_}
@@ -19,7 +19,7 @@ use Rattle.flood.specs.Refusals.{stepChecks}
 module _ (p : Plan) (g : Given) where
   -- the first number of the table that applies, 0 for none
   unfoldable pub stepNumber : World → ℕ
-  stepNumber w = refusal (stepChecks p g (ringOf p w) (seenOf w) ++ lateRows p (stepMoves p g (seenOf w)) w)
+  stepNumber w = refusal (stepChecks p g (ringOf p w) (seenOf w) ++ lateRefusals p (stepMoves p g (seenOf w)) w)
 
   -- "with the run as it was and every lent slice as it was", or the world after the step
   unfoldable pub stepped : World → World

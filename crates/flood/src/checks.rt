@@ -24,7 +24,7 @@ ghost use Prim.Native.Nat.{_<_};
 ghost use lib.ListN.{length, getD};
 ghost use Rattle.reckon.specs.Tests.{every, refusal};
 ghost use Rattle.reckon.specs.Tables.{rainKind, inflowKind, tableFine};
-ghost use Rattle.grid.specs.Squares.{FineShape, shapeFine, squares};
+ghost use Rattle.grid.specs.Squares.{ShapeInRange, shapeFine, squares};
 ghost use Rattle.grid.specs.Marks.{Marked, closed, inflowSquaresFine};
 ghost use Rattle.rule.specs.Rules.{groundFine, rulesFine};
 ghost use Rattle.reckon.specs.Ranges.{sideFine};
@@ -33,10 +33,10 @@ ghost use Rattle.ledger.specs.Runs.{plan, world, seenOf};
 ghost use Rattle.ledger.specs.Record.{roomSlots, ringOf};
 ghost use Rattle.ledger.specs.Checks.{oneEach};
 ghost use Rattle.moves.specs.Given.{ground, given};
-ghost use Rattle.flood.specs.Refusals.{Checks, checkRows, endFine, groundsFine};
+ghost use Rattle.flood.specs.Refusals.{Checks, checkRefusals, endFine, groundsFine};
 
 // Refusal 2 for the ground of one square.
-fn ground_ok(marks: &[u8], beds: &[u32], roughness: &[u32], square: usize) -> bool
+fn ground_at_fine(marks: &[u8], beds: &[u32], roughness: &[u32], square: usize) -> bool
     requires { ⌜ (square < length (now marks)) × (square < length (now beds)) × (square < length (now roughness)) ⌝ }
     ensures { λ r. ⌜ r ≡ (closed (now (marks .entry)) square || groundFine (getD (now (beds .entry)) square 0) (getD (now (roughness .entry)) square 0)) ⌝ }
 {
@@ -54,7 +54,7 @@ fn grounds_fine(shape: Shape, marks: &[u8], beds: &[u32], roughness: &[u32]) -> 
     let squares = squares_of(shape);
     let mut square = 0;
     while square < squares {
-        if !ground_ok(marks, beds, roughness, square) {
+        if !ground_at_fine(marks, beds, roughness, square) {
             return false;
         }
         square += 1;
@@ -132,7 +132,7 @@ fn rules_and_end_fine(rules: Rules, end: u64) -> bool
 
 // How many records the room holds.
 pub(crate) fn slots_of(shape: Shape, records: &[u32]) -> usize
-    requires { ⌜ FineShape shape ⌝ }
+    requires { ⌜ ShapeInRange shape ⌝ }
     ensures { λ r. ⌜ r ≡ roomSlots (plan shape []) (now (records .entry)) ⌝ }
 {
     trials::slots_in(record_size(shape), records.len())
@@ -153,7 +153,7 @@ pub(crate) fn checked(
     lasts: &[u32],
     records: &[u32],
 ) -> u32
-    ensures { λ r. ⌜ r ≡ refusal (checkRows (plan shape (now (marks .entry))) (given (ground rules (now (beds .entry)) (now (roughness .entry))) (now (rain .entry)) (now (inflow .entry))) five (ringOf (plan shape (now (marks .entry))) (world (now (depths .entry)) (now (lasts .entry)) (now (records .entry)) run)) (seenOf (world (now (depths .entry)) (now (lasts .entry)) (now (records .entry)) run))) ⌝ }
+    ensures { λ r. ⌜ r ≡ refusal (checkRefusals (plan shape (now (marks .entry))) (given (ground rules (now (beds .entry)) (now (roughness .entry))) (now (rain .entry)) (now (inflow .entry))) five (ringOf (plan shape (now (marks .entry))) (world (now (depths .entry)) (now (lasts .entry)) (now (records .entry)) run)) (seenOf (world (now (depths .entry)) (now (lasts .entry)) (now (records .entry)) run))) ⌝ }
 {
     if !lent_fine(shape, rules, marks, beds, roughness, depths, lasts) {
         return 1;

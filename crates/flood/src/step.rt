@@ -13,7 +13,7 @@ use moves::added::add_water;
 use moves::fill::fill;
 use moves::length::step_length;
 use reckon::ranges::LAST_CLOCK;
-use rule::length::lasts_for;
+use rule::length::duration_for;
 use rule::rules::Rules;
 use rule::rules::rules_fine;
 ghost use mathlib.Core.Path.{_≡_};
@@ -54,8 +54,8 @@ pub(crate) fn make_step(
         run.clock,
         run.length,
     );
-    let lasting = lasts_for(rules, run.clock, length);
-    let end = run.clock + lasting;
+    let duration = duration_for(rules, run.clock, length);
+    let end = run.clock + duration;
     if LAST_CLOCK < end {
         return Settled {
             refused: 7,
@@ -78,7 +78,7 @@ pub(crate) fn make_step(
         lasts,
         room,
         run.length,
-        lasting,
+        duration,
         rec,
     );
     settle(shape, marks, rec, length, run, depths, lasts, records, room)

@@ -11,23 +11,23 @@ use borrow.Author.Tests.{not-false, ltb-true, leb-true, le-leb, lt-leb, lt-ltb, 
 use Rattle.reckon.specs.Tests.{every}
 use Rattle.reckon.proofs.TestLaws.{pick-true, pick-false, pick-both, every-each, each-every, all-at, all-of, all-fails}
 use Rattle.grid.specs.declared.squares.Shape.{Shape}
-use Rattle.grid.specs.Squares.{longest, mostSquares, north, east, south, west, sides, squares, squareAt, beside, opposite, onRim, shapeFine, FineShape, Stands, NextColumn}
+use Rattle.grid.specs.Squares.{mostAlong, mostSquares, north, east, south, west, sides, squares, squareAt, beside, opposite, onRim, shapeFine, ShapeInRange, OnSquare, NextColumn}
 
 -- ---- the shape
 
-pub few-squares : (s : Shape) → s .rows ≤ longest → s .columns ≤ longest → squares s ≤ mostSquares
+pub few-squares : (s : Shape) → s .rows ≤ mostAlong → s .columns ≤ mostAlong → squares s ≤ mostSquares
 few-squares s h g = omega (arith, mul-le-mul h g)
 
-pub fine-shape : (s : Shape) → 1 ≤ s .rows → s .rows ≤ longest → 1 ≤ s .columns → s .columns ≤ longest → FineShape s
+pub fine-shape : (s : Shape) → 1 ≤ s .rows → s .rows ≤ mostAlong → 1 ≤ s .columns → s .columns ≤ mostAlong → ShapeInRange s
 fine-shape s a b c d = record { rows-low = a; rows-high = b; columns-low = c; columns-high = d; few = few-squares s b d }
 
-pub ranges-of-fine : (s : Shape) → shapeFine s ≡ true → FineShape s
+pub ranges-of-fine : (s : Shape) → shapeFine s ≡ true → ShapeInRange s
 unfolding shapeFine
 ranges-of-fine s e =
     let p = every-each _ e in
     fine-shape s (leb-true _ _ (p .0)) (leb-true _ _ (p .1 .0)) (leb-true _ _ (p .1 .1 .0)) (leb-true _ _ (p .1 .1 .1 .0))
 
-pub fine-of-ranges : (s : Shape) → FineShape s → shapeFine s ≡ true
+pub fine-of-ranges : (s : Shape) → ShapeInRange s → shapeFine s ≡ true
 unfolding shapeFine
 fine-of-ranges s f =
     each-every _
@@ -146,7 +146,7 @@ opposite-small (suc (suc (suc _))) = omega arith
 
 -- ---- the same by the column that a square stands in
 
-module _ (s : Shape) {i column : ℕ} (st : Stands s i column) where
+module _ (s : Shape) {i column : ℕ} (st : OnSquare s i column) where
   pub column-small : column < s .columns
   column-small = column-within s i (st .fine .columns-low) (st .column-is)
 

@@ -10,7 +10,7 @@ use lib.Count.{ones}
 use Rattle.reckon.specs.Tests.{pick, firstFailing}
 use Rattle.reckon.specs.Lists.{tabulate}
 use Rattle.grid.specs.declared.squares.Shape.{Shape}
-use Rattle.grid.specs.Squares.{squares, FineShape}
+use Rattle.grid.specs.Squares.{squares, ShapeInRange}
 use Rattle.grid.specs.Marks.{closed}
 
 -- "one 64-bit number"
@@ -77,7 +77,7 @@ RowMasked marks depths least first columns r = r ≡ maskFrom (isWet marks depth
 
 -- marks and depths, one number a square, and a row slice, one number a row
 pub record RowsLent (s : Shape) (marks depths rows : List ℕ) : Type 0 where
-  pub fine : FineShape s
+  pub fine : ShapeInRange s
   pub marks-long : length marks ≡ squares s
   pub depths-long : length depths ≡ squares s
   pub rows-long : length rows ≡ s .rows

@@ -12,7 +12,7 @@ use Rattle.reckon.specs.Tests.{pick}
 use Rattle.reckon.specs.Lists.{sumBelow}
 use Rattle.reckon.proofs.TestLaws.{pick-true, pick-false, pick-same, pick-both}
 use Rattle.reckon.proofs.ListLaws.{sum-le}
-use Rattle.grid.specs.Squares.{north, east, south, west, sides, mostSquares, squares, within, beside, opposite, onRim, FineShape}
+use Rattle.grid.specs.Squares.{north, east, south, west, sides, mostSquares, squares, within, beside, opposite, onRim, ShapeInRange}
 use Rattle.grid.proofs.SquareLaws.{each-within, north-is, east-is, south-is, west-is}
 use Rattle.grid.specs.Marks.{closed}
 use Rattle.grid.proofs.MarkLaws.{closed-past}
@@ -117,6 +117,6 @@ module _ (rec : List ℕ) (words : (k : ℕ) → getD rec k 0 < 4294967296) wher
     pub off-sum-small : (n : ℕ) → sumBelow n (offSquare p (leavesIn rec)) ≤ n * fourWords
     off-sum-small n = sum-le n fourWords (offSquare p (leavesIn rec)) (λ i l. off-small i)
 
-    pub off-grid-small : FineShape (p .shape) → offGrid p (leavesIn rec) ≤ mostSquares * fourWords
+    pub off-grid-small : ShapeInRange (p .shape) → offGrid p (leavesIn rec) ≤ mostSquares * fourWords
     unfolding offGrid
     off-grid-small f = omega (arith, off-sum-small (squares (p .shape)), mul-le-mul-right fourWords (f .few))

@@ -19,8 +19,8 @@ use Rattle.grid.proofs.MarkLaws.{marked, unless-closed}
 use Rattle.ledger.specs.Runs.{Plan, World}
 use Rattle.ledger.specs.Flows.{Leaves, fourSides, shut, gone, sent, came, offSide, offSquare, offGrid}
 use Rattle.ledger.specs.Record.{squareWords, lastWord, addedWord, recordSize, heldIn, lastedIn, wordPlace, leavesIn, lastIn, addedIn, squareRecord, recordOf}
-use Rattle.ledger.specs.After.{Moves, remains, newDepth, depthsFit, newOutflow, lateRows, stepRecord, worldAfter, worldWith}
-use Rattle.ledger.specs.inner.Settle.{movesIn, settleRows, settleNumber}
+use Rattle.ledger.specs.After.{Moves, remains, newDepth, depthsFit, newOutflow, lateRefusals, stepRecord, worldAfter, worldWith}
+use Rattle.ledger.specs.inner.Settle.{movesIn, settleRefusals, settleNumber}
 
 -- what is the same of each side is the same of the four
 four-same : {f g : ℕ → ℕ} → ((side : ℕ) → side < sides → f side ≡ g side) → fourSides f ≡ fourSides g
@@ -128,36 +128,36 @@ module _ (p : Plan) (m : Moves) (w : World) where
 
   pub step-long : length (stepRecord p m w) ≡ recordSize p
   unfolding stepRecord
-  step-long = record-long p (w .run .length) (m .lasts) (m .leaves) lastBefore (m .added)
+  step-long = record-long p (w .run .length) (m .duration) (m .leaves) lastBefore (m .added)
 
   pub step-held : heldIn (stepRecord p m w) ≡ w .run .length
   unfolding stepRecord
-  step-held = held-read p (w .run .length) (m .lasts) (m .leaves) lastBefore (m .added)
+  step-held = held-read p (w .run .length) (m .duration) (m .leaves) lastBefore (m .added)
 
-  pub step-lasted : lastedIn (stepRecord p m w) ≡ m .lasts
+  pub step-lasted : lastedIn (stepRecord p m w) ≡ m .duration
   unfolding stepRecord
-  step-lasted = lasted-read p (w .run .length) (m .lasts) (m .leaves) lastBefore (m .added)
+  step-lasted = lasted-read p (w .run .length) (m .duration) (m .leaves) lastBefore (m .added)
 
   pub step-off : offGrid p (leavesIn (stepRecord p m w)) ≡ offGrid p (m .leaves)
   unfolding stepRecord
-  step-off = off-read p (w .run .length) (m .lasts) (m .leaves) lastBefore (m .added)
+  step-off = off-read p (w .run .length) (m .duration) (m .leaves) lastBefore (m .added)
 
   pub step-came : length (p .marks) ≡ squares (p .shape) → (i : ℕ) → came p (leavesIn (stepRecord p m w)) i ≡ came p (m .leaves) i
   unfolding stepRecord
-  step-came marks-long i = came-read p (w .run .length) (m .lasts) (m .leaves) lastBefore (m .added) marks-long i
+  step-came marks-long i = came-read p (w .run .length) (m .duration) (m .leaves) lastBefore (m .added) marks-long i
 
   module _ (i : ℕ) (inside : i < squares (p .shape)) (not-closed : shut p i ≡ false) where
     pub step-gone : gone (leavesIn (stepRecord p m w)) i ≡ gone (m .leaves) i
     unfolding stepRecord
-    step-gone = gone-read p (w .run .length) (m .lasts) (m .leaves) lastBefore (m .added) i inside not-closed
+    step-gone = gone-read p (w .run .length) (m .duration) (m .leaves) lastBefore (m .added) i inside not-closed
 
     pub step-last : lastIn (stepRecord p m w) i ≡ getD (w .lasts) i 0
     unfolding stepRecord
-    step-last = last-read p (w .run .length) (m .lasts) (m .leaves) lastBefore (m .added) i inside not-closed
+    step-last = last-read p (w .run .length) (m .duration) (m .leaves) lastBefore (m .added) i inside not-closed
 
     pub step-added : addedIn (stepRecord p m w) i ≡ m .added i
     unfolding stepRecord
-    step-added = added-read p (w .run .length) (m .lasts) (m .leaves) lastBefore (m .added) i inside not-closed
+    step-added = added-read p (w .run .length) (m .duration) (m .leaves) lastBefore (m .added) i inside not-closed
 
 -- ---- a step settled by its record
 
@@ -191,8 +191,8 @@ module _ (p : Plan) (m : Moves) (w : World) (marks-long : length (p .marks) ≡ 
       rw (depths, lasts, outflow-read, step-lasted p m w)
 
   -- what is refused where 7 is not: 8 or 9, by the record
-  pub late-settled : leb (w .run .clock + m .lasts) lastClock ≡ true → refusal (lateRows p m w) ≡ settleNumber p (stepRecord p m w) (m .length) w
-  unfolding lateRows settleNumber settleRows
+  pub late-settled : leb (w .run .clock + m .duration) lastClock ≡ true → refusal (lateRefusals p m w) ≡ settleNumber p (stepRecord p m w) (m .length) w
+  unfolding lateRefusals settleNumber settleRefusals
   late-settled e =
       let same : refusal (8 unless depthsFit p m w ∷ 9 unless leb (newOutflow p m w) mostOutflow ∷ []) ≡ settleNumber p (stepRecord p m w) (m .length) w
       = rw (fit-read, outflow-read) in

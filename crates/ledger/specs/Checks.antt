@@ -9,7 +9,7 @@ use lib.ListN.{length, getD}
 use Rattle.reckon.specs.Tests.{every, allBelow}
 use Rattle.reckon.specs.Ranges.{mostLength, waterFine}
 use Rattle.grid.specs.declared.squares.Shape.{Shape}
-use Rattle.grid.specs.Squares.{squares, FineShape}
+use Rattle.grid.specs.Squares.{squares, ShapeInRange}
 use Rattle.ledger.specs.Runs.{Plan}
 use Rattle.ledger.specs.Flows.{shut}
 use Rattle.ledger.specs.Record.{heldIn, lastedIn}
@@ -32,8 +32,8 @@ abbrev pub OneEach : Shape → ℕ → Bool → Type 0
 OneEach s numbers r = r ≡ eqb numbers (squares s)
 
 -- a plan and the water on it, one number a square
-pub record Watered (p : Plan) (depths lasts : List ℕ) : Type 0 where
-  pub fine : FineShape (p .shape)
+pub record WaterLent (p : Plan) (depths lasts : List ℕ) : Type 0 where
+  pub fine : ShapeInRange (p .shape)
   pub marks-long : length (p .marks) ≡ squares (p .shape)
   pub depths-long : length depths ≡ squares (p .shape)
   pub lasts-long : length lasts ≡ squares (p .shape)

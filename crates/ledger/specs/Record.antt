@@ -10,8 +10,8 @@ use Rattle.reckon.specs.Lists.{joined, placed}
 use Rattle.trials.specs.Ring.{slotsIn, ringFine}
 use Rattle.trials.specs.Room.{recordIn}
 use Rattle.grid.specs.declared.squares.Shape.{Shape}
-use Rattle.grid.specs.Squares.{north, east, south, west, mostSquares, squares, FineShape}
-use Rattle.grid.specs.Squares.{north, east, south, west, squares, mostSquares, FineShape}
+use Rattle.grid.specs.Squares.{north, east, south, west, mostSquares, squares, ShapeInRange}
+use Rattle.grid.specs.Squares.{north, east, south, west, squares, mostSquares, ShapeInRange}
 use Rattle.ledger.specs.Runs.{Plan, World, plan}
 use Rattle.ledger.specs.Flows.{Leaves, shut, gone, sent, came, offSquare}
 
@@ -86,7 +86,7 @@ newestRecord p w = recordIn (recordSize p) (w .records) (w .run .newest)
 
 -- a record of a plan, each of its size
 pub record Recorded (p : Plan) (rec : List ℕ) : Type 0 where
-  pub fine : FineShape (p .shape)
+  pub fine : ShapeInRange (p .shape)
   pub marks-long : length (p .marks) ≡ squares (p .shape)
   pub record-long : length rec ≡ recordSize p
 

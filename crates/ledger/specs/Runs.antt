@@ -63,5 +63,5 @@ answered (suc n) u = Refused (suc n)
 
 -- ---- what the public function gives
 
-abbrev pub RunFine : ℕ → Run → Bool → Type 0
-RunFine K u r = r ≡ runFine K u
+abbrev pub RunJudged : ℕ → Run → Bool → Type 0
+RunJudged K u r = r ≡ runFine K u

@@ -69,8 +69,8 @@ module _ (p : Plan) (w : World) (rec : List ℕ) where
 module _ (p : Plan) where
   -- "A take-back is lent rows, columns, marks, depths, P, run and records": the table's rows for it before 10, in their order; `ring`
   -- says whether K, kept and newest are in range
-  unfoldable pub lookRows : Bool → Seen → List Row
-  lookRows ring v =
+  unfoldable pub earlyRefusals : Bool → Seen → List Row
+  earlyRefusals ring v =
       1 unless every (shapeFine (p .shape) ∷ oneEach p (p .marks) ∷ oneEach p (v .depths) ∷ oneEach p (v .lasts) ∷ [])
       ∷ 2 unless marksFine (p .shape) (p .marks)
       ∷ 3 unless watersFine p (v .depths) (v .lasts)
@@ -79,13 +79,13 @@ module _ (p : Plan) where
 
 module _ (p : Plan) (w : World) where
   -- all of its rows
-  unfoldable pub backRows : List Row
-  backRows =
-      lookRows p (ringOf p w) (seenOf w)
+  unfoldable pub backRefusals : List Row
+  backRefusals =
+      earlyRefusals p (ringOf p w) (seenOf w)
       ++ (10 unless not (eqb (w .run .kept) 0) ∷ 11 unless restorable p w (newestRecord p w) ∷ [])
 
   unfoldable pub backNumber : ℕ
-  backNumber = refusal backRows
+  backNumber = refusal backRefusals
 
   -- ".. with the run as it was and every lent slice as it was", or the world before the step
   unfoldable pub takenBack : World

@@ -4,11 +4,11 @@ ghost use mathlib.Core.Bool.{_||_};
 ghost use Prim.Native.Nat.{_<_, _≤_};
 ghost use lib.ListN.{getD, length};
 ghost use Rattle.reckon.specs.Ranges.{waterFine};
-ghost use Rattle.grid.specs.Squares.{FineShape};
+ghost use Rattle.grid.specs.Squares.{ShapeInRange};
 ghost use Rattle.grid.specs.Marks.{closed};
 ghost use Rattle.ledger.specs.Runs.{plan};
 ghost use Rattle.ledger.specs.Record.{headWords};
-ghost use Rattle.ledger.specs.Checks.{OneEach, TimesJudged, Watered, WatersJudged};
+ghost use Rattle.ledger.specs.Checks.{OneEach, TimesJudged, WaterLent, WatersJudged};
 use crate::record::held_before;
 use crate::record::lasted;
 use grid::marks::is_closed;
@@ -19,7 +19,7 @@ use reckon::ranges::water_fine;
 
 // Whether there is one number a square.
 pub fn one_each(shape: Shape, numbers: usize) -> bool
-    requires { ⌜ FineShape shape ⌝ }
+    requires { ⌜ ShapeInRange shape ⌝ }
     ensures { λ r. ⌜ OneEach shape numbers r ⌝ }
 {
     numbers == squares_of(shape)
@@ -38,7 +38,7 @@ fn square_fine(marks: &[u8], depths: &[u32], lasts: &[u32], square: usize) -> bo
 
 // Refusal 3: depth and last leaving of every square not closed are in range.
 pub fn waters_fine(shape: Shape, marks: &[u8], depths: &[u32], lasts: &[u32]) -> bool
-    requires { ⌜ Watered (plan shape (now marks)) (now depths) (now lasts) ⌝ }
+    requires { ⌜ WaterLent (plan shape (now marks)) (now depths) (now lasts) ⌝ }
     ensures { λ r. ⌜ WatersJudged (plan shape (now (marks .entry))) (now (depths .entry)) (now (lasts .entry)) r ⌝ }
 {
     let squares = squares_of(shape);

@@ -5,7 +5,7 @@ ghost use Prim.Native.Nat.{_<_, _^_, _≤_};
 ghost use lib.ListN.{getD, length};
 ghost use Rattle.reckon.specs.Tests.{pick};
 ghost use Rattle.reckon.specs.Ranges.{mostLength};
-ghost use Rattle.grid.specs.Squares.{FineShape, Stands, east, north, onRim, sides, south, squares, west};
+ghost use Rattle.grid.specs.Squares.{ShapeInRange, OnSquare, east, north, onRim, sides, south, squares, west};
 ghost use Rattle.grid.specs.Marks.{closed};
 ghost use Rattle.ledger.specs.Runs.{plan};
 ghost use Rattle.ledger.specs.Flows.{offSide};
@@ -50,7 +50,7 @@ pub(crate) const UNFIT: Found = Found {
 
 // The words of a record.
 pub fn record_size(shape: Shape) -> usize
-    requires { ⌜ FineShape shape ⌝ }
+    requires { ⌜ ShapeInRange shape ⌝ }
     ensures { λ r. ⌜ SizeOf shape r ⌝ }
 {
     HEAD_WORDS + SQUARE_WORDS * squares_of(shape)
@@ -137,7 +137,7 @@ pub fn sent_to(
     side: usize,
 ) -> u64
     requires { ⌜ Recorded (plan shape (now marks)) (now rec) ⌝ }
-    requires { ⌜ Stands shape square column ⌝ }
+    requires { ⌜ OnSquare shape square column ⌝ }
     requires { ⌜ side < sides ⌝ }
     ensures { λ r. ⌜ SentTo (plan shape (now (marks .entry))) (now (rec .entry)) square side r ⌝ }
 {
@@ -165,7 +165,7 @@ pub(crate) fn came_within(shape: Shape, marks: &[u8], rec: &[u32], square: usize
 // What the neighbours sent.
 pub fn came_to(shape: Shape, marks: &[u8], rec: &[u32], square: usize, column: usize) -> u64
     requires { ⌜ Recorded (plan shape (now marks)) (now rec) ⌝ }
-    requires { ⌜ Stands shape square column ⌝ }
+    requires { ⌜ OnSquare shape square column ⌝ }
     ensures { λ r. ⌜ CameTo (plan shape (now (marks .entry))) (now (rec .entry)) square r ⌝ }
 {
     let north = sent_to(shape, marks, rec, square, column, NORTH);
@@ -185,7 +185,7 @@ fn off_side(
     side: usize,
 ) -> u64
     requires { ⌜ Recorded (plan shape (now marks)) (now rec) ⌝ }
-    requires { ⌜ Stands shape square column ⌝ }
+    requires { ⌜ OnSquare shape square column ⌝ }
     requires { ⌜ side < sides ⌝ }
     ensures { λ r. ⌜ r ≡ offSide (plan shape (now (marks .entry))) (leavesIn (now (rec .entry))) square side ⌝ }
 {
@@ -198,7 +198,7 @@ fn off_side(
 // What a square sent off the grid: nothing where it is closed.
 pub fn off_from(shape: Shape, marks: &[u8], rec: &[u32], square: usize, column: usize) -> u64
     requires { ⌜ Recorded (plan shape (now marks)) (now rec) ⌝ }
-    requires { ⌜ Stands shape square column ⌝ }
+    requires { ⌜ OnSquare shape square column ⌝ }
     ensures { λ r. ⌜ OffFrom (plan shape (now (marks .entry))) (now (rec .entry)) square r ⌝ }
 {
     if is_closed(marks, square) {

@@ -6,7 +6,7 @@ ghost use Prim.Native.Nat.{_+_, _<_};
 ghost use lib.ListN.{length, set};
 ghost use Rattle.reckon.specs.Tests.{pick};
 ghost use Rattle.reckon.specs.Lists.{filled};
-ghost use Rattle.grid.specs.Squares.{Stands, squares, west};
+ghost use Rattle.grid.specs.Squares.{OnSquare, squares, west};
 ghost use Rattle.grid.specs.Marks.{closed};
 ghost use Rattle.ledger.specs.Runs.{plan, world};
 ghost use Rattle.ledger.specs.Flows.{came, gone};
@@ -42,7 +42,7 @@ pub struct Settled {
 // What a square gains: from its neighbours, which are all there unless it is on the rim, and what is added.
 fn gains(shape: Shape, marks: &[u8], rec: &[u32], square: usize, column: usize) -> u64
     requires { ⌜ Recorded (plan shape (now marks)) (now rec) ⌝ }
-    requires { ⌜ Stands shape square column ⌝ }
+    requires { ⌜ OnSquare shape square column ⌝ }
     ensures { λ r. ⌜ r ≡ came (plan shape (now (marks .entry))) (leavesIn (now (rec .entry))) square + addedIn (now (rec .entry)) square ⌝ }
 {
     if on_rim(shape, square, column) {
@@ -61,7 +61,7 @@ fn new_depth(
     column: usize,
 ) -> u64
     requires { ⌜ Gathers (plan shape (now marks)) (now rec) (now depths) ⌝ }
-    requires { ⌜ (Stands shape square column) × (closed (now marks) square ≡ false) ⌝ }
+    requires { ⌜ (OnSquare shape square column) × (closed (now marks) square ≡ false) ⌝ }
     ensures { λ r. ⌜ r ≡ depthBy (plan shape (now (marks .entry))) (now (rec .entry)) (now (depths .entry)) square ⌝ }
 {
     let gained = gains(shape, marks, rec, square, column);
@@ -84,7 +84,7 @@ fn gather_square(
     fresh: &mut [u32],
 ) -> bool
     requires { ⌜ Gathers (plan shape (now marks)) (now rec) (now depths) ⌝ }
-    requires { ⌜ (Stands shape square column) × (square < length (now fresh)) ⌝ }
+    requires { ⌜ (OnSquare shape square column) × (square < length (now fresh)) ⌝ }
     ensures { λ r. ⌜ GatheredOne (plan shape (now (marks .entry))) (now (rec .entry)) (now (depths .entry)) square (now (fresh .entry)) r (now (fresh .exit)) ⌝ }
 {
     if is_closed(marks, square) {

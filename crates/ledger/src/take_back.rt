@@ -7,14 +7,14 @@ ghost use Prim.Native.Nat.{_+_, _<_, _≤_};
 ghost use lib.ListN.{getD, length, set};
 ghost use Rattle.reckon.specs.Tests.{allBelow, every, pick};
 ghost use Rattle.reckon.specs.Lists.{filled};
-ghost use Rattle.grid.specs.Squares.{Stands, shapeFine, squares, west};
+ghost use Rattle.grid.specs.Squares.{OnSquare, shapeFine, squares, west};
 ghost use Rattle.grid.specs.Marks.{closed};
 ghost use Rattle.ledger.specs.Runs.{ofDepths, plan, world};
 ghost use Rattle.ledger.specs.Flows.{came, gone};
 ghost use Rattle.ledger.specs.Record.{Recorded, addedIn, headWords, lastIn, lastWord, lastedIn, leavesIn, wordPlace};
 ghost use Rattle.ledger.specs.Checks.{oneEach};
 ghost use Rattle.ledger.specs.TakeBack.{TakesBack, depthBefore, restorable, runBefore, squareRestorable};
-ghost use Rattle.ledger.specs.inner.TakeBack.{Led, Looked, Restores};
+ghost use Rattle.ledger.specs.inner.TakeBack.{RecordAndDepths, Looked, Restores};
 ghost use Rattle.ledger.specs.inner.Walks.{Walked};
 use crate::checks::one_each;
 use crate::checks::times_fine;
@@ -90,7 +90,7 @@ fn held_and_gone(rec: &[u32], depths: &[u32], square: usize) -> u64
 // What came to a square and what was added: what is taken off that.
 fn came_and_added(shape: Shape, marks: &[u8], rec: &[u32], square: usize, column: usize) -> u64
     requires { ⌜ Recorded (plan shape (now marks)) (now rec) ⌝ }
-    requires { ⌜ Stands shape square column ⌝ }
+    requires { ⌜ OnSquare shape square column ⌝ }
     ensures { λ r. ⌜ r ≡ came (plan shape (now (marks .entry))) (leavesIn (now (rec .entry))) square + addedIn (now (rec .entry)) square ⌝ }
 {
     came_to(shape, marks, rec, square, column) + added_by(rec, square)
@@ -105,8 +105,8 @@ fn square_restorable(
     square: usize,
     column: usize,
 ) -> bool
-    requires { ⌜ Led (plan shape (now marks)) (now rec) (now depths) ⌝ }
-    requires { ⌜ Stands shape square column ⌝ }
+    requires { ⌜ RecordAndDepths (plan shape (now marks)) (now rec) (now depths) ⌝ }
+    requires { ⌜ OnSquare shape square column ⌝ }
     ensures { λ r. ⌜ r ≡ squareRestorable (plan shape (now (marks .entry))) (ofDepths (now (depths .entry))) (now (rec .entry)) square ⌝ }
 {
     if is_closed(marks, square) {
@@ -125,7 +125,7 @@ fn square_restorable(
 
 // Whether every square can be restored, and what left the grid.
 fn try_squares(shape: Shape, marks: &[u8], rec: &[u32], depths: &[u32]) -> Found
-    requires { ⌜ Led (plan shape (now marks)) (now rec) (now depths) ⌝ }
+    requires { ⌜ RecordAndDepths (plan shape (now marks)) (now rec) (now depths) ⌝ }
     ensures { λ r. ⌜ Walked (plan shape (now (marks .entry))) (now (rec .entry)) (allBelow (squares shape) (squareRestorable (plan shape (now (marks .entry))) (ofDepths (now (depths .entry))) (now (rec .entry)))) r ⌝ }
 {
     let squares = squares_of(shape);
@@ -148,7 +148,7 @@ fn try_squares(shape: Shape, marks: &[u8], rec: &[u32], depths: &[u32]) -> Found
 
 // Refusal 11: whether a record can be taken back, and what left the grid.
 fn try_record(shape: Shape, run: Run, marks: &[u8], rec: &[u32], depths: &[u32]) -> Found
-    requires { ⌜ Led (plan shape (now marks)) (now rec) (now depths) ⌝ }
+    requires { ⌜ RecordAndDepths (plan shape (now marks)) (now rec) (now depths) ⌝ }
     ensures { λ r. ⌜ Walked (plan shape (now (marks .entry))) (now (rec .entry)) (restorable (plan shape (now (marks .entry))) (world (now (depths .entry)) [] [] run) (now (rec .entry))) r ⌝ }
 {
     if !times_fine(rec) {
@@ -176,8 +176,8 @@ fn restore_depth(
     column: usize,
     depths: &mut [u32],
 )
-    requires { ⌜ Led (plan shape (now marks)) (now rec) (now depths) ⌝ }
-    requires { ⌜ (Stands shape square column) × (closed (now marks) square ≡ false → Restores (plan shape (now marks)) (now rec) (now depths) square) ⌝ }
+    requires { ⌜ RecordAndDepths (plan shape (now marks)) (now rec) (now depths) ⌝ }
+    requires { ⌜ (OnSquare shape square column) × (closed (now marks) square ≡ false → Restores (plan shape (now marks)) (now rec) (now depths) square) ⌝ }
     ensures { λ _. ⌜ now (depths .exit) ≡ pick (closed (now (marks .entry)) square) (now (depths .entry)) (set (now (depths .entry)) square (depthBefore (plan shape (now (marks .entry))) (ofDepths (now (depths .entry))) (now (rec .entry)) square)) ⌝ }
 {
     if is_closed(marks, square) {
@@ -190,7 +190,7 @@ fn restore_depth(
 
 // Restores the depth of every square that is not closed.
 fn restore_depths(shape: Shape, marks: &[u8], rec: &[u32], depths: &mut [u32])
-    requires { ⌜ Led (plan shape (now marks)) (now rec) (now depths) ⌝ }
+    requires { ⌜ RecordAndDepths (plan shape (now marks)) (now rec) (now depths) ⌝ }
     requires { ⌜ allBelow (squares shape) (squareRestorable (plan shape (now marks)) (ofDepths (now depths)) (now rec)) ≡ true ⌝ }
     ensures { λ _. ⌜ now (depths .exit) ≡ filled (squares shape) (closed (now (marks .entry))) (depthBefore (plan shape (now (marks .entry))) (ofDepths (now (depths .entry))) (now (rec .entry))) (now (depths .entry)) ⌝ }
 {
@@ -217,7 +217,7 @@ fn restore_last(marks: &[u8], rec: &[u32], square: usize, lasts: &mut [u32])
 
 // Restores the last leaving of every square that is not closed.
 fn restore_lasts(shape: Shape, marks: &[u8], rec: &[u32], lasts: &mut [u32])
-    requires { ⌜ Led (plan shape (now marks)) (now rec) (now lasts) ⌝ }
+    requires { ⌜ RecordAndDepths (plan shape (now marks)) (now rec) (now lasts) ⌝ }
     ensures { λ _. ⌜ now (lasts .exit) ≡ filled (squares shape) (closed (now (marks .entry))) (lastIn (now (rec .entry))) (now (lasts .entry)) ⌝ }
 {
     let squares = squares_of(shape);

@@ -19,7 +19,7 @@ use Rattle.ledger.specs.Runs.{Plan}
 use Rattle.ledger.specs.Flows.{shut}
 use Rattle.moves.specs.Given.{Ground}
 use Rattle.moves.specs.Drops.{levelAt, sideDrop, dropsOf}
-use Rattle.moves.specs.inner.Ready.{Lies}
+use Rattle.moves.specs.inner.Ready.{MeadowInRange}
 
 -- what stands on a side, as the code finds it
 module _ (p : Plan) (r : Rules) (beds depths : List ℕ) (i side : ℕ) {other : ℕ} (q : other ≡ beside (p .shape) i side) where
@@ -83,7 +83,7 @@ drops-made p r beds depths i a b c d = rw (a, b, c, d)
 
 -- ---- what the weighing and the candidates of a square not closed may rely on
 
-module _ (p : Plan) (o : Ground) (depths : List ℕ) (l : Lies p o depths) (i : ℕ) (h : i < squares (p .shape)) (e : shut p i ≡ false) where
+module _ (p : Plan) (o : Ground) (depths : List ℕ) (l : MeadowInRange p o depths) (i : ℕ) (h : i < squares (p .shape)) (e : shut p i ≡ false) where
   pub square-in-range : SquareInRange (o .rules) (getD depths i 0) (getD (o .roughness) i 0)
   square-in-range =
       let g = l .grounds i h e in

@@ -12,7 +12,7 @@ use Rattle.reckon.proofs.ListLaws.{filled-in, joined-ext}
 use Rattle.grid.specs.Squares.{north, east, south, west, squares}
 use Rattle.grid.proofs.MarkLaws.{unless-closed}
 use Rattle.rule.specs.Weighing.{weighed}
-use Rattle.rule.specs.Length.{lengthAt, lastsFor}
+use Rattle.rule.specs.Length.{lengthAt, durationFor}
 use Rattle.rule.specs.declared.rules.Rules.{Rules}
 use Rattle.rule.proofs.WeighingLaws.{weighed-dry, weighed-le}
 use Rattle.ledger.specs.Runs.{Plan, World, seenOf}
@@ -22,7 +22,7 @@ use Rattle.ledger.specs.After.{stepRecord}
 use Rattle.ledger.proofs.RecordLaws.{Begun, begun-open, begun-closed}
 use Rattle.moves.specs.Given.{Ground, Given}
 use Rattle.moves.specs.Drops.{dropsOf}
-use Rattle.moves.specs.Moves.{candidates, leavesFor, addedFor, stepLength, stepLasts, stepMoves}
+use Rattle.moves.specs.Moves.{candidates, leavesFor, addedFor, stepLength, stepDuration, stepMoves}
 use Rattle.moves.specs.inner.Added.{tables, addedFits, WaterAdded}
 use Rattle.moves.specs.inner.Fill.{FilledOne}
 use Rattle.moves.proofs.MoveLaws.{leaves-open}
@@ -89,9 +89,9 @@ module _ (p : Plan) (g : Given) (w : World) where
 
   pub lasts-made :
       {len ms : ℕ} → len ≡ lengthAt (g .lie .rules) (w .run .clock) (w .run .length) (candidates p (g .lie) (w .depths)) →
-      ms ≡ lastsFor (g .lie .rules) (w .run .clock) len → ms ≡ stepLasts p g (seenOf w)
-  unfolding stepLasts
-  lasts-made l e = e ∙ ap (lastsFor (g .lie .rules) (w .run .clock)) (length-made l)
+      ms ≡ durationFor (g .lie .rules) (w .run .clock) len → ms ≡ stepDuration p g (seenOf w)
+  unfolding stepDuration
+  lasts-made l e = e ∙ ap (durationFor (g .lie .rules) (w .run .clock)) (length-made l)
 
   -- what is added goes by rules and tables alone
   pub same-fits : (start end : ℕ) → addedFits p (tables (g .lie .rules) (g .rain) (g .inflow)) start end ≡ addedFits p g start end
@@ -103,7 +103,7 @@ module _ (p : Plan) (g : Given) (w : World) where
   same-added start end i = refl
 
   pub record-made :
-      {ms end : ℕ} {old room rec : List ℕ} {fits : Bool} → ms ≡ stepLasts p g (seenOf w) → end ≡ w .run .clock + ms → length old ≡ squares (p .shape) →
+      {ms end : ℕ} {old room rec : List ℕ} {fits : Bool} → ms ≡ stepDuration p g (seenOf w) → end ≡ w .run .clock + ms → length old ≡ squares (p .shape) →
       WaterAdded p (tables (g .lie .rules) (g .rain) (g .inflow)) (w .run .clock) end old fits room → fits ≡ true →
       rec ≡ recordOf p (w .run .length) ms (leavesFor p (g .lie) (w .depths) (w .lasts) ms) (λ i. getD (w .lasts) i 0) (λ i. getD room i 0) →
       rec ≡ stepRecord p (stepMoves p g (seenOf w)) w

@@ -20,7 +20,7 @@ use Rattle.ledger.specs.Flows.{shut, gone}
 use Rattle.ledger.specs.Walls.{Walled}
 use Rattle.moves.specs.Given.{Ground, Given}
 use Rattle.moves.specs.Drops.{sideDrop, dropsOf}
-use Rattle.moves.specs.Moves.{candidates, leavesFor, stepLength, stepLasts}
+use Rattle.moves.specs.Moves.{candidates, leavesFor, stepLength, stepDuration}
 use Rattle.moves.specs.inner.Ready.{Ready}
 use Rattle.moves.proofs.DropLaws.{drop-closed, drop-rim}
 
@@ -80,10 +80,10 @@ module _ (p : Plan) (g : Given) (v : Seen) (r : Ready p g v) where
   unfolding stepLength
   step-length-to = length-to (g .lie .rules) (v .clock) (v .length) (candidates p (g .lie) (v .depths)) (r .waters .rules) (r .length-to)
 
-  pub step-lasts-from : 1 ≤ stepLasts p g v
-  unfolding stepLasts
+  pub step-lasts-from : 1 ≤ stepDuration p g v
+  unfolding stepDuration
   step-lasts-from = lasts-from (g .lie .rules) (v .clock) (stepLength p g v) (r .waters .rules .update-from) step-length-from
 
-  pub step-lasts-to : stepLasts p g v ≤ mostLength
-  unfolding stepLasts
+  pub step-lasts-to : stepDuration p g v ≤ mostLength
+  unfolding stepDuration
   step-lasts-to = le-trans (lasts-to (g .lie .rules) (v .clock) (stepLength p g v)) step-length-to

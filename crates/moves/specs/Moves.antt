@@ -8,7 +8,7 @@ use Rattle.reckon.specs.Lists.{joined}
 use Rattle.reckon.specs.Tables.{rainAdded, inflowAdded}
 use Rattle.grid.specs.Squares.{squares}
 use Rattle.rule.specs.Weighing.{weighed}
-use Rattle.rule.specs.Length.{candidatesOf, lengthAt, lastsFor}
+use Rattle.rule.specs.Length.{candidatesOf, lengthAt, durationFor}
 use Rattle.ledger.specs.Runs.{Plan, Seen}
 use Rattle.ledger.specs.Flows.{Leaves, shut}
 use Rattle.ledger.specs.After.{Moves}
@@ -44,14 +44,14 @@ module _ (p : Plan) (g : Given) (v : Seen) where
   stepLength = lengthAt (g .lie .rules) (v .clock) (v .length) (candidates p (g .lie) (v .depths))
 
   -- "The step lasts the smaller of that length and the time to the next multiple of U"
-  unfoldable pub stepLasts : ℕ
-  stepLasts = lastsFor (g .lie .rules) (v .clock) stepLength
+  unfoldable pub stepDuration : ℕ
+  stepDuration = durationFor (g .lie .rules) (v .clock) stepLength
 
   abbrev pub stepMoves : Moves
   stepMoves =
       record {
-        leaves = leavesFor p (g .lie) (v .depths) (v .lasts) stepLasts;
-        added = addedFor p g (v .clock) (v .clock + stepLasts);
-        lasts = stepLasts;
+        leaves = leavesFor p (g .lie) (v .depths) (v .lasts) stepDuration;
+        added = addedFor p g (v .clock) (v .clock + stepDuration);
+        duration = stepDuration;
         length = stepLength;
       }

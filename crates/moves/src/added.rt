@@ -6,6 +6,7 @@ use reckon::numbers::number;
 use reckon::ranges::MOST_DEPTH;
 use reckon::tables::inflow_added;
 use reckon::tables::rain_added;
+use reckon::tables::INFLOW_WIDTH;
 use rule::rules::Rules;
 ghost use mathlib.Core.Path.{_≡_};
 ghost use Prim.Native.Nat.{_/_, _<_};
@@ -15,9 +16,6 @@ ghost use Rattle.grid.specs.Squares.{squares};
 ghost use Rattle.grid.specs.Marks.{inflowWords};
 ghost use Rattle.ledger.specs.Runs.{plan};
 ghost use Rattle.moves.specs.inner.Added.{Between, PouredAll, PouredRow, Pours, Rained, RainedAll, WaterAdded, tables};
-
-// The numbers of an inflow row.
-const INFLOW_WORDS: usize = 5;
 
 // The old number of a closed square, else the new one: a choice and not a branch, so that a walk over all squares is quick.
 fn unless_closed(closed: bool, new: u32, old: u32) -> u32
@@ -69,8 +67,8 @@ fn pour_row(
     requires { ⌜ (Pours shape rules (now inflow) start end rain) × (length (now room) ≡ squares shape) × (j < length (now inflow) / inflowWords) ⌝ }
     ensures { λ r. ⌜ PouredRow shape rules (now (inflow .entry)) start end rain j (now (room .entry)) r (now (room .exit)) ⌝ }
 {
-    let row = number(inflow, INFLOW_WORDS * j);
-    let column = number(inflow, INFLOW_WORDS * j + 1);
+    let row = number(inflow, INFLOW_WIDTH * j);
+    let column = number(inflow, INFLOW_WIDTH * j + 1);
     let amount = rain + inflow_added(inflow, row, column, rules.square_side, start, end);
     if (MOST_DEPTH as u64) < amount {
         return false;
@@ -93,7 +91,7 @@ fn pour_all(
     requires { ⌜ (Pours shape rules (now inflow) start end rain) × (length (now room) ≡ squares shape) ⌝ }
     ensures { λ r. ⌜ PouredAll shape rules (now (inflow .entry)) start end rain (now (room .entry)) r (now (room .exit)) ⌝ }
 {
-    let rows = inflow.len() / INFLOW_WORDS;
+    let rows = inflow.len() / INFLOW_WIDTH;
     let mut j = 0;
     while j < rows {
         if !pour_row(shape, rules, inflow, start, end, rain, j, room) {

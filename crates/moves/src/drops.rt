@@ -15,10 +15,10 @@ use rule::rules::Rules;
 ghost use mathlib.Core.Path.{_≡_};
 ghost use Prim.Native.Nat.{_+_, _<_};
 ghost use lib.ListN.{length, getD};
-ghost use Rattle.grid.specs.Squares.{Stands, sides};
+ghost use Rattle.grid.specs.Squares.{OnSquare, sides};
 ghost use Rattle.ledger.specs.Runs.{plan};
 ghost use Rattle.moves.specs.Drops.{dropsOf, sideDrop};
-ghost use Rattle.moves.specs.inner.Ready.{Sited};
+ghost use Rattle.moves.specs.inner.Ready.{GroundLent};
 
 // The level of a square's water.
 fn level_of(beds: &[u32], depths: &[u32], square: usize) -> u64
@@ -40,7 +40,7 @@ fn side_drop(
     side: usize,
     own: u64,
 ) -> u64
-    requires { ⌜ (Sited (plan shape (now marks)) (now beds) (now depths)) × (Stands shape square column) × (side < sides) ⌝ }
+    requires { ⌜ (GroundLent (plan shape (now marks)) (now beds) (now depths)) × (OnSquare shape square column) × (side < sides) ⌝ }
     requires { ⌜ own ≡ getD (now beds) square 0 + getD (now depths) square 0 ⌝ }
     ensures { λ r. ⌜ r ≡ sideDrop (plan shape (now (marks .entry))) rules (now (beds .entry)) (now (depths .entry)) square side ⌝ }
 {
@@ -67,7 +67,7 @@ pub(crate) fn drops_of(
     square: usize,
     column: usize,
 ) -> [u64; 4]
-    requires { ⌜ (Sited (plan shape (now marks)) (now beds) (now depths)) × (Stands shape square column) ⌝ }
+    requires { ⌜ (GroundLent (plan shape (now marks)) (now beds) (now depths)) × (OnSquare shape square column) ⌝ }
     ensures { λ r. ⌜ r ≡ dropsOf (plan shape (now (marks .entry))) rules (now (beds .entry)) (now (depths .entry)) square ⌝ }
 {
     let own = level_of(beds, depths, square);

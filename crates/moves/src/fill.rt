@@ -12,7 +12,7 @@ use rule::rules::Rules;
 use rule::weighing::weigh;
 ghost use Prim.Native.Nat.{_≤_};
 ghost use Rattle.reckon.specs.Ranges.{mostLength};
-ghost use Rattle.grid.specs.Squares.{Stands};
+ghost use Rattle.grid.specs.Squares.{OnSquare};
 ghost use Rattle.ledger.specs.Runs.{plan};
 ghost use Rattle.moves.specs.Given.{ground};
 ghost use Rattle.moves.specs.inner.Fill.{FilledOne, Fills, RecordFilled};
@@ -27,14 +27,14 @@ fn fill_square(
     depths: &[u32],
     lasts: &[u32],
     added: &[u32],
-    lasting: u64,
+    duration: u64,
     square: usize,
     column: usize,
     rec: &mut [u32],
 )
-    requires { ⌜ Fills (plan shape (now marks)) (ground rules (now beds) (now roughness)) (now depths) (now lasts) (now added) lasting (now rec) ⌝ }
-    requires { ⌜ Stands shape square column ⌝ }
-    ensures { λ _. ⌜ FilledOne (plan shape (now (marks .entry))) (ground rules (now (beds .entry)) (now (roughness .entry))) (now (depths .entry)) (now (lasts .entry)) (now (added .entry)) lasting square (now (rec .entry)) (now (rec .exit)) ⌝ }
+    requires { ⌜ Fills (plan shape (now marks)) (ground rules (now beds) (now roughness)) (now depths) (now lasts) (now added) duration (now rec) ⌝ }
+    requires { ⌜ OnSquare shape square column ⌝ }
+    ensures { λ _. ⌜ FilledOne (plan shape (now (marks .entry))) (ground rules (now (beds .entry)) (now (roughness .entry))) (now (depths .entry)) (now (lasts .entry)) (now (added .entry)) duration square (now (rec .entry)) (now (rec .exit)) ⌝ }
 {
     if is_closed(marks, square) {
         put_closed(rec, square);
@@ -51,7 +51,7 @@ fn fill_square(
         depth,
         number(lasts, square),
         number(roughness, square),
-        lasting,
+        duration,
         drops,
     );
     put_square(rec, square, leaves, lasts[square], added[square]);
@@ -68,14 +68,14 @@ pub fn fill(
     lasts: &[u32],
     added: &[u32],
     held: u64,
-    lasting: u64,
+    duration: u64,
     rec: &mut [u32],
 )
-    requires { ⌜ Fills (plan shape (now marks)) (ground rules (now beds) (now roughness)) (now depths) (now lasts) (now added) lasting (now rec) ⌝ }
+    requires { ⌜ Fills (plan shape (now marks)) (ground rules (now beds) (now roughness)) (now depths) (now lasts) (now added) duration (now rec) ⌝ }
     requires { ⌜ held ≤ mostLength ⌝ }
-    ensures { λ _. ⌜ RecordFilled (plan shape (now (marks .entry))) (ground rules (now (beds .entry)) (now (roughness .entry))) (now (depths .entry)) (now (lasts .entry)) (now (added .entry)) held lasting (now (rec .exit)) ⌝ }
+    ensures { λ _. ⌜ RecordFilled (plan shape (now (marks .entry))) (ground rules (now (beds .entry)) (now (roughness .entry))) (now (depths .entry)) (now (lasts .entry)) (now (added .entry)) held duration (now (rec .exit)) ⌝ }
 {
-    put_head(rec, held, lasting);
+    put_head(rec, held, duration);
     let squares = squares_of(shape);
     let mut square = 0;
     let mut column = 0;
@@ -89,7 +89,7 @@ pub fn fill(
             depths,
             lasts,
             added,
-            lasting,
+            duration,
             square,
             column,
             rec,

@@ -10,13 +10,13 @@ use rule::length::is_update;
 use rule::length::shorter;
 use rule::rules::Rules;
 ghost use mathlib.Core.Path.{_≡_};
-ghost use Rattle.grid.specs.Squares.{Stands};
+ghost use Rattle.grid.specs.Squares.{OnSquare};
 ghost use Rattle.rule.specs.Length.{leastFrom};
 ghost use Rattle.ledger.specs.Runs.{plan};
 ghost use Rattle.moves.specs.Given.{ground};
 ghost use Rattle.moves.specs.Moves.{candidates, squareCandidates};
 ghost use Rattle.moves.specs.inner.Fill.{LengthWorked};
-ghost use Rattle.moves.specs.inner.Ready.{Lies};
+ghost use Rattle.moves.specs.inner.Ready.{MeadowInRange};
 
 // The least of best and the candidates of one square.
 fn shorter_by(
@@ -30,7 +30,7 @@ fn shorter_by(
     square: usize,
     column: usize,
 ) -> u64
-    requires { ⌜ (Lies (plan shape (now marks)) (ground rules (now beds) (now roughness)) (now depths)) × (Stands shape square column) ⌝ }
+    requires { ⌜ (MeadowInRange (plan shape (now marks)) (ground rules (now beds) (now roughness)) (now depths)) × (OnSquare shape square column) ⌝ }
     ensures { λ r. ⌜ r ≡ leastFrom best (squareCandidates (plan shape (now (marks .entry))) (ground rules (now (beds .entry)) (now (roughness .entry))) (now (depths .entry)) square) ⌝ }
 {
     if is_closed(marks, square) {
@@ -53,7 +53,7 @@ fn least_candidate(
     roughness: &[u32],
     depths: &[u32],
 ) -> u64
-    requires { ⌜ Lies (plan shape (now marks)) (ground rules (now beds) (now roughness)) (now depths) ⌝ }
+    requires { ⌜ MeadowInRange (plan shape (now marks)) (ground rules (now beds) (now roughness)) (now depths) ⌝ }
     ensures { λ r. ⌜ r ≡ leastFrom (rules .longest) (candidates (plan shape (now (marks .entry))) (ground rules (now (beds .entry)) (now (roughness .entry))) (now (depths .entry))) ⌝ }
 {
     let squares = squares_of(shape);
@@ -89,7 +89,7 @@ pub fn step_length(
     clock: u64,
     held: u64,
 ) -> u64
-    requires { ⌜ Lies (plan shape (now marks)) (ground rules (now beds) (now roughness)) (now depths) ⌝ }
+    requires { ⌜ MeadowInRange (plan shape (now marks)) (ground rules (now beds) (now roughness)) (now depths) ⌝ }
     ensures { λ r. ⌜ LengthWorked (plan shape (now (marks .entry))) (ground rules (now (beds .entry)) (now (roughness .entry))) (now (depths .entry)) clock held r ⌝ }
 {
     if is_update(rules, clock) {

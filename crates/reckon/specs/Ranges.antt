@@ -52,8 +52,8 @@ abbrev pub mostOutflow : ℕ
 mostOutflow = 1_000_000_000_000_000
 
 -- "At most 64 rows of each"
-abbrev pub mostRows : ℕ
-mostRows = 64
+abbrev pub mostTableRows : ℕ
+mostTableRows = 64
 
 -- refusal 1: "D out of range"
 unfoldable pub sideFine : ℕ → Bool
@@ -65,8 +65,8 @@ waterFine d p = every (leb d mostDepth ∷ leb p mostDepth ∷ [])
 
 -- ---- what the public functions give
 
-abbrev pub SideFine : ℕ → Bool → Type 0
-SideFine D r = r ≡ sideFine D
+abbrev pub SideJudged : ℕ → Bool → Type 0
+SideJudged D r = r ≡ sideFine D
 
-abbrev pub WaterFine : ℕ → ℕ → Bool → Type 0
-WaterFine d p r = r ≡ waterFine d p
+abbrev pub WaterJudged : ℕ → ℕ → Bool → Type 0
+WaterJudged d p r = r ≡ waterFine d p

@@ -1,17 +1,17 @@
-// What a table of rain or of inflow has given by a clock, and whether a table is in range.
+// What a table of rain or of inflow has tableGives by a clock, and whether a table is in range.
 // Rain rows: from, to, rate. Inflow rows: row, column, from, to, litres.
 use crate::numbers::lesser;
 use crate::numbers::number;
 use crate::ranges::LAST_CLOCK;
 use crate::ranges::MOST_LITRES;
 use crate::ranges::MOST_RAIN;
-use crate::ranges::MOST_ROWS;
+use crate::ranges::MOST_TABLE_ROWS;
 ghost use mathlib.Core.Path.{_≡_};
 ghost use Prim.Native.Nat.{_+_, _*_, _/_, _≤_, _<_};
 ghost use lib.ListN.{length, getD};
 ghost use Rattle.reckon.specs.Tests.{pick};
 ghost use Rattle.reckon.specs.Ranges.{mostSide, lastClock, mostRain};
-ghost use Rattle.reckon.specs.Tables.{rainKind, inflowKind, ran, rowStart, rowGives, onSquare, rowFine, tableFine, RainFine, InflowFine, RainBy, InflowBy, RainAdded, InflowAdded};
+ghost use Rattle.reckon.specs.Tables.{rainKind, inflowKind, ran, rowStart, rowGives, onSquare, rowFine, tableFine, RainJudged, InflowJudged, RainBy, InflowBy, RainAdded, InflowAdded};
 ghost use Rattle.reckon.specs.inner.Fits.{Fits};
 
 // A kind of table: how many numbers a row has, how many of them stand before its from, the most that its last may be.
@@ -27,9 +27,9 @@ pub const RAIN_WIDTH: usize = 3;
 pub const INFLOW_WIDTH: usize = 5;
 
 // Room for the most rows of each.
-pub const RAIN_ROOM: usize = RAIN_WIDTH * MOST_ROWS;
+pub const RAIN_ROOM: usize = RAIN_WIDTH * MOST_TABLE_ROWS;
 
-pub const INFLOW_ROOM: usize = INFLOW_WIDTH * MOST_ROWS;
+pub const INFLOW_ROOM: usize = INFLOW_WIDTH * MOST_TABLE_ROWS;
 
 // The numbers of an inflow row before its from: row and column.
 const INFLOW_LEAD: usize = 2;
@@ -56,7 +56,7 @@ fn row_ran(from: u64, to: u64, t: u64) -> u64
     if from < end { end - from } else { 0 }
 }
 
-// What the row whose from, to and amount stand at a place has given by clock t.
+// What the row whose from, to and amount stand at a place has tableGives by clock t.
 fn row_gives(rows: &[u32], at: usize, t: u64) -> u64
     requires { ⌜ (at + 2 < length (now rows)) × (getD (now rows) (at + 2) 0 ≤ mostRain) × (t ≤ lastClock) ⌝ }
     ensures { λ r. ⌜ r ≡ rowGives (now (rows .entry)) at t ⌝ }
@@ -96,7 +96,7 @@ fn inflow_row(rows: &[u32], j: usize, r: u64, c: u64, t: u64) -> u64
     row_gives(rows, INFLOW_WIDTH * j + INFLOW_LEAD, t)
 }
 
-// Inflow by clock t on the square at row r, column c, in µm over a square of the given side.
+// Inflow by clock t on the square at row r, column c, in µm over a square of the tableGives side.
 pub fn inflow_by(rows: &[u32], r: u64, c: u64, side: u64, t: u64) -> u64
     requires { ⌜ Fits inflowKind (now rows) t ⌝ }
     requires { ⌜ (0 < side) × (side ≤ mostSide) ⌝ }
@@ -155,7 +155,7 @@ fn table_fine(kind: Kind, rows: &[u32]) -> bool
     if rows.len() % width != 0 {
         return false;
     }
-    if MOST_ROWS < n {
+    if MOST_TABLE_ROWS < n {
         return false;
     }
     let mut j: usize = 0;
@@ -169,13 +169,13 @@ fn table_fine(kind: Kind, rows: &[u32]) -> bool
 }
 
 pub fn rain_fine(rows: &[u32]) -> bool
-    ensures { λ r. ⌜ RainFine (now (rows .entry)) r ⌝ }
+    ensures { λ r. ⌜ RainJudged (now (rows .entry)) r ⌝ }
 {
     table_fine(RAIN, rows)
 }
 
 pub fn inflow_fine(rows: &[u32]) -> bool
-    ensures { λ r. ⌜ InflowFine (now (rows .entry)) r ⌝ }
+    ensures { λ r. ⌜ InflowJudged (now (rows .entry)) r ⌝ }
 {
     table_fine(INFLOW, rows)
 }

@@ -18,7 +18,7 @@ use Rattle.reckon.proofs.RootLaws.{root-mono}
 use Rattle.reckon.specs.Ranges.{mostLength}
 use Rattle.rule.specs.inner.InRange.{RulesInRange, mostDrop, DropsInRange, SquareInRange}
 use Rattle.rule.specs.Weighing.{lesserPositive, leastDrop, heightOf, slopeOf}
-use Rattle.rule.specs.Length.{candidate, counts, sideCandidates, candidatesOf, leastFrom, heldBetween, freshLength, isUpdate, lengthAt, lastsFor}
+use Rattle.rule.specs.Length.{candidate, counts, sideCandidates, candidatesOf, leastFrom, heldBetween, freshLength, isUpdate, lengthAt, durationFor}
 use Rattle.rule.specs.declared.rules.Rules.{Rules}
 use Rattle.rule.proofs.WeighingLaws.{slope-root, positive-first, positive-second, positive-both, positive-le}
 
@@ -195,15 +195,15 @@ length-to r clock held cs o h =
 
 -- ---- how long a step lasts
 
-pub lasts-from : (r : Rules) (clock length : ℕ) → 0 < r .update → 1 ≤ length → 1 ≤ lastsFor r clock length
-unfolding lastsFor
+pub lasts-from : (r : Rules) (clock length : ℕ) → 0 < r .update → 1 ≤ length → 1 ≤ durationFor r clock length
+unfolding durationFor
 lasts-from r clock length u h = omega (arith, mod-lt clock u)
 
-pub lasts-to : (r : Rules) (clock length : ℕ) → lastsFor r clock length ≤ length
-unfolding lastsFor
+pub lasts-to : (r : Rules) (clock length : ℕ) → durationFor r clock length ≤ length
+unfolding durationFor
 lasts-to r clock length = omega arith
 
 -- never past the next multiple of U
-pub lasts-within : (r : Rules) (clock length : ℕ) → 0 < r .update → clock % r .update + lastsFor r clock length ≤ r .update
-unfolding lastsFor
+pub lasts-within : (r : Rules) (clock length : ℕ) → 0 < r .update → clock % r .update + durationFor r clock length ≤ r .update
+unfolding durationFor
 lasts-within r clock length u = omega (arith, mod-lt clock u)

@@ -51,8 +51,8 @@ unfoldable pub lengthAt : Rules → ℕ → ℕ → List ℕ → ℕ
 lengthAt r clock held candidates = pick (isUpdate r clock) (freshLength r candidates) held
 
 -- "The step lasts the smaller of that length and the time to the next multiple of U"
-unfoldable pub lastsFor : Rules → ℕ → ℕ → ℕ
-lastsFor r clock length = min length (r .update - clock % r .update)
+unfoldable pub durationFor : Rules → ℕ → ℕ → ℕ
+durationFor r clock length = min length (r .update - clock % r .update)
 
 -- ---- what the public functions give
 
@@ -65,5 +65,5 @@ HeldLength rules c r = r ≡ heldBetween rules c
 abbrev pub IsUpdate : Rules → ℕ → Bool → Type 0
 IsUpdate rules clock r = r ≡ isUpdate rules clock
 
-abbrev pub LastsFor : Rules → ℕ → ℕ → ℕ → Type 0
-LastsFor rules clock length r = r ≡ lastsFor rules clock length
+abbrev pub DurationFor : Rules → ℕ → ℕ → ℕ → Type 0
+DurationFor rules clock length r = r ≡ durationFor rules clock length

@@ -29,8 +29,8 @@ rulesFine r =
 
 -- ---- what the public functions give
 
-abbrev pub RulesFine : Rules → Bool → Type 0
-RulesFine rules r = r ≡ rulesFine rules
+abbrev pub RulesJudged : Rules → Bool → Type 0
+RulesJudged rules r = r ≡ rulesFine rules
 
-abbrev pub GroundFine : ℕ → ℕ → Bool → Type 0
-GroundFine bed k r = r ≡ groundFine bed k
+abbrev pub GroundJudged : ℕ → ℕ → Bool → Type 0
+GroundJudged bed k r = r ≡ groundFine bed k

@@ -4,7 +4,7 @@ use reckon::ranges::MOST_LENGTH;
 use reckon::ranges::MOST_ROUGHNESS;
 use reckon::ranges::MOST_TOLERANCE;
 use reckon::ranges::MOST_UPDATE;
-ghost use Rattle.rule.specs.Rules.{RulesFine, GroundFine};
+ghost use Rattle.rule.specs.Rules.{RulesJudged, GroundJudged};
 
 // square_side is D in m; tolerance is q in ten-thousandths; shortest, longest and update (U) are in ms.
 pub struct Rules {
@@ -17,7 +17,7 @@ pub struct Rules {
 
 // Refusal 5: tolerance, step limits and update time are in range.
 pub fn rules_fine(rules: Rules) -> bool
-    ensures { λ r. ⌜ RulesFine rules r ⌝ }
+    ensures { λ r. ⌜ RulesJudged rules r ⌝ }
 {
     if MOST_TOLERANCE < rules.tolerance {
         return false;
@@ -39,7 +39,7 @@ pub fn rules_fine(rules: Rules) -> bool
 
 // Refusal 2: bed and roughness of a square not closed are in range.
 pub fn ground_fine(bed: u32, roughness: u32) -> bool
-    ensures { λ r. ⌜ GroundFine bed roughness r ⌝ }
+    ensures { λ r. ⌜ GroundJudged bed roughness r ⌝ }
 {
     if MOST_BED < bed {
         return false;

@@ -12,7 +12,7 @@ use lib.Seq.{ext-getD, getD-take, length-take-le, take-append-le, take-length}
 use borrow.Author.Tests.{lt-leb}
 use Rattle.reckon.specs.Tests.{every, refusal}
 use Rattle.reckon.specs.Lists.{placed, filled}
-use Rattle.reckon.specs.Ranges.{mostRows}
+use Rattle.reckon.specs.Ranges.{mostTableRows}
 use Rattle.reckon.specs.Tables.{rainKind, inflowKind, tableFine}
 use Rattle.reckon.proofs.TestLaws.{every-fails}
 use Rattle.reckon.proofs.ListLaws.{length-filled, filled-in, filled-skipped}
@@ -23,7 +23,7 @@ use Rattle.rule.specs.declared.rules.Rules.{Rules}
 use Rattle.ledger.specs.Runs.{World, world}
 use Rattle.ledger.specs.Record.{recordSize, roomSlots}
 use Rattle.ledger.specs.declared.runs.Run.{Run}
-use Rattle.flood.specs.Refusals.{checkRows, runChecks}
+use Rattle.flood.specs.Refusals.{checkRefusals, runChecks}
 use Rattle.flood.specs.Run.{freshRun}
 use Rattle.text.specs.Reading.{mostFields}
 use Rattle.sheet.specs.Lines.{rainWord, inflowWord}
@@ -81,27 +81,27 @@ module _ (s : List ℕ) (p : ℕ) (word : List ℕ) (width : ℕ) (few : width �
   abbrev shown : List ℕ
   shown = tableRows s p word width (min rows lookedRows)
 
-  shown-all : rows ≤ mostRows → shown ≡ tableRows s p word width rows
+  shown-all : rows ≤ mostTableRows → shown ≡ tableRows s p word width rows
   shown-all h = ap (tableRows s p word width) (omega arith)
 
   long-is : (n : ℕ) → length (tableRows s p word width n) / width ≡ n
   long-is n = ap (λ (k : ℕ). k / width) (table-long s p word width few n) ∙ mul-div-cancel-left n some
 
   -- over 64 rows no table is fine, however many there are
-  not-fine : (n : ℕ) → mostRows < n → (most : ℕ) (lead : ℕ) →
+  not-fine : (n : ℕ) → mostTableRows < n → (most : ℕ) (lead : ℕ) →
       tableFine (record { width = width; lead = lead; most = most }) (tableRows s p word width n) ≡ false
   unfolding tableFine
-  not-fine n h most lead = every-fails _ 1 (lt-leb (length (tableRows s p word width n) / width) mostRows (omega (arith, h, long-is n)))
+  not-fine n h most lead = every-fails _ 1 (lt-leb (length (tableRows s p word width n) / width) mostTableRows (omega (arith, h, long-is n)))
 
   -- what goes by a table that must be fine goes by the rows looked at
   pub looked-same :
       (most lead : ℕ) (a : Bool) (g : List ℕ → Bool) →
       (a && (tableFine (record { width = width; lead = lead; most = most }) shown && g shown)) ≡
       (a && (tableFine (record { width = width; lead = lead; most = most }) (tableRows s p word width rows) && g (tableRows s p word width rows)))
-  looked-same most lead a g = go (decLt mostRows rows)
+  looked-same most lead a g = go (decLt mostTableRows rows)
     where
       go :
-          Dec (mostRows < rows) →
+          Dec (mostTableRows < rows) →
           (a && (tableFine (record { width = width; lead = lead; most = most }) shown && g shown)) ≡
           (a && (tableFine (record { width = width; lead = lead; most = most }) (tableRows s p word width rows) && g (tableRows s p word width rows)))
       go (yes h) = rw (not-fine (min rows lookedRows) (omega arith) most lead, not-fine rows h most lead)
@@ -122,7 +122,7 @@ pub checks-looked :
     ((a : Bool) (g : List ℕ → Bool) → (a && (tableFine rainKind t && g t)) ≡ (a && (tableFine rainKind t′ && g t′))) →
     ((a : Bool) (g : List ℕ → Bool) → (a && (tableFine inflowKind u && g u)) ≡ (a && (tableFine inflowKind u′ && g u′))) →
     checksIn shape r (record { cells = c; rain = t; inflow = u }) end ≡ checksIn shape r (record { cells = c; rain = t′; inflow = u′ }) end
-unfolding checksIn checkRows
+unfolding checksIn checkRefusals
 checks-looked shape r c t t′ u u′ end e f = rw (tables-same t t′ u u′ (inflowSquaresFine shape (c .marks)) e f)
 
 -- ---- what was read, judged

@@ -17,7 +17,7 @@ use Rattle.rule.specs.Rules.{rulesFine}
 use Rattle.ledger.specs.Runs.{runValuesFine}
 use Rattle.ledger.specs.Record.{roomSlots}
 use Rattle.ledger.specs.Checks.{oneEach}
-use Rattle.flood.specs.Refusals.{checkRows}
+use Rattle.flood.specs.Refusals.{checkRefusals}
 use Rattle.flood.specs.Run.{freshRun}
 use Rattle.sheet.specs.Lines.{runLine, asRun}
 use Rattle.sheet.specs.Sheet.{Rooms, roomsFine, lineOne, lineTwo, shapeOf, planIn, noRecords, cellsFilled, said, checksIn, checksOf}
@@ -92,11 +92,11 @@ module _ (s : List ℕ) (lent : Rooms) (f : roomsFine (shapeOf s) (lineOne s .si
       )
 
   pub never-one : checksOf s ≡ 1 → ⊥
-  unfolding checksIn checkRows
+  unfolding checksIn checkRefusals
   never-one q = table-one _ _ _ _ _ _ row-one q
 
   pub never-six : checksOf s ≡ 6 → ⊥
-  unfolding checksIn checkRows runValuesFine freshRun rulesFine
+  unfolding checksIn checkRefusals runValuesFine freshRun rulesFine
   never-six q =
       let both = table-six _ _ _ _ _ _ row-one q in
       let rules = every-each _ (every-each _ (both .0) .0) in

@@ -11,7 +11,7 @@ use Rattle.reckon.specs.Tests.{refusal}
 use Rattle.reckon.specs.Ranges.{mostDepth, lastClock, mostOutflow, waterFine}
 use Rattle.reckon.proofs.TestLaws.{or-right, or-of, every-each, each-every, all-at, all-of, refusal-passed, passed-refusal}
 use Rattle.trials.specs.Ring.{ringFine}
-use Rattle.grid.specs.Squares.{FineShape, squares}
+use Rattle.grid.specs.Squares.{ShapeInRange, squares}
 use Rattle.grid.specs.declared.squares.Shape.{Shape}
 use Rattle.rule.specs.Rules.{groundFine}
 use Rattle.rule.specs.declared.rules.Rules.{Rules}
@@ -22,7 +22,7 @@ use Rattle.ledger.specs.Checks.{oneEach, watersFine}
 use Rattle.moves.specs.inner.Ready.{Ready}
 use Rattle.moves.specs.Given.{ground, given}
 use Rattle.moves.specs.Given.{given}
-use Rattle.flood.specs.Refusals.{groundsFine, checkRows, runChecks, stepChecks}
+use Rattle.flood.specs.Refusals.{groundsFine, checkRefusals, runChecks, stepChecks}
 use Rattle.flood.specs.Run.{freshRun}
 use Rattle.flood.proofs.CheckLaws.{ready, run-checks-step}
 use Rattle.sheet.specs.Sheet.{Rooms, planIn, givenIn, startIn, checksIn}
@@ -38,7 +38,7 @@ module _ (shape : Shape) (r : Rules) (held : Rooms) (end : ℕ) (e : checksIn sh
   pub is-ready : Ready (planIn shape r held) (givenIn shape r held) (seenOf (startIn shape r held))
   is-ready = ready _ _ _ _ step-zero
 
-  pub run-shape : FineShape shape
+  pub run-shape : ShapeInRange shape
   run-shape = is-ready .waters .fine
 
   pub run-marks : length (held .cells .marks) ≡ squares shape
@@ -69,7 +69,7 @@ pub run-passes :
     refusal
     (runChecks (planIn shape r held) (given (ground r beds roughness) (held .rain) (held .inflow)) end
     (world depths lasts records (freshRun r (roomSlots (planIn shape r held) records)))) ≡ 0
-unfolding checksIn checkRows runValuesFine freshRun oneEach watersFine waterFine groundsFine
+unfolding checksIn checkRefusals runValuesFine freshRun oneEach watersFine waterFine groundsFine
 run-passes shape r held end e beds roughness depths lasts records g =
     let rows = refusal-passed _ tt e in
     let lent = every-each _ (rows .0) in

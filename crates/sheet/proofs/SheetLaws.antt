@@ -9,10 +9,10 @@ use native.Mathlib.Omega.{arith}
 use lib.ListN.{length}
 use borrow.Author.Tests.{leb-true}
 use Rattle.reckon.specs.Lists.{placed}
-use Rattle.reckon.specs.Ranges.{mostRows}
+use Rattle.reckon.specs.Ranges.{mostTableRows}
 use Rattle.reckon.specs.Tables.{rainKind, inflowKind, tableRoom, tableFine}
 use Rattle.reckon.proofs.TestLaws.{pick-true, pick-false, every-each}
-use Rattle.grid.specs.Squares.{FineShape, squares}
+use Rattle.grid.specs.Squares.{ShapeInRange, squares}
 use Rattle.grid.specs.declared.squares.Shape.{Shape}
 use Rattle.grid.proofs.SquareLaws.{ranges-of-fine}
 use Rattle.rule.specs.declared.rules.Rules.{Rules}
@@ -32,7 +32,7 @@ use Rattle.sheet.proofs.RoomLaws.{table-long}
 -- ---- what fine rooms and passed checks say
 
 module _ (shape : Shape) (D : ℕ) (lent : Rooms) (f : roomsFine shape D lent ≡ true) where
-  pub rooms-shape : FineShape shape
+  pub rooms-shape : ShapeInRange shape
   unfolding roomsFine
   rooms-shape = ranges-of-fine shape (every-each _ f .0)
 
@@ -52,21 +52,21 @@ module _ (shape : Shape) (D : ℕ) (lent : Rooms) (f : roomsFine shape D lent �
 
 rows-few :
     (s : List ℕ) (p : ℕ) (word : List ℕ) (width rows lead most : ℕ) → width ≤ mostFields → 0 < width →
-    tableFine (record { width = width; lead = lead; most = most }) (tableRows s p word width rows) ≡ true → rows ≤ mostRows
+    tableFine (record { width = width; lead = lead; most = most }) (tableRows s p word width rows) ≡ true → rows ≤ mostTableRows
 unfolding tableFine
 rows-few s p word width rows lead most few some e =
     let n : length (tableRows s p word width rows) / width ≡ rows =
     ap (λ (k : ℕ). k / width) (table-long s p word width few rows) ∙ mul-div-cancel-left rows some in
-    omega (arith, n, leb-true (length (tableRows s p word width rows) / width) mostRows (every-each _ e .1 .0))
+    omega (arith, n, leb-true (length (tableRows s p word width rows) / width) mostTableRows (every-each _ e .1 .0))
 
 module _ (s : List ℕ) (e : checksOf s ≡ 0) where
-  pub rain-few : rainRows s ≤ mostRows
+  pub rain-few : rainRows s ≤ mostTableRows
   unfolding checksIn
   rain-few =
       rows-few s (rainAt s) rainWord (rainKind .width) (rainRows s) (rainKind .lead) (rainKind .most) (omega arith) (omega arith)
       (ready _ _ _ _ (run-checks-step _ _ (lineTwo s .end) _ e) .waters .rain)
 
-  pub inflow-few : inflowRows s ≤ mostRows
+  pub inflow-few : inflowRows s ≤ mostTableRows
   unfolding checksIn
   inflow-few =
       rows-few s (inflowAt s) inflowWord (inflowKind .width) (inflowRows s) (inflowKind .lead) (inflowKind .most) (omega arith) (omega arith)

@@ -13,7 +13,7 @@ use grid::squares::shape_fine;
 use grid::squares::squares_of;
 use ledger::record::MOST_RECORD;
 use ledger::record::record_size;
-use reckon::ranges::MOST_ROWS;
+use reckon::ranges::MOST_TABLE_ROWS;
 use reckon::ranges::side_fine;
 use reckon::tables::INFLOW_ROOM;
 use reckon::tables::INFLOW_WIDTH;
@@ -29,7 +29,7 @@ ghost use lib.ListN.{length};
 ghost use Rattle.reckon.specs.Tests.{every};
 ghost use Rattle.reckon.specs.Ranges.{sideFine};
 ghost use Rattle.reckon.specs.Tables.{inflowKind, rainKind, tableRoom};
-ghost use Rattle.grid.specs.Squares.{FineShape, shapeFine, squares};
+ghost use Rattle.grid.specs.Squares.{ShapeInRange, shapeFine, squares};
 ghost use Rattle.sheet.specs.Lines.{gridLine};
 ghost use Rattle.sheet.specs.Sheet.{Reads, cellsRooms, checksIn, checksOf, rooms, said, shapeOf};
 ghost use Rattle.sheet.specs.inner.Reading.{BodyIs, Decided, TextRead, lookedRows};
@@ -50,7 +50,7 @@ pub enum Sheet {
 }
 
 // One row too many is enough to refuse a table.
-const LOOKED_ROWS: usize = MOST_ROWS + 1;
+const LOOKED_ROWS: usize = MOST_TABLE_ROWS + 1;
 
 const RAIN_LOOKED: usize = RAIN_WIDTH * LOOKED_ROWS;
 
@@ -136,7 +136,7 @@ fn read_body(
     roughness: &mut [u32],
     depths: &mut [u32],
 ) -> Body
-    requires { ⌜ (top ≡ gridLine (now text)) × (top .found ≡ true) × (FineShape (top .shape)) ⌝ }
+    requires { ⌜ (top ≡ gridLine (now text)) × (top .found ≡ true) × (ShapeInRange (top .shape)) ⌝ }
     requires { ⌜ (squares (top .shape) ≤ length (now marks)) × (squares (top .shape) ≤ length (now beds)) × (squares (top .shape) ≤ length (now roughness)) × (squares (top .shape) ≤ length (now depths)) ⌝ }
     ensures { λ r. ⌜ TextRead (now (text .entry)) r (cellsRooms (now (marks .entry)) (now (beds .entry)) (now (roughness .entry)) (now (depths .entry))) (cellsRooms (now (marks .exit)) (now (beds .exit)) (now (roughness .exit)) (now (depths .exit))) ⌝ }
 {
@@ -172,7 +172,7 @@ fn read_body(
 fn looked_at(rows: usize) -> usize
     ensures { λ r. ⌜ r ≡ min rows lookedRows ⌝ }
 {
-    if MOST_ROWS < rows {
+    if MOST_TABLE_ROWS < rows {
         return LOOKED_ROWS;
     }
     rows
@@ -190,7 +190,7 @@ fn judge(
     rain: &[u32],
     inflow: &[u32],
 ) -> u32
-    requires { ⌜ FineShape shape ⌝ }
+    requires { ⌜ ShapeInRange shape ⌝ }
     ensures { λ r. ⌜ r ≡ checksIn shape rules (rooms (now (marks .entry)) (now (beds .entry)) (now (roughness .entry)) (now (depths .entry)) (now (rain .entry)) (now (inflow .entry))) end ⌝ }
 {
     let lasts = [0u32; MOST_SQUARES];
@@ -224,7 +224,7 @@ fn judge_body(
     roughness: &[u32],
     depths: &[u32],
 ) -> u32
-    requires { ⌜ (FineShape shape) × (shape ≡ shapeOf (now text)) × (BodyIs (now text) body) ⌝ }
+    requires { ⌜ (ShapeInRange shape) × (shape ≡ shapeOf (now text)) × (BodyIs (now text) body) ⌝ }
     requires { ⌜ cellsRooms (now marks) (now beds) (now roughness) (now depths) ≡ said (now text) .cells ⌝ }
     ensures { λ r. ⌜ r ≡ checksOf (now (text .entry)) ⌝ }
 {
@@ -272,7 +272,7 @@ pub(crate) struct Verdict {
 
 // Whether a text whose line 1 and rooms are good is refused: all other text, and then 2 to 5.
 fn decide(text: &[u8], top: GridLine) -> Verdict
-    requires { ⌜ (top ≡ gridLine (now text)) × (top .found ≡ true) × (FineShape (top .shape)) ⌝ }
+    requires { ⌜ (top ≡ gridLine (now text)) × (top .found ≡ true) × (ShapeInRange (top .shape)) ⌝ }
     ensures { λ r. ⌜ Decided (now (text .entry)) r ⌝ }
 {
     let mut marks = [0u8; MOST_SQUARES];

@@ -11,7 +11,7 @@ ghost use lib.Dec.{eqb};
 ghost use lib.ListN.{length, set, take};
 ghost use Rattle.reckon.specs.Tests.{pick};
 ghost use Rattle.reckon.specs.Lists.{placed};
-ghost use Rattle.grid.specs.Squares.{FineShape, squares};
+ghost use Rattle.grid.specs.Squares.{ShapeInRange, squares};
 ghost use Rattle.text.specs.Reading.{mostFields};
 ghost use Rattle.text.specs.inner.Standing.{plain};
 ghost use Rattle.sheet.specs.Sheet.{cellsRooms, rowsRead, tableRows};
@@ -57,7 +57,7 @@ pub(crate) fn fill_cells(
     roughness: &mut [u32],
     depths: &mut [u32],
 ) -> Scan
-    requires { ⌜ FineShape shape ⌝ }
+    requires { ⌜ ShapeInRange shape ⌝ }
     requires { ⌜ (squares shape ≤ length (now marks)) × (squares shape ≤ length (now beds)) × (squares shape ≤ length (now roughness)) × (squares shape ≤ length (now depths)) ⌝ }
     ensures { λ r. ⌜ CellsRead (now (text .entry)) at shape r (cellsRooms (now (marks .entry)) (now (beds .entry)) (now (roughness .entry)) (now (depths .entry))) (cellsRooms (now (marks .exit)) (now (beds .exit)) (now (roughness .exit)) (now (depths .exit))) ⌝ }
 {

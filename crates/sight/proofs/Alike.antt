@@ -21,9 +21,9 @@ use Rattle.ledger.specs.Runs.{Plan, runFine}
 use Rattle.ledger.specs.Flows.{shut, sent}
 use Rattle.ledger.specs.Record.{recordSize, heldIn, lastedIn, leavesIn, roomSlots, newestRecord}
 use Rattle.ledger.specs.Checks.{oneEach, timesFine}
-use Rattle.sight.specs.Refusals.{depthsFine, sharedRows}
-use Rattle.sight.specs.Speeds.{speedOf, arrowOf}
-use Rattle.sight.specs.Arrows.{netNone, outThrough, nearDepth, throughSide, allStill, arrowBy, sighted, seenBy, view, askedFine, earlyRows, arrowRows, arrowNumber, seenAt}
+use Rattle.sight.specs.Refusals.{depthsFine, sharedRefusals}
+use Rattle.sight.specs.Speeds.{sideSpeed, arrowOf}
+use Rattle.sight.specs.Arrows.{netNone, outThrough, nearDepth, throughSide, allStill, arrowBy, sighted, seenBy, view, askedFine, arrowEarlyRefusals, arrowRefusals, arrowNumber, seenAt}
 use Rattle.sight.specs.WetRows.{onesOver, wetRefusals, wetNumber, counted, WetRowed}
 use Rattle.sight.specs.declared.speeds.Arrow.{Arrow}
 use Rattle.sight.specs.declared.wet_rows.Wet.{Wet}
@@ -54,8 +54,8 @@ module _ (p : Plan) {a b : List ℕ} (h : AlikeDepths p a b) where
       go i true e = rw e
       go i false e = ap (λ (d : ℕ). shut p i || leb d mostDepth) (h .alike .at i e)
 
-  shared-alike : (more : Bool) → sharedRows p a more ≡ sharedRows p b more
-  unfolding sharedRows
+  shared-alike : (more : Bool) → sharedRefusals p a more ≡ sharedRefusals p b more
+  unfolding sharedRefusals
   shared-alike more =
       ap₂ (λ (s t : Bool).
       1 unless every (shapeFine (p .shape) ∷ oneEach p (p .marks) ∷ s ∷ [])
@@ -104,7 +104,7 @@ module _ (p : Plan) (D : ℕ) {d e r s : List ℕ} (h : AlikeDepths p d e) (g : 
       let l = g .lasted in
       λ k.
       sighted number (shut p i) (eqb (h .alike .at i o k) 0) (every (netNone (n k) ∷ netNone (ea k) ∷ netNone (so k) ∷ netNone (we k) ∷ []))
-      (arrowOf (speedOf D (l k) (n k)) (speedOf D (l k) (ea k)) (speedOf D (l k) (so k)) (speedOf D (l k) (we k)))
+      (arrowOf (sideSpeed D (l k) (n k)) (sideSpeed D (l k) (ea k)) (sideSpeed D (l k) (so k)) (sideSpeed D (l k) (we k)))
 
   closed-same : (number : ℕ) {c : Bool} (a b m n : Bool) (x y : Arrow) → c ≡ true → sighted number c a m x ≡ sighted number c b n y
   unfolding sighted
@@ -132,7 +132,7 @@ pub arrow-alike :
     (p : Plan) (D : ℕ) {d e : List ℕ} (r s : List ℕ) (run : Run) (row column : ℕ) →
     AlikeDepths p d e → length r ≡ length s → AlikeRecords p (newestRecord p (view d r run)) (newestRecord p (view e s run)) →
     seenAt p D (view d r run) row column ≡ seenAt p D (view e s run) row column
-unfolding seenAt arrowNumber arrowRows earlyRows
+unfolding seenAt arrowNumber arrowRefusals arrowEarlyRefusals
 arrow-alike p D {d} {e} r s run row column h m g =
     let shared = shared-alike p h (askedFine (p .shape) D row column) in
     let slots = room-alike p r s m in

@@ -15,7 +15,7 @@ use Rattle.reckon.proofs.ListLaws.{length-tabulate, getD-tabulate, sum-ext}
 use Rattle.grid.specs.Masks.{isWet, rowMask, wetMasks, RowsLent}
 use Rattle.grid.proofs.MaskLaws.{ones-of-rows}
 use Rattle.ledger.specs.Runs.{Plan}
-use Rattle.sight.specs.Refusals.{sharedRows}
+use Rattle.sight.specs.Refusals.{sharedRefusals}
 use Rattle.sight.specs.WetRows.{onesOver, wetSquares, wetRefusals, wetNumber, counted, WetRowed}
 use Rattle.sight.specs.declared.wet_rows.Wet.{Wet}
 use Rattle.sight.specs.declared.wet_rows.Wet.the-variants.{Count, Refused}
@@ -34,17 +34,17 @@ count-is p depths least =
 -- ---- refusals
 
 module _ (p : Plan) (depths : List ℕ) (least numbers : ℕ) {shared : ℕ}
-    (s : shared ≡ refusal (sharedRows p depths (eqb numbers (p .shape .rows)))) where
+    (s : shared ≡ refusal (sharedRefusals p depths (eqb numbers (p .shape .rows)))) where
   pub wet-shared : (shared ≡ 0 → ⊥) → shared ≡ refusal (wetRefusals p depths least numbers)
-  unfolding wetRefusals sharedRows
+  unfolding wetRefusals sharedRefusals
   wet-shared n = s ∙ sym (refusal-first _ _ tt (λ e. n (s ∙ e)))
 
   pub wet-deep : shared ≡ 0 → mostDepth < least → 5 ≡ refusal (wetRefusals p depths least numbers)
-  unfolding wetRefusals sharedRows
+  unfolding wetRefusals sharedRefusals
   wet-deep e h = sym (refusal-second _ _ tt (sym s ∙ e) ∙ refusal-here 5 _ (lt-leb _ _ h))
 
   pub wet-none : shared ≡ 0 → least ≤ mostDepth → 0 ≡ refusal (wetRefusals p depths least numbers)
-  unfolding wetRefusals sharedRows
+  unfolding wetRefusals sharedRefusals
   wet-none e h = sym (refusal-second _ _ tt (sym s ∙ e) ∙ passed-refusal _ (le-leb _ _ h, tt))
 
 -- ---- the answer
@@ -81,9 +81,9 @@ module _ (p : Plan) (depths : List ℕ) (least : ℕ) (old : List ℕ) {n : ℕ}
       }
 
   pub wet-lent : n ≡ 0 → RowsLent (p .shape) (p .marks) depths old
-  unfolding wetRefusals sharedRows
+  unfolding wetRefusals sharedRefusals
   wet-lent z =
-      let parts = refusal-both (sharedRows p depths (eqb (length old) (p .shape .rows))) _ tt (sym e ∙ z) in
+      let parts = refusal-both (sharedRefusals p depths (eqb (length old) (p .shape .rows))) _ tt (sym e ∙ z) in
       let l = lent p depths _ (parts .0) in
       record {
         fine = l .sizes .fine;

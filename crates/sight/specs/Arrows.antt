@@ -15,8 +15,8 @@ use Rattle.ledger.specs.Runs.{Plan, World, world, runFine}
 use Rattle.ledger.specs.Flows.{shut, sent}
 use Rattle.ledger.specs.Record.{lastedIn, leavesIn, roomSlots, newestRecord}
 use Rattle.ledger.specs.Checks.{timesFine}
-use Rattle.sight.specs.Refusals.{sharedRows}
-use Rattle.sight.specs.Speeds.{speedOf, arrowOf}
+use Rattle.sight.specs.Refusals.{sharedRefusals}
+use Rattle.sight.specs.Speeds.{sideSpeed, arrowOf}
 use Rattle.sight.specs.declared.speeds.Arrow.{Arrow}
 use Rattle.sight.specs.declared.speeds.Through.{Through}
 use Rattle.sight.specs.declared.arrows.Sight.{Sight}
@@ -51,8 +51,8 @@ module _ (p : Plan) (depths rec : List ℕ) (i : ℕ) where
   -- the arrow of the four speeds
   unfoldable pub arrowBy : ℕ → Arrow
   arrowBy D =
-      arrowOf (speedOf D (lastedIn rec) (throughSide north)) (speedOf D (lastedIn rec) (throughSide east))
-      (speedOf D (lastedIn rec) (throughSide south)) (speedOf D (lastedIn rec) (throughSide west))
+      arrowOf (sideSpeed D (lastedIn rec) (throughSide north)) (sideSpeed D (lastedIn rec) (throughSide east))
+      (sideSpeed D (lastedIn rec) (throughSide south)) (sideSpeed D (lastedIn rec) (throughSide west))
 
 -- ---- the answer
 
@@ -82,17 +82,17 @@ askedFine s D row column = every (leb 1 D ∷ leb D mostSide ∷ ltb row (s .row
 
 module _ (p : Plan) (D : ℕ) (w : World) (row column : ℕ) where
   -- "K = 0, or a run value out of range"; "kept = 0"
-  unfoldable pub earlyRows : List Row
-  earlyRows =
-      sharedRows p (w .depths) (askedFine (p .shape) D row column)
+  unfoldable pub arrowEarlyRefusals : List Row
+  arrowEarlyRefusals =
+      sharedRefusals p (w .depths) (askedFine (p .shape) D row column)
       ++ (6 unless runFine (roomSlots p (w .records)) (w .run) ∷ 10 unless not (eqb (w .run .kept) 0) ∷ [])
 
   -- "newest record: length or lasted not 1 to 60,000"
-  unfoldable pub arrowRows : List Row
-  arrowRows = earlyRows ++ (11 unless timesFine (newestRecord p w) ∷ [])
+  unfoldable pub arrowRefusals : List Row
+  arrowRefusals = arrowEarlyRefusals ++ (11 unless timesFine (newestRecord p w) ∷ [])
 
   unfoldable pub arrowNumber : ℕ
-  arrowNumber = refusal arrowRows
+  arrowNumber = refusal arrowRefusals
 
   -- what is seen of the square in a row and a column
   unfoldable pub seenAt : Sight

@@ -24,9 +24,9 @@ abbrev pub pace : ℕ → ℕ → ℕ → ℕ → Float
 pace D lasted net deep = quotientOf (2000 * net * D) (deep * lasted)
 
 -- "0 if net is 0, else the quotient .., negated where net is negative": net is what left less what came back
-unfoldable pub speedOf : ℕ → ℕ → Through → Float
+unfoldable pub sideSpeed : ℕ → ℕ → Through → Float
 unfolding quotientOf Ieee.neg
-speedOf D lasted t =
+sideSpeed D lasted t =
     pick (eqb (t .out) (t .back)) zero64
     (pick (ltb (t .back) (t .out)) (pace D lasted (t .out - t .back) (t .deep)) (Ieee.neg (pace D lasted (t .back - t .out) (t .deep))))
 

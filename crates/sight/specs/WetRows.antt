@@ -12,7 +12,7 @@ use Rattle.reckon.specs.Ranges.{mostDepth}
 use Rattle.grid.specs.Squares.{squares}
 use Rattle.grid.specs.Masks.{isWet, digit, wetMasks}
 use Rattle.ledger.specs.Runs.{Plan}
-use Rattle.sight.specs.Refusals.{sharedRows}
+use Rattle.sight.specs.Refusals.{sharedRefusals}
 use Rattle.sight.specs.declared.wet_rows.Wet.{Wet}
 use Rattle.sight.specs.declared.wet_rows.Wet.the-variants.{Count, Refused}
 
@@ -29,7 +29,7 @@ wetSquares p depths least = sumBelow (squares (p .shape)) (λ i. digit (isWet (p
 module _ (p : Plan) (depths : List ℕ) (least numbers : ℕ) where
   -- with 1, "wet rows: one a row", and 5, "wet depth out of range"
   unfoldable pub wetRefusals : List Row
-  wetRefusals = sharedRows p depths (eqb numbers (p .shape .rows)) ++ (5 unless leb least mostDepth ∷ [])
+  wetRefusals = sharedRefusals p depths (eqb numbers (p .shape .rows)) ++ (5 unless leb least mostDepth ∷ [])
 
   unfoldable pub wetNumber : ℕ
   wetNumber = refusal wetRefusals

@@ -3,7 +3,7 @@ ghost use mathlib.Core.Path.{_≡_};
 ghost use Prim.Native.Nat.{_≤_};
 ghost use lib.ListN.{length};
 ghost use Rattle.reckon.specs.Tests.{refusal};
-ghost use Rattle.grid.specs.Squares.{longest};
+ghost use Rattle.grid.specs.Squares.{mostAlong};
 ghost use Rattle.ledger.specs.Runs.{plan};
 ghost use Rattle.sight.specs.WetRows.{OnesIn, WetRowed, wetRefusals};
 use crate::refusals::shared_refusal;
@@ -19,7 +19,7 @@ pub enum Wet {
 
 // The number of ones over all rows.
 pub fn ones_in(rows: &[u64]) -> u64
-    requires { ⌜ length (now rows) ≤ longest ⌝ }
+    requires { ⌜ length (now rows) ≤ mostAlong ⌝ }
     ensures { λ r. ⌜ OnesIn (now (rows .entry)) r ⌝ }
 {
     let count = rows.len();

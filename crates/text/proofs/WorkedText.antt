@@ -3,12 +3,12 @@
 use mathlib.Core.Path.{refl}
 use Rattle.reckon.specs.Tests.{pick, allBelow}
 use Rattle.text.specs.Bytes.{bytesOf}
-use Rattle.text.specs.Reading.{isByte, wordAt, isDigit, digitsOf, valueFrom, wellFormed, numberOf, numberAt, fieldAt, before, readFields, ended, readRest, readLine, lineLength, nextLine}
+use Rattle.text.specs.Reading.{isByte, wordAt, isDigit, digitsOf, valueFrom, wellFormed, numberFrom, numberAt, fieldAt, before, readFields, lineEnded, readRest, readLine, lineLength, nextLine}
 use Rattle.text.specs.Writing.{digitsIn, decimal, fieldText, fieldsText, restText, lineText}
 use Rattle.text.specs.Worked.{NumbersWorked, LinesWorked}
 
 pub numbers-worked : NumbersWorked
-unfolding pick isDigit digitsOf valueFrom wellFormed numberOf numberAt digitsIn decimal bytesOf
+unfolding pick isDigit digitsOf valueFrom wellFormed numberFrom numberAt digitsIn decimal bytesOf
 numbers-worked =
     record {
       zero-read = refl;
@@ -22,7 +22,7 @@ numbers-worked =
     }
 
 pub lines-worked : LinesWorked
-unfolding pick allBelow isByte wordAt isDigit digitsOf valueFrom wellFormed numberOf numberAt fieldAt before readFields ended readRest readLine lineLength nextLine digitsIn decimal fieldText fieldsText restText lineText bytesOf
+unfolding pick allBelow isByte wordAt isDigit digitsOf valueFrom wellFormed numberFrom numberAt fieldAt before readFields lineEnded readRest readLine lineLength nextLine digitsIn decimal fieldText fieldsText restText lineText bytesOf
 lines-worked =
     record {
       run-read = refl;

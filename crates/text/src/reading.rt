@@ -4,7 +4,7 @@ ghost use mathlib.Core.Bool.{true, _&&_};
 ghost use Prim.Native.Nat.{_+_, _≤_};
 ghost use lib.Dec.{eqb};
 ghost use lib.ListN.{getD, drop};
-ghost use Rattle.text.specs.Reading.{mostFields, isDigit, digitsOf, numberOf, ByteIs, WordAt, NumberAt, FieldAt, FieldsAt, RestOfLine, LineOf, asFields, Reading};
+ghost use Rattle.text.specs.Reading.{mostFields, isDigit, digitsOf, numberFrom, ByteIs, WordAt, NumberAt, FieldAt, FieldsAt, RestOfLine, LineOf, asFields, Reading};
 
 // What stands at a position as a number: its value and the position after it, or none.
 pub enum Number {
@@ -87,7 +87,7 @@ fn needless_zero(text: &[u8], at: usize) -> bool
 
 // The digits at a position as a number.
 fn digits(text: &[u8], at: usize) -> Number
-    ensures { λ r. ⌜ r ≡ numberOf (digitsOf (drop at (now (text .entry)))) at ⌝ }
+    ensures { λ r. ⌜ r ≡ numberFrom (digitsOf (drop at (now (text .entry)))) at ⌝ }
 {
     let mut value: u64 = 0;
     let mut p = at;

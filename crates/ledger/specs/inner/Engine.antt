@@ -14,8 +14,8 @@ use Rattle.grid.specs.Squares.{squares}
 use Rattle.ledger.specs.Runs.{Plan, World, world, Seen, seenOf}
 use Rattle.ledger.specs.Flows.{shut, gone}
 use Rattle.ledger.specs.Record.{recordSize, roomSlots}
-use Rattle.ledger.specs.After.{Moves, lateRows, stepRecord, worldAfter}
-use Rattle.ledger.specs.TakeBack.{restorable, worldBefore, lookRows}
+use Rattle.ledger.specs.After.{Moves, lateRefusals, stepRecord, worldAfter}
+use Rattle.ledger.specs.TakeBack.{restorable, worldBefore, earlyRefusals}
 
 -- what is seen, with no record room: nothing that a step moves or a take-back restores of it depends on one
 abbrev pub bare : Seen → World
@@ -34,7 +34,7 @@ outcome (suc n) a = refused (suc n)
 
 module _ (p : Plan) {Given : Type 0} (rule : StepRule Given) where
   abbrev pub madeNumber : Bool → Given → Seen → ℕ
-  madeNumber ring g v = refusal (rule .checks ring g v ++ lateRows p (rule .moves g v) (bare v))
+  madeNumber ring g v = refusal (rule .checks ring g v ++ lateRefusals p (rule .moves g v) (bare v))
 
   abbrev pub engine : Engine
   engine =
@@ -49,7 +49,7 @@ module _ (p : Plan) {Given : Type 0} (rule : StepRule Given) where
         make =
             λ ring g v.
             outcome (madeNumber ring g v) (seenOf (worldAfter p (rule .moves g v) (bare v)), stepRecord p (rule .moves g v) (bare v));
-        look = λ ring v. refusal (lookRows p ring v);
+        look = λ ring v. refusal (earlyRefusals p ring v);
         unmake = λ rec v. pick (restorable p (bare v) rec) (done (seenOf (worldBefore p (bare v) rec))) (refused 11);
       }
 
@@ -60,10 +60,10 @@ module _ (p : Plan) {Given : Type 0} (rule : StepRule Given) where
   -- What a rule owes, so that a take-back undoes its steps: its checks pass only where the take-back's look does; a step lasts and
   -- leaves a length within the limits; no square sends more than it holds.
   pub record Owed : Type 0 where
-    pub looks : (ring : Bool) (g : Given) (v : Seen) → refusal (rule .checks ring g v) ≡ 0 → refusal (lookRows p ring v) ≡ 0
+    pub looks : (ring : Bool) (g : Given) (v : Seen) → refusal (rule .checks ring g v) ≡ 0 → refusal (earlyRefusals p ring v) ≡ 0
     pub named : (ring : Bool) (g : Given) (v : Seen) → T (numbered (rule .checks ring g v))
-    pub lasts-from : (ring : Bool) (g : Given) (v : Seen) → refusal (rule .checks ring g v) ≡ 0 → 1 ≤ rule .moves g v .lasts
-    pub lasts-to : (ring : Bool) (g : Given) (v : Seen) → refusal (rule .checks ring g v) ≡ 0 → rule .moves g v .lasts ≤ mostLength
+    pub lasts-from : (ring : Bool) (g : Given) (v : Seen) → refusal (rule .checks ring g v) ≡ 0 → 1 ≤ rule .moves g v .duration
+    pub lasts-to : (ring : Bool) (g : Given) (v : Seen) → refusal (rule .checks ring g v) ≡ 0 → rule .moves g v .duration ≤ mostLength
     pub length-from : (ring : Bool) (g : Given) (v : Seen) → refusal (rule .checks ring g v) ≡ 0 → 1 ≤ rule .moves g v .length
     pub length-to : (ring : Bool) (g : Given) (v : Seen) → refusal (rule .checks ring g v) ≡ 0 → rule .moves g v .length ≤ mostLength
     pub covered : (ring : Bool) (g : Given) (v : Seen) → refusal (rule .checks ring g v) ≡ 0 →

@@ -10,7 +10,7 @@ use lib.ListN.{length, getD, set}
 use Rattle.reckon.specs.Tests.{pick, Row, _unless_, refusal}
 use Rattle.reckon.specs.Lists.{filled}
 use Rattle.reckon.specs.Ranges.{mostDepth, mostLength, lastClock, mostOutflow}
-use Rattle.grid.specs.Squares.{squares, FineShape}
+use Rattle.grid.specs.Squares.{squares, ShapeInRange}
 use Rattle.ledger.specs.Runs.{Plan, World, ofDepths}
 use Rattle.ledger.specs.Flows.{shut, gone}
 use Rattle.ledger.specs.Record.{recordSize, lastedIn, leavesIn, addedIn, roomSlots, Recorded}
@@ -20,14 +20,14 @@ use Rattle.ledger.specs.declared.record.Found.{Found}
 
 -- what a record says was moved, with the length that the step leaves held
 abbrev pub movesIn : List ℕ → ℕ → Moves
-movesIn rec length = record { leaves = leavesIn rec; added = addedIn rec; lasts = lastedIn rec; length = length }
+movesIn rec length = record { leaves = leavesIn rec; added = addedIn rec; duration = lastedIn rec; length = length }
 
 module _ (p : Plan) (rec : List ℕ) (length : ℕ) (w : World) where
-  unfoldable pub settleRows : List Row
-  settleRows = 8 unless depthsFit p (movesIn rec length) w ∷ 9 unless leb (newOutflow p (movesIn rec length) w) mostOutflow ∷ []
+  unfoldable pub settleRefusals : List Row
+  settleRefusals = 8 unless depthsFit p (movesIn rec length) w ∷ 9 unless leb (newOutflow p (movesIn rec length) w) mostOutflow ∷ []
 
   unfoldable pub settleNumber : ℕ
-  settleNumber = refusal settleRows
+  settleNumber = refusal settleRefusals
 
   unfoldable pub settled : World
   settled = pick (eqb settleNumber 0) (worldWith p (movesIn rec length) w rec) w
@@ -36,7 +36,7 @@ module _ (p : Plan) (rec : List ℕ) (length : ℕ) (w : World) where
 
 -- What is asked: all that is lent is of its size, the run is in range, and no square sends more than it holds.
 pub record Settles (p : Plan) (rec : List ℕ) (newLength : ℕ) (w : World) : Type 0 where
-  pub fine : FineShape (p .shape)
+  pub fine : ShapeInRange (p .shape)
   pub marks-long : length (p .marks) ≡ squares (p .shape)
   pub depths-long : length (w .depths) ≡ squares (p .shape)
   pub lasts-long : length (w .lasts) ≡ squares (p .shape)

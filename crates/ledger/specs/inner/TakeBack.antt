@@ -10,12 +10,12 @@ use Rattle.grid.specs.Squares.{squares}
 use Rattle.grid.specs.Marks.{marksFine}
 use Rattle.ledger.specs.Runs.{Plan, World, ofDepths, runFine}
 use Rattle.ledger.specs.Record.{roomSlots, Recorded}
-use Rattle.ledger.specs.Checks.{watersFine, Watered}
+use Rattle.ledger.specs.Checks.{watersFine, WaterLent}
 use Rattle.ledger.specs.TakeBack.{heldAndGone, cameAndAdded, depthBefore, backNumber}
 
 -- a world that refusals 1 to 10 leave to its newest record
 pub record Kept (p : Plan) (w : World) : Type 0 where
-  pub watered : Watered p (w .depths) (w .lasts)
+  pub watered : WaterLent p (w .depths) (w .lasts)
   pub marks-fine : marksFine (p .shape) (p .marks) ≡ true
   pub waters-fine : watersFine p (w .depths) (w .lasts) ≡ true
   pub run-fine : runFine (roomSlots p (w .records)) (w .run) ≡ true
@@ -27,7 +27,7 @@ pub record Looked (p : Plan) (w : World) (n : ℕ) : Type 0 where
   pub passed : n ≡ 0 → Kept p w
 
 -- a record and the depths that it leads to, one number a square
-pub record Led (p : Plan) (rec depths : List ℕ) : Type 0 where
+pub record RecordAndDepths (p : Plan) (rec depths : List ℕ) : Type 0 where
   pub recorded : Recorded p rec
   pub depths-long : length depths ≡ squares (p .shape)
 

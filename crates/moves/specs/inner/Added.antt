@@ -11,14 +11,14 @@ use Rattle.reckon.specs.Lists.{filled}
 use Rattle.reckon.specs.Ranges.{mostDepth, mostSide, lastClock}
 use Rattle.reckon.specs.Tables.{inflowKind, onSquare, inflowAdded}
 use Rattle.reckon.specs.inner.Fits.{Fits}
-use Rattle.grid.specs.Squares.{squares, squareAt, FineShape}
+use Rattle.grid.specs.Squares.{squares, squareAt, ShapeInRange}
 use Rattle.grid.specs.Marks.{closed, inflowWords, inflowRow, inflowColumn}
 use Rattle.grid.specs.declared.squares.Shape.{Shape}
 use Rattle.rule.specs.declared.rules.Rules.{Rules}
 use Rattle.ledger.specs.Runs.{Plan}
 use Rattle.ledger.specs.Flows.{shut}
 use Rattle.moves.specs.Given.{Given, given, ground}
-use Rattle.moves.specs.inner.Ready.{Waters}
+use Rattle.moves.specs.inner.Ready.{TablesInRange}
 use Rattle.moves.specs.Moves.{addedFor}
 
 -- ---- rain
@@ -50,7 +50,7 @@ module _ (s : Shape) (r : Rules) (inflow : List ℕ) (start end rain : ℕ) wher
   rowSquare j = squareAt s (inflowRow inflow j) (inflowColumn inflow j)
 
   pub record Pours : Type 0 where
-    pub fine : FineShape s
+    pub fine : ShapeInRange s
     pub side-from : 1 ≤ r .«square_side»
     pub side-to : r .«square_side» ≤ mostSide
     pub table : Fits inflowKind inflow end
@@ -78,7 +78,7 @@ tables r rain inflow = given (ground r [] []) rain inflow
 
 -- the tables are fine and the two clocks in range
 pub record Between (p : Plan) (g : Given) (start end : ℕ) : Type 0 where
-  pub waters : Waters p g
+  pub waters : TablesInRange p g
   pub ordered : start ≤ end
   pub end-to : end ≤ lastClock
 

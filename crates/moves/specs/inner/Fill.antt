@@ -15,7 +15,7 @@ use Rattle.ledger.specs.Record.{recordOf, recordSize, SquarePut, ClosedPut}
 use Rattle.moves.specs.Given.{Ground}
 use Rattle.moves.specs.Drops.{dropsOf}
 use Rattle.moves.specs.Moves.{candidates, leavesFor}
-use Rattle.moves.specs.inner.Ready.{Flows}
+use Rattle.moves.specs.inner.Ready.{WaterInRange}
 
 -- ---- the length
 
@@ -27,9 +27,9 @@ LengthWorked p o depths clock held r = r ≡ lengthAt (o .rules) clock held (can
 
 -- the ground and the water are lent whole and in range, and so are the added amounts and a record of its size
 pub record Fills (p : Plan) (o : Ground) (depths lasts added : List ℕ) (ms : ℕ) (rec : List ℕ) : Type 0 where
-  pub flows : Flows p o depths lasts
+  pub flows : WaterInRange p o depths lasts
   pub added-long : length added ≡ squares (p .shape)
-  pub lasts-for : ms ≤ mostLength
+  pub duration-for : ms ≤ mostLength
   pub record-long : length rec ≡ recordSize p
 
 -- a square written to the record

@@ -3,7 +3,7 @@
 use mathlib.Core.Path.{_≡_}
 use mathlib.Core.List.{List}
 use Prim.Native.Nat.{ℕ, zero, suc, _+_, _≤_}
-use Rattle.reckon.specs.Ranges.{mostRows}
+use Rattle.reckon.specs.Ranges.{mostTableRows}
 use Rattle.grid.specs.Squares.{squares}
 use Rattle.grid.specs.declared.squares.Shape.{Shape}
 use Rattle.text.specs.Reading.{lineFrom}
@@ -14,7 +14,7 @@ use Rattle.sheet.specs.declared.reading.Verdict.{Verdict}
 
 -- of a table as many rows are looked at: one too many is enough to refuse it
 abbrev pub lookedRows : ℕ
-lookedRows = mostRows + 1
+lookedRows = mostTableRows + 1
 
 -- cell lines from p on, read into rooms
 pub record CellsRead (s : List ℕ) (p : ℕ) (shape : Shape) (r : Scan) (before after : Cells) : Type 0 where

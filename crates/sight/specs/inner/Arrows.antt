@@ -14,7 +14,7 @@ use Rattle.sight.specs.Arrows.{throughSide}
 use Rattle.sight.specs.declared.speeds.Through.{Through}
 
 -- depths and a record, each of its size, the depths in range
-pub record Laid (p : Plan) (depths rec : List ℕ) : Type 0 where
+pub record SightLent (p : Plan) (depths rec : List ℕ) : Type 0 where
   pub recorded : Recorded p rec
   pub depths-long : length depths ≡ squares (p .shape)
   pub depths-fine : depthsFine p depths ≡ true

@@ -4,7 +4,7 @@ use mathlib.Core.Path.{refl}
 use Prim.Native.Nat.{_+_, _*_, _≤_}
 use native.Mathlib.Omega.{arith}
 use borrow.Author.Needs.{needs}
-use Rattle.reckon.specs.Ranges.{mostRows}
+use Rattle.reckon.specs.Ranges.{mostTableRows}
 use Rattle.reckon.specs.Tables.{rainKind, inflowKind, tableRoom}
 use Rattle.ledger.specs.Record.{headWords, squareWords}
 use Rattle.sheet.specs.Sheet.{Rooms, rooms, Reads}
@@ -81,10 +81,10 @@ few c = omega (arith, counted c .squares-of .ensures, meadow-few _ (reads (well 
 small : (c : tie.After-record-size) → c .record-size .result ≤ headWords + squareWords * programSquares
 small c = omega (arith, c .record-size .ensures, meadow-few _ (reads (well (counted c))))
 
-rain-rows : (c : tie.After-record-size) → well (counted c) .sheet2 .given .0 .0 .«rain_rows» ≤ mostRows
+rain-rows : (c : tie.After-record-size) → well (counted c) .sheet2 .given .0 .0 .«rain_rows» ≤ mostTableRows
 rain-rows c = meadow-rain _ (reads (well (counted c)))
 
-inflow-rows : (c : tie.After-record-size) → well (counted c) .sheet2 .given .0 .0 .«inflow_rows» ≤ mostRows
+inflow-rows : (c : tie.After-record-size) → well (counted c) .sheet2 .given .0 .0 .«inflow_rows» ≤ mostTableRows
 inflow-rows c = meadow-inflow _ (reads (well (counted c)))
 
 put-refused-requires : tie.Need-put-refused-requires

@@ -4,7 +4,7 @@ use mathlib.Core.Path.{_≡_, sym, _∙_}
 use Prim.Native.Nat.{_≤_}
 use borrow.Author.Needs.{needs}
 use Rattle.reckon.specs.Tests.{refusal}
-use Rattle.grid.specs.Squares.{FineShape, mostSquares}
+use Rattle.grid.specs.Squares.{ShapeInRange, mostSquares}
 use Rattle.ledger.specs.Runs.{Plan, World, plan, world}
 use Rattle.ledger.specs.Record.{mostRecord}
 use Rattle.moves.specs.Given.{Given, ground, given}
@@ -47,7 +47,7 @@ start c = begin (c .before)
 passed : (c : tie.Else1) → let s = start c in refusal (runChecks (p s) (g s) (s .args .end) (w s)) ≡ 0
 passed c = sym (c .before .check .ensures) ∙ c .if1 .left
 
-fine : (c : tie.Else1) → FineShape (start c .args .shape)
+fine : (c : tie.Else1) → ShapeInRange (start c .args .shape)
 fine c = let s = start c in is-ready (p s) (g s) (w s) (run-checks-step (p s) (g s) (s .args .end) (w s) (passed c)) .waters .fine
 
 record-fits : (c : tie.After-squares-of) → c .before .record-size .result ≤ mostRecord

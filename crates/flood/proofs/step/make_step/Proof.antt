@@ -15,7 +15,7 @@ use Rattle.moves.proofs.MoveLaws.{step-lasts-to}
 use Rattle.moves.proofs.FillLaws.{length-made, lasts-made, same-fits, record-made}
 use Rattle.grid.specs.Squares.{squares}
 use Rattle.ledger.specs.After.{stepRecord}
-use Rattle.moves.specs.Moves.{stepLength, stepLasts, stepMoves}
+use Rattle.moves.specs.Moves.{stepLength, stepDuration, stepMoves}
 use Rattle.moves.specs.inner.Ready.{Ready}
 use Rattle.flood.proofs.StepLaws.{is-ready, step-seven, step-eight, settles, step-settled}
 use Rattle.flood.proofs.step.make_step.Statement.{statement}
@@ -26,7 +26,7 @@ use Rattle.flood.proofs.step.make_step.Tie as tie
 abbrev begin : tie.After-step-length-arg → tie.Start
 begin c = c .before .before .before .before .before .before .before .before .before .before .before
 
-abbrev timed : tie.Else1 → tie.After-lasts-for
+abbrev timed : tie.Else1 → tie.After-duration-for
 timed c = c .before .before
 
 abbrev watered : tie.After-slice-known6 → tie.After-add-water
@@ -55,10 +55,10 @@ w s = world (s .args .depths .now) (s .args .lasts .now) (s .args .records .now)
 abbrev v : tie.Start → Seen
 v s = seenOf (w s)
 
-abbrev start : tie.After-lasts-for → tie.Start
+abbrev start : tie.After-duration-for → tie.Start
 start c = begin (c .before .before)
 
-abbrev in-water : tie.After-add-water → tie.After-lasts-for
+abbrev in-water : tie.After-add-water → tie.After-duration-for
 in-water c = timed (c .before .before)
 
 -- the room and the record, as the calls leave them
@@ -71,13 +71,13 @@ rec c = c .fill .last .1 .1 .1 .1 .1 .1 .1 .1 .1 .1 .0
 able : (s : tie.Start) → Ready (p s) (g s) (v s)
 able s = is-ready (p s) (g s) (w s) (s .pre .0 .checked)
 
-length-is : (c : tie.After-lasts-for) → c .before .step-length .result ≡ stepLength (p (start c)) (g (start c)) (v (start c))
+length-is : (c : tie.After-duration-for) → c .before .step-length .result ≡ stepLength (p (start c)) (g (start c)) (v (start c))
 length-is c = let s = start c in length-made (p s) (g s) (w s) (c .before .step-length .ensures)
 
-lasts-is : (c : tie.After-lasts-for) → c .lasts-for .result ≡ stepLasts (p (start c)) (g (start c)) (v (start c))
-lasts-is c = let s = start c in lasts-made (p s) (g s) (w s) (c .before .step-length .ensures) (c .lasts-for .ensures)
+lasts-is : (c : tie.After-duration-for) → c .duration-for .result ≡ stepDuration (p (start c)) (g (start c)) (v (start c))
+lasts-is c = let s = start c in lasts-made (p s) (g s) (w s) (c .before .step-length .ensures) (c .duration-for .ensures)
 
-in-time : (c : tie.Else1) → start (timed c) .args .run .clock + stepLasts (p (start (timed c))) (g (start (timed c))) (v (start (timed c))) ≤ lastClock
+in-time : (c : tie.Else1) → start (timed c) .args .run .clock + stepDuration (p (start (timed c))) (g (start (timed c))) (v (start (timed c))) ≤ lastClock
 in-time c = omega (arith, lasts-is (timed c), c .if1 .left)
 
 room-long : (c : tie.After-add-water) → length (room c) ≡ squares (start (in-water c) .args .shape)
@@ -99,8 +99,8 @@ record-is c =
 step-length-requires : tie.Need-step-length-requires
 step-length-requires c κs = able (begin c) .flows .lies
 
-lasts-for-requires : tie.Need-lasts-for-requires
-lasts-for-requires c κs = able (begin (c .before)) .waters .rules .update-from
+duration-for-requires : tie.Need-duration-for-requires
+duration-for-requires c κs = able (begin (c .before)) .waters .rules .update-from
 
 add-end : tie.Need-add-end
 add-end c =
@@ -112,9 +112,9 @@ same-length c = search needs
 
 returns : tie.Need-returns
 returns c =
-    let at-lasts-for = c .before .before in
-    let s = start at-lasts-for in
-    step-seven (p s) (g s) (w s) (s .pre .0 .checked) (omega (arith, lasts-is at-lasts-for, c .if1 .taken))
+    let at-duration-for = c .before .before in
+    let s = start at-duration-for in
+    step-seven (p s) (g s) (w s) (s .pre .0 .checked) (omega (arith, lasts-is at-duration-for, c .if1 .taken))
 
 add-water-requires : tie.Need-add-water-requires
 add-water-requires c κs =
@@ -145,12 +145,12 @@ same-length-3 c = search needs
 returns-2 : tie.Need-returns-2
 returns-2 c =
     let at-add-water = watered (c .before) in
-    let at-lasts-for = in-water at-add-water in
-    let s = start at-lasts-for in
+    let at-duration-for = in-water at-add-water in
+    let s = start at-duration-for in
     let clock = s .args .run .clock in
     step-eight (p s) (g s) (w s) (s .pre .0 .checked) (in-time (at-add-water .before .before))
-    (ap (λ (x : ℕ). addedFits (p s) (g s) clock (clock + x)) (sym (lasts-is at-lasts-for))
-    ∙ (sym (same-fits (p s) (g s) (w s) clock (clock + at-lasts-for .lasts-for .result))
+    (ap (λ (x : ℕ). addedFits (p s) (g s) clock (clock + x)) (sym (lasts-is at-duration-for))
+    ∙ (sym (same-fits (p s) (g s) (w s) clock (clock + at-duration-for .duration-for .result))
     ∙ (sym (at-add-water .add-water .ensures .fits-is) ∙ not-true _ (c .if2 .taken))))
 
 fill-requires : tie.Need-fill-requires
@@ -160,7 +160,7 @@ fill-requires c κs =
       record {
         flows = able s .flows;
         added-long = room-long at-add-water;
-        lasts-for = omega (arith, lasts-is (in-water at-add-water), step-lasts-to (p s) (g s) (v s) (able s));
+        duration-for = omega (arith, lasts-is (in-water at-add-water), step-lasts-to (p s) (g s) (v s) (able s));
         record-long = s .pre .1 .0;
       },
       able s .length-to,
@@ -204,7 +204,7 @@ make-step-spec =
     tie.close
     (tie.spec
     step-length-requires
-    lasts-for-requires
+    duration-for-requires
     add-end
     same-length
     returns

@@ -3,7 +3,7 @@
 use mathlib.Core.Path.{sym, _∙_}
 use Prim.Native.Nat.{_≤_}
 use borrow.Author.Needs.{needs}
-use Rattle.grid.specs.Squares.{FineShape, mostSquares}
+use Rattle.grid.specs.Squares.{ShapeInRange, mostSquares}
 use Rattle.ledger.specs.Runs.{Plan, World, plan, world}
 use Rattle.ledger.specs.Record.{mostRecord}
 use Rattle.moves.specs.Given.{Given, ground, given}
@@ -30,7 +30,7 @@ g s = given (ground (s .args .rules) (s .args .beds .now) (s .args .roughness .n
 abbrev w : tie.Start → World
 w s = world (s .args .depths .now) (s .args .lasts .now) (s .args .records .now) (s .args .run)
 
-fine : (s : tie.Start) → FineShape (s .args .shape)
+fine : (s : tie.Start) → ShapeInRange (s .args .shape)
 fine s = is-ready (p s) (g s) (w s) (s .pre .checked) .waters .fine
 
 record-fits : (c : tie.After-squares-of) → c .before .record-size .result ≤ mostRecord

@@ -11,7 +11,7 @@ use Rattle.reckon.specs.Tests.{allBelow}
 use Rattle.reckon.specs.Lists.{filled, sumBelow}
 use Rattle.reckon.proofs.TestLaws.{all-none, all-more}
 use Rattle.reckon.proofs.ListLaws.{filled-none, sum-none, sum-more}
-use Rattle.grid.specs.Squares.{squares, Stands}
+use Rattle.grid.specs.Squares.{squares, OnSquare}
 use Rattle.ledger.specs.Runs.{Plan, plan}
 use Rattle.ledger.specs.Flows.{offSquare}
 use Rattle.ledger.specs.Record.{leavesIn}
@@ -85,7 +85,7 @@ module _ (c : tie.In-loop Inv-loop μ-loop) where
   inside : i < squares (p at .shape)
   inside = omega (arith, at .squares-of .ensures, c .loop-test .taken)
 
-  stands : Stands (p at .shape) i (turn c .loop .column)
+  stands : OnSquare (p at .shape) i (turn c .loop .column)
   stands = walk-stands _ (turn c .loop .inv .0) (start at .pre .0 .recorded .fine) (c .loop-test .taken)
 
 -- ---- the needs

@@ -12,7 +12,7 @@ use Rattle.grid.specs.Squares.{squares}
 use Rattle.ledger.specs.Runs.{Plan, World, plan, world}
 use Rattle.ledger.specs.Record.{newestRecord}
 use Rattle.ledger.specs.TakeBack.{restorable}
-use Rattle.ledger.specs.inner.TakeBack.{Kept, Led}
+use Rattle.ledger.specs.inner.TakeBack.{Kept, RecordAndDepths}
 use Rattle.ledger.proofs.RecordLaws.{slots-of}
 use Rattle.ledger.proofs.BackLaws.{takes-refused, takes-unfit, takes-back, clock-covers, squares-restorable, outflow-covers, newest-below, kept-some, newest-fits, newest-is, newest-long, newest-led}
 use borrow.Author.Needs.{needs}
@@ -60,8 +60,8 @@ turning c = c .before .before .before
 abbrev last : tie.After-slice-known4 → tie.After-restore-lasts
 last c = c .before .before
 
-abbrev lasting : tie.After-restore-lasts → tie.After-restore-lasts-arg
-lasting c = c .before
+abbrev duration : tie.After-restore-lasts → tie.After-restore-lasts-arg
+duration c = c .before
 
 abbrev end : tie.After-run-before → tie.After-slice-known4
 end c = c .before
@@ -106,7 +106,7 @@ module _ (c : tie.After-slot-start) where
   rec-is =
       newest-is p w (kept (open-at c)) (sized (counted c) .record-size .ensures) (counted c .slots-in .ensures) (c .slot-start .ensures)
 
-  rec-led : {depths : List ℕ} → length depths ≡ squares (p .shape) → Led p rec depths
+  rec-led : {depths : List ℕ} → length depths ≡ squares (p .shape) → RecordAndDepths p rec depths
   rec-led l =
       newest-led p w (kept (open-at c)) (sized (counted c) .record-size .ensures) (counted c .slots-in .ensures) (c .slot-start .ensures) l
 
@@ -180,7 +180,7 @@ restore-lasts-requires c κs =
 
 run-before-requires : tie.Need-run-before-requires
 run-before-requires c κs =
-    let whole = restoring (deep (turning (lasting (last c)))) in
+    let whole = restoring (deep (turning (duration (last c)))) in
     let at = placed whole in
     let size = sized (counted at) .record-size .ensures in
     let slots = counted at .slots-in .ensures in (
@@ -204,7 +204,7 @@ same-length-6 c = search needs
 returns-3 : tie.Need-returns-3
 returns-3 c =
     let lasts = last (end c) in
-    let depths = turning (lasting lasts) in
+    let depths = turning (duration lasts) in
     let whole = restoring (deep depths) in
     let at = placed whole in
     takes-back (p at) (w at) (kept (open-at at)) (rec-is at) (restored whole)

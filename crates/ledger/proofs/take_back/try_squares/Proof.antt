@@ -10,7 +10,7 @@ use Rattle.reckon.specs.Tests.{allBelow}
 use Rattle.reckon.specs.Lists.{sumBelow}
 use Rattle.reckon.proofs.TestLaws.{all-none, all-more, all-fails, all-whole}
 use Rattle.reckon.proofs.ListLaws.{sum-none, sum-more}
-use Rattle.grid.specs.Squares.{squares, Stands}
+use Rattle.grid.specs.Squares.{squares, OnSquare}
 use Rattle.ledger.specs.Runs.{Plan, ofDepths, plan}
 use Rattle.ledger.specs.Flows.{offSquare}
 use Rattle.ledger.specs.Record.{leavesIn}
@@ -76,7 +76,7 @@ module _ (c : tie.In-loop Inv-loop μ-loop) where
   inside : i < squares (p at .shape)
   inside = omega (arith, at .squares-of .ensures, c .loop-test .taken)
 
-  stands : Stands (p at .shape) i (turn c .loop .column)
+  stands : OnSquare (p at .shape) i (turn c .loop .column)
   stands = walk-stands _ (turn c .loop .inv .0) (start at .pre .recorded .fine) (c .loop-test .taken)
 
 -- ---- the needs

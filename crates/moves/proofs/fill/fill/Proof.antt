@@ -15,13 +15,13 @@ use Rattle.moves.proofs.fill.fill.Statement.{statement}
 use Rattle.moves.proofs.fill.fill.Tie as tie
 
 abbrev Inv-loop : tie.InvT-loop
-Inv-loop shape rules marks beds roughness depths lasts added held lasting rec₀ squares square₀ column₀ rec square column =
+Inv-loop shape rules marks beds roughness depths lasts added held duration rec₀ squares square₀ column₀ rec square column =
     (square ≤ shape .rows * shape .columns)
     × (column ≡ square % shape .columns)
-    × Begun (plan shape marks) held lasting (leavesFor (plan shape marks) (ground rules beds roughness) depths lasts lasting) (λ i. getD lasts i 0) (λ i. getD added i 0) square rec
+    × Begun (plan shape marks) held duration (leavesFor (plan shape marks) (ground rules beds roughness) depths lasts duration) (λ i. getD lasts i 0) (λ i. getD added i 0) square rec
 
 abbrev μ-loop : tie.MeasureT-loop
-μ-loop shape rules marks beds roughness depths lasts added held lasting rec₀ squares square₀ column₀ rec square column = squares - square
+μ-loop shape rules marks beds roughness depths lasts added held duration rec₀ squares square₀ column₀ rec square column = squares - square
 
 -- ---- the places, each by the one before it
 
@@ -53,7 +53,7 @@ start c = begin (to-loop c .before)
 put-head-requires : tie.Need-put-head-requires Inv-loop μ-loop
 put-head-requires c κs =
     let s = begin c in
-    (omega (arith, s .pre .0 .record-long), (s .pre .1, s .pre .0 .lasts-for))
+    (omega (arith, s .pre .0 .record-long), (s .pre .1, s .pre .0 .duration-for))
 
 squares-of-requires : tie.Need-squares-of-requires Inv-loop μ-loop
 squares-of-requires c κs = begin (c .before .before .before) .pre .0 .flows .lies .sited .fine
@@ -71,7 +71,7 @@ fill-square-requires : tie.Need-fill-square-requires Inv-loop μ-loop
 fill-square-requires c κs =
     let at-loop = to-square c in
     let f = start at-loop .pre .0 in (
-      record { flows = f .flows; added-long = f .added-long; lasts-for = f .lasts-for; record-long = at-loop .loop .inv .2 .long },
+      record { flows = f .flows; added-long = f .added-long; duration-for = f .duration-for; record-long = at-loop .loop .inv .2 .long },
       record { fine = f .flows .lies .sited .fine; inside = omega arith; column-is = at-loop .loop .inv .1 },
     )
 
@@ -95,7 +95,7 @@ loop-again c =
     let s = start at-loop in (
       omega arith,
       carried (s .args .shape) (at-loop .loop .square) (at-loop .loop .inv .1) (c .next-column .ensures),
-      fill-turn (p s) (o s) (s .args .depths .now) (s .args .lasts .now) (s .args .added .now) (s .args .held) (s .args .lasting)
+      fill-turn (p s) (o s) (s .args .depths .now) (s .args .lasts .now) (s .args .added .now) (s .args .held) (s .args .duration)
           (at-loop .loop .square) (omega arith) (at-loop .loop .inv .2) (at-fill-square .fill-square .ensures),
     )
 

@@ -97,7 +97,7 @@ returns-2 c =
     record {
       closed-put = λ e. not-both e (is-open (at-number .before));
       open-put =
-          λ e. put-dry (s .args .rules) _ _ (s .args .lasting) _ (s .args .rec .now) (s .args .square) _ _
+          λ e. put-dry (s .args .rules) _ _ (s .args .duration) _ (s .args .rec .now) (s .args .square) _ _
           (sym (at-number .number .ensures) ∙ at-if2 .if2 .taken) (dry c .put-square .ensures);
     }
 
@@ -119,7 +119,7 @@ weigh-requires c κs =
     let inside = s .pre .1 .inside in
     let e = is-open (at-number .before) in
     weighable (p s) (o s) (s .args .depths .now) (f .lies) (s .args .square) inside e (s .args .lasts .now)
-    (f .lasts-to (s .args .square) inside e) (s .pre .0 .lasts-for) (at-number .number .ensures) (c .before .number2 .ensures)
+    (f .lasts-to (s .args .square) inside e) (s .pre .0 .duration-for) (at-number .number .ensures) (c .before .number2 .ensures)
     (c .number3 .ensures) (at-drops-of .drops-of .ensures)
 
 mul-put-square-3 : tie.Need-mul-put-square-3
@@ -143,7 +143,7 @@ put-square-requires-2 c κs =
     let s = start (at-number .before) in
     let d = s .pre .0 .flows .lies .depths-to (s .args .square) (s .pre .1 .inside) (is-open (at-number .before)) in (
       omega (arith, s .pre .0 .record-long, s .pre .1 .inside),
-      words-fit (s .args .rules) (at-number2 .number2 .result) (at-number3 .number3 .result) (s .args .lasting)
+      words-fit (s .args .rules) (at-number2 .number2 .result) (at-number3 .number3 .result) (s .args .duration)
           (at-number2 .before .drops-of .result) {d = at-number .number .result} (omega (arith, at-number .number .ensures)) (at-weigh .weigh .ensures),
     )
 
@@ -161,7 +161,7 @@ returns-3 c =
     record {
       closed-put = λ e. not-both e (is-open (at-number .before));
       open-put =
-          λ e. put-wet (s .args .rules) (getD (s .args .lasts .now) i 0) (getD (s .args .roughness .now) i 0) (s .args .lasting)
+          λ e. put-wet (s .args .rules) (getD (s .args .lasts .now) i 0) (getD (s .args .roughness .now) i 0) (s .args .duration)
           (dropsOf (p s) (s .args .rules) (s .args .beds .now) (s .args .depths .now) i) (s .args .rec .now) i _ _ (at-number .number .ensures)
           (at-number2 .number2 .ensures) (at-number3 .number3 .ensures) (at-number2 .before .drops-of .ensures) (at-weigh .weigh .ensures)
           (wet c .put-square2 .ensures);

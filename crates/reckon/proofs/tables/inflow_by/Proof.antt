@@ -6,7 +6,7 @@ use native.Mathlib.Nat.{mul-le-mul, mul-pos}
 use native.Mathlib.Omega.{arith}
 use lib.ListN.{length}
 use Rattle.reckon.specs.Lists.{sumBelow}
-use Rattle.reckon.specs.Tables.{inflowKind, given, onSquare, inflowBy}
+use Rattle.reckon.specs.Tables.{inflowKind, tableGives, onSquare, inflowBy}
 use Rattle.reckon.proofs.ListLaws.{sum-none, sum-more, sum-whole}
 use Rattle.reckon.proofs.TableLaws.{term, term-le, terms-le}
 use Rattle.reckon.proofs.tables.inflow_by.Statement.{statement}
@@ -57,7 +57,7 @@ div-result : tie.Need-div-result Inv-loop μ-loop
 div-result c = mul-pos (c .before .before .before .pre .1 .0) (c .before .before .before .pre .1 .0)
 
 returns : tie.Need-returns Inv-loop μ-loop
-unfolding inflowBy given
+unfolding inflowBy tableGives
 returns c =
     let side = c .before .before .before .args .side in
     ap (λ (s : ℕ). s / (side * side)) (sum-whole _ (c .before .loop .inv .2) (omega arith))

@@ -6,7 +6,7 @@ use Prim.Native.Nat.{ℕ, _+_, _-_, _/_, _≤_}
 use native.Mathlib.Omega.{arith}
 use lib.ListN.{length, getD}
 use Rattle.reckon.specs.Lists.{sumBelow}
-use Rattle.reckon.specs.Tables.{rainKind, given, rainBy}
+use Rattle.reckon.specs.Tables.{rainKind, tableGives, rainBy}
 use Rattle.reckon.proofs.ListLaws.{sum-none, sum-more, sum-whole}
 use Rattle.reckon.proofs.TableLaws.{term, term-le, terms-le, rain-term}
 use Rattle.reckon.proofs.tables.rain_by.Statement.{statement}
@@ -56,7 +56,7 @@ loop-again c = (
 )
 
 returns : tie.Need-returns Inv-loop μ-loop
-unfolding rainBy given
+unfolding rainBy tableGives
 returns c = ap (λ (s : ℕ). s / 3600000) (sum-whole _ (c .before .loop .inv .2) (omega arith))
 
 pub rain-by-spec : {M : Type 1} → statement M

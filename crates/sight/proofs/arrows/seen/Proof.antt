@@ -6,11 +6,11 @@ use Prim.Native.Nat.{ℕ, _<_}
 use native.Mathlib.Omega.{arith}
 use lib.Dec.{lit<}
 use borrow.Author.Needs.{needs}
-use Rattle.grid.specs.Squares.{Stands, sides}
+use Rattle.grid.specs.Squares.{OnSquare, sides}
 use Rattle.grid.specs.Marks.{closed}
 use Rattle.ledger.specs.Runs.{Plan, plan}
 use Rattle.sight.specs.declared.speeds.Through.{Through}
-use Rattle.sight.specs.inner.Arrows.{Laid, Sided, Ranged}
+use Rattle.sight.specs.inner.Arrows.{SightLent, Sided, Ranged}
 use Rattle.sight.proofs.ArrowLaws.{ranged, seen-closed, seen-dry, seen-still, seen-moving}
 use Rattle.sight.proofs.arrows.seen.Statement.{statement}
 use Rattle.sight.proofs.arrows.seen.Tie as tie
@@ -57,7 +57,7 @@ module _ (c : tie.Else1) where
   -- what each side asks
   side-asked :
       {side : ℕ} → side < sides →
-      Laid p (start c .args .depths .now) (start c .args .rec .now) × ((Stands (p .shape) (start c .args .square) (start c .args .column) × (closed (p .marks) (start c .args .square) ≡ false)) × (side < sides))
+      SightLent p (start c .args .depths .now) (start c .args .rec .now) × ((OnSquare (p .shape) (start c .args .square) (start c .args .column) × (closed (p .marks) (start c .args .square) ≡ false)) × (side < sides))
   side-asked h = (start c .pre .0, ((start c .pre .1 .1, not-closed), h))
 
 -- what went through each side of a wet square is in range

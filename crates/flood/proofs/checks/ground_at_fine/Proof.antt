@@ -1,10 +1,10 @@
--- `flood::checks::ground_ok` meets its contract: a closed square passes, and the ground of any other decides.
+-- `flood::checks::ground_at_fine` meets its contract: a closed square passes, and the ground of any other decides.
 -- Assumes nothing.
 use mathlib.Core.Path.{sym, _∙_}
 use borrow.Author.Needs.{needs}
 use Rattle.flood.proofs.CheckLaws.{or-skipped, or-decided}
-use Rattle.flood.proofs.checks.ground_ok.Statement.{statement}
-use Rattle.flood.proofs.checks.ground_ok.Tie as tie
+use Rattle.flood.proofs.checks.ground_at_fine.Statement.{statement}
+use Rattle.flood.proofs.checks.ground_at_fine.Tie as tie
 
 is-closed-requires : tie.Need-is-closed-requires
 is-closed-requires c κs = search needs
