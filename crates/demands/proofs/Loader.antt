@@ -1,7 +1,7 @@
 -- The demands hold of the loader: its table is read row by row; a line that is found stands in the text as it would be written, its letter
 -- too; rooms are filled but at closed squares.
 -- Assumes nothing.
-use mathlib.Core.Path.{_≡_, refl, sym, ap, _∙_, subst}
+use mathlib.Core.Path.{_≡_, refl, sym, ap, _∙_}
 use mathlib.Core.Bool.{Bool, true, false}
 use mathlib.Core.List.{List, [], _∷_, _++_}
 use Prim.Native.Nat.{ℕ, zero, suc, _+_, _/_, _%_, _≤_, _<_}
@@ -17,26 +17,20 @@ use Rattle.reckon.proofs.ListLaws.{length-filled, filled-in, filled-past, fille
 use Rattle.grid.specs.Squares.{squares}
 use Rattle.grid.specs.Marks.{closed}
 use Rattle.flood.specs.Refusals.{checkRefusals}
-use Rattle.text.specs.Reading.{tab, newline, isByte, wordAt, lineFrom, fieldsAt}
-use Rattle.text.specs.Writing.{fieldsText}
-use Rattle.text.specs.inner.Standing.{Stands}
-use Rattle.text.specs.declared.reading.Fields.{Fields}
-use Rattle.text.proofs.StandLaws.{stands-both, stands-byte, stands-word}
-use Rattle.text.proofs.RoundTrip.{fields-found}
+use Rattle.text.specs.Reading.{lineFrom}
 use Rattle.text.proofs.LineLaws.{line-add}
-use Rattle.sheet.specs.Lines.{cellWord, xLetter, oLetter, eLetter, noCell, closedCell, asOpen, openCell, markedCell, placedCell, cellLine}
+use Rattle.sheet.specs.Lines.{xLetter, letterOf, lineHead}
 use Rattle.sheet.specs.Sheet.{Rooms, Reads, cellFrom, cellsAt, cellsRead, closedFrom, cellsFilled, roomsFilled, roomsAfter, lineOne, shapeOf, roomsFine, badLine, checksIn, checksOf, headingOf, judged, sheetOf}
-use Rattle.answer.specs.Program.{endedText, runText, meadowText}
-use Rattle.answer.specs.Program.{sheetText}
-use Rattle.sheet.specs.declared.lines.CellLine.{CellLine}
+use Rattle.answer.specs.Program.{endedText, runText, meadowText, sheetText}
 use Rattle.sheet.specs.declared.reading.Heading.{Heading}
 use Rattle.sheet.specs.declared.reading.Sheet.{Sheet}
 use Rattle.sheet.specs.declared.reading.Sheet.the-variants.{Read, Refused}
 use Rattle.sheet.proofs.SheetLaws.{rooms-cells}
 use Rattle.sheet.proofs.NumberLaws.{never-one, never-six}
 use Rattle.exports.specs.Sheets.{sheetNumber, sheetLine}
-use Rattle.demands.specs.Loader.{endRefusals, sheetRefusals, SheetSays, MeadowSays, LoaderRefuses, letterOf, lineHead, lineStart, MarksAreLetters, ClosedLeft, AsLong, LoaderWalls}
+use Rattle.demands.specs.Loader.{endRefusals, sheetRefusals, SheetSays, MeadowSays, LoaderRefuses, lineStart, MarksAreLetters, ClosedLeft, AsLong, LoaderWalls}
 use Rattle.demands.proofs.Table.{table-says}
+use Rattle.sheet.proofs.LetterLaws.{cell-headed}
 
 -- ---- the number and the line of a sheet
 
@@ -144,98 +138,6 @@ loader-refuses =
       leaves = λ s before after number line x. x .rooms-are;
     }
 
--- ---- a line that is found begins with the word, the square's row and column, and the letter of its mark
-
-choice : {A : Type 0} (P : A → Type 0) (b : Bool) {x y : A} → (b ≡ true → P x) → (b ≡ false → P y) → P (pick b x y)
-unfolding pick
-choice P true f g = f refl
-choice P false f g = g refl
-
--- where the line is found, its mark's letter stands after a tab
-abbrev Lettered : List ℕ → ℕ → CellLine → Type 0
-Lettered s p c = c .found ≡ true → Stands s p (tab ∷ letterOf (c .mark) ∷ []) (p + 1 + 1)
-
-module _ (s : List ℕ) (p : ℕ) where
-  none-lettered : Lettered s p noCell
-  unfolding noCell
-  none-lettered e = not-both e refl
-
-  module _ (t : isByte s p tab ≡ true) where
-    letter-stands : (letter : ℕ) → isByte s (p + 1) letter ≡ true → Stands s p (tab ∷ letter ∷ []) (p + 1 + 1)
-    letter-stands letter h = stands-both (stands-byte s p tab t) (stands-byte s (p + 1) letter h)
-
-    closed-lettered : isByte s (p + 1) xLetter ≡ true → Lettered s p (closedCell s (p + 2))
-    unfolding closedCell letterOf
-    closed-lettered h = choice (Lettered s p) (isByte s (p + 2) newline) (λ n e. letter-stands xLetter h) (λ n. none-lettered)
-
-    open-lettered : isByte s (p + 1) oLetter ≡ true → Lettered s p (openCell s (p + 2) 1)
-    unfolding openCell asOpen letterOf
-    open-lettered h e = letter-stands oLetter h
-
-    exit-lettered : isByte s (p + 1) eLetter ≡ true → Lettered s p (openCell s (p + 2) 2)
-    unfolding openCell asOpen letterOf
-    exit-lettered h e = letter-stands eLetter h
-
-  marked-lettered : Lettered s p (markedCell s p)
-  unfolding markedCell
-  marked-lettered =
-      choice (Lettered s p) (isByte s p tab)
-      (λ t.
-      choice (Lettered s p) (isByte s (p + 1) xLetter) (closed-lettered t)
-      (λ n.
-      choice (Lettered s p) (isByte s (p + 1) oLetter) (open-lettered t)
-      (λ m. choice (Lettered s p) (isByte s (p + 1) eLetter) (exit-lettered t) (λ k. none-lettered))))
-      (λ n. none-lettered)
-
--- the first two of a list that has them
-two-of : (l : List ℕ) → length (take 2 l) ≡ 2 → take 2 l ≡ getD l 0 0 ∷ getD l 1 0 ∷ []
-two-of [] e = absurd (omega (arith, e))
-two-of (a ∷ []) e = absurd (omega (arith, e))
-two-of (a ∷ (b ∷ l)) e = refl
-
-module _ (s : List ℕ) (p row column : ℕ) where
-  abbrev headText : ℕ → List ℕ
-  headText mark = cellWord ++ (fieldsText (row ∷ column ∷ []) ++ (tab ∷ letterOf mark ∷ []))
-
-  -- where the line is found it begins so
-  abbrev Headed : CellLine → Type 0
-  Headed c = c .found ≡ true → drop p s ≡ headText (c .mark) ++ drop (p + length (headText (c .mark))) s
-
-  none-headed : Headed noCell
-  unfolding noCell
-  none-headed e = not-both e refl
-
-  -- what stands in a text is followed by the rest of it
-  followed : {t : List ℕ} {q : ℕ} → Stands s p t q → drop p s ≡ t ++ drop (p + length t) s
-  followed {t} a = a .text ∙ ap (λ (k : ℕ). t ++ drop k s) (a .after)
-
-  abbrev places : Fields
-  places = fieldsAt s (p + length cellWord) 2
-
-  placed-headed : wordAt s p cellWord ≡ true → places .found ≡ true → getD (places .values) 0 0 ≡ row → getD (places .values) 1 0 ≡ column →
-      Headed (markedCell s (places .next))
-  placed-headed w f r c e =
-      let written = fields-found {f = places} s (p + length cellWord) 2 (omega arith) f refl in
-      let values : take 2 (places .values) ≡ row ∷ column ∷ [] = two-of (places .values) (written .many) ∙ rw (r, c) in
-      followed
-      (stands-both (stands-word s p cellWord w)
-      (stands-both (subst (λ (vs : List ℕ). Stands s (p + length cellWord) (fieldsText vs) (places .next)) values (written .stands))
-      (marked-lettered s (places .next) e)))
-
-  cell-headed : Headed (cellLine s p row column)
-  unfolding cellLine placedCell
-  cell-headed =
-      choice Headed (wordAt s p cellWord)
-      (λ w.
-      choice Headed (places .found)
-      (λ f.
-      choice Headed (eqb (getD (places .values) 0 0) row)
-      (λ r.
-      choice Headed (eqb (getD (places .values) 1 0) column) (λ c. placed-headed w f (eqb-true _ _ r) (eqb-true _ _ c)) (λ n. none-headed))
-      (λ n. none-headed))
-      (λ n. none-headed))
-      (λ n. none-headed)
-
 -- ---- a sheet that is read
 
 module _ (s : List ℕ) (before after : Rooms) (h : Heading) (R : Reads s before (Read h) after) where
@@ -267,9 +169,6 @@ module _ (s : List ℕ) (before after : Rooms) (h : Heading) (R : Reads s before
   abbrev n : ℕ
   n = squares (shapeOf s)
 
-  abbrev line : ℕ → CellLine
-  line i = cellFrom s (cellsAt s) (shapeOf s .columns) i
-
   -- the second row of three passes where none applies
   second : (a b c : Bool) (j k : ℕ) → refusal (2 unless a ∷ (j + 3) unless b ∷ (k + 3) unless c ∷ []) ≡ 0 → b ≡ true
   unfolding refusal pick
@@ -277,16 +176,16 @@ module _ (s : List ℕ) (before after : Rooms) (h : Heading) (R : Reads s before
   second true false c j k q = absurd (omega (arith, q))
   second true true c j k q = refl
 
-  found : (i : ℕ) → i < n → line i .found ≡ true
+  found : (i : ℕ) → i < n → cellFrom s (cellsAt s) (shapeOf s .columns) i .found ≡ true
   unfolding badLine cellsRead
   found i l =
       let all = leb-true n _ (second _ _ _ _ _ (passes .text-good)) in
-      failing-before n (λ k. line k .found) i (omega (arith, all))
+      failing-before n (λ k. cellFrom s (cellsAt s) (shapeOf s .columns) k .found) i (omega (arith, all))
 
   roomy-marks : n ≤ length (before .cells .marks)
   roomy-marks = rooms-cells (shapeOf s) (lineOne s .side) before (passes .roomy) .0
 
-  mark-is : (i : ℕ) → i < n → getD (after .cells .marks) i 0 ≡ line i .mark
+  mark-is : (i : ℕ) → i < n → getD (after .cells .marks) i 0 ≡ cellFrom s (cellsAt s) (shapeOf s .columns) i .mark
   unfolding roomsAfter roomsFilled cellsFilled
   mark-is i l = ap (λ (z : Rooms). getD (z .cells .marks) i 0) (R .rooms-are) ∙ filled-in n _ _ (before .cells .marks) i (omega (arith, roomy-marks)) l refl
 
@@ -307,7 +206,7 @@ module _ (s : List ℕ) (before after : Rooms) (h : Heading) (R : Reads s before
 
       spelled : (i : ℕ) → i < n →
           drop (lineStart s i) s
-          ≡ lineHead (shapeOf s) i (getD (after .cells .marks) i 0) ++ drop (lineStart s i + length (lineHead (shapeOf s) i (getD (after .cells .marks) i 0))) s
+          ≡ lineHead (i / shapeOf s .columns) (i % shapeOf s .columns) (getD (after .cells .marks) i 0) ++ drop (lineStart s i + length (lineHead (i / shapeOf s .columns) (i % shapeOf s .columns) (getD (after .cells .marks) i 0))) s
       spelled i l =
           rw (mark-is i l, ← line-add s 0 2 i)
           (cell-headed s (lineFrom s (cellsAt s) i) (i / shapeOf s .columns) (i % shapeOf s .columns) (found i l))

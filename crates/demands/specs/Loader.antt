@@ -2,8 +2,8 @@
 -- Assumes nothing.
 use mathlib.Core.Path.{_≡_}
 use mathlib.Core.Bool.{true, false}
-use mathlib.Core.List.{List, [], _∷_, _++_}
-use Prim.Native.Nat.{ℕ, zero, suc, _+_, _/_, _%_, _≤_, _<_}
+use mathlib.Core.List.{List, _∷_, _++_}
+use Prim.Native.Nat.{ℕ, _+_, _/_, _%_, _≤_, _<_}
 use lib.Dec.{eqb}
 use lib.ListN.{length, getD, take, drop}
 use Rattle.reckon.specs.Tests.{Row, _unless_}
@@ -12,9 +12,8 @@ use Rattle.grid.specs.Marks.{closed}
 use Rattle.grid.specs.declared.squares.Shape.{Shape}
 use Rattle.flood.specs.Refusals.{runChecks}
 use Rattle.flood.specs.Run.{runTo}
-use Rattle.text.specs.Reading.{tab, lineFrom}
-use Rattle.text.specs.Writing.{fieldsText}
-use Rattle.sheet.specs.Lines.{cellWord, xLetter, oLetter, eLetter}
+use Rattle.text.specs.Reading.{lineFrom}
+use Rattle.sheet.specs.Lines.{xLetter}
 use Rattle.sheet.specs.Sheet.{Cells, Rooms, Reads, lineOne, lineTwo, shapeOf, roomsFine, badLine, planIn, givenIn, startIn, said, sheetOf}
 use Rattle.answer.specs.Program.{mostText, programRooms, meadowText}
 use Rattle.answer.specs.Printed.{refusedText, madeText}
@@ -22,6 +21,7 @@ use Rattle.sheet.specs.declared.reading.Heading.{Heading}
 use Rattle.sheet.specs.declared.reading.Sheet.the-variants.{Read, Refused}
 use Rattle.exports.specs.Sheets.{sheetNumber, sheetLine}
 use Rattle.demands.specs.Table.{TableSays}
+use Rattle.sheet.specs.Lines.{letterOf, lineHead}
 
 -- ---- demand 1: "A refusal gives one number from the table in document 01, exactly when that table says"
 
@@ -65,17 +65,6 @@ pub record LoaderRefuses : Type 0 where
 
 -- ---- "I want walls that no water enters": the marks that are read are the sheet's letters
 
--- "mark `x`, `o` or `e`": the letter of a mark, "0 closed, 1 open, 2 exit"; there is no other mark, and no other letter
-unfoldable pub letterOf : ℕ → ℕ
-letterOf zero = xLetter
-letterOf (suc zero) = oLetter
-letterOf (suc (suc zero)) = eLetter
-letterOf (suc (suc (suc mark))) = 0
-
--- what the line of square i begins with: "`cell` .. row, column (from 0), mark"
-abbrev pub lineHead : Shape → ℕ → ℕ → List ℕ
-lineHead shape i mark = cellWord ++ (fieldsText (i / shape .columns ∷ i % shape .columns ∷ []) ++ (tab ∷ letterOf mark ∷ []))
-
 -- where it begins: the lines of the squares follow the first two
 abbrev pub lineStart : List ℕ → ℕ → ℕ
 lineStart s i = lineFrom s 0 (2 + i)
@@ -83,7 +72,7 @@ lineStart s i = lineFrom s 0 (2 + i)
 -- of a sheet that is read: each square's line has the letter of the mark that was stored for it; so an `x` is closed, and nothing else is
 pub record MarksAreLetters (s : List ℕ) (shape : Shape) (marks : List ℕ) : Type 0 where
   pub spelled : (i : ℕ) → i < squares shape →
-      drop (lineStart s i) s ≡ lineHead shape i (getD marks i 0) ++ drop (lineStart s i + length (lineHead shape i (getD marks i 0))) s
+      drop (lineStart s i) s ≡ lineHead (i / shape .columns) (i % shape .columns) (getD marks i 0) ++ drop (lineStart s i + length (lineHead (i / shape .columns) (i % shape .columns) (getD marks i 0))) s
   pub x-is-closed : (i : ℕ) → i < squares shape → letterOf (getD marks i 0) ≡ xLetter → closed marks i ≡ true
   pub closed-is-x : (i : ℕ) → i < squares shape → closed marks i ≡ true → letterOf (getD marks i 0) ≡ xLetter
 

@@ -83,7 +83,8 @@ none-ends : (s : List ℕ) (p : ℕ) → Ends s p noCell
 unfolding noCell
 none-ends s p e = not-both e refl
 
-choice : {A : Type 0} (P : A → Type 0) (b : Bool) {x y : A} → (b ≡ true → P x) → (b ≡ false → P y) → P (pick b x y)
+-- what holds of each side where its test says so holds of the choice
+pub choice : {A : Type 0} (P : A → Type 0) (b : Bool) {x y : A} → (b ≡ true → P x) → (b ≡ false → P y) → P (pick b x y)
 unfolding pick
 choice P true f g = f refl
 choice P false f g = g refl

@@ -1,5 +1,6 @@
 pub mod JudgeLaws
 pub mod KindLaws
+pub mod LetterLaws
 pub mod NumberLaws
 pub mod PassLaws
 pub mod ReadLaws

@@ -1,8 +1,8 @@
 -- Document 01, "The sheet and its program": the kinds of line, each with its fields in their order.
 -- Assumes nothing.
 use mathlib.Core.Bool.{true, false}
-use mathlib.Core.List.{List, [], _∷_}
-use Prim.Native.Nat.{ℕ, _+_}
+use mathlib.Core.List.{List, [], _∷_, _++_}
+use Prim.Native.Nat.{ℕ, zero, suc, _+_}
 use lib.Dec.{eqb}
 use lib.ListN.{length, getD}
 use Rattle.reckon.specs.Tests.{pick}
@@ -11,6 +11,7 @@ use Rattle.text.specs.declared.reading.Fields.{Fields}
 use Rattle.sheet.specs.declared.lines.GridLine.{GridLine}
 use Rattle.sheet.specs.declared.lines.RunLine.{RunLine}
 use Rattle.sheet.specs.declared.lines.CellLine.{CellLine}
+use Rattle.text.specs.Writing.{fieldsText}
 
 -- the words that lines begin with
 abbrev pub gridWord : List ℕ
@@ -125,3 +126,14 @@ placedCell s row column f =
 unfoldable pub cellLine : List ℕ → ℕ → ℕ → ℕ → CellLine
 cellLine s p row column =
     pick (wordAt s p cellWord) (placedCell s row column (fieldsAt s (p + length cellWord) placeFields)) noCell
+
+-- "mark `x`, `o` or `e`": the letter of a mark, "0 closed, 1 open, 2 exit"; there is no other mark, and no other letter
+unfoldable pub letterOf : ℕ → ℕ
+letterOf zero = xLetter
+letterOf (suc zero) = oLetter
+letterOf (suc (suc zero)) = eLetter
+letterOf (suc (suc (suc mark))) = 0
+
+-- what the line of a square begins with: "`cell` .. row, column (from 0), mark"
+abbrev pub lineHead : ℕ → ℕ → ℕ → List ℕ
+lineHead row column mark = cellWord ++ (fieldsText (row ∷ column ∷ []) ++ (tab ∷ letterOf mark ∷ []))
