@@ -260,7 +260,7 @@ module _ (p : Plan) where
         record {
           leaves = λ i side. leaving i side j;
           added = addedFor p g (w .run .clock) (w .run .clock + lasts-same j);
-          lasts = lasts-same j;
+          duration = lasts-same j;
           length = length-same j;
         }
       where

@@ -91,9 +91,9 @@ exports-exactly-when p =
 -- ---- what is lent stays
 
 -- what a slice holds after a refused call
-left : {A : Type 0} {n m : ℕ} {new made old : A} → n ≡ m → new ≡ unlessRefused m made old → (n ≡ 0 → ⊥) → new ≡ old
+left : {A : Type 0} {n m : ℕ} {new : A} (made old : A) → n ≡ m → new ≡ unlessRefused m made old → (n ≡ 0 → ⊥) → new ≡ old
 unfolding unlessRefused
-left q e d = e ∙ pick-false _ _ (ne-eqb _ _ (λ z. d (q ∙ z)))
+left made old q e d = e ∙ pick-false _ _ (ne-eqb _ _ (λ z. d (q ∙ z)))
 
 -- a run's numbers in a slice of their size are that slice
 run-back : (l : List ℕ) → length l ≡ runSize → runNumbers (runValueFrom l) ≡ l
@@ -137,7 +137,9 @@ module _ (p : Plan) (g : Given) (end : ℕ) (w : World) (rules old oldSteps : Li
       go true q =
           let n : number ≡ e .number = x .number-is ∙ pick-true _ _ q in
           let there : e .world ≡ w = checks-refuse (subst (λ (k : ℕ). 1 ≤ k) n low) (subst (λ (k : ℕ). k ≤ lastCheck) n high) in
-          let long : length old ≡ runSize = eqb-true _ _ (and-right _ _ (and-right _ _ q)) in
+          let long : length old ≡ runSize =
+          eqb-true (length old) runSize
+          (and-right (eqb (length rules) rulesSize) (eqb (length old) runSize) (and-right (eqb (length oldSteps) stepsSize) (bothSized rules old) q)) in
           (
             x .depths-are ∙ (pick-true _ _ q ∙ ap (λ (u : World). u .depths) there),
             (
@@ -160,7 +162,7 @@ module _ (p : Plan) (g : Given) (end : ℕ) (w : World) (rules old oldSteps : Li
   leaves-steps late = go sized refl
     where
       past : (k : ℕ) → lastCheck < k → (leb 1 k && leb k lastCheck) ≡ false
-      past k l = rw (le-leb 1 k (omega arith), lt-leb lastCheck k l)
+      past k l = rw (le-leb 1 k (omega arith), lt-leb k lastCheck l)
 
       go : (b : Bool) → sized ≡ b →
           (depths ≡ e .world .depths) × ((lasts ≡ e .world .lasts) × ((records ≡ e .world .records)
@@ -208,27 +210,27 @@ meadow-left : (sized : Bool) (text : List ℕ) {long : ℕ} {out old : List ℕ}
     long ≡ 0 → out ≡ old
 unfolding pick
 meadow-left false text l o z = o
-meadow-left true [] {long} {out} {old} l o z = o ∙ sym (placed-none old 0)
+meadow-left true [] {long} {out} {old} l o z = o ∙ placed-none old 0
 meadow-left true (b ∷ text) l o z = absurd (omega (arith, sym l ∙ z))
 
 pub exports-leave : (p : Plan) → ExportsLeave p
 exports-leave p =
     record {
-      fresh = λ r before records rules old number lasts run x d. (left (x .number-is) (x .lasts-are) d, left (x .number-is) (x .run-is) d);
+      fresh = λ r before records rules old number lasts run x d. (left _ _ (x .number-is) (x .lasts-are) d, left _ _ (x .number-is) (x .run-is) d);
       step = λ g w rules old number depths lasts records run x d. (
-        left (x .number-is) (x .depths-are) d,
-        (left (x .number-is) (x .lasts-are) d, (left (x .number-is) (x .records-are) d, left (x .number-is) (x .run-is) d)),
+        left _ _ (x .number-is) (x .depths-are) d,
+        (left _ _ (x .number-is) (x .lasts-are) d, (left _ _ (x .number-is) (x .records-are) d, left _ _ (x .number-is) (x .run-is) d)),
       );
       take-back = λ w old number depths lasts run x d. (
-        left (x .number-is) (x .depths-are) d,
-        (left (x .number-is) (x .lasts-are) d, left (x .number-is) (x .run-is) d),
+        left _ _ (x .number-is) (x .depths-are) d,
+        (left _ _ (x .number-is) (x .lasts-are) d, left _ _ (x .number-is) (x .run-is) d),
       );
       run-checks = λ g end w rules old oldSteps number depths lasts records run steps x same low high.
           leaves-checks p g end w rules old oldSteps number depths lasts records run steps x same low high;
       run-steps = λ g end w rules old oldSteps number depths lasts records run steps x late.
           leaves-steps p g end w rules old oldSteps number depths lasts records run steps x late;
       arrow = λ D w row column run old number speeds x d. arrow-left _ _ (x .number-is) (x .speeds-are) d;
-      wet-rows = λ depths least oldRows oldCount number rows count x d. (left (x .number-is) (x .rows-are) d, left (x .number-is) (x .count-is) d);
+      wet-rows = λ depths least oldRows oldCount number rows count x d. (left _ _ (x .number-is) (x .rows-are) d, left _ _ (x .number-is) (x .count-is) d);
       read-sheet = λ s before oldHeading oldLine number after heading line x d. read-left _ s _ (x .number-is) (x .rooms-are) (x .heading-is) d;
       meadow = λ s old long out x z. meadow-left _ (meadowText s) (x .long-is) (x .out-is) z;
     }
@@ -261,7 +263,7 @@ module _ (p : Plan) (N : NoneDepends p) where
       let q : freshGives p r before records rules old ≡ freshGives p r others rooms rules old = ap (numberIf (bothSized rules old)) (same .0) in
       (
         x .number-is ∙ (q ∙ sym (y .number-is)),
-        (unless-both (SameOpen p) q (same .1 .1) L (x .lasts-are) (y .lasts-are), unless-both Equal q (ap runNumbers (same .1 .0)) refl (x .run-is) (y .run-is)),
+        (unless-both (SameOpen p) q (same .2) L (x .lasts-are) (y .lasts-are), unless-both Equal q (ap runNumbers (same .1)) refl (x .run-is) (y .run-is)),
       )
 
   step-same : (g h : Given) (w v : World) (rules old : List ℕ) (number m : ℕ) (depths depths′ lasts lasts′ records records′ run run′ : List ℕ) →
@@ -334,7 +336,7 @@ module _ (p : Plan) (N : NoneDepends p) where
       (number ≡ m) × ((rows ≡ rows′) × (count ≡ count′))
   wet-same depths others least oldRows oldCount number m rows rows′ count count′ S x y =
       let alike : AlikeDepths p depths others = record { as-many = S .long; alike = S .alike } in
-      let masks = masks-alike p alike least in
+      let masks = masks-alike (p .shape) (p .marks) (S .alike) least in
       let q : wetGives p depths least oldRows oldCount ≡ wetGives p others least oldRows oldCount =
       ap (numberIf (eqb (length oldCount) countSize)) (wet-number-alike p alike least (length oldRows)) in
       (

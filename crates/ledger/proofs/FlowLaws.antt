@@ -14,7 +14,6 @@ use Rattle.reckon.proofs.TestLaws.{pick-true, pick-false, pick-same, pick-both}
 use Rattle.reckon.proofs.ListLaws.{sum-le}
 use Rattle.grid.specs.Squares.{north, east, south, west, sides, mostSquares, squares, within, beside, opposite, onRim, ShapeInRange}
 use Rattle.grid.proofs.SquareLaws.{each-within, north-is, east-is, south-is, west-is}
-use Rattle.grid.specs.Marks.{closed}
 use Rattle.grid.proofs.MarkLaws.{closed-past}
 use Rattle.ledger.specs.Runs.{Plan}
 use Rattle.ledger.specs.Flows.{Leaves, fourSides, shut, gone, sent, came, offSide, offSquare, offGrid}
@@ -92,10 +91,6 @@ module _ (rec : List ℕ) (words : (k : ℕ) → getD rec k 0 < 4294967296) wher
   pub gone-small : (i : ℕ) → gone (leavesIn rec) i ≤ fourWords
   unfolding gone
   gone-small i = four-small (leavesIn rec i) (leaving-small i)
-
-  -- what a square sent, nothing where it is closed
-  pub from-small : (marks : List ℕ) (i side : ℕ) → pick (closed marks i) 0 (leavesIn rec i side) ≤ word
-  from-small marks i side = pick-both (λ (k : ℕ). k ≤ word) _ (omega arith) (leaving-small i side)
 
   module _ (p : Plan) where
     pub sent-small : (i side : ℕ) → sent p (leavesIn rec) i side ≤ word

@@ -30,8 +30,8 @@ ground-fine-requires c κs = search needs
 returns-2 : tie.Need-returns-2
 returns-2 c = or-decided _ (sym (c .before .before .before .before .is-closed .ensures) ∙ c .before .before .before .if1 .left) (c .ground-fine .ensures)
 
-pub ground-ok-spec : {M : Type 1} → statement M
-ground-ok-spec =
+pub ground-at-fine-spec : {M : Type 1} → statement M
+ground-at-fine-spec =
     tie.close
     (tie.spec
     is-closed-requires

@@ -28,8 +28,8 @@ squares-of-requires c κs = c .before .before .before .pre .0 .fine
 loop-holds : tie.Need-loop-holds Inv-loop μ-loop
 loop-holds c = (omega arith, all-none _)
 
-ground-ok-requires : tie.Need-ground-ok-requires Inv-loop μ-loop
-ground-ok-requires c κs = search needs
+ground-at-fine-requires : tie.Need-ground-at-fine-requires Inv-loop μ-loop
+ground-at-fine-requires c κs = search needs
 
 returns : tie.Need-returns Inv-loop μ-loop
 unfolding groundsFine
@@ -56,7 +56,7 @@ grounds-fine-spec =
     μ-loop
     squares-of-requires
     loop-holds
-    ground-ok-requires
+    ground-at-fine-requires
     returns
     add-square
     loop-less
