@@ -11,7 +11,7 @@ use lib.Ieee.{Float}
 use borrow.Author.Tests.{eqb-true, ne-eqb, le-leb, lt-leb}
 use Rattle.reckon.specs.Tests.{pick, Row, _unless_, refusal, numbered}
 use Rattle.reckon.specs.Lists.{placed}
-use Rattle.reckon.proofs.TestLaws.{pick-true, pick-false, and-right}
+use Rattle.reckon.proofs.TestLaws.{pick-true, pick-false, every-each}
 use Rattle.rule.specs.declared.rules.Rules.{Rules}
 use Rattle.ledger.specs.Runs.{Plan, World}
 use Rattle.ledger.specs.After.{lateRefusals}
@@ -137,9 +137,7 @@ module _ (p : Plan) (g : Given) (end : ℕ) (w : World) (rules old oldSteps : Li
       go true q =
           let n : number ≡ e .number = x .number-is ∙ pick-true _ _ q in
           let there : e .world ≡ w = checks-refuse (subst (λ (k : ℕ). 1 ≤ k) n low) (subst (λ (k : ℕ). k ≤ lastCheck) n high) in
-          let long : length old ≡ runSize =
-          eqb-true (length old) runSize
-          (and-right (eqb (length rules) rulesSize) (eqb (length old) runSize) (and-right (eqb (length oldSteps) stepsSize) (bothSized rules old) q)) in
+          let long : length old ≡ runSize = eqb-true (length old) runSize (every-each _ q .1 .0) in
           (
             x .depths-are ∙ (pick-true _ _ q ∙ ap (λ (u : World). u .depths) there),
             (
