@@ -106,7 +106,7 @@ run-back (a ∷ (b ∷ (c ∷ (d ∷ (f ∷ []))))) e = refl
 run-back (a ∷ (b ∷ (c ∷ (d ∷ (f ∷ (g ∷ l)))))) e = absurd (omega (arith, e))
 
 module _ (p : Plan) (g : Given) (end : ℕ) (w : World) (rules old oldSteps : List ℕ) (number : ℕ) (depths lasts records run steps : List ℕ)
-  (x : ExportsRun p g end w rules old oldSteps number depths lasts records run steps) where
+    (x : ExportsRun p g end w rules old oldSteps number depths lasts records run steps) where
   abbrev sized : Bool
   sized = ranSized p g end w rules old oldSteps
 
@@ -137,8 +137,7 @@ module _ (p : Plan) (g : Given) (end : ℕ) (w : World) (rules old oldSteps : Li
       go true q =
           let n : number ≡ e .number = x .number-is ∙ pick-true _ _ q in
           let there : e .world ≡ w = checks-refuse (subst (λ (k : ℕ). 1 ≤ k) n low) (subst (λ (k : ℕ). k ≤ lastCheck) n high) in
-          let long : length old ≡ runSize = eqb-true (length old) runSize (every-each _ q .1 .0) in
-          (
+          let long : length old ≡ runSize = eqb-true (length old) runSize (every-each _ q .1 .0) in (
             x .depths-are ∙ (pick-true _ _ q ∙ ap (λ (u : World). u .depths) there),
             (
               x .lasts-are ∙ (pick-true _ _ q ∙ ap (λ (u : World). u .lasts) there),
@@ -167,8 +166,7 @@ module _ (p : Plan) (g : Given) (end : ℕ) (w : World) (rules old oldSteps : Li
           × ((run ≡ runNumbers (e .world .run)) × (steps ≡ e .steps ∷ []))))
       go false q = let n : number ≡ 1 = x .number-is ∙ pick-false _ _ q in absurd (omega (arith, n))
       go true q =
-          let n : number ≡ e .number = x .number-is ∙ pick-true _ _ q in
-          (
+          let n : number ≡ e .number = x .number-is ∙ pick-true _ _ q in (
             x .depths-are ∙ pick-true _ _ q,
             (
               x .lasts-are ∙ pick-true _ _ q,
@@ -258,8 +256,7 @@ module _ (p : Plan) (N : NoneDepends p) where
       ExportsFresh p r others rooms rules old m lasts′ run′ → (number ≡ m) × (SameOpen p lasts lasts′ × (run ≡ run′))
   fresh-same r before others records rooms rules old number m lasts lasts′ run run′ L R x y =
       let same = N .fresh r before others records rooms L R in
-      let q : freshGives p r before records rules old ≡ freshGives p r others rooms rules old = ap (numberIf (bothSized rules old)) (same .0) in
-      (
+      let q : freshGives p r before records rules old ≡ freshGives p r others rooms rules old = ap (numberIf (bothSized rules old)) (same .0) in (
         x .number-is ∙ (q ∙ sym (y .number-is)),
         (unless-both (SameOpen p) q (same .2) L (x .lasts-are) (y .lasts-are), unless-both Equal q (ap runNumbers (same .1)) refl (x .run-is) (y .run-is)),
       )
@@ -270,8 +267,7 @@ module _ (p : Plan) (N : NoneDepends p) where
       (number ≡ m) × (SameOpen p depths depths′ × (SameOpen p lasts lasts′ × (SameRoom p records records′ × (run ≡ run′))))
   step-same g h w v rules old number m depths depths′ lasts lasts′ records records′ run run′ G W x y =
       let same = N .step g h w v G W in
-      let q : stepGives p g w rules old ≡ stepGives p h v rules old = ap (numberIf (bothSized rules old)) (same .0) in
-      (
+      let q : stepGives p g w rules old ≡ stepGives p h v rules old = ap (numberIf (bothSized rules old)) (same .0) in (
         x .number-is ∙ (q ∙ sym (y .number-is)),
         (
           unless-both (SameOpen p) q (same .1 .depths) (W .depths) (x .depths-are) (y .depths-are),
@@ -292,8 +288,7 @@ module _ (p : Plan) (N : NoneDepends p) where
       (number ≡ m) × (SameOpen p depths depths′ × (SameOpen p lasts lasts′ × (SameRoom p records records′ × ((run ≡ run′) × (steps ≡ steps′)))))
   run-same g h end w v rules old oldSteps number m depths depths′ lasts lasts′ records records′ run run′ steps steps′ G W x y =
       let same = N .run-to g h end w v G W in
-      let b : Bool = ranSized p g end w rules old oldSteps in
-      (
+      let b : Bool = ranSized p g end w rules old oldSteps in (
         x .number-is ∙ (ap (numberIf b) (same .number) ∙ sym (y .number-is)),
         (
           both-ways (SameOpen p) b (same .world .depths) (W .depths) (x .depths-are) (y .depths-are),
@@ -317,8 +312,7 @@ module _ (p : Plan) (N : NoneDepends p) where
       (number ≡ m) × (SameOpen p depths depths′ × (SameOpen p lasts lasts′ × (run ≡ run′)))
   back-same w v old number m depths depths′ lasts lasts′ run run′ W x y =
       let same = N .take-back w v W in
-      let q : backGives p w old ≡ backGives p v old = ap (numberIf (eqb (length old) runSize)) (same .0) in
-      (
+      let q : backGives p w old ≡ backGives p v old = ap (numberIf (eqb (length old) runSize)) (same .0) in (
         x .number-is ∙ (q ∙ sym (y .number-is)),
         (
           unless-both (SameOpen p) q (same .1 .depths) (W .depths) (x .depths-are) (y .depths-are),
@@ -336,8 +330,7 @@ module _ (p : Plan) (N : NoneDepends p) where
       let alike : AlikeDepths p depths others = record { as-many = S .long; alike = S .alike } in
       let masks = masks-alike (p .shape) (p .marks) (S .alike) least in
       let q : wetGives p depths least oldRows oldCount ≡ wetGives p others least oldRows oldCount =
-      ap (numberIf (eqb (length oldCount) countSize)) (wet-number-alike p alike least (length oldRows)) in
-      (
+      ap (numberIf (eqb (length oldCount) countSize)) (wet-number-alike p alike least (length oldRows)) in (
         x .number-is ∙ (q ∙ sym (y .number-is)),
         (unless-both Equal q masks refl (x .rows-are) (y .rows-are), unless-both Equal q (ap (λ (l : List ℕ). onesOver l ∷ []) masks) refl (x .count-is) (y .count-is)),
       )
@@ -351,16 +344,14 @@ module _ (p : Plan) (N : NoneDepends p) where
         take-back = back-same;
         arrow = λ D depths others room rest u row column run old number m speeds speeds′ S l R x y.
             let same = N .arrow D depths others room rest u row column S l R in
-            let b : Bool = arrowSized p D (view depths room u) row column run old in
-            (
+            let b : Bool = arrowSized p D (view depths room u) row column run old in (
               x .number-is ∙ (ap (λ (s : Sight). numberIf b (sightNumber s)) same ∙ sym (y .number-is)),
               x .speeds-are ∙ (ap (λ (s : Sight). pick b (speedsIn s old) old) same ∙ sym (y .speeds-are)),
             );
         wet-rows = wet-same;
         read-sheet = λ s a c oldHeading oldLine number m after after′ heading heading′ line line′ l x y.
             let same = sheet-alike s a c l in
-            let b : Bool = sheetSized s a oldHeading oldLine in
-            (
+            let b : Bool = sheetSized s a oldHeading oldLine in (
               x .number-is ∙ (ap (λ (z : Sheet). numberIf b (sheetNumber z)) same ∙ sym (y .number-is)),
               (
                 x .heading-is ∙ (ap (λ (z : Sheet). pick b (headingIn z oldHeading) oldHeading) same ∙ sym (y .heading-is)),

@@ -109,12 +109,6 @@ pub extern "C" fn flood_wet_rows(
     if count.len() != COUNT_NUMBERS {
         return NOT_ITS_SIZE;
     }
-    let answer = wet_rows(
-        shape_from(rows, columns),
-        marks,
-        depths,
-        wet_depth,
-        wet,
-    );
+    let answer = wet_rows(shape_from(rows, columns), marks, depths, wet_depth, wet);
     tell_wet(answer, count)
 }

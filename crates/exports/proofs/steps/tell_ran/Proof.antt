@@ -21,8 +21,7 @@ same-length-2 c = search needs
 returns : tie.Need-returns
 returns c =
     let at-put-run = c .before .before .before in
-    let start = at-put-run .before .before .before .before in
-    (
+    let start = at-put-run .before .before .before .before in (
       refl,
       at-put-run .put-run .ensures,
       stored _ (start .args .steps .now) (start .pre .1) ∙ sym (ran-made _ _ (c .if1 .taken)),
@@ -40,8 +39,7 @@ same-length-4 c = search needs
 returns-2 : tie.Need-returns-2
 returns-2 c =
     let at-put-run = c .before .before .before .before in
-    let start = at-put-run .before .before .before .before in
-    (
+    let start = at-put-run .before .before .before .before in (
       refl,
       at-put-run .put-run .ensures,
       stored _ (start .args .steps .now) (start .pre .1) ∙ sym (ran-late _ _ (c .if2 .taken)),
