@@ -111,7 +111,7 @@ pub record RuleDetermined : Type 0 where
   pub ground-fine : (bed roughness : ℕ) → One (GroundJudged bed roughness)
   pub weigh : (r : Rules) (depth last roughness ms : ℕ) (drops : List ℕ) → One (Weighs r depth last roughness ms drops)
 
--- `settle` is lent a working room too, `fresh`, and what is left in that is not promised: the one exception
+-- `settle` is lent a working room too, `working`, and what is left in that is not promised: the one exception
 pub record LedgerDetermined : Type 0 where
   pub record-size : (s : Shape) → One (SizeOf s)
   pub held-before : (rec : List ℕ) → One (HeldBefore rec)

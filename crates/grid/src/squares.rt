@@ -1,6 +1,5 @@
 // The squares of a grid, row by row from the north, and the square on a side of one. No division: a walk over the squares carries
 // the column.
-ghost use mathlib.Core.Path.{_≡_};
 ghost use Prim.Native.Nat.{_<_};
 ghost use Rattle.grid.specs.Squares.{BesideOn, ShapeInRange, NextColumn, OnGrid, OppositeOf, RimJudged, ShapeJudged, SquareFound, SquaresOf, OnSquare, sides};
 

@@ -81,36 +81,36 @@ fn gather_square(
     depths: &[u32],
     square: usize,
     column: usize,
-    fresh: &mut [u32],
+    working: &mut [u32],
 ) -> bool
     requires { ⌜ Gathers (plan shape (now marks)) (now rec) (now depths) ⌝ }
-    requires { ⌜ (OnSquare shape square column) × (square < length (now fresh)) ⌝ }
-    ensures { λ r. ⌜ GatheredOne (plan shape (now (marks .entry))) (now (rec .entry)) (now (depths .entry)) square (now (fresh .entry)) r (now (fresh .exit)) ⌝ }
+    requires { ⌜ (OnSquare shape square column) × (square < length (now working)) ⌝ }
+    ensures { λ r. ⌜ GatheredOne (plan shape (now (marks .entry))) (now (rec .entry)) (now (depths .entry)) square (now (working .entry)) r (now (working .exit)) ⌝ }
 {
     if is_closed(marks, square) {
-        fresh[square] = depths[square];
+        working[square] = depths[square];
         return true;
     }
     let depth = new_depth(shape, marks, rec, depths, square, column);
     if (MOST_DEPTH as u64) < depth {
         return false;
     }
-    fresh[square] = depth as u32;
+    working[square] = depth as u32;
     true
 }
 
 // Gathers every square's new depth, and what leaves the grid.
-fn gather(shape: Shape, marks: &[u8], rec: &[u32], depths: &[u32], fresh: &mut [u32]) -> Found
+fn gather(shape: Shape, marks: &[u8], rec: &[u32], depths: &[u32], working: &mut [u32]) -> Found
     requires { ⌜ Gathers (plan shape (now marks)) (now rec) (now depths) ⌝ }
-    requires { ⌜ length (now fresh) ≡ squares shape ⌝ }
-    ensures { λ r. ⌜ GatheredAll (plan shape (now (marks .entry))) (now (rec .entry)) (now (depths .entry)) r (now (fresh .exit)) ⌝ }
+    requires { ⌜ length (now working) ≡ squares shape ⌝ }
+    ensures { λ r. ⌜ GatheredAll (plan shape (now (marks .entry))) (now (rec .entry)) (now (depths .entry)) r (now (working .exit)) ⌝ }
 {
     let squares = squares_of(shape);
     let mut off: u64 = 0;
     let mut square = 0;
     let mut column = 0;
     while square < squares {
-        if !gather_square(shape, marks, rec, depths, square, column, fresh) {
+        if !gather_square(shape, marks, rec, depths, square, column, working) {
             return UNFIT;
         }
         off += off_from(shape, marks, rec, square, column);
@@ -161,13 +161,13 @@ fn write(
     held: u64,
     outflow: u64,
     run: Run,
-    fresh: &[u32],
+    working: &[u32],
     depths: &mut [u32],
     lasts: &mut [u32],
     records: &mut [u32],
 ) -> Run
     requires { ⌜ Settles (plan shape (now marks)) (now rec) held (world (now depths) (now lasts) (now records) run) ⌝ }
-    requires { ⌜ now fresh ≡ depthsBy (plan shape (now marks)) (now rec) (now depths) ⌝ }
+    requires { ⌜ now working ≡ depthsBy (plan shape (now marks)) (now rec) (now depths) ⌝ }
     requires { ⌜ outflow ≡ newOutflow (plan shape (now marks)) (movesIn (now rec) held) (world (now depths) (now lasts) (now records) run) ⌝ }
     ensures { λ r. ⌜ world (now (depths .exit)) (now (lasts .exit)) (now (records .exit)) r ≡ worldWith (plan shape (now (marks .entry))) (movesIn (now (rec .entry)) held) (world (now (depths .entry)) (now (lasts .entry)) (now (records .entry)) run) (now (rec .entry)) ⌝ }
 {
@@ -176,7 +176,7 @@ fn write(
     let slot = trials::slot_after(slots, run.newest);
     copy_into(rec, records, trials::slot_start(size, slot));
     write_lasts(shape, marks, rec, depths, lasts);
-    copy_into(fresh, depths, 0);
+    copy_into(working, depths, 0);
     Run {
         clock: run.clock + lasted(rec),
         length: held,
@@ -186,7 +186,7 @@ fn write(
     }
 }
 
-// Settles a step by its record and the length that it leaves held. `fresh` is working room for the new depths.
+// Settles a step by its record and the length that it leaves held. `working` is working room for the new depths.
 pub fn settle(
     shape: Shape,
     marks: &[u8],
@@ -196,13 +196,13 @@ pub fn settle(
     depths: &mut [u32],
     lasts: &mut [u32],
     records: &mut [u32],
-    fresh: &mut [u32],
+    working: &mut [u32],
 ) -> Settled
     requires { ⌜ Settles (plan shape (now marks)) (now rec) held (world (now depths) (now lasts) (now records) run) ⌝ }
-    requires { ⌜ length (now fresh) ≡ squares shape ⌝ }
+    requires { ⌜ length (now working) ≡ squares shape ⌝ }
     ensures { λ r. ⌜ SettlesTo (plan shape (now (marks .entry))) (now (rec .entry)) held (world (now (depths .entry)) (now (lasts .entry)) (now (records .entry)) run) (r .refused) (world (now (depths .exit)) (now (lasts .exit)) (now (records .exit)) (r .run)) ⌝ }
 {
-    let found = gather(shape, marks, rec, depths, fresh);
+    let found = gather(shape, marks, rec, depths, working);
     if !found.fits {
         return Settled {
             refused: 8,
@@ -223,7 +223,7 @@ pub fn settle(
         held,
         outflow,
         run,
-        fresh,
+        working,
         depths,
         lasts,
         records,

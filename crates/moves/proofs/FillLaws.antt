@@ -1,12 +1,11 @@
 -- Laws of the record that a step works out: it is the step's record, since the rooms hold what is added and lasts is the step's.
 -- Assumes nothing.
-use mathlib.Core.Path.{_≡_, refl, sym, ap, _∙_, subst}
+use mathlib.Core.Path.{_≡_, refl, sym, ap, _∙_}
 use mathlib.Core.Bool.{Bool, true, false}
 use mathlib.Core.List.{List, [], _∷_}
 use Prim.Native.Nat.{ℕ, _+_, _^_, _≤_, _<_}
 use native.Mathlib.Omega.{arith}
 use lib.ListN.{length, getD}
-use Rattle.reckon.specs.Lists.{filled, joined}
 use Rattle.reckon.specs.Ranges.{mostDepth}
 use Rattle.reckon.proofs.ListLaws.{filled-in, joined-ext}
 use Rattle.grid.specs.Squares.{north, east, south, west, squares}

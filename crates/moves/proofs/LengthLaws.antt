@@ -1,10 +1,9 @@
 -- Laws of the candidates of all squares: the least of them grows square by square.
 -- Assumes nothing.
-use mathlib.Core.Path.{_≡_, refl, sym, ap, _∙_}
-use mathlib.Core.Bool.{Bool, true, false}
-use mathlib.Core.List.{List, []}
+use mathlib.Core.Path.{_≡_, sym, ap, _∙_}
+use mathlib.Core.Bool.{true, false}
+use mathlib.Core.List.{List}
 use Prim.Native.Nat.{ℕ, _+_}
-use Rattle.reckon.specs.Tests.{pick}
 use Rattle.reckon.specs.Lists.{joined}
 use Rattle.reckon.proofs.TestLaws.{pick-true, pick-false}
 use Rattle.reckon.proofs.ListLaws.{joined-none, joined-more}

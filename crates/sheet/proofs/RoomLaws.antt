@@ -2,15 +2,15 @@
 -- Assumes nothing.
 use mathlib.Core.Path.{_≡_, refl, sym, ap, subst, _∙_}
 use mathlib.Core.Bool.{Bool, true, false}
-use mathlib.Core.List.{List, [], _∷_}
+use mathlib.Core.List.{List}
 use Prim.Native.Nat.{ℕ, _+_, _*_, _/_, _%_, _≤_, _<_}
 use native.Mathlib.Nat.{not-suc-le-zero, mul-suc, mul-le-mul-left}
 use native.Mathlib.Numerals.{add-one}
 use native.Mathlib.Decide.{ℕ-discrete}
 use native.Mathlib.Omega.{arith}
 use lib.Dec.{eqb}
-use lib.ListN.{length, getD, set, take, length-take}
-use lib.Seq.{length-take-le, take-suc}
+use lib.ListN.{length, set, take}
+use lib.Seq.{length-take-le}
 use borrow.Author.Count.{below-more}
 use Rattle.reckon.specs.Tests.{pick, firstFailing}
 use Rattle.reckon.specs.Lists.{filled, placed}
@@ -23,7 +23,7 @@ use Rattle.text.specs.Reading.Reading.{read, unread}
 use Rattle.text.specs.inner.Standing.{plain}
 use Rattle.text.specs.declared.reading.Fields.{Fields}
 use Rattle.text.proofs.LineLaws.{line-next}
-use Rattle.text.proofs.WritingLaws.{placed-both, placed-none, placed-byte}
+use Rattle.text.proofs.WritingLaws.{placed-both, placed-none}
 use Rattle.sheet.specs.Lines.{cellLine}
 use Rattle.sheet.specs.Sheet.{Cells, cellFrom, cellsRead, rowLine, rowsRead, tableRows, cellsRooms, closedFrom, cellsFilled}
 use Rattle.sheet.specs.inner.Reading.{CellsRead, RowsCounted}
@@ -302,25 +302,3 @@ unfolding rowsRead
 row-read s p word width {next} {i} a e l =
     ap (λ (z : Fields). z .found) (e ∙ ap (λ (q : ℕ). lineOf s q word width) (a .here))
     ∙ failing-before (length s) (λ j. rowLine s p word width j .found) i l
-
--- ---- the numbers of one row
-
-module _ (old : List ℕ) (at : ℕ) (values : List ℕ) where
-  pub row-none : old ≡ placed old at (take 0 values)
-  row-none = sym (placed-none old at)
-
-  module _ (k : ℕ) (fits : at + k ≤ length old) where
-    pub row-length : {room : List ℕ} → room ≡ placed old at (take k values) → length room ≡ length old
-    row-length e = ap length e ∙ length-placed old at (take k values) (omega (arith, fits, length-take k values))
-
-    pub row-put :
-        k < length values → at + k < length old → {room : List ℕ} → room ≡ placed old at (take k values) →
-        set room (at + k) (getD values k 0) ≡ placed old at (take (k + 1) values)
-    row-put l h {room} e =
-        let long : length (take k values) ≡ k = length-take-le k values (omega (arith, l)) in
-        ap (λ (r : List ℕ). set r (at + k) (getD values k 0)) e
-        ∙ (placed-byte (placed old at (take k values)) (at + k) (getD values k 0)
-        (omega (arith, h, length-placed old at (take k values) (omega (arith, fits, long))))
-        ∙ (ap (λ (q : ℕ). placed (placed old at (take k values)) q (getD values k 0 ∷ [])) (omega (arith, long))
-        ∙ (placed-both old at (take k values) (getD values k 0 ∷ []) (omega (arith, h, long))
-        ∙ ap (placed old at) (rw (add-one k) (sym (take-suc values k 0 l))))))

@@ -3,6 +3,7 @@ use crate::lines::CellLine;
 use crate::lines::cell_line;
 use grid::squares::Shape;
 use grid::squares::squares_of;
+use reckon::copying::copy_into;
 use text::reading::line_of;
 ghost use mathlib.Core.Path.{_≡_};
 ghost use mathlib.Core.Bool.{true};
@@ -112,11 +113,7 @@ fn put_row(values: &[u32], width: usize, at: usize, room: &mut [u32])
     requires { ⌜ (width ≤ length (now values)) × (at + width ≤ length (now room)) ⌝ }
     ensures { λ _. ⌜ now (room .exit) ≡ placed (now (room .entry)) at (take width (now (values .entry))) ⌝ }
 {
-    let mut k: usize = 0;
-    while k < width {
-        room[at + k] = values[k];
-        k += 1;
-    }
+    copy_into(&values[..width], room, at);
 }
 
 // Some of the lines of a table, as many as are asked for, into its room.

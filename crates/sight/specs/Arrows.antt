@@ -33,7 +33,7 @@ unfoldable pub outThrough : Plan → List ℕ → ℕ → ℕ → ℕ
 outThrough p rec i side = pick (within (p .shape) (beside (p .shape) i side) && shut p (beside (p .shape) i side)) 0 (leavesIn rec i side)
 
 -- "Off the grid the neighbour's depth is taken as the own depth"; so is a closed one's, towards which net is 0 and no depth counts.
--- Off the grid there is no mark, and none reads closed.
+-- Off the grid there is no mark, and a mark that is missing reads as closed.
 unfoldable pub nearDepth : Plan → List ℕ → ℕ → ℕ → ℕ
 nearDepth p depths i side = pick (shut p (beside (p .shape) i side)) (getD depths i 0) (getD depths (beside (p .shape) i side) 0)
 

@@ -20,17 +20,17 @@ use Rattle.ledger.specs.declared.record.Found.{Found}
 
 -- what a record says was moved, with the length that the step leaves held
 abbrev pub movesIn : List ℕ → ℕ → Moves
-movesIn rec length = record { leaves = leavesIn rec; added = addedIn rec; duration = lastedIn rec; length = length }
+movesIn rec newLength = record { leaves = leavesIn rec; added = addedIn rec; duration = lastedIn rec; length = newLength }
 
-module _ (p : Plan) (rec : List ℕ) (length : ℕ) (w : World) where
+module _ (p : Plan) (rec : List ℕ) (newLength : ℕ) (w : World) where
   unfoldable pub settleRefusals : List Row
-  settleRefusals = 8 unless depthsFit p (movesIn rec length) w ∷ 9 unless leb (newOutflow p (movesIn rec length) w) mostOutflow ∷ []
+  settleRefusals = 8 unless depthsFit p (movesIn rec newLength) w ∷ 9 unless leb (newOutflow p (movesIn rec newLength) w) mostOutflow ∷ []
 
   unfoldable pub settleNumber : ℕ
   settleNumber = refusal settleRefusals
 
   unfoldable pub settled : World
-  settled = pick (eqb settleNumber 0) (worldWith p (movesIn rec length) w rec) w
+  settled = pick (eqb settleNumber 0) (worldWith p (movesIn rec newLength) w rec) w
 
 -- ---- what is asked, and what the public function gives
 

@@ -23,14 +23,14 @@ use Rattle.ledger.proofs.settle.gather.Statement.{statement}
 use Rattle.ledger.proofs.settle.gather.Tie as tie
 
 abbrev Inv-loop : tie.InvT-loop
-Inv-loop shape marks rec depths fresh₀ squares off₀ square₀ column₀ fresh off square column =
+Inv-loop shape marks rec depths working₀ squares off₀ square₀ column₀ working off square column =
     (Walk shape squares square column)
     × (allBelow square (fits (plan shape marks) rec depths) ≡ true)
     × (off ≡ sumBelow square (offSquare (plan shape marks) (leavesIn rec)))
-    × (fresh ≡ filled square nothing (λ k. getD (depthsBy (plan shape marks) rec depths) k 0) fresh₀)
+    × (working ≡ filled square nothing (λ k. getD (depthsBy (plan shape marks) rec depths) k 0) working₀)
 
 abbrev μ-loop : tie.MeasureT-loop
-μ-loop shape marks rec depths fresh₀ squares off₀ square₀ column₀ fresh off square column =
+μ-loop shape marks rec depths working₀ squares off₀ square₀ column₀ working off square column =
     squares - square
 
 -- ---- the places, each from the one after it
@@ -159,7 +159,7 @@ loop-again c =
       walk-next _ (inv .0) (here .loop-test .taken) (c .next-column .ensures),
       all-more (fits (p z) (rec z) (depths z)) (i here) (inv .1) (sym (g .gather-square .ensures .fits-is) ∙ fit),
       ap₂ _+_ (inv .2) (end c .off-from .ensures) ∙ sym (sum-more (i here) (offSquare (p z) (leavesIn (rec z)))),
-      g .gather-square .ensures .stored fit ∙ filled-put nothing (λ k. getD (depthsBy (p z) (rec z) (depths z)) k 0) (start z .args .fresh .now)
+      g .gather-square .ensures .stored fit ∙ filled-put nothing (λ k. getD (depthsBy (p z) (rec z) (depths z)) k 0) (start z .args .working .now)
           (omega (arith, start z .pre .1, inside here)) (inv .3) refl
           (gathered-at (p z) (rec z) (depths z) (start z .pre .0 .depths-long) (inside here)),
     )
@@ -171,7 +171,7 @@ returns-2 : tie.Need-returns-2 Inv-loop μ-loop
 returns-2 c =
     let inv = c .before .loop .inv in
     let z = counted (c .before) in
-    gathered-fit (p z) (rec z) (depths z) (start z .args .fresh .now) (start z .pre .0 .depths-long) (start z .pre .1)
+    gathered-fit (p z) (rec z) (depths z) (start z .args .working .now) (start z .pre .0 .depths-long) (start z .pre .1)
     (walk-end _ (inv .0) (c .loop-test .left)) (inv .1) (inv .2) (inv .3)
 
 pub gather-spec : {M : Type 1} → statement M

@@ -73,7 +73,7 @@ slot-fits c =
     (c .slot-after .ensures)
 
 -- the working room has one number a square
-working-long : (c : tie.After-record-size) → length (start c .args .fresh .now) ≡ length (before c .depths)
+working-long : (c : tie.After-record-size) → length (start c .args .working .now) ≡ length (before c .depths)
 working-long c = ap length (start c .pre .1 .0) ∙ length-filled _ _ _ _
 
 -- ---- the needs
@@ -133,7 +133,7 @@ returns c =
     let size = size-at (slots-at slot) in
     let s = start size in
     written-is (ground size) (s .args .rec .now) (s .args .held) (before size) (slots-are (slots-at slot)) (slot .slot-after .ensures)
-    (depths .copy-into2 .ensures ∙ (placed-over (s .args .depths .now) (s .args .fresh .now) (sym (working-long size)) ∙ s .pre .1 .0))
+    (depths .copy-into2 .ensures ∙ (placed-over (s .args .depths .now) (s .args .working .now) (sym (working-long size)) ∙ s .pre .1 .0))
     (lasts .write-lasts .ensures)
     (place .slot-start .ensures ∙ ap (λ (k : ℕ). slotStart k (slot .slot-after .result)) (size .record-size .ensures)) (stored .copy-into .ensures)
     (ap (λ (k : ℕ). s .args .run .clock + k) (lasted-at c .lasted .ensures)) (s .pre .1 .1) (c .kept-after .ensures)

@@ -1,7 +1,7 @@
 -- `ledger::take_back::look` meets its contract: the tests in the table's order, each after those before it passed.
 -- Assumes nothing.
 use mathlib.Core.Path.{_≡_, sym, ap, _∙_}
-use mathlib.Core.Bool.{Bool, true}
+use mathlib.Core.Bool.{true}
 use Prim.Native.Nat.{ℕ}
 use borrow.Author.Tests.{not-true, not-false}
 use Rattle.grid.specs.Marks.{marksFine}

@@ -1,6 +1,6 @@
 -- `moves::length::step_length` meets its contract: a length that starts at the longest is the list's.
 -- Assumes nothing.
-use mathlib.Core.Path.{_≡_, sym, _∙_, ap}
+use mathlib.Core.Path.{sym, _∙_, ap}
 use borrow.Author.Needs.{needs}
 use Rattle.rule.specs.Length.{heldBetween}
 use Rattle.rule.proofs.LengthLaws.{fresh-held}
