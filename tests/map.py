@@ -1,17 +1,24 @@
 #!/usr/bin/env python3
 """The map of each sample has a wall for each closed square, an exit for each exit, blue just where the answer has water, and a mark for
-each standing square."""
-import glob
-import os
+each standing square; a refused sheet has no map."""
 import subprocess
 import sys
 import tempfile
 import xml.etree.ElementTree as tree
+from pathlib import Path
 
-TOP = os.path.join(os.path.dirname(os.path.abspath(__file__)), "..")
-TOOL = os.path.join(TOP, "tools", "map.py")
+sys.path.insert(0, str(Path(__file__).resolve().parent.parent / "python"))
+
+from meadow.counted import Checks  # noqa: E402
+from meadow.lines import Answer, refused_text  # noqa: E402
+from meadow.programs import TOP  # noqa: E402
+from meadow.sheets import read  # noqa: E402
+
+TOOL = TOP / "tools" / "map.py"
+SAMPLES = TOP / "samples"
+KINDS = ("wall", "exit", "wet", "dry", "standing")
 # the samples that have standing squares, and how many
-STANDING = {"held-pond.sheet": 27}
+STANDING = {"held-pond": 27}
 
 
 def drawn(sheet, answer):
@@ -19,42 +26,44 @@ def drawn(sheet, answer):
 
 
 def expected(sheet, answer):
-    with open(sheet) as lines:
-        marks = [line.split("\t")[3].strip() for line in lines if line.startswith("cell\t")]
-    with open(answer) as lines:
-        depths = [int(line.split("\t")[3]) for line in lines if line.startswith("cell\t")]
-    return {
-        "wall": marks.count("x"),
-        "exit": marks.count("e"),
-        "wet": sum(depth > 0 for depth in depths),
-        "dry": sum(depth == 0 for depth in depths),
-        "standing": STANDING.get(os.path.basename(sheet), 0),
-    }
+    """How many of each kind the map must have."""
+    marks = [square["mark"] for square in read(sheet.read_text())[0].squares.values()]
+    depths = Answer(answer.read_text()).depths.values()
+    wet = sum(depth > 0 for depth in depths)
+    return dict(zip(KINDS, (marks.count("x"), marks.count("e"), wet, len(depths) - wet, STANDING.get(sheet.stem, 0))))
 
 
 def found(svg):
     kinds = [part.get("class") for part in tree.fromstring(svg).iter() if part.get("class")]
-    return {kind: kinds.count(kind) for kind in ("wall", "exit", "wet", "dry", "standing")}
+    return {kind: kinds.count(kind) for kind in KINDS}
+
+
+def hold_samples(checks):
+    sheets = sorted(SAMPLES.glob("*.sheet"))
+    checks.hold(sheets != [], "samples/ has no sheet")
+    for sheet in sheets:
+        answer = sheet.with_suffix(".out")
+        made = drawn(sheet, answer)
+        if checks.hold(made.returncode == 0, f"{sheet.name} is not drawn: {made.stderr}"):
+            counts, wanted = found(made.stdout), expected(sheet, answer)
+            for kind in KINDS:
+                checks.hold(counts[kind] == wanted[kind], f"{sheet.name}: {counts[kind]} of {kind} drawn, not {wanted[kind]}")
+
+
+def hold_refusal(checks):
+    with tempfile.NamedTemporaryFile("w", suffix=".out") as answer:
+        answer.write(refused_text(12, 3))
+        answer.flush()
+        made = drawn(SAMPLES / "document-01.sheet", answer.name)
+    checks.hold(made.returncode == 1 and "number 12, line 3" in made.stderr, "a refusal is drawn")
 
 
 def main():
-    failed = 0
-    for sheet in sorted(glob.glob(os.path.join(TOP, "samples", "*.sheet"))):
-        answer = sheet[: -len("sheet")] + "out"
-        made = drawn(sheet, answer)
-        if made.returncode != 0 or found(made.stdout) != expected(sheet, answer):
-            print(f"map: {os.path.basename(sheet)} is not drawn as it stands", file=sys.stderr)
-            failed = 1
-    # a refused sheet has no map, and the tool says why
-    with tempfile.NamedTemporaryFile("w", suffix=".out") as answer:
-        answer.write("refused\t12\t3\n")
-        answer.flush()
-        made = drawn(os.path.join(TOP, "samples", "document-01.sheet"), answer.name)
-    if made.returncode == 0 or "number 12, line 3" not in made.stderr:
-        print("map: a refusal is drawn", file=sys.stderr)
-        failed = 1
-    return failed
+    checks = Checks("map")
+    hold_samples(checks)
+    hold_refusal(checks)
+    checks.end()
 
 
 if __name__ == "__main__":
-    sys.exit(main())
+    main()

@@ -1,8 +1,5 @@
 #!/usr/bin/env bash
 # The map of each sample is drawn as it stands.
 cd "$(dirname "$0")/.." || exit 1
-if ! command -v python3 >/dev/null; then
-    echo "map: no python3 here, so no map is drawn"
-    exit 0
-fi
-python3 tests/map.py
+. tests/counts/python.sh
+by_python map tests/map.py

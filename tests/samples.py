@@ -1,52 +1,38 @@
 #!/usr/bin/env python3
-"""Works the sample sheets again in plain integers, by document_01.py, and compares with what is stored beside each."""
-import glob
-import os
+"""The samples are what samples/make.py makes, byte for byte, and the built `meadow` prints of each sheet the answer beside it."""
+import subprocess
 import sys
+import tempfile
+from pathlib import Path
 
-from document_01 import Meadow
+sys.path.insert(0, str(Path(__file__).resolve().parent.parent / "python"))
 
-SAMPLES = os.path.join(os.path.dirname(os.path.abspath(__file__)), "..", "samples")
-MARKS = {"x": 0, "o": 1, "e": 2}
+from meadow.counted import Checks  # noqa: E402
+from meadow.programs import TOP, printed  # noqa: E402
 
-
-def read(text):
-    """The meadow of a good sheet, and the end of its run."""
-    lines = [line.split("\t") for line in text.splitlines()]
-    rows, columns, side = map(int, lines[0][1:])
-    tolerance, shortest, longest, update, end = map(int, lines[1][1:])
-    squares = rows * columns
-    cells = lines[2 : 2 + squares]
-    marks = [MARKS[cell[3]] for cell in cells]
-    beds, roughness, depths = ([int(cell[k]) if len(cell) > 4 else 0 for cell in cells] for k in (4, 5, 6))
-    rain = [int(n) for line in lines[2 + squares :] if line[0] == "rain" for n in line[1:]]
-    inflow = [int(n) for line in lines[2 + squares :] if line[0] == "inflow" for n in line[1:]]
-    rules = [side, tolerance, shortest, longest, update]
-    room = [0] * (2 + 6 * squares)
-    return Meadow(rows, columns, rules, marks, beds, roughness, rain, inflow, depths, [0] * squares, room), end
+SAMPLES = TOP / "samples"
 
 
-def printed(meadow, steps):
-    lines = []
-    for i in meadow.standing():
-        row, column = divmod(i, meadow.columns)
-        lines.append(f"cell\t{row}\t{column}\t{meadow.depths[i]}")
-    lines += [f"out\t{meadow.outflow}", f"steps\t{steps}", f"clock\t{meadow.clock}"]
-    return "".join(line + "\n" for line in lines)
+def named(folder):
+    """The sheets and answers of a folder by name."""
+    return {path.name: path.read_bytes() for path in sorted(folder.iterdir()) if path.suffix in (".sheet", ".out")}
 
 
 def main():
-    failed = 0
-    for path in sorted(glob.glob(os.path.join(SAMPLES, "*.sheet"))):
-        with open(path) as sheet, open(path[: -len("sheet")] + "out") as stored:
-            meadow, end = read(sheet.read())
-            meadow.fresh()
-            number, steps = meadow.run_to(end)
-            if number != 0 or printed(meadow, steps) != stored.read():
-                print(f"samples: {os.path.basename(path)} is not what document 01 gives", file=sys.stderr)
-                failed = 1
-    return failed
+    checks = Checks("samples")
+    with tempfile.TemporaryDirectory() as room:
+        subprocess.run([sys.executable, SAMPLES / "make.py", room], check=True, stdout=subprocess.DEVNULL)
+        made = named(Path(room))
+    stored = named(SAMPLES)
+    for name in sorted(made.keys() | stored.keys()):
+        checks.hold(made.get(name) == stored.get(name), f"samples/{name} is not what samples/make.py makes")
+    sheets = [name for name in stored if name.endswith(".sheet")]
+    for name in sheets:
+        answer = name.removesuffix("sheet") + "out"
+        checks.hold(printed("meadow", stored[name]) == stored.get(answer), f"meadow does not print samples/{answer}")
+    checks.hold(sheets != [], "samples/ has no sheet")
+    checks.end()
 
 
 if __name__ == "__main__":
-    sys.exit(main())
+    main()

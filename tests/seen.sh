@@ -1,8 +1,5 @@
 #!/usr/bin/env bash
-# The stored output of the program `seen` is what document 01 gives, worked in Python.
+# The stored output of the program `seen` is what document 01 gives, worked in Python from the program's own inputs.
 cd "$(dirname "$0")/.." || exit 1
-if ! command -v python3 >/dev/null; then
-    echo "seen: no python3 here, so the stored output is not worked again"
-    exit 0
-fi
-python3 tests/seen.py --check
+. tests/counts/python.sh
+by_python seen tests/seen.py

@@ -1,12 +1,17 @@
 #!/usr/bin/env python3
 """tools/standing.py on small ponds that are worked by hand, and on the samples."""
-import os
 import subprocess
 import sys
 import tempfile
+from pathlib import Path
 
-TOP = os.path.join(os.path.dirname(os.path.abspath(__file__)), "..")
-TOOL = os.path.join(TOP, "tools", "standing.py")
+sys.path.insert(0, str(Path(__file__).resolve().parent.parent / "python"))
+
+from meadow.counted import Checks  # noqa: E402
+from meadow.lines import SECOND, Sheet, answer_text  # noqa: E402
+from meadow.programs import TOP  # noqa: E402
+
+TOOL = TOP / "tools" / "standing.py"
 # Beds and depths of three squares in a row, D 10, roughness 300, steps of 1000 ms; then the squares that stand, each with its least and
 # greatest drop.
 ROWS = [
@@ -27,14 +32,16 @@ def told(sheet, answer):
 
 
 def pond(beds, depths):
-    lines = ["grid\t1\t3\t10", "run\t0\t1000\t1000\t1000\t0"]
-    lines += [f"cell\t0\t{column}\to\t{bed}\t300\t{depth}" for column, (bed, depth) in enumerate(zip(beds, depths))]
-    return "".join(line + "\n" for line in lines)
+    """Three squares in a row, before any step."""
+    sheet = Sheet(1, 3, 10, tolerance=0, shortest=SECOND, longest=SECOND, update=SECOND)
+    for column, (bed, depth) in enumerate(zip(beds, depths)):
+        sheet.put((0, column), bed, 300, depth)
+    return sheet.text(0)
 
 
 def answered(depths):
-    lines = [f"cell\t0\t{column}\t{depth}" for column, depth in enumerate(depths)] + ["out\t0", "steps\t0", "clock\t0"]
-    return "".join(line + "\n" for line in lines)
+    """The answer that leaves them as they are."""
+    return answer_text({(0, column): depth for column, depth in enumerate(depths)}, {"outflow": 0, "steps": 0, "clock": 0})
 
 
 def expected(depths, standing):
@@ -43,35 +50,30 @@ def expected(depths, standing):
     return "".join(line + "\n" for line in lines)
 
 
-def ponds_wrong(room):
-    wrong = []
+def hold_ponds(checks, room):
     for name, beds, depths, standing in ROWS:
-        paths = [os.path.join(room, kind) for kind in ("sheet", "out")]
-        for path, text in zip(paths, (pond(beds, depths), answered(depths))):
-            with open(path, "w") as file:
-                file.write(text)
-        if told(*paths).stdout != expected(depths, standing):
-            wrong.append(name)
-    return wrong
+        sheet, answer = Path(room) / "sheet", Path(room) / "out"
+        sheet.write_text(pond(beds, depths))
+        answer.write_text(answered(depths))
+        checks.hold(told(sheet, answer).stdout == expected(depths, standing), f"{name}: not as worked by hand")
 
 
-def samples_wrong():
+def hold_samples(checks):
     """The held pond stands at its mouth; an answer to another sheet is no answer."""
-    sample = lambda name: os.path.join(TOP, "samples", name)
-    held = told(sample("held-pond.sheet"), sample("held-pond.out")).stdout.splitlines()
-    wrong = [] if held[:2] == ["standing\t27", "steep\t1"] and held[2].startswith("square\t2\t6\t") else ["the held pond"]
-    other = told(sample("held-pond.sheet"), sample("document-01.out"))
-    return wrong + ([] if other.returncode == 1 and "no depth for square" in other.stderr else ["another sheet's answer"])
+    samples = TOP / "samples"
+    held = told(samples / "held-pond.sheet", samples / "held-pond.out").stdout.splitlines()
+    checks.hold(held[:2] == ["standing\t27", "steep\t1"] and held[2].startswith("square\t2\t6\t"), "the held pond")
+    other = told(samples / "held-pond.sheet", samples / "document-01.out")
+    checks.hold(other.returncode == 1 and "no depth for square" in other.stderr, "another sheet's answer is taken")
 
 
 def main():
+    checks = Checks("standing")
     with tempfile.TemporaryDirectory() as room:
-        wrong = ponds_wrong(room) + samples_wrong()
-    for name in wrong:
-        print(f"standing: {name}: not as worked by hand", file=sys.stderr)
-    print(f"standing: {len(ROWS) + 2} cases, {len(wrong)} failed")
-    return 1 if wrong else 0
+        hold_ponds(checks, room)
+    hold_samples(checks)
+    checks.end()
 
 
 if __name__ == "__main__":
-    sys.exit(main())
+    main()

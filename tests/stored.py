@@ -1,19 +1,21 @@
-"""Holds the stored output of a program to the lines that were worked for it."""
-import os
+"""Holds the stored output of a program to the lines that were worked for it, and to what the built program prints."""
 import sys
 
-CRATES = os.path.join(os.path.dirname(os.path.abspath(__file__)), "..", "crates")
+from meadow.counted import Checks
+from meadow.programs import TOP, printed
 
 
-def hold(name, lines):
-    """With --check compares the lines with crates/NAME/stdout and fails on a difference; else writes that file."""
-    path = os.path.join(CRATES, name, "stdout")
-    text = "".join(line + "\n" for line in lines)
-    if sys.argv[1:] != ["--check"]:
-        with open(path, "w", encoding="ascii") as stored:
-            stored.write(text)
+def hold(name, text):
+    """Line by line: what is stored is what was worked, and the built program prints it; with --write the file is written instead."""
+    path = TOP / "crates" / name / "stdout"
+    if sys.argv[1:] == ["--write"]:
+        path.write_text(text, encoding="ascii")
         return
-    with open(path, encoding="ascii") as stored:
-        if stored.read() != text:
-            sys.exit(f"{name}: the stored output is not what document 01 gives")
-    print(f"{name}: {len(lines)} lines as document 01 gives them")
+    checks = Checks(name)
+    worked, stored = text.splitlines(), path.read_text(encoding="ascii").splitlines()
+    for at, line in enumerate(worked):
+        told = stored[at] if at < len(stored) else "nothing"
+        checks.hold(told == line, f"line {at + 1} of the stored output is {told!r}, and document 01 gives {line!r}")
+    checks.hold(len(stored) == len(worked), f"the stored output has {len(stored)} lines, and document 01 gives {len(worked)}")
+    checks.hold(printed(name).decode("ascii") == text, "the built program prints something else")
+    checks.end()

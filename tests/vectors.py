@@ -1,36 +1,34 @@
 #!/usr/bin/env python3
-"""The rows of crates/vectors/src/main.rt, by document_01.py.
+"""The rows of the program `vectors`, read from its source and worked by document 01 in Python, held to crates/vectors/stdout.
 
-vectors.py writes crates/vectors/stdout; vectors.py --check compares it and fails on a difference.
+vectors.py --write writes that file instead.
 """
-import os
-import re
+import sys
+from pathlib import Path
 
-from document_01 import candidates, weigh
-from stored import hold
+sys.path.insert(0, str(Path(__file__).resolve().parent.parent / "python"))
 
-ROOT = os.path.join(os.path.dirname(os.path.abspath(__file__)), "..", "crates", "vectors")
+from meadow.ranges import RANGES, fine  # noqa: E402
+from meadow.sources import constants  # noqa: E402
+from meadow.step_length import candidates  # noqa: E402
+from meadow.weighing import weigh  # noqa: E402
+from stored import hold  # noqa: E402
 
-
-def rows():
-    with open(os.path.join(ROOT, "src", "main.rt"), encoding="utf-8") as f:
-        text = f.read()
-    named = {name: int(n.replace("_", "")) for name, n in re.findall(r"const (\w+): u(?:64|size) = ([\d_]+);", text)}
-    stated = re.search(r"const VECTORS: .*? = \[\n(.*?)\n\];", text, re.S).group(1)
-    texts = re.findall(r"\[(.*?)\]", re.sub(r"//[^\n]*", "", stated), re.S)
-    found = [[named[n] if n in named else int(n.replace("_", "")) for n in re.findall(r"\w+", row)] for row in texts]
-    assert len(found) == named["ROWS"] and all(len(row) == 10 for row in found)
-    return found
+NAMES = ("side", "tolerance", "depth", "last", "roughness", "lasted")
+# a level less another
+HIGHEST_DROP = RANGES["bed"][1] + RANGES["depth"][1]
 
 
 def line(row):
-    side, q, d, last, k, ms, *drops = row
-    assert 1 <= side <= 100 and q <= 10_000 and max(d, last) <= 100_000_000 and 1 <= k <= 10_000
-    assert 1 <= ms <= 60_000 and max(drops) <= 1_100_000_000
-    leaves = weigh(side, d, last, k, ms, drops)
-    least = min([60_000] + candidates(side, q, d, k, drops))
-    return " ".join(str(n) for n in leaves + [least])
+    """What the program prints of a row: four transfers, and the least of the longest step and the candidates."""
+    values, drops = dict(zip(NAMES, row)), row[len(NAMES) :]
+    if not all(fine(name, value) for name, value in values.items()) or len(drops) != 4 or max(drops) > HIGHEST_DROP:
+        raise ValueError(f"a row of crates/vectors is out of range: {row}")
+    side, tolerance, depth, last, roughness, ms = values.values()
+    leaves = weigh(side, depth, last, roughness, ms, drops)
+    least = min([RANGES["longest"][1], *candidates(side, tolerance, depth, roughness, drops)])
+    return " ".join(map(str, [*leaves, least])) + "\n"
 
 
 if __name__ == "__main__":
-    hold("vectors", [line(row) for row in rows()])
+    hold("vectors", "".join(line(row) for row in constants("vectors")["VECTORS"]))

@@ -1,8 +1,5 @@
 #!/usr/bin/env bash
-# The stored output of the program `vectors` is what document 01 gives, worked in Python.
+# The stored output of the program `vectors` is what document 01 gives, worked in Python from the program's own inputs.
 cd "$(dirname "$0")/.." || exit 1
-if ! command -v python3 >/dev/null; then
-    echo "vectors: no python3 here, so the stored output is not worked again"
-    exit 0
-fi
-python3 tests/vectors.py --check
+. tests/counts/python.sh
+by_python vectors tests/vectors.py

@@ -1,147 +1,24 @@
 #!/usr/bin/env python3
-"""map.py SHEET ANSWER > MAP.svg: a map of a sheet and of what `meadow` answered to it.
-
-Depths are blue in steps, closed squares are walls, exits have a gold edge, dry ground is shaded by its height. Standing squares, as
-tools/standing.py finds them, have a red diamond: filled where the square falls by 1 mm or more on some side, else an outline. The tool
-computes no depth: it draws those that the answer has.
-"""
+"""map.py SHEET ANSWER > MAP.svg: a map of a sheet and of what `meadow` answered to it; python/meadow/drawing.py says what it shows."""
 import sys
+from pathlib import Path
 
-from reading import Unreadable, read_answer, read_sheet
-from standing import STEEP, standing_squares
+sys.path.insert(0, str(Path(__file__).resolve().parent.parent / "python"))
 
-SQUARE = 22
-MARGIN = 28
-LEGEND = 260
-LEAST_HEIGHT = 370
-EVERY = 5
-# the least depth of each step of blue, in µm, with its colour and its name in the legend
-BLUES = [
-    (1, "#deebf7", "under 1 mm"),
-    (1_000, "#bdd7e7", "1 mm to 1 cm"),
-    (10_000, "#9ecae1", "1 to 5 cm"),
-    (50_000, "#6baed6", "5 to 10 cm"),
-    (100_000, "#3182bd", "10 to 50 cm"),
-    (500_000, "#08519c", "50 cm to 1 m"),
-    (1_000_000, "#08306b", "1 m and more"),
-]
-WALL = "#4a4a4a"
-EXIT = "#d99a00"
-STANDING = "#ff4d3d"
-LINES = '<g stroke="#f0f0f0" stroke-width="0.5">'
-LOW_GROUND = (233, 221, 184)
-HIGH_GROUND = (150, 126, 84)
-
-
-def blue(depth):
-    return [colour for least, colour, _ in BLUES if least <= depth][-1]
-
-
-def ground(bed, lowest, highest):
-    share = 0 if highest == lowest else (bed - lowest) / (highest - lowest)
-    return "#" + "".join(f"{round(low + share * (high - low)):02x}" for low, high in zip(LOW_GROUND, HIGH_GROUND))
-
-
-def box(x, y, width, height, fill, more=""):
-    return f'<rect x="{x}" y="{y}" width="{width}" height="{height}" fill="{fill}"{more}/>'
-
-
-def words(x, y, text, more=""):
-    return f'<text x="{x}" y="{y}"{more}>{text}</text>'
-
-
-def square_at(place, mark, bed, depths, lowest, highest):
-    x, y = MARGIN + place[1] * SQUARE, MARGIN + place[0] * SQUARE
-    if mark == "x":
-        return box(x, y, SQUARE, SQUARE, WALL, ' class="wall"')
-    if place not in depths:
-        raise Unreadable(f"the answer has no depth for square {place[0]} {place[1]}")
-    depth = depths[place]
-    if depth > 0:
-        drawn = box(x, y, SQUARE, SQUARE, blue(depth), ' class="wet"')
-    else:
-        drawn = box(x, y, SQUARE, SQUARE, ground(bed, lowest, highest), ' class="dry"')
-    if mark == "e":
-        drawn += box(x + 2, y + 2, SQUARE - 4, SQUARE - 4, "none", f' stroke="{EXIT}" stroke-width="3" class="exit"')
-    return drawn
-
-
-def diamond(x, y, steep, more=""):
-    """The mark of a standing square, about the middle of a square at x, y."""
-    fill = STANDING if steep else "none"
-    points = " ".join(f"{x + SQUARE / 2 + across:g},{y + SQUARE / 2 + down:g}" for across, down in ((0, -6), (6, 0), (0, 6), (-6, 0)))
-    return f'<polygon points="{points}" fill="{fill}" stroke="{STANDING}" stroke-width="1.5"{more}/>'
-
-
-def numbers(rows, columns):
-    """Every fifth row and column by its number in the sheet."""
-    middle = SQUARE // 2 + 4
-    across = ' font-size="10" fill="#666666" text-anchor="middle"'
-    drawn = [words(MARGIN + column * SQUARE + SQUARE // 2, MARGIN - 6, column, across) for column in range(0, columns, EVERY)]
-    down = across.replace("middle", "end")
-    return drawn + [words(MARGIN - 6, MARGIN + row * SQUARE + middle, row, down) for row in range(0, rows, EVERY)]
-
-
-def legend(x, side, lowest, highest, totals, standing):
-    drawn = [words(x, MARGIN + 12, "depth of water", ' font-weight="bold"')]
-    y = MARGIN + 24
-    for _, colour, name in BLUES:
-        drawn += [box(x, y, 16, 14, colour), words(x + 24, y + 12, name)]
-        y += 18
-    y += 6
-    low, high = ground(lowest, lowest, highest), ground(highest, lowest, highest)
-    entries = [(low, f"dry, lowest bed {lowest / 1e6:.3f} m"), (high, f"dry, highest bed {highest / 1e6:.3f} m"), (WALL, "closed square (wall)")]
-    for colour, name in entries:
-        drawn += [box(x, y, 16, 14, colour), words(x + 24, y + 12, name)]
-        y += 18
-    drawn += [box(x + 1, y + 1, 14, 12, "none", f' stroke="{EXIT}" stroke-width="3"'), words(x + 24, y + 12, "exit")]
-    for steep, name in ((True, "standing, falls by 1 mm or more"), (False, "standing, falls by less")):
-        y += 18
-        count = sum((square[4] >= STEEP) == steep for square in standing)
-        drawn += [diamond(x + 8 - SQUARE / 2, y + 7 - SQUARE / 2, steep), words(x + 24, y + 12, f"{name}: {count}")]
-    y += 34
-    drawn.append(words(x, y, f"a square is {side} m by {side} m; north is up"))
-    for name, unit in (("clock", " ms"), ("steps", ""), ("out", " µm over one square")):
-        if name in totals:
-            y += 18
-            drawn.append(words(x, y, f"{name}: {totals[name]:,}{unit}"))
-    return drawn
-
-
-def svg(sheet, answer):
-    rows, columns, side, squares = read_sheet(sheet)
-    depths, totals = read_answer(answer)
-    standing = standing_squares(sheet, answer)
-    beds = [bed for mark, bed in squares.values() if mark != "x"] or [0]
-    lowest, highest = min(beds), max(beds)
-    width = 2 * MARGIN + columns * SQUARE + MARGIN + LEGEND
-    height = max(2 * MARGIN + rows * SQUARE, LEAST_HEIGHT)
-    drawn = [f'<svg xmlns="http://www.w3.org/2000/svg" width="{width}" height="{height}" font-family="sans-serif" font-size="12">']
-    drawn.append(box(0, 0, width, height, "#ffffff"))
-    drawn.append(LINES)
-    for place in sorted(squares):
-        mark, bed = squares[place]
-        drawn.append(square_at(place, mark, bed, depths, lowest, highest))
-    drawn.append("</g>")
-    for row, column, _, _, greatest in standing:
-        drawn.append(diamond(MARGIN + column * SQUARE, MARGIN + row * SQUARE, greatest >= STEEP, ' class="standing"'))
-    drawn += numbers(rows, columns)
-    drawn += legend(2 * MARGIN + columns * SQUARE, side, lowest, highest, totals, standing)
-    return "\n".join(drawn + ["</svg>"]) + "\n"
+from meadow.drawing import svg  # noqa: E402
+from meadow.lines import Answer  # noqa: E402
+from meadow.programs import ended  # noqa: E402
+from meadow.sheets import read  # noqa: E402
 
 
 def main():
     if len(sys.argv) != 3:
         print("usage: map.py SHEET ANSWER > MAP.svg", file=sys.stderr)
         return 2
-    try:
-        with open(sys.argv[1]) as sheet, open(sys.argv[2]) as answer:
-            sys.stdout.write(svg(sheet.read(), answer.read()))
-    except (OSError, ValueError, IndexError, KeyError, Unreadable) as fault:
-        print(f"map: {fault}", file=sys.stderr)
-        return 1
+    sheet, answer = (Path(name).read_text(encoding="ascii") for name in sys.argv[1:])
+    sys.stdout.write(svg(read(sheet)[0], Answer(answer)))
     return 0
 
 
 if __name__ == "__main__":
-    sys.exit(main())
+    ended(main, "map")

@@ -2,8 +2,11 @@
 import math
 
 import unrounded
-from sheets import HOUR, MINUTE, SECOND, Sheet, claim, meadow, table
-from standing import with_answer
+from meadow.lines import HOUR, MINUTE, SECOND, Sheet
+from meadow.programs import meadow
+from meadow.sheets import with_answer
+from meadow.step_length import fresh_length
+from shared import claim, limits, table
 
 SPEED = 1.0
 ROUGHNESS = 300
@@ -11,7 +14,7 @@ INFLOW_ROWS = 64
 LONGEST_ROW = 64
 WAVES = {25: 150, 10: 370}
 # slope tolerance 0 and whatever step the method asks for
-OWN_STEPS = (0, 1, 60_000, 60_000)
+OWN_STEPS = limits(0, 1, 60_000, 60_000)
 # source 000, Table 1, by square and update time: error in m, least step in ms
 TABLE_1 = {(25, 60): (0.0313, 38), (10, 60): (0.0139, 6), (10, 0.5): (0.0136, 6)}
 # how far the error may be above Table 1's
@@ -53,7 +56,7 @@ def wave_sheet(side, run=OWN_STEPS):
 
 def channel(side, places, run=OWN_STEPS):
     """A flat dry channel along the given places, with the wave's inflow on the first."""
-    sheet = Sheet(places[-1][0] + 1, 1 + max(column for _, column in places), side, run)
+    sheet = Sheet(places[-1][0] + 1, 1 + max(column for _, column in places), side, **run)
     for place in places:
         sheet.put(place, 0, ROUGHNESS)
     each = HOUR // INFLOW_ROWS
@@ -95,8 +98,7 @@ def errors(found, told):
 
 def length_at(sheet, clock):
     """The step length that is worked at a clock, from the depths that a run to it prints."""
-    text = sheet.text(clock)
-    return with_answer(text, meadow(text).text).fresh_length()
+    return fresh_length(with_answer(sheet, meadow(sheet.text(clock))))
 
 
 def error_row(side, run, label):
@@ -106,7 +108,7 @@ def error_row(side, run, label):
     found, told = compare(answer, places, side)
     wet, deep, own = errors(found, told)
     ahead = sum(depth > 0 for depth in found) - sum(depth > 0 for depth in told)
-    published = TABLE_1.get((side, run[3] / SECOND)) if run[1] < run[2] else None
+    published = TABLE_1.get((side, run["update"] / SECOND)) if run["shortest"] < run["longest"] else None
     beside = (f"{published[0]:.4f}", f"{wet / published[0]:.2f}") if published else ("", "")
     if published:
         claim(wet <= ALLOWED[side] * published[0], f"the error {wet:.4f} at D = {side} is above what is allowed")
@@ -117,9 +119,9 @@ def error_rows(long):
     yield error_row(25, OWN_STEPS, "60 s")
     if long:
         for update in (60_000, 500):
-            yield error_row(10, (0, 1, 60_000, update), f"{update / SECOND:g} s")
+            yield error_row(10, limits(0, 1, 60_000, update), f"{update / SECOND:g} s")
         for fixed in (18, 24):
-            yield error_row(10, (0, fixed, fixed, 60_000), f"60 s, every step {fixed} ms")
+            yield error_row(10, limits(0, fixed, fixed, 60_000), f"60 s, every step {fixed} ms")
 
 
 def length_rows():

@@ -1,5 +1,8 @@
 """A closed basin under rain and inflow: the water on the ground is what the tables say by the clock."""
-from sheets import DAY, HOUR, MINUTE, Sheet, claim, meadow, table, uneven
+from meadow.lines import DAY, HOUR, MINUTE, Sheet
+from meadow.programs import meadow
+from meadow.steps import ran
+from shared import claim, table, uneven
 
 SIDE = 7
 RAIN = [(0, 90_001, 20_017), (30_500, 1_800_000, 7_333), (700_000, 700_001, 999_983)]
@@ -16,10 +19,6 @@ def basin():
     return sheet
 
 
-def ran(start, end, clock):
-    return max(0, min(clock, end) - start)
-
-
 def by_the_tables(sheet, clock):
     """The water at the start and all that the tables have brought by a clock, in µm over one square."""
     ground = sheet.ground()
@@ -27,7 +26,7 @@ def by_the_tables(sheet, clock):
     poured = {}
     for row, column, start, end, litres in sheet.inflow:
         poured[row, column] = poured.get((row, column), 0) + litres * ran(start, end, clock)
-    return sum(sheet.squares[place][3] + rain for place in ground) + sum(amount // SIDE**2 for amount in poured.values())
+    return sum(sheet.depth(place) + rain for place in ground) + sum(amount // SIDE**2 for amount in poured.values())
 
 
 def figures(long):

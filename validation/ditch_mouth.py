@@ -1,5 +1,7 @@
 """The cliff at the ditch mouth: an exit draws the ditch down as no ditch that goes on would be."""
-from sheets import HOUR, MINUTE, SECOND, Sheet, USUAL, claim, meadow, table
+from meadow.lines import HOUR, MINUTE, SECOND, Sheet
+from meadow.programs import meadow
+from shared import USUAL, claim, limits, table
 
 SQUARES = 32
 SLOPE = 1_000
@@ -12,7 +14,7 @@ FLOW = 20
 def ditch(side, run=USUAL, depth=0, flow=0, further=0):
     """A ditch one square wide that falls to an exit; `further` squares follow on the same slope before it."""
     squares = SQUARES + further
-    sheet = Sheet(3, squares, side, run)
+    sheet = Sheet(3, squares, side, **run)
     for column in range(squares):
         mark = "e" if column == squares - 1 else "o"
         sheet.put((1, column), 2_000_000 - side * 1_000_000 // SLOPE * column, ROUGHNESS, depth, mark)
@@ -47,7 +49,7 @@ def steady_row(side):
 
 
 def emptying_row(side):
-    first = meadow(ditch(side, (0, SECOND, SECOND, SECOND), FULL).text(SECOND)).out * side / 1e6
+    first = meadow(ditch(side, limits(0, SECOND, SECOND, SECOND), FULL).text(SECOND)).out * side / 1e6
     row = [side, f"{first:.3f}", f"{normal_flow():.3f}", f"{first / normal_flow():.2f}"]
     for end in (5 * MINUTE, 30 * MINUTE):
         cliff = meadow(ditch(side, depth=FULL).text(end)).out

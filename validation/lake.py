@@ -1,5 +1,7 @@
 """A lake at rest over a hump: exactly nothing moves."""
-from sheets import DAY, HOUR, Sheet, claim, meadow, table, uneven
+from meadow.lines import DAY, HOUR, Sheet
+from meadow.programs import meadow
+from shared import claim, table, uneven
 
 LEVEL = 50_000_000
 SIZE = 31
@@ -17,7 +19,7 @@ def lake(peak):
 
 
 def at_rest(name, sheet, end):
-    before = {place: sheet.squares[place][3] for place in sheet.ground()}
+    before = {place: sheet.depth(place) for place in sheet.ground()}
     answer = meadow(sheet.text(end))
     changed = sum(answer.depths[place] != before[place] for place in before)
     return (name, sum(depth > 0 for depth in before.values()), end // HOUR, answer.steps, changed, answer.out)
@@ -31,8 +33,7 @@ def figures(long):
         claim(row[4] == 0 and row[5] == 0, f"the lake moved: {row}")
     # the same lake does move where it should
     disturbed = lake(40_000_000)
-    mark, bed, roughness, depth = disturbed.squares[5, 5]
-    disturbed.put((5, 5), bed, roughness, depth + 1_000)
+    disturbed.squares[5, 5]["depth"] += 1_000
     rows.append(at_rest("hump of 40 m, one square 1 mm too high", disturbed, HOUR))
     claim(rows[-1][4] > 0, "a lake that is not level stands still")
     yield from table(["lake", "squares with water", "hours", "steps", "squares changed", "out, µm"], rows)

@@ -2,23 +2,25 @@
 import math
 
 from ditch_mouth import FLOW, SQUARES, along, ditch, normal_depth
-from sheets import HOUR, MINUTE, Sheet, USUAL, claim, meadow, table
+from meadow.lines import HOUR, MINUTE, Sheet
+from meadow.programs import meadow
+from shared import USUAL, claim, limits, table
 
 SIZE = 16
 HATCH = (0, 0)
 UNEVEN_BY = 1_000
 # the method's own step lengths; usual limits; two fixed steps
 RUNS = {
-    "the method's own": (0, 1, 60_000, 60_000),
+    "the method's own": limits(0, 1, 60_000, 60_000),
     "usual": USUAL,
-    "all 10 s": (0, 10_000, 10_000, 60_000),
-    "all 60 s": (0, 60_000, 60_000, 60_000),
+    "all 10 s": limits(0, 10_000, 10_000, 60_000),
+    "all 60 s": limits(0, 60_000, 60_000, 60_000),
 }
 
 
 def level_meadow(run):
     """A level meadow without an exit; a hatch in its corner is open for half an hour."""
-    sheet = Sheet(SIZE, SIZE, 10, run)
+    sheet = Sheet(SIZE, SIZE, 10, **run)
     for place in sheet.squares:
         sheet.put(place, 1_000_000, 350)
     sheet.inflow.append((*HATCH, 0, 30 * MINUTE, 1_000))
@@ -58,7 +60,7 @@ def hatch_row(name):
 
 
 def ditch_row(ms):
-    depths = along(meadow(ditch(2, (0, ms, ms, 60_000), flow=FLOW, further=SQUARES).text(HOUR)))
+    depths = along(meadow(ditch(2, limits(0, ms, ms, 60_000), flow=FLOW, further=SQUARES).text(HOUR)))
     return (ms, normal_depth(), min(depths), max(depths))
 
 

@@ -1,16 +1,20 @@
 #!/usr/bin/env python3
 """pictures.py: makes the pictures of docs/VALIDATION.md, under docs/pictures/, from runs of `meadow`."""
-import os
+import sys
+from pathlib import Path
 
-from analytical_wave import compare, wave_depth, wave_sheet
-from ditch_mouth import FLOW, SQUARES, normal_depth, profiles
-from long_step import RUNS, level_meadow
-from pond import HELD_MOUTH, opened, settled
-from sheets import HOUR, MINUTE, SECOND, TOP, meadow
+sys.path.insert(0, str(Path(__file__).resolve().parent.parent / "python"))
 
-import map as drawing
+from analytical_wave import compare, wave_depth, wave_sheet  # noqa: E402
+from ditch_mouth import FLOW, SQUARES, normal_depth, profiles  # noqa: E402
+from long_step import RUNS, level_meadow  # noqa: E402
+from meadow.drawing import svg  # noqa: E402
+from meadow.grounds import HELD_MOUTH, opened_pond  # noqa: E402
+from meadow.lines import HOUR, MINUTE, SECOND  # noqa: E402
+from meadow.programs import TOP, ended, meadow  # noqa: E402
+from pond import settled  # noqa: E402
 
-FOLDER = os.path.join(TOP, "docs", "pictures")
+FOLDER = TOP / "docs" / "pictures"
 WIDTH, HEIGHT = 640, 300
 LEFT, RIGHT, ABOVE, BELOW = 48, 24, 28, 44
 BLUE, RED, GREY = "#08519c", "#d7301f", "#777777"
@@ -85,13 +89,13 @@ def ditch_mouth():
 
 
 def map_of(sheet, end):
-    text = sheet.text(end)
-    return drawing.svg(text, meadow(text).text)
+    """The map of a run to an end."""
+    return svg(sheet, meadow(sheet.text(end)))
 
 
 PICTURES = {
     "wave.svg": wave,
-    "held-pond.svg": lambda: map_of(opened(settled(), HELD_MOUTH), 10 * MINUTE),
+    "held-pond.svg": lambda: map_of(opened_pond(settled(), HELD_MOUTH), 10 * MINUTE),
     "ditch-mouth.svg": ditch_mouth,
     "usual-steps.svg": lambda: map_of(level_meadow(RUNS["usual"]), 30 * MINUTE),
     "long-steps.svg": lambda: map_of(level_meadow(RUNS["all 60 s"]), 30 * MINUTE),
@@ -99,12 +103,12 @@ PICTURES = {
 
 
 def main():
-    os.makedirs(FOLDER, exist_ok=True)
+    FOLDER.mkdir(exist_ok=True)
     for name, made in PICTURES.items():
-        with open(os.path.join(FOLDER, name), "w", encoding="utf-8") as picture:
-            picture.write(made())
+        (FOLDER / name).write_text(made(), encoding="utf-8")
         print(f"docs/pictures/{name}")
+    return 0
 
 
 if __name__ == "__main__":
-    main()
+    ended(main, "pictures")

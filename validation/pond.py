@@ -1,67 +1,44 @@
 """Standing squares: a pond that has settled does not empty when a mouth is opened beside it."""
-import os
+from meadow.grounds import HELD_MOUTH, POND, filling_pond, opened_pond
+from meadow.lines import HOUR, MINUTE
+from meadow.programs import TOP, meadow
+from meadow.standing import STEEP, standing_squares
+from shared import claim, table
 
-from sheets import HOUR, MINUTE, TOP, Sheet, claim, meadow, table
-from standing import STEEP, standing_squares
-
-SIZE = 6
-SIDE = 5
-ROUGHNESS = 300
-MOUTH_BED = 300_000
-SAMPLE = os.path.join(TOP, "samples", "held-pond.sheet")
-# a mouth that lets nothing out, and one that lets half of the pond out
-HELD_MOUTH, HALF_MOUTH = (2, SIZE + 1), (5, SIZE + 1)
+SAMPLE = TOP / "samples" / "held-pond.sheet"
+# a mouth that lets half of the pond out
+HALF_MOUTH = (5, POND + 1)
 
 
 def bank():
     """The closed squares where a mouth may be opened."""
-    along = range(1, SIZE + 1)
-    return [(0, i) for i in along] + [(i, SIZE + 1) for i in along] + [(SIZE + 1, i) for i in along] + [(i, 0) for i in along]
+    along = range(1, POND + 1)
+    return [(0, i) for i in along] + [(i, POND + 1) for i in along] + [(POND + 1, i) for i in along] + [(i, 0) for i in along]
 
 
-def filling(roughness=ROUGHNESS):
-    """An empty pond behind a closed bank, filled by a hatch for ten minutes."""
-    sheet = Sheet(SIZE + 2, SIZE + 2, SIDE)
-    for row in range(1, SIZE + 1):
-        for column in range(1, SIZE + 1):
-            sheet.put((row, column), 500_000 + 7_000 * ((3 * row + 5 * column) % 7), roughness)
-    sheet.inflow.append((1, 1, 0, 10 * MINUTE, 1_000))
-    return sheet
-
-
-def opened(water, mouth, roughness=ROUGHNESS, rain=0):
-    """The pond with the given water in it and a mouth opened in its bank."""
-    sheet = Sheet(SIZE + 2, SIZE + 2, SIDE)
-    for place, depth in water.items():
-        sheet.put(place, filling().bed(place), roughness, depth)
-    sheet.put(mouth, MOUTH_BED, roughness, 0, "e")
-    sheet.rain += [(0, HOUR, rain)] if rain else []
-    return sheet
-
-
-def settled(roughness=ROUGHNESS):
-    return meadow(filling(roughness).text(HOUR)).depths
+def settled(**ground):
+    """The water of a pond that was filled for ten minutes and left alone for the rest of an hour."""
+    return meadow(filling_pond(**ground).text(HOUR)).depths
 
 
 def made_level(water):
     """The same water with one level everywhere, less what does not divide evenly."""
-    sheet = filling()
+    sheet = filling_pond()
     level = sum(sheet.bed(place) + depth for place, depth in water.items()) // len(water)
     return {place: level - sheet.bed(place) for place in water}
 
 
 def counts(sheet, ends):
     for end in ends:
-        text = sheet.text(end)
-        answer = meadow(text)
-        found = standing_squares(text, answer.text)
+        answer = meadow(sheet.text(end))
+        found = standing_squares(sheet, answer)
         greatest = found[0][4] if found else 0
         yield (end // MINUTE, answer.steps, len(found), sum(square[4] >= STEEP for square in found), greatest, answer.out)
 
 
 def share_gone(water, mouth, rain=0, **opening):
     """How much of the pond's water has gone through a mouth in an hour; rain that fell on the mouth itself is none of it."""
-    after = meadow(opened(water, mouth, rain=rain, **opening).text(HOUR)).depths
+    after = meadow(opened_pond(water, mouth, rain=rain, **opening).text(HOUR)).depths
     return sum(depth + rain - after[place] for place, depth in water.items()) / sum(water.values())
 
 
@@ -80,14 +57,14 @@ def mouth_rows(water, long):
         yield mouths("as settled; roughness 0.04 once opened", water, roughness=400)
         yield mouths("as settled; rain of 1 mm/h once opened", water, rain=1_000)
         yield mouths("as settled; rain of 20 mm/h once opened", water, rain=20_000)
-        yield mouths("settled with roughness 0.0301", settled(301))
+        yield mouths("settled with roughness 0.0301", settled(roughness=301))
 
 
 def figures(long):
     heads = ["minutes", "steps", "standing squares", "of them steep", "greatest drop, µm", "out, µm"]
     yield "The pond fills for ten minutes and settles:"
     yield ""
-    rows = list(counts(filling(), [5 * MINUTE, 10 * MINUTE, 15 * MINUTE, 20 * MINUTE, HOUR] + ([6 * HOUR] if long else [])))
+    rows = list(counts(filling_pond(), [5 * MINUTE, 10 * MINUTE, 15 * MINUTE, 20 * MINUTE, HOUR] + ([6 * HOUR] if long else [])))
     claim(rows[4][2] > 0 and rows[4][3] == 0, "the settled pond has no standing squares, or steep ones")
     yield from table(heads, rows)
     water = settled()
@@ -95,11 +72,10 @@ def figures(long):
         yield ""
         yield f"Opened at row {mouth[0]}, column {mouth[1]}, {name}:"
         yield ""
-        rows = list(counts(opened(water, mouth), [0, MINUTE, 10 * MINUTE, HOUR]))
+        rows = list(counts(opened_pond(water, mouth), [0, MINUTE, 10 * MINUTE, HOUR]))
         claim(rows[-1][3] > 0, "no steep square stands")
         yield from table(heads, rows)
-    with open(SAMPLE) as sample:
-        claim(sample.read() == opened(water, HELD_MOUTH).text(10 * MINUTE), "samples/held-pond.sheet is not this pond")
+    claim(SAMPLE.read_text() == opened_pond(water, HELD_MOUTH).text(10 * MINUTE), "samples/held-pond.sheet is not this pond")
     yield ""
     yield "Each mouth in turn, an hour after it is opened:"
     yield ""

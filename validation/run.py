@@ -6,21 +6,28 @@ prints does not stand in the part's section of the page and, in the long form, w
 """
 import os
 import sys
+from pathlib import Path
 
-import analytical_wave
-import basin
-import ditch_mouth
-import lake
-import long_step
-import pond
-import thin_water
-import turns
-import walls
-from sheets import TOP, Wrong
+sys.path.insert(0, str(Path(__file__).resolve().parent.parent / "python"))
 
-PAGE = os.path.join(TOP, "docs", "VALIDATION.md")
+import analytical_wave  # noqa: E402
+import basin  # noqa: E402
+import ditch_mouth  # noqa: E402
+import lake  # noqa: E402
+import long_step  # noqa: E402
+import pond  # noqa: E402
+import thin_water  # noqa: E402
+import turns  # noqa: E402
+import update_time  # noqa: E402
+import walls  # noqa: E402
+from meadow.counted import Checks  # noqa: E402
+from meadow.programs import TOP, ended  # noqa: E402
+from shared import Wrong  # noqa: E402
+
+PAGE = TOP / "docs" / "VALIDATION.md"
 PARTS = {
     "wave": analytical_wave,
+    "update": update_time,
     "lake": lake,
     "basin": basin,
     "turns": turns,
@@ -35,14 +42,13 @@ PARTS = {
 def page_rows(name):
     """The rows of the tables in a part's section of the page, which begins with the part's command."""
     rows, inside = set(), False
-    with open(PAGE, encoding="utf-8") as page:
-        for line in page.read().splitlines():
-            if line == f"`python3 validation/run.py --long {name}`":
-                inside = True
-            elif line.startswith("#"):
-                inside = False
-            elif inside and line.startswith("|"):
-                rows.add(line)
+    for line in PAGE.read_text(encoding="utf-8").splitlines():
+        if line == f"`python3 validation/run.py --long {name}`":
+            inside = True
+        elif line.startswith("#"):
+            inside = False
+        elif inside and line.startswith("|"):
+            rows.add(line)
     return rows
 
 
@@ -52,20 +58,21 @@ def worked():
     return times.user + times.system + times.children_user + times.children_system
 
 
-def run_part(name, long):
-    """Prints a part's figures; the faults found."""
+def run_part(name, long, checks):
+    """Prints a part's figures, and holds each row of its tables to the page."""
     print(f"\n### {name}: {PARTS[name].__doc__.splitlines()[0]}\n")
-    printed, faults = set(), []
+    told, printed = page_rows(name), set()
     try:
         for line in PARTS[name].figures(long):
             print(line, flush=True)
-            printed |= {line} if line.startswith("|") else set()
+            if line.startswith("|"):
+                printed.add(line)
+                checks.hold(line in told, f"{name}: not in docs/VALIDATION.md: {line}")
+        checks.hold(printed != set(), f"{name}: no figure was printed")
     except Wrong as fault:
-        faults.append(str(fault))
-    told = page_rows(name)
-    faults += [f"not in docs/VALIDATION.md: {row}" for row in sorted(printed - told)]
-    faults += [f"in docs/VALIDATION.md, but not printed: {row}" for row in sorted(told - printed) if long]
-    return faults
+        checks.hold(False, f"{name}: {fault}")
+    for row in sorted(told - printed) if long else []:
+        checks.hold(False, f"{name}: in docs/VALIDATION.md, but not printed: {row}")
 
 
 def main():
@@ -76,17 +83,14 @@ def main():
     if unknown:
         print(f"validation: no part {unknown[0]}; there are {', '.join(PARTS)}", file=sys.stderr)
         return 2
-    failed = 0
+    checks = Checks("validation")
     for name in asked:
         begun = worked()
-        faults = run_part(name, long)
-        failed += len(faults)
-        for fault in faults:
-            print(f"validation: {name}: {fault}", file=sys.stderr)
+        run_part(name, long, checks)
         print(f"validation: {name}: {worked() - begun:.0f} s of processor time", file=sys.stderr)
-    print(f"\nvalidation: {len(asked)} parts, {failed} faults")
-    return 1 if failed else 0
+    print()
+    checks.end()
 
 
 if __name__ == "__main__":
-    sys.exit(main())
+    ended(main, "validation")

@@ -1,8 +1,11 @@
 """Thin water: speeds in whole mm/s and amounts in whole µm keep it where it is."""
 import math
 
-from document_01 import MOST_DEPTH, height, weigh
-from sheets import HOUR, MINUTE, USUAL, Sheet, claim, meadow, table
+from meadow.lines import HOUR, MINUTE, Sheet
+from meadow.programs import meadow
+from meadow.ranges import MOST_DEPTH
+from meadow.weighing import height, slope as root_of_slope, weigh
+from shared import USUAL, claim, limits, table
 
 SIDE = 10
 SLOPES = (100, 1_000, 10_000)
@@ -18,7 +21,7 @@ def fall(slope):
 
 def strip(squares, slope, roughness, depth, run):
     """A strip that falls to an exit at its east end, between closed rows."""
-    sheet = Sheet(3, squares, SIDE, run)
+    sheet = Sheet(3, squares, SIDE, **run)
     for column in range(squares):
         mark = "e" if column == squares - 1 else "o"
         sheet.put((1, column), 1_000_000 + fall(slope) * (squares - 1 - column), roughness, depth, mark)
@@ -39,14 +42,14 @@ def moves_in(slope, roughness, ms):
 
 
 def has_speed(slope, roughness):
-    return lambda depth: height(depth) * math.isqrt(100 * fall(slope) // SIDE) >= 10 * roughness
+    return lambda depth: height(depth) * root_of_slope(SIDE, fall(slope)) >= 10 * roughness
 
 
 def moves_in_micrometres(slope, roughness, ms):
     """As moves_in, with the speed in µm/s that request #105 asks for."""
 
     def moves(depth):
-        speed = min(math.isqrt(9_810_000 * depth), 100 * height(depth) * math.isqrt(100 * fall(slope) // SIDE) // roughness)
+        speed = min(math.isqrt(9_810_000 * depth), 100 * height(depth) * root_of_slope(SIDE, fall(slope)) // roughness)
         most = min(depth, speed * ms * depth // (SIDE * 1_000_000_000))
         return min(2 * most, depth, fall(slope)) // 2 > 0
 
@@ -57,7 +60,7 @@ def found_still(slope, roughness, ms):
     """The greatest still depth for a step, worked from the rule and then tried: `meadow` moves nothing there, and moves 1 µm more."""
     depth = still_up_to(moves_in(slope, roughness, ms))
     for tried, moved in ((depth, False), (depth + 1, True)):
-        answer = meadow(strip(3, slope, roughness, tried, (0, ms, ms, ms)).text(ms))
+        answer = meadow(strip(3, slope, roughness, tried, limits(0, ms, ms, ms)).text(ms))
         claim((answer.depths[1, 0] != tried) == moved, f"{tried} µm on 1 in {slope} in {ms} ms is not as worked")
     return depth
 
@@ -81,8 +84,8 @@ def kinematic_share(slope, roughness, rate):
 
 def rain_rows(long):
     slope, roughness = 100, 1_000
-    runs = [("usual", USUAL), ("all 10,000 ms", (0, 10_000, 10_000, MINUTE)), ("all 500 ms", (0, 500, 500, MINUTE))]
-    runs += [("all 100 ms", (0, 100, 100, MINUTE))] if long else []
+    runs = [("usual", USUAL), ("all 10,000 ms", limits(0, 10_000, 10_000, MINUTE)), ("all 500 ms", limits(0, 500, 500, MINUTE))]
+    runs += [("all 100 ms", limits(0, 100, 100, MINUTE))] if long else []
     for rate in (20_000, 5_000):
         for name, run in runs:
             sheet = strip(SQUARES, slope, roughness, 0, run)

@@ -1,5 +1,7 @@
 """Mirror images and quarter turns of a sheet give mirrored and turned answers."""
-from sheets import MINUTE, Sheet, claim, meadow, table, uneven
+from meadow.lines import MINUTE, Sheet
+from meadow.programs import meadow
+from shared import claim, table, uneven
 
 ROWS, COLUMNS = 9, 13
 END = 10 * MINUTE

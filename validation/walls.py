@@ -1,5 +1,7 @@
 """The walled wheel house: whatever ground is tried inside or around it, no water enters, and nothing inside changes an answer outside."""
-from sheets import HOUR, MINUTE, Sheet, claim, meadow, table, uneven
+from meadow.lines import HOUR, MINUTE, Sheet
+from meadow.programs import meadow
+from shared import claim, table, uneven
 
 SIZE = 18
 WALL = range(6, 12)

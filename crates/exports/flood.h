@@ -2,17 +2,37 @@
 
    Each function gives a refusal's number of document 01, 0 for none, unless it says otherwise. An array is followed by how many numbers it
    has. A caller owes what Rust's slices owe: each array is there, aligned and initialised, its pointer not null even where it has no
-   number; and one that a call may write overlaps with no other array of that call. A refused call leaves every array as it was.
+   number; and one that a call may write overlaps with no other array of that call.
 
-   An array for an answer must have exactly these numbers, else the call is refused by 1 before all else:
-     run_after   of flood_run_to 6: clock, length, outflow, kept, newest, steps made; of the other calls 5: the same without the steps.
-                 A run to an end that is refused by 7, 8 or 9 tells the steps made and the run before the step refused.
-     speeds      2: east and north, in m/s
-     count       1: the wet squares
-     heading     10: rows, columns, square_side, tolerance, shortest, longest, update, end, rain rows, inflow rows
-     line        1: the line of a 12, else 0; written also where the sheet is refused
-     out         FLOOD_OUT_ROOM or more
-   Any other array has the size that document 01 gives it: one number a square, or one a row (wet). */
+   These arrays have exactly so many numbers, else the call is refused by 1 before all else:
+     rules       square_side, tolerance, shortest, longest, update
+     run         clock, length, outflow, kept, newest: goes in, and the run that the call leaves comes out in it, for the next call;
+                 flood_fresh only writes it, flood_arrow only reads it
+     steps       the steps that a run to an end made
+     speeds      east and north, in m/s
+     count       the wet squares
+     heading     rows, columns, the rules (from FLOOD_HEADING_RULES on, as a call takes them), end, rain rows, inflow rows
+     line        the line of a 12, else 0
+   The room `out` has FLOOD_OUT_ROOM numbers or more; a sheet's rooms for rain and inflow have FLOOD_RAIN_ROOM and FLOOD_INFLOW_ROOM or
+   more, its others one number a square or more; `records` as many records as are to be kept. Any other array has the size that document
+   01 gives it: one number a square, or one a row (wet).
+
+   A refused call leaves every array as it was, but for these:
+     flood_read_sheet   writes `line` unless `heading` or `line` has not its size.
+     flood_run_to       refused by 7, 8 or 9 has made the steps that `steps` tells; depths, lasts, records and run are those before the
+                        step refused.
+   flood_meadow prints a refusal as it prints an answer.
+
+   A call does nothing but write the arrays lent to it: it takes no memory, opens nothing, waits for nothing, and ends. Its own rooms lie
+   on the stack. This much of it suffices, as tests/stack.sh measures for each on the largest grid:
+     flood_fresh         16 KiB
+     flood_step         128 KiB
+     flood_run_to       128 KiB
+     flood_take_back     16 KiB
+     flood_arrow         16 KiB
+     flood_wet_rows      16 KiB
+     flood_read_sheet   192 KiB
+     flood_meadow       320 KiB */
 #ifndef FLOOD_H
 #define FLOOD_H
 
@@ -23,51 +43,66 @@
 extern "C" {
 #endif
 
+#define FLOOD_DONE 0
+#define FLOOD_REFUSED_SHAPE 1 /* shape or D out of range, an array of another size than it must have, an asked square off the grid */
+#define FLOOD_REFUSED_GROUND 2 /* mark above 2, exit off the rim, bed or roughness of a square not closed out of range */
+#define FLOOD_REFUSED_WATER 3 /* depth or last leaving of a square not closed out of range */
+#define FLOOD_REFUSED_TABLE 4 /* rain or inflow: odd length, over 64 rows, a value out of range, from > to, a closed or missing square */
+#define FLOOD_REFUSED_RULES 5 /* q, step limits, U or wet depth out of range; end not a multiple of U or out of range */
+#define FLOOD_REFUSED_RUN 6 /* no room for a record, or a run value out of range */
+#define FLOOD_REFUSED_CLOCK 7 /* the step would pass clock 604,800,000 */
+#define FLOOD_REFUSED_DEPTH 8 /* a new depth above 100,000,000 */
+#define FLOOD_REFUSED_OUTFLOW 9 /* outflow total above 10^15 */
+#define FLOOD_REFUSED_NONE_KEPT 10 /* no step is kept to take back or to see */
+#define FLOOD_REFUSED_RECORD 11 /* the newest record cannot be right */
+#define FLOOD_REFUSED_TEXT 12 /* sheet text, with its line */
+
+#define FLOOD_RULES_NUMBERS 5
 #define FLOOD_RUN_NUMBERS 5
-#define FLOOD_RAN_NUMBERS 6
+#define FLOOD_STEPS_NUMBERS 1
 #define FLOOD_SPEED_NUMBERS 2
 #define FLOOD_COUNT_NUMBERS 1
 #define FLOOD_HEADING_NUMBERS 10
 #define FLOOD_LINE_NUMBERS 1
+#define FLOOD_OUT_ROOM 40960
+#define FLOOD_RAIN_ROOM 192
+#define FLOOD_INFLOW_ROOM 320
 #define FLOOD_MOVING 0
 #define FLOOD_CLOSED 101
 #define FLOOD_DRY 102
 #define FLOOD_STILL 103
-#define FLOOD_OUT_ROOM 40960
+#define FLOOD_HEADING_RULES 2
+#define FLOOD_RECORD_NUMBERS(rows, columns) (2 + 6 * (size_t)(rows) * (size_t)(columns)) /* of one record */
+#define FLOOD_STACK_BYTES (320 * 1024) /* suffice for every call */
 
-/* A fresh run: the last leaving of squares not closed becomes 0. */
-uint32_t flood_fresh(size_t rows, size_t columns, uint64_t square_side, uint64_t tolerance, uint64_t shortest,
-    uint64_t longest, uint64_t update, const uint8_t *marks, size_t marks_numbers, uint32_t *lasts,
-    size_t lasts_numbers, const uint32_t *records, size_t records_numbers, uint64_t *run_after,
-    size_t run_after_numbers);
+/* A fresh run: the last leaving of squares not closed becomes 0, and the run is told. */
+uint32_t flood_fresh(size_t rows, size_t columns, const uint64_t *rules, size_t rules_numbers, const uint8_t *marks,
+    size_t marks_numbers, uint32_t *lasts, size_t lasts_numbers, const uint32_t *records, size_t records_numbers,
+    uint64_t *run, size_t run_numbers);
 
 /* One step. */
-uint32_t flood_step(size_t rows, size_t columns, uint64_t square_side, uint64_t tolerance, uint64_t shortest,
-    uint64_t longest, uint64_t update, uint64_t clock, uint64_t length, uint64_t outflow, size_t kept, size_t newest,
+uint32_t flood_step(size_t rows, size_t columns, const uint64_t *rules, size_t rules_numbers, const uint8_t *marks,
+    size_t marks_numbers, const uint32_t *beds, size_t beds_numbers, const uint32_t *roughness,
+    size_t roughness_numbers, const uint32_t *rain, size_t rain_numbers, const uint32_t *inflow, size_t inflow_numbers,
+    uint32_t *depths, size_t depths_numbers, uint32_t *lasts, size_t lasts_numbers, uint32_t *records,
+    size_t records_numbers, uint64_t *run, size_t run_numbers);
+
+/* Steps to an end of the clock, and how many were made. */
+uint32_t flood_run_to(size_t rows, size_t columns, const uint64_t *rules, size_t rules_numbers, uint64_t end,
     const uint8_t *marks, size_t marks_numbers, const uint32_t *beds, size_t beds_numbers, const uint32_t *roughness,
     size_t roughness_numbers, const uint32_t *rain, size_t rain_numbers, const uint32_t *inflow, size_t inflow_numbers,
     uint32_t *depths, size_t depths_numbers, uint32_t *lasts, size_t lasts_numbers, uint32_t *records,
-    size_t records_numbers, uint64_t *run_after, size_t run_after_numbers);
-
-/* Steps to an end of the clock. */
-uint32_t flood_run_to(size_t rows, size_t columns, uint64_t square_side, uint64_t tolerance, uint64_t shortest,
-    uint64_t longest, uint64_t update, uint64_t clock, uint64_t length, uint64_t outflow, size_t kept, size_t newest,
-    uint64_t end, const uint8_t *marks, size_t marks_numbers, const uint32_t *beds, size_t beds_numbers,
-    const uint32_t *roughness, size_t roughness_numbers, const uint32_t *rain, size_t rain_numbers,
-    const uint32_t *inflow, size_t inflow_numbers, uint32_t *depths, size_t depths_numbers, uint32_t *lasts,
-    size_t lasts_numbers, uint32_t *records, size_t records_numbers, uint64_t *run_after, size_t run_after_numbers);
+    size_t records_numbers, uint64_t *run, size_t run_numbers, uint64_t *steps, size_t steps_numbers);
 
 /* The newest step taken back. */
-uint32_t flood_take_back(size_t rows, size_t columns, uint64_t clock, uint64_t length, uint64_t outflow, size_t kept,
-    size_t newest, const uint8_t *marks, size_t marks_numbers, uint32_t *depths, size_t depths_numbers, uint32_t *lasts,
-    size_t lasts_numbers, const uint32_t *records, size_t records_numbers, uint64_t *run_after,
-    size_t run_after_numbers);
+uint32_t flood_take_back(size_t rows, size_t columns, const uint8_t *marks, size_t marks_numbers, uint32_t *depths,
+    size_t depths_numbers, uint32_t *lasts, size_t lasts_numbers, const uint32_t *records, size_t records_numbers,
+    uint64_t *run, size_t run_numbers);
 
 /* The flow arrow of the square in a row and a column, after the newest step kept. */
-uint32_t flood_arrow(size_t rows, size_t columns, uint64_t square_side, uint64_t clock, uint64_t length,
-    uint64_t outflow, size_t kept, size_t newest, const uint8_t *marks, size_t marks_numbers, const uint32_t *depths,
-    size_t depths_numbers, const uint32_t *records, size_t records_numbers, size_t row, size_t column, double *speeds,
-    size_t speeds_numbers);
+uint32_t flood_arrow(size_t rows, size_t columns, uint64_t square_side, const uint8_t *marks, size_t marks_numbers,
+    const uint32_t *depths, size_t depths_numbers, const uint32_t *records, size_t records_numbers, const uint64_t *run,
+    size_t run_numbers, size_t row, size_t column, double *speeds, size_t speeds_numbers);
 
 /* The wet rows, and their count. */
 uint32_t flood_wet_rows(size_t rows, size_t columns, const uint8_t *marks, size_t marks_numbers, const uint32_t *depths,

@@ -8,57 +8,27 @@ run_by=()
 machine=
 why=
 
-# have PACKAGE..: Debian's packages, installed where they are missing; else 1, with the reason in `why`
-have() {
-    local missing=() package
-    for package in "$@"; do
-        [ "$(dpkg-query -W -f '${db:Status-Status}' "$package" 2>/dev/null)" = installed ] || missing+=("$package")
-    done
-    [ "${#missing[@]}" -eq 0 ] && return 0
-    if [ "$(id -u)" -ne 0 ]; then
-        why="not root, so ${missing[*]} cannot be installed"
-        return 1
-    fi
-    echo "outside: installing ${missing[*]}"
-    [ "$(uname -m)" = x86_64 ] || dpkg --add-architecture amd64
-    if ! { apt-get update && DEBIAN_FRONTEND=noninteractive apt-get install -y --no-install-recommends "${missing[@]}"; } \
-        >"$built/install.log" 2>&1; then
-        why="${missing[*]} cannot be installed: $(tail -n 1 "$built/install.log")"
-        return 1
-    fi
-}
-
-# tools: finds what builds and runs x86-64 Rust here; else 1, with the reason in `why`
+# tools: what builds and runs x86-64 Rust here, which bin/setup installs; else 1, with the reason in `why`
 tools() {
+    why=$(bin/setup --missing 2>&1) || return 1
     mkdir -p "$built"
-    case $(uname -m) in
-    x86_64)
-        if ! command -v rustc >/dev/null || ! command -v cc >/dev/null; then
-            command -v dpkg >/dev/null || { why="no rustc and cc on the path, and no Debian to install them from" && return 1; }
-            have rustc gcc libc6-dev || return 1
-        fi
+    if [ "$(uname -m)" = x86_64 ]; then
         compile=(rustc)
         compile_c=(cc)
         machine="x86_64, not emulated"
-        ;;
-    aarch64)
-        command -v dpkg >/dev/null || { why="on Arm this needs Debian's x86-64 packages and emulator" && return 1; }
-        have rustc libstd-rust-dev:amd64 gcc-x86-64-linux-gnu libc6-dev-amd64-cross libc6:amd64 qemu-user || return 1
-        # Debian's own rustc: another one on the path has no x86-64 standard library
-        compile=(/usr/bin/rustc --target x86_64-unknown-linux-gnu -C linker=x86_64-linux-gnu-gcc)
-        compile_c=(x86_64-linux-gnu-gcc)
-        run_by=(qemu-x86_64)
-        machine="aarch64, x86-64 programs emulated by $(qemu-x86_64 --version | head -n 1)"
-        ;;
-    *)
-        why="the static library is for x86-64, and this machine is $(uname -m)"
-        return 1
-        ;;
-    esac
+        return 0
+    fi
+    # Debian's own rustc: another one on the path has no x86-64 standard library
+    compile=(/usr/bin/rustc --target x86_64-unknown-linux-gnu -C linker=x86_64-linux-gnu-gcc)
+    compile_c=(x86_64-linux-gnu-gcc)
+    run_by=(qemu-x86_64)
+    machine="aarch64, x86-64 programs emulated by $(qemu-x86_64 --version | head -n 1)"
 }
 
-# archive: proves and builds target/staticlib/libexports.a
+# archive: proves and builds target/staticlib/libexports.a, unless it is newer than everything that it is made of
 archive() {
+    local made_of=(crates.txt crates '(' -type d -o -name '*.rt' -o -name '*.antt' -o -name crates.txt ')')
+    [ -n "$(find "${made_of[@]}" -newer target/staticlib/libexports.a 2>&1 | head -n 1)" ] || return 0
     if ! rt staticlib exports >"$built/staticlib.log" 2>&1; then
         echo "outside: rt staticlib exports failed:"
         tail -n 20 "$built/staticlib.log"

@@ -1,8 +1,9 @@
 //! One call made by the reference and by the library on the same input, and everything compared afterwards: the answer, every number
 //! lent, the run. The first difference is printed with its input and ends the program.
 
+use crate::declared::{self, COUNT_NUMBERS, HEADING_NUMBERS, LINE_NUMBERS, OUT_ROOM, RULES_NUMBERS, RUN_NUMBERS, SPEED_NUMBERS, STEPS_NUMBERS};
 use crate::library;
-use crate::meadows::Lent;
+use crate::meadows::{Lent, Sizes};
 use crate::plain;
 use crate::reference::{self, Arrow, Heading, Made, Meadow, Run};
 use std::collections::BTreeMap;
@@ -41,9 +42,6 @@ pub const ANSWERS: [(Call, &[u32]); 8] = [
 /// What a slice for an answer holds before the call, so that a number not written is seen.
 const JUNK: u64 = 0xa5a5_a5a5_a5a5_a5a5;
 
-/// The room that `flood_meadow` asks for.
-pub const PRINT_ROOM: usize = 40_960;
-
 /// Bytes shown as a Rust literal.
 #[derive(Clone, PartialEq)]
 pub struct Text(pub Vec<u8>);
@@ -64,11 +62,12 @@ pub struct LentSheet {
     pub line: i64,
 }
 
-/// Everything that a call can have changed, and its number.
+/// Everything that a call can have changed, and its number. `answer` is what it gives besides a run: steps, speeds, a count, a heading.
 #[derive(Clone, Debug, PartialEq)]
 pub struct After {
     pub number: u32,
     pub meadow: Meadow,
+    pub run: Vec<u64>,
     pub answer: Vec<u64>,
     pub more: Vec<u64>,
     pub printed: Text,
@@ -91,7 +90,7 @@ impl Tally {
         let expected = by_reference(call, lent);
         let input = || format!("tally.call(Call::{:?}, &{:?});", call, lent);
         self.compare(call, &input, &expected, &by_library(call, lent), "the library");
-        if call == RunTo && lent.answer == 0 {
+        if call == RunTo && lent.sizes == Sizes::default() {
             let run_to = [plain::run_to::<plain::Digits>, plain::run_to::<plain::Floats>];
             for (engine, name) in run_to.into_iter().zip(["the plain engine (digits)", "the plain engine (f64)"]) {
                 self.compare(call, &input, &expected, &by_run_to(lent, engine), name);
@@ -114,7 +113,7 @@ impl Tally {
         let expected = meadow_by_reference(text, room);
         let input = || format!("tally.meadow(&{:?}, {});", text, room);
         self.compare(Call::Meadow, &input, &expected, &meadow_by_library(text, room), "the library");
-        if room >= PRINT_ROOM {
+        if room >= OUT_ROOM {
             self.count(Call::Meadow, expected.number);
         }
         expected
@@ -148,6 +147,7 @@ fn first_difference(expected: &After, found: &After) -> String {
     let bytes = |bytes: &[u8]| bytes.iter().map(|byte| *byte as u64).collect::<Vec<u64>>();
     let (one, other) = (&expected.meadow, &found.meadow);
     let parts = [
+        ("run", expected.run.clone(), found.run.clone()),
         ("answer", expected.answer.clone(), found.answer.clone()),
         ("wet or line", expected.more.clone(), found.more.clone()),
         ("printed", bytes(&expected.printed.0), bytes(&found.printed.0)),
@@ -173,38 +173,62 @@ fn first_difference(expected: &After, found: &After) -> String {
 
 // ---------------------------------------------------------------- calls on a meadow
 
-/// How many numbers the answer of a call has.
-fn answer_size(call: Call) -> i64 {
+/// How many numbers the answer of a call has, besides its run.
+fn answer_size(call: Call) -> usize {
     match call {
-        RunTo => 6,
-        Call::Arrow => 2,
-        WetRows => 1,
-        _ => 5,
+        RunTo => STEPS_NUMBERS,
+        Call::Arrow => SPEED_NUMBERS,
+        WetRows => COUNT_NUMBERS,
+        _ => 0,
     }
 }
 
+/// The numbers, as many more or fewer as is said.
+fn resized(numbers: &[u64], more: i64) -> Vec<u64> {
+    let mut numbers = numbers.to_vec();
+    numbers.resize((numbers.len() as i64 + more).max(0) as usize, JUNK);
+    numbers
+}
+
+fn rules(lent: &Lent) -> Vec<u64> {
+    resized(&library::rules_numbers(&lent.rules), lent.sizes.rules)
+}
+
+/// A fresh run is only written.
 fn before(call: Call, lent: &Lent) -> After {
+    let run = if call == Fresh { [JUNK; RUN_NUMBERS] } else { library::run_numbers(&lent.run) };
     After {
         number: 0,
         meadow: lent.meadow.clone(),
-        answer: vec![JUNK; (answer_size(call) + lent.answer).max(0) as usize],
+        run: resized(&run, lent.sizes.run),
+        answer: resized(&vec![JUNK; answer_size(call)], lent.sizes.answer),
         more: lent.wet.clone(),
         printed: Text(Vec::new()),
     }
 }
 
-fn numbers(run: &Run) -> [u64; 5] {
-    [run.clock, run.length, run.outflow, run.kept as u64, run.newest as u64]
+/// Whether each slice that the call is lent for rules, run and answer has its size.
+fn sized(call: Call, lent: &Lent, after: &After) -> bool {
+    let rules = rules(lent).len() == RULES_NUMBERS;
+    let run = after.run.len() == RUN_NUMBERS;
+    let answer = after.answer.len() == answer_size(call);
+    match call {
+        Fresh | Step => rules && run,
+        RunTo => rules && run && answer,
+        TakeBack => run,
+        Call::Arrow => run && answer,
+        _ => answer,
+    }
 }
 
-/// A run to an end: a refusal by 1 to 6 leaves the answer as it was, one by 8 or 9 tells run and steps.
+/// A run to an end: a refusal by 1 to 6 leaves run and steps as they were, one by 8 or 9 tells them.
 fn put_made(after: &mut After, made: Result<Made, u32>) {
     match made {
         Err(number) => after.number = number,
         Ok(made) => {
             after.number = made.number;
-            after.answer[..5].copy_from_slice(&numbers(&made.run));
-            after.answer[5] = made.steps;
+            after.run.copy_from_slice(&library::run_numbers(&made.run));
+            after.answer[0] = made.steps;
         }
     }
 }
@@ -212,7 +236,7 @@ fn put_made(after: &mut After, made: Result<Made, u32>) {
 fn put_run(after: &mut After, run: Result<Run, u32>) {
     match run {
         Err(number) => after.number = number,
-        Ok(run) => after.answer.copy_from_slice(&numbers(&run)),
+        Ok(run) => after.run.copy_from_slice(&library::run_numbers(&run)),
     }
 }
 
@@ -225,8 +249,8 @@ fn by_run_to(lent: &Lent, run_to: fn(&mut Meadow, &reference::Rules, &Run, u64) 
 
 fn by_reference(call: Call, lent: &Lent) -> After {
     let mut after = before(call, lent);
-    if after.answer.len() as i64 != answer_size(call) {
-        after.number = 1;
+    if !sized(call, lent, &after) {
+        after.number = declared::REFUSED_SHAPE;
         return after;
     }
     match call {
@@ -247,12 +271,12 @@ fn by_reference(call: Call, lent: &Lent) -> After {
             let arrow = reference::arrow(&lent.meadow, lent.rules.square_side, &lent.run, lent.row, lent.column);
             after.number = match arrow {
                 Arrow::Refused(number) => number,
-                Arrow::Closed => 101,
-                Arrow::Dry => 102,
-                Arrow::Still => 103,
+                Arrow::Closed => declared::CLOSED,
+                Arrow::Dry => declared::DRY,
+                Arrow::Still => declared::STILL,
                 Arrow::Moving { east, north } => {
                     after.answer = vec![east.to_bits(), north.to_bits()];
-                    0
+                    declared::MOVING
                 }
             };
         }
@@ -267,16 +291,16 @@ fn by_reference(call: Call, lent: &Lent) -> After {
 
 fn by_library(call: Call, lent: &Lent) -> After {
     let mut after = before(call, lent);
-    let (meadow, answer) = (&mut after.meadow, &mut after.answer);
+    let rules = rules(lent);
+    let (meadow, run, answer) = (&mut after.meadow, &mut after.run, &mut after.answer);
     after.number = match call {
-        Fresh => library::fresh(meadow, &lent.rules, answer),
-        Step => library::step(meadow, &lent.rules, &lent.run, answer),
-        RunTo => library::run_to(meadow, &lent.rules, &lent.run, lent.end, answer),
-        TakeBack => library::take_back(meadow, &lent.run, answer),
+        Fresh => library::fresh(meadow, &rules, run),
+        Step => library::step(meadow, &rules, run),
+        RunTo => library::run_to(meadow, &rules, lent.end, run, answer),
+        TakeBack => library::take_back(meadow, run),
         Call::Arrow => {
             let mut speeds: Vec<f64> = answer.iter().map(|bits| f64::from_bits(*bits)).collect();
-            let side = lent.rules.square_side;
-            let number = library::arrow(meadow, side, &lent.run, lent.row, lent.column, &mut speeds);
+            let number = library::arrow(meadow, lent.rules.square_side, run, lent.row, lent.column, &mut speeds);
             *answer = speeds.iter().map(|speed| speed.to_bits()).collect();
             number
         }
@@ -288,38 +312,28 @@ fn by_library(call: Call, lent: &Lent) -> After {
 
 // ---------------------------------------------------------------- calls on a text
 
-const HEADING_SIZE: i64 = 10;
-
 fn sheet_before(lent: &LentSheet) -> After {
     After {
         number: 0,
         meadow: lent.rooms.clone(),
-        answer: vec![JUNK; (HEADING_SIZE + lent.heading).max(0) as usize],
-        more: vec![JUNK; (1 + lent.line).max(0) as usize],
+        run: Vec::new(),
+        answer: resized(&[JUNK; HEADING_NUMBERS], lent.heading),
+        more: resized(&[JUNK; LINE_NUMBERS], lent.line),
         printed: Text(Vec::new()),
     }
 }
 
 fn heading_numbers(heading: &Heading) -> Vec<u64> {
-    let rules = &heading.rules;
-    vec![
-        heading.rows as u64,
-        heading.columns as u64,
-        rules.square_side,
-        rules.tolerance,
-        rules.shortest,
-        rules.longest,
-        rules.update,
-        heading.end,
-        heading.rain_rows as u64,
-        heading.inflow_rows as u64,
-    ]
+    let mut numbers = vec![heading.rows as u64, heading.columns as u64];
+    numbers.extend(library::rules_numbers(&heading.rules));
+    numbers.extend([heading.end, heading.rain_rows as u64, heading.inflow_rows as u64]);
+    numbers
 }
 
 fn sheet_by_reference(lent: &LentSheet) -> After {
     let mut after = sheet_before(lent);
     if lent.heading != 0 || lent.line != 0 {
-        after.number = 1;
+        after.number = declared::REFUSED_SHAPE;
         return after;
     }
     match reference::read_sheet(&lent.text.0, &mut after.meadow) {
@@ -357,6 +371,7 @@ fn meadow_after(length: usize, room: &[u8]) -> After {
     After {
         number: refused_by(printed),
         meadow: Meadow::default(),
+        run: Vec::new(),
         answer: vec![length as u64],
         more: (0..rest.len()).filter(written).map(|at| at as u64).collect(),
         printed: Text(printed.to_vec()),
@@ -365,7 +380,7 @@ fn meadow_after(length: usize, room: &[u8]) -> After {
 
 fn meadow_by_reference(text: &Text, room: usize) -> After {
     let mut out = vec![JUNK as u8; room];
-    if room < PRINT_ROOM {
+    if room < OUT_ROOM {
         return meadow_after(0, &out);
     }
     let printed = reference::meadow(&text.0);
@@ -375,6 +390,6 @@ fn meadow_by_reference(text: &Text, room: usize) -> After {
 
 fn meadow_by_library(text: &Text, room: usize) -> After {
     let mut out = vec![JUNK as u8; room];
-    let length = library::meadow(&text.0, &mut out);
+    let length = declared::flood_meadow(&text.0, &mut out);
     meadow_after(length.min(room), &out)
 }

@@ -4,6 +4,9 @@
 
 mod calls;
 mod chance;
+// the comparison uses a part of what is declared
+#[allow(dead_code)]
+mod declared;
 mod forged;
 mod library;
 mod limits;
@@ -15,8 +18,9 @@ mod steps;
 mod texts;
 mod worked;
 
-use calls::{Call, Tally, Text, ANSWERS, PRINT_ROOM};
+use calls::{Call, Tally, Text, ANSWERS};
 use chance::Chance;
+use declared::OUT_ROOM;
 use std::time::{Duration, Instant};
 
 const ROUNDS: u64 = 440;
@@ -142,7 +146,7 @@ fn main() {
     }
     if words.long {
         tally.kind = "endless sheet";
-        tally.meadow(&Text(sheets::endless()), PRINT_ROOM);
+        tally.meadow(&Text(sheets::endless()), OUT_ROOM);
     }
     let rounds = make_rounds(&mut tally, &words);
     print_counts(&tally);

@@ -122,8 +122,10 @@ fn sizes(changes: &mut Vec<Change>, base: &Lent) {
     each(changes, ways(), |lent, way| resized(&mut lent.wet, way));
     let record = base.meadow.record_size() as u64;
     each(changes, vec![record - 1, record, record + 1], |lent, length| lent.meadow.records.resize(length as usize, 7));
-    for answer in [-6, -1, 1, 7] {
-        changes.push(Box::new(move |lent| lent.answer = answer));
+    for more in [-6, -1, 1, 7] {
+        changes.push(Box::new(move |lent| lent.sizes.rules = more));
+        changes.push(Box::new(move |lent| lent.sizes.run = more));
+        changes.push(Box::new(move |lent| lent.sizes.answer = more));
     }
 }
 

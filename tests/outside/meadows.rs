@@ -8,8 +8,15 @@ pub const MOST_DEPTH: u64 = 100_000_000;
 pub const MOST_CLOCK: u64 = 604_800_000;
 pub const MOST_OUTFLOW: u64 = 1_000_000_000_000_000;
 
-/// Everything that the six calls on a meadow are lent; each is lent its part. `answer` is added to the size that the slice for the answer
-/// must have.
+/// How many numbers more than they must have the slices for rules, run and answer have.
+#[derive(Clone, Copy, Debug, Default, PartialEq)]
+pub struct Sizes {
+    pub rules: i64,
+    pub run: i64,
+    pub answer: i64,
+}
+
+/// Everything that the six calls on a meadow are lent; each is lent its part.
 #[derive(Clone, Debug, PartialEq)]
 pub struct Lent {
     pub meadow: Meadow,
@@ -20,7 +27,7 @@ pub struct Lent {
     pub column: usize,
     pub wet_depth: u32,
     pub wet: Vec<u64>,
-    pub answer: i64,
+    pub sizes: Sizes,
 }
 
 impl Lent {
@@ -220,7 +227,7 @@ pub fn lent(chance: &mut Chance, shape: (usize, usize)) -> Lent {
         column: chance.index(shape.1),
         wet_depth: chance.amount(MOST_DEPTH) as u32,
         wet: (0..shape.0).map(|_| chance.word()).collect(),
-        answer: 0,
+        sizes: Sizes::default(),
         meadow,
         rules,
         run,

@@ -7,6 +7,8 @@
 #[allow(dead_code)]
 mod chance;
 #[allow(dead_code)]
+mod declared;
+#[allow(dead_code)]
 mod library;
 mod plain;
 #[allow(dead_code)]
@@ -27,14 +29,12 @@ const RUNS: [RunTo; 3] = [library_run_to, plain::run_to::<plain::Digits>, plain:
 const NAMES: [&str; 3] = ["library", "Rust, roots by digits", "Rust, roots by f64"];
 
 fn library_run_to(meadow: &mut Meadow, rules: &Rules, run: &Run, end: u64) -> Result<Made, u32> {
-    let mut after = [0; 6];
-    let number = library::run_to(meadow, rules, run, end, &mut after);
-    let [clock, length, outflow, kept, newest, steps] = after;
-    if steps == 0 && number != 0 {
+    let (mut numbers, mut steps) = (library::run_numbers(run), [0]);
+    let number = library::run_to(meadow, &library::rules_numbers(rules), end, &mut numbers, &mut steps);
+    if steps[0] == 0 && number != 0 {
         return Err(number);
     }
-    let run = Run { clock, length, outflow, kept: kept as usize, newest: newest as usize };
-    Ok(Made { number, steps, run })
+    Ok(Made { number, steps: steps[0], run: library::run_of(&numbers) })
 }
 
 // ---------------------------------------------------------------- meadows
@@ -158,10 +158,10 @@ fn time_run(name: &str, start: &Meadow) -> (Times, (Meadow, Made)) {
 
 fn time_meadow(text: &[u8]) -> (Times, Vec<u8>) {
     take_turns("meadow", |program| {
-        let mut out = vec![0; 40_960];
+        let mut out = vec![0; declared::OUT_ROOM];
         let start = processor_time();
         if program == 0 {
-            let length = library::meadow(text, &mut out);
+            let length = declared::flood_meadow(text, &mut out);
             out.truncate(length);
         } else {
             out = reference::meadow_by(text, RUNS[program]);

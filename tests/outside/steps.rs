@@ -134,7 +134,7 @@ fn exact_brim(tally: &mut Tally, chance: &mut Chance) {
         match most {
             7 => at_brim.run.clock = MOST_CLOCK - lent.run.length,
             8 => fill_one_square(tally, chance, &mut at_brim),
-            _ => at_brim.run.outflow = MOST_OUTFLOW - tally.call(Call::Step, &lent).answer[2].min(MOST_OUTFLOW),
+            _ => at_brim.run.outflow = MOST_OUTFLOW - tally.call(Call::Step, &lent).run[2].min(MOST_OUTFLOW),
         }
         tally.call(Call::Step, &at_brim);
         match most {

@@ -1,7 +1,8 @@
 //! Rounds of sheets: good ones, ones with a value at or past a limit, damaged ones, and the stored ones.
 
-use crate::calls::{Tally, Text, PRINT_ROOM};
+use crate::calls::{Tally, Text};
 use crate::chance::Chance;
+use crate::declared::OUT_ROOM;
 use crate::meadows;
 use crate::reference;
 use crate::sheets;
@@ -12,7 +13,7 @@ fn both_calls(tally: &mut Tally, chance: &mut Chance, text: Vec<u8>) -> u32 {
     let number = tally.read_sheet(&sheets::lent(chance, text.clone(), wanted)).number;
     let text = Text(text);
     if !long_run(&text) {
-        let room = if chance.one_in(40) { chance.pick(&[0, 1, PRINT_ROOM - 1]) } else { PRINT_ROOM + chance.index(3) };
+        let room = if chance.one_in(40) { chance.pick(&[0, 1, OUT_ROOM - 1]) } else { OUT_ROOM + chance.index(3) };
         tally.meadow(&text, room);
     }
     number
@@ -90,7 +91,7 @@ pub fn stored_sheet(tally: &mut Tally, path: &str) {
     let text = read(path);
     let rooms = sheets::lent(&mut Chance(1), text.clone(), 4_096);
     tally.read_sheet(&rooms);
-    let printed = tally.meadow(&Text(text), PRINT_ROOM).printed;
+    let printed = tally.meadow(&Text(text), OUT_ROOM).printed;
     if printed.0 != read(&path.replace(".sheet", ".out")) {
         println!("outside: {}: the reference does not print what is stored beside it", path);
         std::process::exit(1);

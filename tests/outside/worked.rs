@@ -1,7 +1,9 @@
 //! Document 01's cases worked by hand, with the document's own numbers: both the reference and the library are held to them.
 
-use crate::calls::{After, Call, Tally, Text, PRINT_ROOM};
-use crate::meadows::Lent;
+use crate::calls::{After, Call, Tally, Text};
+use crate::declared::OUT_ROOM;
+use crate::library;
+use crate::meadows::{Lent, Sizes};
 use crate::reference::{Meadow, Rules, Run, EXIT, OPEN};
 
 const SHEET: &[u8] = b"grid\t1\t2\t1\nrun\t100\t1000\t1000\t1000\t1000\ncell\t0\t0\to\t0\t100\t1000\ncell\t0\t1\to\t0\t100\t0\n";
@@ -30,15 +32,14 @@ fn flat(marks: Vec<u8>, depths: Vec<u32>) -> Lent {
         column: 0,
         wet_depth: 0,
         wet: vec![0],
-        answer: 0,
+        sizes: Sizes::default(),
     }
 }
 
 /// The input of the next call: the meadow and the run that a call left.
 pub fn go_on(lent: &mut Lent, after: &After) {
     lent.meadow = after.meadow.clone();
-    let [clock, length, outflow, kept, newest] = [0, 1, 2, 3, 4].map(|at| after.answer[at]);
-    lent.run = Run { clock, length, outflow, kept: kept as usize, newest: newest as usize };
+    lent.run = library::run_of(&after.run);
 }
 
 fn hold(what: &str, right: bool) {
@@ -60,10 +61,10 @@ fn two_squares(tally: &mut Tally) {
     hold("the arrow after it", arrow.number == 0 && arrow.answer == [east.to_bits(), 0.0f64.to_bits()]);
 
     let back = tally.call(Call::TakeBack, &lent);
-    hold("its take-back", back.meadow.depths == [1_000, 0] && back.meadow.lasts == [0, 0] && back.answer[0] == 0);
+    hold("its take-back", back.meadow.depths == [1_000, 0] && back.meadow.lasts == [0, 0] && back.run[0] == 0);
 
     let second = tally.call(Call::Step, &lent);
-    hold("its second step", second.meadow.depths == [941, 59] && second.answer[0] == 2_000);
+    hold("its second step", second.meadow.depths == [941, 59] && second.run[0] == 2_000);
 
     // K = 1: step, step, take-back, take-back
     go_on(&mut lent, &second);
@@ -75,7 +76,7 @@ fn two_squares(tally: &mut Tally) {
 
 fn single_squares(tally: &mut Tally) {
     let exit = tally.call(Call::Step, &flat(vec![EXIT], vec![10_000]));
-    hold("one exit square", exit.meadow.depths == [2_000] && exit.answer[2] == 8_000 && exit.meadow.records[2..6] == [2_000; 4]);
+    hold("one exit square", exit.meadow.depths == [2_000] && exit.run[2] == 8_000 && exit.meadow.records[2..6] == [2_000; 4]);
     let still = tally.call(Call::Step, &flat(vec![OPEN; 2], vec![500, 500]));
     hold("two equal levels", still.meadow.depths == [500, 500] && still.meadow.lasts == [0, 0]);
     for (depth, number) in [(100_000_000, 0), (100_000_001, 3)] {
@@ -93,7 +94,7 @@ fn lengths(tally: &mut Tally) {
         let mut lent = flat(vec![OPEN; 2], vec![1_000_000, 900_000]);
         lent.meadow.roughness = vec![500; 2];
         lent.rules = Rules { square_side: 10, tolerance, shortest: 1, longest: 60_000, update: 60_000 };
-        hold("the step length", tally.call(Call::Step, &lent).answer[1] == length);
+        hold("the step length", tally.call(Call::Step, &lent).run[1] == length);
     }
 }
 
@@ -119,6 +120,6 @@ pub fn cases(tally: &mut Tally) {
     single_squares(tally);
     lengths(tally);
     tables(tally);
-    let printed = tally.meadow(&Text(SHEET.to_vec()), PRINT_ROOM).printed;
+    let printed = tally.meadow(&Text(SHEET.to_vec()), OUT_ROOM).printed;
     hold("what meadow prints", printed.0 == PRINTED);
 }

@@ -3,7 +3,8 @@
 use mathlib.Core.Path.{_≡_, refl, sym, ap, ap₂, _∙_, subst}
 use mathlib.Core.Bool.{Bool, true, false, _||_}
 use mathlib.Core.List.{List, [], _∷_, _++_}
-use Prim.Native.Nat.{ℕ, zero, suc, _+_, _-_, _<_}
+use Prim.Native.Nat.{ℕ, zero, suc, _+_, _-_, _*_, _<_}
+use native.Mathlib.Nat.{mul-le-mul, div-le-self}
 use native.Mathlib.Decide.{decLt, ℕ-discrete}
 use native.Mathlib.Omega.{arith}
 use lib.Dec.{eqb, leb, ltb}
@@ -12,6 +13,7 @@ use Rattle.reckon.specs.Tests.{pick, allBelow, refusal}
 use Rattle.reckon.specs.Lists.{filled}
 use Rattle.reckon.specs.Ranges.{mostDepth, waterFine}
 use Rattle.reckon.proofs.TestLaws.{pick-both, all-ext, refusal-both}
+use Rattle.reckon.proofs.RootLaws.{root-right}
 use Rattle.reckon.proofs.ListLaws.{getD-tabulate, length-filled, filled-in, filled-skipped, joined-ext, sum-ext}
 use Rattle.trials.specs.Ring.{slotsIn, slotAfter}
 use Rattle.trials.specs.Room.{recordIn, storedIn}
@@ -22,29 +24,45 @@ use Rattle.grid.specs.Marks.{exit}
 use Rattle.grid.proofs.SquareLaws.{opposite-small}
 use Rattle.grid.proofs.MarkLaws.{unless-closed}
 use Rattle.rule.specs.Drops.{dropOff}
-use Rattle.rule.specs.Length.{lastsFor}
+use Rattle.rule.specs.Length.{durationFor}
 use Rattle.rule.specs.Rules.{groundFine}
+use Rattle.rule.specs.Weighing.{heightOf, slopeOf, criticalSpeed}
 use Rattle.rule.specs.declared.rules.Rules.{Rules}
-use Rattle.ledger.specs.Runs.{Plan, World, world}
+use Rattle.ledger.specs.Runs.{Plan, World, world, Seen, seenOf}
 use Rattle.ledger.specs.Flows.{shut, gone, sent, came, offSide, offSquare, offGrid}
-use Rattle.ledger.specs.Record.{squareWords, recordSize, wordPlace, newestRecord, leavesIn, lastIn, addedIn, squareRecord, recordOf, roomSlots}
-use Rattle.ledger.specs.After.{Moves, remains, newDepth, depthsFit, newOutflow, lateRows, stepRecord, worldAfter}
-use Rattle.ledger.specs.TakeBack.{oneEach, watersFine, timesFine, heldAndGone, cameAndAdded, depthBefore, squareRestorable, restorable, worldBefore, backRows, backNumber, takenBack}
-use Rattle.ledger.specs.Engine.{seenOf, ringOf}
-use Rattle.ledger.specs.Walls.{Untouched}
+use Rattle.ledger.specs.Record.{squareWords, recordSize, wordPlace, newestRecord, leavesIn, lastIn, addedIn, squareRecord, recordOf, roomSlots, ringOf}
+use Rattle.ledger.specs.After.{Moves, remains, newDepth, depthsFit, newOutflow, lateRefusals, stepRecord, worldAfter}
+use Rattle.ledger.specs.Checks.{oneEach, watersFine, timesFine}
+use Rattle.ledger.specs.TakeBack.{heldAndGone, cameAndAdded, depthBefore, squareRestorable, restorable, worldBefore, backRefusals, backNumber, takenBack, earlyRefusals}
+use Rattle.ledger.specs.Walls.{Walled, Untouched}
 use Rattle.ledger.proofs.ReadBack.{step-long, closed-read}
-use Rattle.ledger.proofs.Walls.{goes-where, after-untouched, back-untouched}
+use Rattle.ledger.proofs.Walls.{goes-where, walls-stay-dry, after-untouched, back-untouched}
 use Rattle.ledger.specs.declared.runs.Run.{Run}
-use Rattle.flood.specs.Drops.{Given, ground, given, sideDrop, dropsOf}
-use Rattle.flood.specs.Step.{squareCandidates, candidates, leavesFor, addedFor, stepLength, stepLasts, stepMoves}
-use Rattle.flood.specs.Refusals.{groundsFine, checkRows, stepChecks, runChecks, stepNumber, stepped}
-use Rattle.flood.specs.Run.{Ended, ended, goOn, runFrom, runTo, freshRows, freshNumber, freshRun, freshLasts}
-use Rattle.sight.specs.Arrows.{view, seenAt}
+use Rattle.moves.specs.Given.{Given, ground, given}
+use Rattle.moves.specs.Drops.{sideDrop, dropsOf}
+use Rattle.moves.specs.Moves.{squareCandidates, candidates, leavesFor, addedFor, stepLength, stepDuration, stepMoves}
+use Rattle.flood.specs.Refusals.{groundsFine, checkRefusals, stepChecks, runChecks}
+use Rattle.flood.specs.Step.{stepNumber, stepped}
+use Rattle.flood.specs.Run.{Ended, ended, goOn, runFrom, runTo, freshRefusals, freshNumber, freshRun, freshLasts}
 use Rattle.sight.proofs.Alike.{AlikeDepths, AlikeRecords, arrow-alike, wet-alike}
 use Rattle.flood.proofs.CheckLaws.{checks-named, ready, ring-is}
-use Rattle.flood.proofs.RuleLaws.{leaves-open, flood-walled}
+use Rattle.moves.proofs.MoveLaws.{leaves-open, covered, flood-walled}
 use Rattle.flood.proofs.RunToLaws.{made-is, refused-is}
-use Rattle.demands.specs.Demand2.{StepGives, SameOpen, SameGiven, SameRecord, SameRoom, SameWorld, SameEnd, NoneDepends, NoneAltered, WallRule, Demand2}
+use Rattle.demands.specs.Closed.{SameOpen, SameGiven, SameRecord, SameRoom, SameWorld, SameEnd}
+use Rattle.demands.specs.Demand2.{RootsAre, StepGives, NoneDepends, NoneAltered, WallRule, Demand2}
+use Rattle.demands.proofs.Loader.{loader-walls}
+use Rattle.demands.proofs.Exported.{exports-none-depends}
+
+-- ---- roots
+
+roots-are : RootsAre
+unfolding heightOf slopeOf criticalSpeed
+roots-are =
+    record {
+      height = λ d h. root-right 3 (d * d) (omega arith) (omega (arith, mul-le-mul h h));
+      slope = λ r drop h. root-right 2 _ (omega arith) (omega (arith, div-le-self (100 * drop) (r .«square_side»)));
+      critical = λ d h. root-right 2 _ (omega arith) (omega arith);
+    }
 
 or-ext : (b : Bool) {x y : Bool} → (b ≡ false → x ≡ y) → (b || x) ≡ (b || y)
 or-ext true f = refl
@@ -167,14 +185,14 @@ module _ (p : Plan) where
     unfolding depthsFit
     fits-same = all-ext _ _ _ (λ i h. or-ext (shut p i) (λ e. ap (λ (d : ℕ). leb d mostDepth) (new-same i e)))
 
-    late-same : lateRows p m w ≡ lateRows p m other
-    unfolding lateRows newOutflow
+    late-same : lateRefusals p m w ≡ lateRefusals p m other
+    unfolding lateRefusals newOutflow
     late-same = rw fits-same
 
     record-same : stepRecord p m w ≡ stepRecord p m other
     unfolding stepRecord recordOf squareRecord
     record-same =
-        ap (λ (l : List ℕ). w .run .length ∷ m .lasts ∷ l)
+        ap (λ (l : List ℕ). w .run .length ∷ m .duration ∷ l)
         (joined-ext (squares (p .shape)) _ _ (λ i h. unless-closed (p .marks) i _ (λ e. rw (L .alike .at i e))))
 
     after-same : 0 < roomSlots p (w .records) → SameWorld p (worldAfter p m w) (worldAfter p m other)
@@ -214,8 +232,8 @@ module _ (p : Plan) where
     abbrev w′ : World
     w′ = world depths′ lasts′ records′ (w .run)
 
-    checks-same : (five : Bool) → checkRows p g five (ringOf p w) (seenOf w) ≡ checkRows p g′ five (ringOf p w′) (seenOf w′)
-    unfolding checkRows
+    checks-same : (five : Bool) → checkRefusals p g five (ringOf p w) (seenOf w) ≡ checkRefusals p g′ five (ringOf p w′) (seenOf w′)
+    unfolding checkRefusals
     checks-same five =
         rw (
           one-each-same B,
@@ -231,8 +249,8 @@ module _ (p : Plan) where
     unfolding stepLength
     length-same = rw (candidates-same (g .lie .rules) B D K)
 
-    lasts-same : stepLasts p g (seenOf w) ≡ stepLasts p g′ (seenOf w′)
-    unfolding stepLasts
+    lasts-same : stepDuration p g (seenOf w) ≡ stepDuration p g′ (seenOf w′)
+    unfolding stepDuration
     lasts-same = rw length-same
 
     moves-same : stepMoves p g (seenOf w) ≡ stepMoves p g′ (seenOf w′)
@@ -242,13 +260,13 @@ module _ (p : Plan) where
         record {
           leaves = λ i side. leaving i side j;
           added = addedFor p g (w .run .clock) (w .run .clock + lasts-same j);
-          lasts = lasts-same j;
+          duration = lasts-same j;
           length = length-same j;
         }
       where
         leaving : (i side : ℕ) → stepMoves p g (seenOf w) .leaves i side ≡ stepMoves p g′ (seenOf w′) .leaves i side
         leaving i side =
-            leaves-same (g .lie .rules) B D K L (stepLasts p g (seenOf w)) i side
+            leaves-same (g .lie .rules) B D K L (stepDuration p g (seenOf w)) i side
             ∙ ap (λ (ms : ℕ). leavesFor p (g′ .lie) depths′ lasts′ ms i side) lasts-same
 
     number-same : stepNumber p g w ≡ stepNumber p g′ w′
@@ -256,7 +274,7 @@ module _ (p : Plan) where
     number-same =
         ap refusal
         (ap₂ _++_ (checks-same _)
-        (late-same (stepMoves p g (seenOf w)) w D L R ∙ ap (λ (m : Moves). lateRows p m w′) moves-same))
+        (late-same (stepMoves p g (seenOf w)) w D L R ∙ ap (λ (m : Moves). lateRefusals p m w′) moves-same))
 
     stepped-same : SameWorld p (stepped p g w) (stepped p g′ w′)
     stepped-same = go (stepNumber p g w) refl
@@ -409,7 +427,7 @@ module _ (p : Plan) where
     newest-same = subst (λ (u : Run). SameRecord p (newestRecord p w) (recordIn (recordSize p) (v .records) (u .newest))) (W .run) (W .records .slots (w .run .newest))
 
     back-number-same : backNumber p w ≡ backNumber p v
-    unfolding backNumber backRows
+    unfolding backNumber earlyRefusals backRefusals
     back-number-same =
         rw (
           restorable-same newest-same W,
@@ -427,10 +445,10 @@ module _ (p : Plan) where
   -- a fresh run
   module _ (r : Rules) (lasts others records rooms : List ℕ) (L : SameOpen p lasts others) (R : SameRoom p records rooms) where
     fresh-number-same : freshNumber p r lasts records ≡ freshNumber p r others rooms
-    unfolding freshNumber freshRows
+    unfolding freshNumber freshRefusals
     fresh-number-same = rw (one-each-same L, slots-same R)
 
-    fresh-run-same : freshRun p r lasts records ≡ freshRun p r others rooms
+    fresh-run-same : freshRun r (roomSlots p records) ≡ freshRun r (roomSlots p rooms)
     unfolding freshRun
     fresh-run-same = rw (slots-same R)
 
@@ -499,19 +517,21 @@ module _ (p : Plan) where
   module _ (g : Given) (w : World) (made : stepNumber p g w ≡ 0) where
     -- it gives what the rule gives
     step-gives : StepGives p g w
-    unfolding worldAfter newDepth remains newOutflow stepLength stepLasts
+    unfolding worldAfter newDepth remains newOutflow stepLength stepDuration stepRecord
     step-gives =
         let flows = ready p g (ringOf p w) (seenOf w) (checked g w made) .flows in
         let depths-long : length (w .depths) ≡ squares (p .shape) = flows .lies .sited .depths-long in
         let lasts-long : length (w .lasts) ≡ squares (p .shape) = flows .lasts-long in
         record {
-          transfers = λ i side e. leaves-open p (g .lie) (w .depths) (w .lasts) (stepLasts p g (seenOf w)) i side e;
+          transfers = λ i side e. leaves-open p (g .lie) (w .depths) (w .lasts) (stepDuration p g (seenOf w)) i side e;
           depths = λ i h e. ap (λ (u : World). getD (u .depths) i 0) (made-is p g w made) ∙ filled-in _ _ _ (w .depths) i (omega arith) h e;
           lasts = λ i h e. ap (λ (u : World). getD (u .lasts) i 0) (made-is p g w made) ∙ filled-in _ _ _ (w .lasts) i (omega arith) h e;
           outflow = ap (λ (u : World). u .run .outflow) (made-is p g w made);
           length-is = ap (λ (u : World). u .run .length) (made-is p g w made);
-          duration-is = ap (λ (u : World). lastsFor (g .lie .rules) (w .run .clock) (u .run .length)) (sym (made-is p g w made));
+          duration-is = ap (λ (u : World). durationFor (g .lie .rules) (w .run .clock) (u .run .length)) (sym (made-is p g w made));
           clock = ap (λ (u : World). u .run .clock) (made-is p g w made);
+          covered = λ i e. covered p (g .lie) (w .depths) (w .lasts) (stepDuration p g (seenOf w)) i e;
+          record-is = newest-written g w made;
         }
 
     slot-zeros : (i word : ℕ) → i < squares (p .shape) → shut p i ≡ true → word < squareWords → getD (newestRecord p (stepped p g w)) (wordPlace i word) 0 ≡ 0
@@ -544,9 +564,22 @@ module _ (p : Plan) where
   wall-rule : WallRule p
   wall-rule =
       record {
-        walled = λ g v. flood-walled p (g .lie) (v .depths) (v .lasts) (stepLasts p g v);
-        goes = λ g v i side h l. goes-where p _ i side h l (flood-walled p (g .lie) (v .depths) (v .lasts) (stepLasts p g v));
+        walled = walled;
+        goes = λ g v i side h l. goes-where p _ i side h l (walled g v);
+        walls-stay-dry = λ g v. walls-stay-dry p _ (walled g v);
       }
+    where
+      walled : (g : Given) (v : Seen) → Walled p (stepMoves p g v .leaves)
+      walled g v = flood-walled p (g .lie) (v .depths) (v .lasts) (stepDuration p g v)
 
   pub demand-2 : Demand2 p
-  demand-2 = record { step-gives = step-gives; none-depends = none-depends; none-altered = none-altered; wall-rule = wall-rule }
+  demand-2 =
+      record {
+        step-gives = step-gives;
+        roots-are = roots-are;
+        none-depends = none-depends;
+        none-altered = none-altered;
+        wall-rule = wall-rule;
+        loader = loader-walls;
+        exports-none-depends = exports-none-depends p none-depends;
+      }

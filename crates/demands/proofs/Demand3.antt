@@ -23,20 +23,21 @@ use Rattle.trials.proofs.Standing.{never-made}
 use Rattle.grid.specs.Squares.{squares}
 use Rattle.rule.proofs.RuleLaws.{rules-are}
 use Rattle.rule.specs.declared.rules.Rules.{Rules}
-use Rattle.ledger.specs.Runs.{Plan, World, world, runFine, answered}
+use Rattle.ledger.specs.Runs.{Plan, World, world, answered, Seen, seenOf}
 use Rattle.ledger.specs.Flows.{shut}
 use Rattle.ledger.specs.Record.{roomSlots, newestRecord}
 use Rattle.ledger.specs.After.{worldAfter}
-use Rattle.ledger.specs.TakeBack.{restorable, backRows, backNumber, takenBack}
-use Rattle.ledger.specs.Engine.{Seen, seenOf, outcome, lookRows, engine, stateOf}
+use Rattle.ledger.specs.TakeBack.{restorable, backRefusals, backNumber, takenBack, earlyRefusals}
+use Rattle.ledger.specs.inner.Engine.{outcome, engine, stateOf}
 use Rattle.ledger.proofs.Bridge.{outcome-then, refused-stays, back-bridge, step-bridge}
 use Rattle.ledger.proofs.EngineLaws.{Looks, seen-look, engine-laws}
 use Rattle.ledger.specs.declared.runs.Run.{Run}
 use Rattle.ledger.specs.declared.runs.Answer.the-variants.{Done}
-use Rattle.flood.specs.Drops.{Given}
-use Rattle.flood.specs.Step.{stepMoves}
-use Rattle.flood.specs.Refusals.{runChecks, stepNumber, stepped, floodRule}
-use Rattle.flood.specs.Run.{Ended, ended, goOn, runFrom, runTo, freshRows, freshNumber, freshRun, freshLasts, Freshens}
+use Rattle.moves.specs.Given.{Given}
+use Rattle.moves.specs.Moves.{stepMoves}
+use Rattle.flood.specs.Refusals.{runChecks}
+use Rattle.flood.specs.Step.{stepNumber, stepped, floodRule}
+use Rattle.flood.specs.Run.{Ended, ended, goOn, runFrom, runTo, freshRefusals, freshNumber, freshRun, freshLasts, Freshens}
 use Rattle.flood.proofs.CheckLaws.{each-long}
 use Rattle.flood.proofs.FreshLaws.{fresh-sizes, fresh-slots}
 use Rattle.flood.proofs.RuleLaws.{flood-owed}
@@ -258,6 +259,7 @@ module _ (p : Plan) where
           same-next = λ g. same-next g (D .alone) (x .at) (alone p (x .standing) f) (A .state-is) (D .same-next g);
           same-newest = D .same-newest ∙ ap (λ (s : State E). s .newest) (A .state-is);
           same-records = λ j h. D .same-records j h ∙ ap (λ (s : State E). E .read (s .room) _) (A .state-is);
+          kept-low = subst (λ (s : State E). x .at .run .kept ≤ s .kept) (A .state-is) (D .kept-low);
           kept-is = D .kept-is;
           back-made = λ h. made (D .back-kept h .0) (D .back-kept h .1) (backNumber p (x .at)) refl;
           back-fails = λ d. fails d (backNumber p (x .at)) refl;
@@ -289,7 +291,7 @@ module _ (p : Plan) where
       -- ---- a take-back of the fresh run
 
       abbrev look : List Row
-      look = lookRows p (ringFine (roomSlots p (f .records)) (f .run .kept) (f .run .newest)) (seenOf f)
+      look = earlyRefusals p (ringFine (roomSlots p (f .records)) (f .run .kept) (f .run .newest)) (seenOf f)
 
       abbrev lastRows : List Row
       lastRows = 10 unless not (eqb (f .run .kept) 0) ∷ 11 unless restorable p f (newestRecord p f) ∷ []
@@ -298,11 +300,11 @@ module _ (p : Plan) where
       is-ten = refusal-here 10 _ (ap not (eq-eqb _ _ (F .kept-none)))
 
       look-passed : refusal look ≡ 0 → backNumber p f ≡ 10
-      unfolding backNumber backRows lookRows runFine
+      unfolding backNumber backRefusals earlyRefusals
       look-passed e = refusal-second look lastRows tt e ∙ is-ten
 
       look-failed : (refusal look ≡ 0 → ⊥) → backNumber p f ≡ refusal look
-      unfolding backNumber backRows lookRows runFine
+      unfolding backNumber backRefusals earlyRefusals
       look-failed d = refusal-first look lastRows tt d
 
       low : (a b c d : Bool) → refusal (1 unless a ∷ 2 unless b ∷ 3 unless c ∷ 6 unless d ∷ []) ≤ 6
@@ -314,7 +316,7 @@ module _ (p : Plan) where
       low true true true true = omega arith
 
       look-low : refusal look ≤ 6
-      unfolding lookRows
+      unfolding earlyRefusals
       look-low = low _ _ _ _
 
       back-of-fresh : BackOfFresh p f
@@ -326,16 +328,16 @@ module _ (p : Plan) where
 
   -- ---- what `fresh` answers is a fresh run
 
-  module _ (r : Rules) (depths records before lasts : List ℕ) (u : Run) (a : Freshens p r records before (Done u) lasts) where
+  module _ (r : Rules) (depths records before lasts : List ℕ) (u : Run) (a : Freshens p r before records (Done u) lasts) where
     record Freshened : Type 0 where
       number : freshNumber p r before records ≡ 0
-      run-is : u ≡ freshRun p r before records
+      run-is : u ≡ freshRun r (roomSlots p records)
 
     freshened : Freshened
     unfolding answered
     freshened = go (freshNumber p r before records) refl (a .answer)
       where
-        go : (n : ℕ) → freshNumber p r before records ≡ n → Done u ≡ answered n (freshRun p r before records) → Freshened
+        go : (n : ℕ) → freshNumber p r before records ≡ n → Done u ≡ answered n (freshRun r (roomSlots p records)) → Freshened
         go zero z e = record { number = z; run-is = cc }
         go (suc n) z e = absurd (let y : _≡_ {A = ℕ} 0 1 = cc in omega arith)
 
@@ -348,12 +350,12 @@ module _ (p : Plan) where
         }
 
     -- the rows that it passed
-    tests-passed : Passed (freshRows p r before records)
-    unfolding freshNumber freshRows
-    tests-passed = refusal-passed (freshRows p r before records) tt (freshened .number)
+    tests-passed : Passed (freshRefusals p r before records)
+    unfolding freshNumber freshRefusals
+    tests-passed = refusal-passed (freshRefusals p r before records) tt (freshened .number)
 
     abbrev f : World
-    f = world depths lasts records (freshRun p r before records)
+    f = world depths lasts records (freshRun r (roomSlots p records))
 
     lasts-cleared : lasts ≡ filled (squares (p .shape)) (shut p) (λ i. 0) before
     unfolding freshLasts
@@ -361,7 +363,7 @@ module _ (p : Plan) where
 
     looks-good : length depths ≡ squares (p .shape) → ((i : ℕ) → i < squares (p .shape) → shut p i ≡ false → getD depths i 0 ≤ mostDepth) →
         Looks p (ringFine (roomSlots p records) (f .run .kept) (f .run .newest)) (seenOf f)
-    unfolding freshRows freshRun
+    unfolding freshRefusals freshRun
     looks-good long low =
         let t = every-each _ (fresh-sizes p r before records (freshened .number)) in
         let slots : roomSlots p records ≡ 0 → ⊥ = fresh-slots p r before records (freshened .number) in
@@ -388,7 +390,7 @@ module _ (p : Plan) where
         backNumber p (world depths lasts records u) ≡ 10
     fresh-ten long low =
         look-passed (world depths lasts records u) fresh-is
-        (subst (λ (v : Run). refusal (lookRows p (ringFine (roomSlots p records) (v .kept) (v .newest)) (seenOf (world depths lasts records v))) ≡ 0) (sym (freshened .run-is))
+        (subst (λ (v : Run). refusal (earlyRefusals p (ringFine (roomSlots p records) (v .kept) (v .newest)) (seenOf (world depths lasts records v))) ≡ 0) (sym (freshened .run-is))
         (seen-look p _ _ (looks-good long low)))
 
   pub demand-3 : Demand3 p

@@ -1,4 +1,9 @@
 pub mod Demand1
 pub mod Demand2
 pub mod Demand3
+pub mod Determined
+pub mod Exported
+pub mod Loader
+pub mod RunStops
+pub mod Table
 pub mod WorkedCases

@@ -1,215 +1,39 @@
--- The letter's demand 1: every contract leaves one outcome for every input; a call is refused exactly when the table says, and then all is
--- as it was; a run stops before the step refused.
+-- The letter's demand 1: a call is refused exactly when the table says, and then all is as it was; a run stops before the step refused. That
+-- every call ends is what the check proves of each function; that its contract leaves one outcome is `Determined`.
 -- Assumes nothing.
 use mathlib.Core.Path.{_≡_}
-use mathlib.Core.Bool.{Bool, true, false}
-use mathlib.Core.List.{List, _∷_, _++_}
-use Prim.Native.Nat.{ℕ, zero, suc, _≤_, _<_}
+use mathlib.Core.List.{List, _++_}
+use Prim.Native.Nat.{ℕ, _≤_, _<_}
 use lib.ListN.{length}
-use lib.Ieee.{Float}
-use Rattle.reckon.specs.Tests.{Row, _unless_, refusal}
-use Rattle.reckon.specs.Numbers.{Lesser, Greater, PartOf}
-use Rattle.reckon.specs.Numbers as Numbers
-use Rattle.reckon.specs.Ranges.{WaterFine}
-use Rattle.reckon.specs.Roots.{Root}
-use Rattle.reckon.specs.Tables.{RainBy, InflowBy, RainAdded, InflowAdded, RainFine, InflowFine}
-use Rattle.trials.specs.Ring.{SlotsIn, SlotStart, SlotAfter, SlotBefore, KeptAfter, RingFine}
-use Rattle.grid.specs.Squares.{ShapeJudged, SquaresOf, SquareFound, NextColumn, BesideOn, OppositeOf, RimJudged}
-use Rattle.grid.specs.Marks.{ClosedJudged, ExitJudged, MarksJudged, InflowSquaresJudged}
-use Rattle.grid.specs.Masks.{RowMasked, OnesOf, NextFound}
-use Rattle.grid.specs.declared.squares.Shape.{Shape}
-use Rattle.rule.specs.Drops.{DropTo, DropOff}
-use Rattle.rule.specs.Length.{Shorter, HeldLength, IsUpdate, LastsFor}
-use Rattle.rule.specs.Rules.{SideFine, RulesFine, GroundFine}
-use Rattle.rule.specs.Weighing.{Weighs}
+use Rattle.reckon.specs.Tests.{refusal}
 use Rattle.rule.specs.declared.rules.Rules.{Rules}
-use Rattle.ledger.specs.Runs.{Plan, World, world, RunFine}
-use Rattle.ledger.specs.Record.{SizeOf, HeldBefore, Lasted, Leaving, LastBefore, AddedBy, GoneFrom, SentTo, CameTo, OffFrom, HeadPut, SquarePut, ClosedPut}
-use Rattle.ledger.specs.After.{lateRows}
-use Rattle.ledger.specs.Settle.{SettlesTo}
-use Rattle.ledger.specs.TakeBack.{OneEach, WatersJudged, TimesJudged, TakesBack, backRows, backNumber, takenBack}
-use Rattle.ledger.specs.Engine.{seenOf, ringOf}
-use Rattle.ledger.specs.declared.runs.Run.{Run}
-use Rattle.ledger.specs.declared.runs.Answer.{Answer}
-use Rattle.ledger.specs.declared.settle.Settled.{Settled}
-use Rattle.flood.specs.Drops.{Given}
-use Rattle.flood.specs.Step.{stepMoves}
-use Rattle.flood.specs.Refusals.{stepChecks, runChecks, stepNumber, stepped, Steps, Checks}
-use Rattle.flood.specs.Run.{Ended, ended, runTo, RunsTo, freshRows, freshNumber, freshLasts, Freshens}
-use Rattle.flood.specs.Fill.{MakesStep}
-use Rattle.flood.specs.declared.run.Ran.{Ran}
-use Rattle.sight.specs.Arrows.{Sees, arrowRows, arrowNumber}
-use Rattle.sight.specs.WetRows.{Masked, OnesIn, WetRowed, wetRefusals, wetNumber}
+use Rattle.ledger.specs.Runs.{Plan, World, world, seenOf}
+use Rattle.ledger.specs.After.{lateRefusals}
+use Rattle.ledger.specs.TakeBack.{backRefusals, backNumber, takenBack}
+use Rattle.ledger.specs.Record.{ringOf}
+use Rattle.moves.specs.Given.{Given}
+use Rattle.moves.specs.Moves.{stepMoves}
+use Rattle.flood.specs.Refusals.{stepChecks, runChecks}
+use Rattle.flood.specs.Step.{stepNumber, stepped}
+use Rattle.flood.specs.Run.{Ended, ended, runTo, freshRefusals, freshNumber, freshLasts, stepsOn}
+use Rattle.sight.specs.Arrows.{arrowRefusals, arrowNumber}
+use Rattle.sight.specs.WetRows.{WetRowed, wetRefusals, wetNumber}
 use Rattle.sight.specs.declared.wet_rows.Wet.{Wet}
-use Rattle.text.specs.Reading.{ByteIs, WordAt, FieldAt, FieldsAt, RestOfLine, LineOf, NextLine, LineCount}
-use Rattle.text.specs.Reading as Reading
-use Rattle.text.specs.Writing.{PutByte, PutWord, PutNumber, PutField, PutFields, PutLine}
-use Rattle.sheet.specs.Sheet.{Rooms, Reads}
-use Rattle.sheet.specs.Printed.{Prints, meadowText}
-use Rattle.sheet.specs.declared.reading.Sheet.{Sheet}
-use Rattle.exports.specs.Steps.{ExportsFresh, ExportsStep, ExportsRun, ExportsBack}
-use Rattle.exports.specs.Sights.{ExportsArrow, ExportsWet}
-use Rattle.exports.specs.Sheets.{ExportsRead, ExportsMeadow}
-
--- ---- "Every call ends and does nothing undefined" is what the check proves of each function; and what it gives is determined
-
--- any two outcomes that a contract allows are equal
-abbrev pub One : {Out : Type 0} → (Out → Type 0) → Type 0
-One {Out} allowed = (a b : Out) → allowed a → allowed b → a ≡ b
-
--- A field for each public function of a crate, over the very relation that its contract names. What a call hands back comes first, then
--- each slice that it was lent to write, in the order of its parameters. Nothing is assumed of the inputs, also where a function asks for
--- something.
-
-pub record ReckonDetermined : Type 0 where
-  pub lesser : (a b : ℕ) → One (Lesser a b)
-  pub greater : (a b : ℕ) → One (Greater a b)
-  pub number : (list : List ℕ) (at : ℕ) → One (Numbers.NumberAt list at)
-  pub part : (d x y : ℕ) → One (PartOf d x y)
-  pub water-fine : (depth last : ℕ) → One (WaterFine depth last)
-  pub square-root : (n : ℕ) → One (Root 2 n)
-  pub cube-root : (n : ℕ) → One (Root 3 n)
-  pub rain-by : (rows : List ℕ) (t : ℕ) → One (RainBy rows t)
-  pub inflow-by : (rows : List ℕ) (r c side t : ℕ) → One (InflowBy rows r c side t)
-  pub rain-added : (rows : List ℕ) (start end : ℕ) → One (RainAdded rows start end)
-  pub inflow-added : (rows : List ℕ) (r c side start end : ℕ) → One (InflowAdded rows r c side start end)
-  pub rain-fine : (rows : List ℕ) → One (RainFine rows)
-  pub inflow-fine : (rows : List ℕ) → One (InflowFine rows)
-
-pub record TrialsDetermined : Type 0 where
-  pub slots-in : (size numbers : ℕ) → One (SlotsIn size numbers)
-  pub slot-start : (size slot : ℕ) → One (SlotStart size slot)
-  pub slot-after : (k newest : ℕ) → One (SlotAfter k newest)
-  pub slot-before : (k newest : ℕ) → One (SlotBefore k newest)
-  pub kept-after : (k kept : ℕ) → One (KeptAfter k kept)
-  pub ring-fine : (k kept newest : ℕ) → One (RingFine k kept newest)
-
-pub record GridDetermined : Type 0 where
-  pub shape-fine : (s : Shape) → One (ShapeJudged s)
-  pub squares-of : (s : Shape) → One (SquaresOf s)
-  pub square-at : (s : Shape) (row column : ℕ) → One (SquareFound s row column)
-  pub next-column : (s : Shape) (column : ℕ) → One (NextColumn s column)
-  pub beside-on : (s : Shape) (square side : ℕ) → One (BesideOn s square side)
-  pub opposite-side : (side : ℕ) → One (OppositeOf side)
-  pub on-rim : (s : Shape) (square : ℕ) → One (RimJudged s square)
-  pub is-closed : (marks : List ℕ) (square : ℕ) → One (ClosedJudged marks square)
-  pub is-exit : (marks : List ℕ) (square : ℕ) → One (ExitJudged marks square)
-  pub marks-fine : (s : Shape) (marks : List ℕ) → One (MarksJudged s marks)
-  pub inflow-squares-fine : (s : Shape) (marks rows : List ℕ) → One (InflowSquaresJudged s marks rows)
-  pub row-mask : (marks numbers : List ℕ) (least first columns : ℕ) → One (RowMasked marks numbers least first columns)
-  pub ones : (mask : ℕ) → One (OnesOf mask)
-  pub next-set : (mask column : ℕ) → One (NextFound mask column)
-
-pub record RuleDetermined : Type 0 where
-  pub drop-to : (own neighbour : ℕ) → One (DropTo own neighbour)
-  pub drop-off : (r : Rules) (depth : ℕ) → One (DropOff r depth)
-  pub shorter : (r : Rules) (best depth roughness : ℕ) (drops : List ℕ) → One (Shorter r best depth roughness drops)
-  pub held-length : (r : Rules) (candidate : ℕ) → One (HeldLength r candidate)
-  pub is-update : (r : Rules) (clock : ℕ) → One (IsUpdate r clock)
-  pub lasts-for : (r : Rules) (clock length : ℕ) → One (LastsFor r clock length)
-  pub side-fine : (r : Rules) → One (SideFine r)
-  pub rules-fine : (r : Rules) → One (RulesFine r)
-  pub ground-fine : (bed roughness : ℕ) → One (GroundFine bed roughness)
-  pub weigh : (r : Rules) (depth last roughness ms : ℕ) (drops : List ℕ) → One (Weighs r depth last roughness ms drops)
-
--- `settle` is lent a working room too, `fresh`, and what is left in that is not promised: the one exception
-pub record LedgerDetermined : Type 0 where
-  pub record-size : (s : Shape) → One (SizeOf s)
-  pub held-before : (rec : List ℕ) → One (HeldBefore rec)
-  pub lasted : (rec : List ℕ) → One (Lasted rec)
-  pub leaving : (rec : List ℕ) (square side : ℕ) → One (Leaving rec square side)
-  pub last-before : (rec : List ℕ) (square : ℕ) → One (LastBefore rec square)
-  pub added-by : (rec : List ℕ) (square : ℕ) → One (AddedBy rec square)
-  pub gone-from : (rec : List ℕ) (square : ℕ) → One (GoneFrom rec square)
-  pub sent-to : (p : Plan) (rec : List ℕ) (square side : ℕ) → One (SentTo p rec square side)
-  pub came-to : (p : Plan) (rec : List ℕ) (square : ℕ) → One (CameTo p rec square)
-  pub off-from : (p : Plan) (rec : List ℕ) (square : ℕ) → One (OffFrom p rec square)
-  pub put-head : (rec : List ℕ) (held lasts : ℕ) → One (HeadPut rec held lasts)
-  pub put-square : (rec : List ℕ) (square : ℕ) (leaves : List ℕ) (last added : ℕ) → One (SquarePut rec square leaves last added)
-  pub put-closed : (rec : List ℕ) (square : ℕ) → One (ClosedPut rec square)
-  pub run-fine : (k : ℕ) (u : Run) → One (RunFine k u)
-  pub one-each : (s : Shape) (numbers : ℕ) → One (OneEach s numbers)
-  pub waters-fine : (p : Plan) (depths lasts : List ℕ) → One (WatersJudged p depths lasts)
-  pub times-fine : (rec : List ℕ) → One (TimesJudged rec)
-  pub settle : (p : Plan) (rec : List ℕ) (held : ℕ) (w : World) →
-      One {Out = Settled × (List ℕ × (List ℕ × List ℕ))} (λ o. SettlesTo p rec held w (o .0 .refused) (world (o .1 .0) (o .1 .1 .0) (o .1 .1 .1) (o .0 .run)))
-  pub take-back : (p : Plan) (w : World) → One {Out = Answer × (List ℕ × List ℕ)} (λ o. TakesBack p w (o .0) (o .1 .0) (o .1 .1))
-
-pub record FloodDetermined : Type 0 where
-  pub check : (p : Plan) (g : Given) (end : ℕ) (w : World) → One (Checks p g end w)
-  pub fresh : (p : Plan) (r : Rules) (records before : List ℕ) → One {Out = Answer × List ℕ} (λ o. Freshens p r records before (o .0) (o .1))
-  pub step : (p : Plan) (g : Given) (w : World) → One {Out = Answer × (List ℕ × (List ℕ × List ℕ))} (λ o. Steps p g w (o .0) (o .1 .0) (o .1 .1 .0) (o .1 .1 .1))
-  pub step-on : (p : Plan) (g : Given) (w : World) →
-      One {Out = Settled × (List ℕ × (List ℕ × List ℕ))} (λ o. MakesStep p g w (o .0 .refused) (world (o .1 .0) (o .1 .1 .0) (o .1 .1 .1) (o .0 .run)))
-  pub run-to : (p : Plan) (g : Given) (end : ℕ) (w : World) →
-      One {Out = Ran × (List ℕ × (List ℕ × List ℕ))} (λ o. RunsTo p g end w (o .0) (o .1 .0) (o .1 .1 .0) (o .1 .1 .1))
-
-pub record SightDetermined : Type 0 where
-  pub arrow : (p : Plan) (D : ℕ) (w : World) (row column : ℕ) → One (Sees p D w row column)
-  pub mask-rows : (p : Plan) (depths : List ℕ) (least : ℕ) → One (Masked p depths least)
-  pub ones-in : (rows : List ℕ) → One (OnesIn rows)
-  pub wet-rows : (p : Plan) (depths : List ℕ) (least : ℕ) (old : List ℕ) → One {Out = Wet × List ℕ} (λ o. WetRowed p depths least old (o .0) (o .1))
-
-pub record TextDetermined : Type 0 where
-  pub byte-is : (text : List ℕ) (at byte : ℕ) → One (ByteIs text at byte)
-  pub word-at : (text : List ℕ) (at : ℕ) (word : List ℕ) → One (WordAt text at word)
-  pub number-at : (text : List ℕ) (at : ℕ) → One (Reading.NumberAt text at)
-  pub field-at : (text : List ℕ) (at : ℕ) → One (FieldAt text at)
-  pub fields-at : (text : List ℕ) (at count : ℕ) → One (FieldsAt text at count)
-  pub rest-of-line : (text : List ℕ) (at count : ℕ) → One (RestOfLine text at count)
-  pub line-of : (text : List ℕ) (at : ℕ) (word : List ℕ) (count : ℕ) → One (LineOf text at word count)
-  pub next-line : (text : List ℕ) (at : ℕ) → One (NextLine text at)
-  pub line-count : (text : List ℕ) → One (LineCount text)
-  pub put-byte : (byte at : ℕ) (room : List ℕ) → One {Out = ℕ × List ℕ} (λ o. PutByte byte at room (o .1) (o .0))
-  pub put-word : (word : List ℕ) (at : ℕ) (room : List ℕ) → One {Out = ℕ × List ℕ} (λ o. PutWord word at room (o .1) (o .0))
-  pub put-number : (n at : ℕ) (room : List ℕ) → One {Out = ℕ × List ℕ} (λ o. PutNumber n at room (o .1) (o .0))
-  pub put-field : (n at : ℕ) (room : List ℕ) → One {Out = ℕ × List ℕ} (λ o. PutField n at room (o .1) (o .0))
-  pub put-fields : (values : List ℕ) (at : ℕ) (room : List ℕ) → One {Out = ℕ × List ℕ} (λ o. PutFields values at room (o .1) (o .0))
-  pub put-line : (word values : List ℕ) (at : ℕ) (room : List ℕ) → One {Out = ℕ × List ℕ} (λ o. PutLine word values at room (o .1) (o .0))
-
--- what `read` leaves in its six rooms stands together
-pub record SheetDetermined : Type 0 where
-  pub read : (text : List ℕ) (before : Rooms) → One {Out = Sheet × Rooms} (λ o. Reads text before (o .0) (o .1))
-  pub meadow-of : (text old : List ℕ) → One {Out = ℕ × List ℕ} (λ o. Prints (meadowText text) old (o .1) (o .0))
-
--- what other languages call
-pub record ExportsDetermined : Type 0 where
-  pub fresh : (p : Plan) (r : Rules) (records before old : List ℕ) →
-      One {Out = ℕ × (List ℕ × List ℕ)} (λ o. ExportsFresh p r records before old (o .0) (o .1 .0) (o .1 .1))
-  pub step : (p : Plan) (g : Given) (w : World) (old : List ℕ) →
-      One {Out = ℕ × (List ℕ × (List ℕ × (List ℕ × List ℕ)))} (λ o. ExportsStep p g w old (o .0) (o .1 .0) (o .1 .1 .0) (o .1 .1 .1 .0) (o .1 .1 .1 .1))
-  pub run-to : (p : Plan) (g : Given) (end : ℕ) (w : World) (old : List ℕ) →
-      One {Out = ℕ × (List ℕ × (List ℕ × (List ℕ × List ℕ)))} (λ o. ExportsRun p g end w old (o .0) (o .1 .0) (o .1 .1 .0) (o .1 .1 .1 .0) (o .1 .1 .1 .1))
-  pub take-back : (p : Plan) (w : World) (old : List ℕ) →
-      One {Out = ℕ × (List ℕ × (List ℕ × List ℕ))} (λ o. ExportsBack p w old (o .0) (o .1 .0) (o .1 .1 .0) (o .1 .1 .1))
-  pub arrow : (p : Plan) (D : ℕ) (w : World) (row column : ℕ) (old : List Float) →
-      One {Out = ℕ × List Float} (λ o. ExportsArrow p D w row column old (o .0) (o .1))
-  pub wet-rows : (p : Plan) (depths : List ℕ) (least : ℕ) (old-rows old-count : List ℕ) →
-      One {Out = ℕ × (List ℕ × List ℕ)} (λ o. ExportsWet p depths least old-rows old-count (o .0) (o .1 .0) (o .1 .1))
-  pub read-sheet : (text : List ℕ) (before : Rooms) (old-heading old-line : List ℕ) →
-      One {Out = ℕ × (Rooms × (List ℕ × List ℕ))} (λ o. ExportsRead text before old-heading old-line (o .0) (o .1 .0) (o .1 .1 .0) (o .1 .1 .1))
-  pub meadow : (text old : List ℕ) → One {Out = ℕ × List ℕ} (λ o. ExportsMeadow text old (o .0) (o .1))
+use Rattle.exports.specs.Refusals.{lastCheck}
+use Rattle.demands.specs.Table.{TableSays}
+use Rattle.demands.specs.Determined.{Determined}
+use Rattle.demands.specs.Loader.{LoaderRefuses}
+use Rattle.demands.specs.Exported.{ExportsExactlyWhen, ExportsLeave}
 
 -- ---- "A refusal gives one number from the table in document 01, exactly when that table says"
 
--- "the first that applies is given": a row applies where its test fails
-pub data FirstFails : List Row → ℕ → Type 0 where
-  here : {n : ℕ} {fine : Bool} {rows : List Row} → fine ≡ false → FirstFails (n unless fine ∷ rows) n
-  later : {n k : ℕ} {fine : Bool} {rows : List Row} → fine ≡ true → FirstFails rows n → FirstFails (k unless fine ∷ rows) n
-
--- a call's number, 0 for none, is that of the first row that applies
-pub record TableSays (rows : List Row) (number : ℕ) : Type 0 where
-  pub refused : (number ≡ 0 → ⊥) → FirstFails rows number
-  pub applies : (n : ℕ) → FirstFails rows n → number ≡ n
-  pub never-none : FirstFails rows 0 → ⊥
-
 pub record ExactlyWhen (p : Plan) : Type 0 where
-  pub step : (g : Given) (w : World) → TableSays (stepChecks p g (ringOf p w) (seenOf w) ++ lateRows p (stepMoves p g (seenOf w)) w) (stepNumber p g w)
-  pub take-back : (w : World) → TableSays (backRows p w) (backNumber p w)
-  pub fresh : (r : Rules) (lasts records : List ℕ) → TableSays (freshRows p r lasts records) (freshNumber p r lasts records)
+  pub step : (g : Given) (w : World) → TableSays (stepChecks p g (ringOf p w) (seenOf w) ++ lateRefusals p (stepMoves p g (seenOf w)) w) (stepNumber p g w)
+  pub take-back : (w : World) → TableSays (backRefusals p w) (backNumber p w)
+  pub fresh : (r : Rules) (lasts records : List ℕ) → TableSays (freshRefusals p r lasts records) (freshNumber p r lasts records)
   -- a run before its first step, and `check`
   pub check : (g : Given) (end : ℕ) (w : World) → TableSays (runChecks p g end w) (refusal (runChecks p g end w))
-  pub arrow : (D : ℕ) (w : World) (row column : ℕ) → TableSays (arrowRows p D w row column) (arrowNumber p D w row column)
+  pub arrow : (D : ℕ) (w : World) (row column : ℕ) → TableSays (arrowRefusals p D w row column) (arrowNumber p D w row column)
   pub wet-rows : (depths : List ℕ) (least numbers : ℕ) → TableSays (wetRefusals p depths least numbers) (wetNumber p depths least numbers)
 
 -- ---- "the run and everything lent stay as they were"
@@ -225,11 +49,6 @@ pub record RefusalsLeave (p : Plan) : Type 0 where
 
 -- ---- "A run to a stated clock stops before the step refused"
 
--- so many public steps, one after the other
-unfoldable pub stepsOn : Plan → Given → ℕ → World → World
-stepsOn p g zero w = w
-stepsOn p g (suc n) w = stepped p g (stepsOn p g n w)
-
 -- "A run to an end makes steps while clock < end .. If one of its steps is refused, it gives that number with the steps made and leaves
 -- the state before that step"
 pub record StopsBefore (p : Plan) (g : Given) (end : ℕ) (w : World) (e : Ended) : Type 0 where
@@ -239,20 +58,16 @@ pub record StopsBefore (p : Plan) (g : Given) (end : ℕ) (w : World) (e : Ended
   -- it ended there, or the next step is refused by that number
   pub comes-to : e .number ≡ 0 → end ≤ e .world .run .clock
   pub stops : (e .number ≡ 0 → ⊥) → (e .world .run .clock < end) × (e .number ≡ stepNumber p g (e .world))
+  -- and that is none of its checks' numbers
+  pub late : (e .number ≡ 0 → ⊥) → lastCheck < e .number
 
 -- ---- all of it
 
 pub record Demand1 : Type 0 where
-  pub reckon : ReckonDetermined
-  pub trials : TrialsDetermined
-  pub grid : GridDetermined
-  pub rule : RuleDetermined
-  pub ledger : LedgerDetermined
-  pub flood : FloodDetermined
-  pub sight : SightDetermined
-  pub text : TextDetermined
-  pub sheet : SheetDetermined
-  pub exports : ExportsDetermined
+  pub determined : Determined
   pub exactly-when : (p : Plan) → ExactlyWhen p
   pub refusals-leave : (p : Plan) → RefusalsLeave p
+  pub loader : LoaderRefuses
+  pub exports-exactly-when : (p : Plan) → ExportsExactlyWhen p
+  pub exports-leave : (p : Plan) → ExportsLeave p
   pub run-stops : (p : Plan) (g : Given) (end : ℕ) (w : World) → refusal (runChecks p g end w) ≡ 0 → StopsBefore p g end w (runTo p g end w)

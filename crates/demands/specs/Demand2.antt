@@ -4,29 +4,40 @@
 use mathlib.Core.Path.{_≡_}
 use mathlib.Core.Bool.{true, false}
 use mathlib.Core.List.{List}
-use Prim.Native.Nat.{ℕ, _+_, _-_, _<_}
+use Prim.Native.Nat.{ℕ, _+_, _-_, _*_, _/_, _≤_, _<_}
 use lib.ListN.{length, getD}
 use Rattle.reckon.specs.Tests.{refusal}
-use Rattle.trials.specs.Room.{recordIn}
+use Rattle.reckon.specs.Ranges.{mostDepth}
+use Rattle.reckon.specs.Roots.{Root}
 use Rattle.grid.specs.Squares.{squares, sides}
-use Rattle.grid.specs.Marks.{Alike}
-use Rattle.rule.specs.Length.{lengthAt, lastsFor}
-use Rattle.rule.specs.Weighing.{weighed}
+use Rattle.rule.specs.Length.{lengthAt, durationFor}
+use Rattle.rule.specs.Weighing.{heightOf, slopeOf, criticalSpeed, weighed}
+use Rattle.rule.specs.inner.InRange.{mostDrop}
 use Rattle.rule.specs.declared.rules.Rules.{Rules}
-use Rattle.ledger.specs.Runs.{Plan, World}
+use Rattle.ledger.specs.Runs.{Plan, World, Seen, seenOf}
 use Rattle.ledger.specs.Flows.{Leaves, shut, gone, came, offGrid}
-use Rattle.ledger.specs.Record.{squareWords, recordSize, wordPlace, heldIn, lastedIn, newestRecord}
+use Rattle.ledger.specs.Record.{squareWords, wordPlace, newestRecord, recordOf, roomSlots}
 use Rattle.ledger.specs.TakeBack.{backNumber, takenBack}
-use Rattle.ledger.specs.Engine.{Seen, seenOf}
-use Rattle.ledger.specs.Walls.{Walled, Goes, Untouched}
+use Rattle.ledger.specs.Walls.{Walled, reaches, drains, intoWalls, Untouched}
 use Rattle.ledger.specs.declared.runs.Run.{Run}
-use Rattle.flood.specs.Drops.{Given, dropsOf}
-use Rattle.flood.specs.Step.{candidates, addedFor, stepMoves}
-use Rattle.flood.specs.Refusals.{runChecks, stepNumber, stepped}
+use Rattle.moves.specs.Given.{Given}
+use Rattle.moves.specs.Drops.{dropsOf}
+use Rattle.moves.specs.Moves.{candidates, addedFor, stepMoves}
+use Rattle.flood.specs.Refusals.{runChecks}
+use Rattle.flood.specs.Step.{stepNumber, stepped}
 use Rattle.sight.specs.Arrows.{view, seenAt}
 use Rattle.sight.specs.WetRows.{WetRowed}
 use Rattle.sight.specs.declared.wet_rows.Wet.{Wet}
-use Rattle.flood.specs.Run.{Ended, runTo, freshNumber, freshRun, freshLasts}
+use Rattle.flood.specs.Run.{runTo, freshNumber, freshRun, freshLasts}
+use Rattle.demands.specs.Loader.{LoaderWalls}
+use Rattle.demands.specs.Closed.{SameOpen, SameGiven, SameRecord, SameRoom, SameWorld, SameEnd}
+use Rattle.demands.specs.Exported.{ExportsNoneDepends}
+
+-- "h: the largest whole number with h³ ≤ d²", "s: the largest with s² ≤ 100·VM / D", "the largest c with c² ≤ 981·d / 100"
+pub record RootsAre : Type 0 where
+  pub height : (d : ℕ) → d ≤ mostDepth → Root 3 (d * d) (heightOf d)
+  pub slope : (r : Rules) (drop : ℕ) → drop ≤ mostDrop → Root 2 (100 * drop / r .«square_side») (slopeOf r drop)
+  pub critical : (d : ℕ) → d ≤ mostDepth → Root 2 (981 * d / 100) (criticalSpeed d)
 
 module _ (p : Plan) where
   -- ---- "Each step gives exactly the depths, transfers, outflow and step length that the published weighted cellular automaton rule gives in
@@ -37,7 +48,7 @@ module _ (p : Plan) where
     amounts = stepMoves p g (seenOf w) .leaves
 
     abbrev duration : ℕ
-    duration = stepMoves p g (seenOf w) .lasts
+    duration = stepMoves p g (seenOf w) .duration
 
     -- of a step that is made
     pub record StepGives : Type 0 where
@@ -59,69 +70,36 @@ module _ (p : Plan) where
       -- "when the clock is a multiple of U it is worked afresh .. the run holds it until the next such clock"
       pub length-is : stepped p g w .run .length ≡ lengthAt (g .lie .rules) (w .run .clock) (w .run .length) (candidates p (g .lie) (w .depths))
       -- "The step lasts the smaller of that length and the time to the next multiple of U"
-      pub duration-is : duration ≡ lastsFor (g .lie .rules) (w .run .clock) (stepped p g w .run .length)
+      pub duration-is : duration ≡ durationFor (g .lie .rules) (w .run .clock) (stepped p g w .run .length)
       pub clock : stepped p g w .run .clock ≡ w .run .clock + duration
-
-  -- ---- what differs only in what closed squares hold
-
-  -- two slices of as many numbers
-  pub record SameOpen (a b : List ℕ) : Type 0 where
-    pub long : length a ≡ length b
-    pub alike : Alike (p .marks) a b
-
-  -- heights, roughness, rules and tables
-  pub record SameGiven (g h : Given) : Type 0 where
-    pub beds : SameOpen (g .lie .beds) (h .lie .beds)
-    pub roughness : SameOpen (g .lie .roughness) (h .lie .roughness)
-    pub rules : g .lie .rules ≡ h .lie .rules
-    pub rain : g .rain ≡ h .rain
-    pub inflow : g .inflow ≡ h .inflow
-
-  -- two records: "A closed square's numbers in a record are never read"
-  pub record SameRecord (a b : List ℕ) : Type 0 where
-    pub held : heldIn a ≡ heldIn b
-    pub lasted : lastedIn a ≡ lastedIn b
-    pub words : (i word : ℕ) → shut p i ≡ false → word < squareWords → getD a (wordPlace i word) 0 ≡ getD b (wordPlace i word) 0
-
-  -- two record rooms, slot by slot
-  pub record SameRoom (a b : List ℕ) : Type 0 where
-    pub long : length a ≡ length b
-    pub slots : (u : ℕ) → SameRecord (recordIn (recordSize p) a u) (recordIn (recordSize p) b u)
-
-  -- depths, last leaving, records and run
-  pub record SameWorld (w v : World) : Type 0 where
-    pub depths : SameOpen (w .depths) (v .depths)
-    pub lasts : SameOpen (w .lasts) (v .lasts)
-    pub records : SameRoom (w .records) (v .records)
-    pub run : w .run ≡ v .run
-
-  -- how a run ended
-  pub record SameEnd (e f : Ended) : Type 0 where
-    pub number : e .number ≡ f .number
-    pub steps : e .steps ≡ f .steps
-    pub world : SameWorld (e .world) (f .world)
+      -- no square sends more than it holds, so that "old − four leaving" is not cut off at 0
+      pub covered : (i : ℕ) → shut p i ≡ false → gone amounts i ≤ getD (w .depths) i 0
+      -- the transfers as a caller reads them: "length held before the step, how long the step lasted, then for each square north, east,
+      -- south, west, P before, amount added"
+      pub record-is : newestRecord p (stepped p g w)
+          ≡ recordOf p (w .run .length) duration amounts (λ i. getD (w .lasts) i 0) (addedFor p g (w .run .clock) (w .run .clock + duration))
 
   -- ---- "no answer depends on it"
 
   -- the number and the run are the same, and so is afterwards all that is held, but for closed squares
   pub record NoneDepends : Type 0 where
-    pub step : (g h : Given) (w v : World) → SameGiven g h → SameWorld w v →
-        (stepNumber p g w ≡ stepNumber p h v) × SameWorld (stepped p g w) (stepped p h v)
+    pub step : (g h : Given) (w v : World) → SameGiven p g h → SameWorld p w v →
+        (stepNumber p g w ≡ stepNumber p h v) × SameWorld p (stepped p g w) (stepped p h v)
     -- the record that a step writes, number for number
-    pub written : (g h : Given) (w v : World) → SameGiven g h → SameWorld w v → stepNumber p g w ≡ 0 →
+    pub written : (g h : Given) (w v : World) → SameGiven p g h → SameWorld p w v → stepNumber p g w ≡ 0 →
         newestRecord p (stepped p g w) ≡ newestRecord p (stepped p h v)
-    pub run-to : (g h : Given) (end : ℕ) (w v : World) → SameGiven g h → SameWorld w v → SameEnd (runTo p g end w) (runTo p h end v)
-    pub take-back : (w v : World) → SameWorld w v → (backNumber p w ≡ backNumber p v) × SameWorld (takenBack p w) (takenBack p v)
-    pub fresh : (r : Rules) (lasts others records rooms : List ℕ) → SameOpen lasts others → SameRoom records rooms →
+    pub run-to : (g h : Given) (end : ℕ) (w v : World) → SameGiven p g h → SameWorld p w v → SameEnd p (runTo p g end w) (runTo p h end v)
+    pub take-back : (w v : World) → SameWorld p w v → (backNumber p w ≡ backNumber p v) × SameWorld p (takenBack p w) (takenBack p v)
+    pub fresh : (r : Rules) (lasts others records rooms : List ℕ) → SameOpen p lasts others → SameRoom p records rooms →
         (freshNumber p r lasts records ≡ freshNumber p r others rooms)
-        × (freshRun p r lasts records ≡ freshRun p r others rooms)
-        × SameOpen (freshLasts p r lasts records) (freshLasts p r others rooms)
-    pub check : (g h : Given) (end : ℕ) (w v : World) → SameGiven g h → SameWorld w v → refusal (runChecks p g end w) ≡ refusal (runChecks p h end v)
+        × (freshRun r (roomSlots p records) ≡ freshRun r (roomSlots p rooms))
+        × SameOpen p (freshLasts p r lasts records) (freshLasts p r others rooms)
+    pub check : (g h : Given) (end : ℕ) (w v : World) → SameGiven p g h → SameWorld p w v → refusal (runChecks p g end w) ≡ refusal (runChecks p h end v)
     -- an arrow is lent depths, the record room and the run
-    pub arrow : (D : ℕ) (depths others room rest : List ℕ) (u : Run) (row column : ℕ) → SameOpen depths others → length room ≡ length rest →
-        SameRecord (newestRecord p (view depths room u)) (newestRecord p (view others rest u)) →
+    pub arrow : (D : ℕ) (depths others room rest : List ℕ) (u : Run) (row column : ℕ) → SameOpen p depths others → length room ≡ length rest →
+        SameRecord p (newestRecord p (view depths room u)) (newestRecord p (view others rest u)) →
         seenAt p D (view depths room u) row column ≡ seenAt p D (view others rest u) row column
-    pub wet-rows : (depths others : List ℕ) (least : ℕ) (old : List ℕ) (a : Wet) (rows : List ℕ) → SameOpen depths others →
+    pub wet-rows : (depths others : List ℕ) (least : ℕ) (old : List ℕ) (a : Wet) (rows : List ℕ) → SameOpen p depths others →
         WetRowed p depths least old a rows → WetRowed p others least old a rows
 
   -- ---- "What a closed square holds is not altered": bed and roughness are lent to no call for writing
@@ -137,14 +115,21 @@ module _ (p : Plan) where
 
   -- ---- "walls that no water enters"
 
-  -- whatever is given and seen: nothing goes through a side towards a closed square, a closed square sends nothing, and off the grid
-  -- water goes only from an exit; so all that leaves a square comes to a neighbour that is not closed, or leaves from an exit
+  -- whatever is given and seen
   pub record WallRule : Type 0 where
+    -- nothing goes through a side towards a closed square, a closed square sends nothing, and off the grid water goes only from an exit
     pub walled : (g : Given) (v : Seen) → Walled p (stepMoves p g v .leaves)
-    pub goes : (g : Given) (v : Seen) (i side : ℕ) → i < squares (p .shape) → side < sides → Goes p (stepMoves p g v .leaves) i side
+    -- so all that leaves a square comes to a neighbour that is not closed, or leaves the grid from an exit
+    pub goes : (g : Given) (v : Seen) (i side : ℕ) → i < squares (p .shape) → side < sides →
+        stepMoves p g v .leaves i side ≡ reaches p (stepMoves p g v .leaves) i side + drains p (stepMoves p g v .leaves) i side
+    -- and the sum of all that arrives in closed squares is 0
+    pub walls-stay-dry : (g : Given) (v : Seen) → intoWalls p (stepMoves p g v .leaves) ≡ 0
 
   pub record Demand2 : Type 0 where
     pub step-gives : (g : Given) (w : World) → stepNumber p g w ≡ 0 → StepGives g w
+    pub roots-are : RootsAre
     pub none-depends : NoneDepends
     pub none-altered : NoneAltered
     pub wall-rule : WallRule
+    pub loader : LoaderWalls
+    pub exports-none-depends : ExportsNoneDepends p

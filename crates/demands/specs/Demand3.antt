@@ -12,15 +12,14 @@ use Rattle.trials.specs.Ring.{slotAgo, ringFine}
 use Rattle.trials.specs.Room.{recordIn}
 use Rattle.grid.specs.Squares.{squares}
 use Rattle.rule.specs.declared.rules.Rules.{Rules}
-use Rattle.ledger.specs.Runs.{Plan, World, world}
+use Rattle.ledger.specs.Runs.{Plan, World, world, seenOf}
 use Rattle.ledger.specs.Flows.{shut}
 use Rattle.ledger.specs.Record.{recordSize, roomSlots}
-use Rattle.ledger.specs.TakeBack.{backNumber, takenBack}
-use Rattle.ledger.specs.Engine.{seenOf, lookRows}
+use Rattle.ledger.specs.TakeBack.{backNumber, takenBack, earlyRefusals}
 use Rattle.ledger.specs.declared.runs.Run.{Run}
 use Rattle.ledger.specs.declared.runs.Answer.the-variants.{Done}
-use Rattle.flood.specs.Drops.{Given}
-use Rattle.flood.specs.Refusals.{stepNumber, stepped}
+use Rattle.moves.specs.Given.{Given}
+use Rattle.flood.specs.Step.{stepNumber, stepped}
 use Rattle.flood.specs.Run.{runTo, Freshens}
 
 -- "any series of steps and take-backs .. a run to a clock counts as the steps it made": each step and run with its own heights, tables and rules
@@ -92,6 +91,8 @@ module _ (p : Plan) where
     pub same-records : (j : ℕ) → j < x .at .run .kept →
         let slot = slotAgo (roomSlots p (f .records)) (x .at .run .newest) j in
         recordIn (recordSize p) (x .at .records) slot ≡ recordIn (recordSize p) (alone (x .standing) f .records) slot
+    -- the fresh run keeps as many or more: "overwritten records do not come back"
+    pub kept-low : x .at .run .kept ≤ alone (x .standing) f .run .kept
     -- "Each step is kept until the record room needs its place": with K places, the oldest peak - K had to go, and no other
     pub kept-is : x .at .run .kept + (x .peak - roomSlots p (f .records)) ≡ length (x .standing)
     -- "a take-back fails for lack of records only when no kept step is left", and for nothing else
@@ -102,15 +103,15 @@ module _ (p : Plan) where
 
   -- a take-back of a fresh run: 10 where shape, marks, depths, P and room are good, and never 11
   pub record BackOfFresh (f : World) : Type 0 where
-    pub ten : refusal (lookRows p (ringFine (roomSlots p (f .records)) (f .run .kept) (f .run .newest)) (seenOf f)) ≡ 0 → backNumber p f ≡ 10
+    pub ten : refusal (earlyRefusals p (ringFine (roomSlots p (f .records)) (f .run .kept) (f .run .newest)) (seenOf f)) ≡ 0 → backNumber p f ≡ 10
     pub never-eleven : backNumber p f ≡ 11 → ⊥
 
   -- "from a fresh run": whatever `fresh` may answer, with any depths
   pub record Demand3 : Type 0 where
-    pub fresh-is : (r : Rules) (depths records before lasts : List ℕ) (u : Run) → Freshens p r records before (Done u) lasts → Fresh (world depths lasts records u)
+    pub fresh-is : (r : Rules) (depths records before lasts : List ℕ) (u : Run) → Freshens p r before records (Done u) lasts → Fresh (world depths lasts records u)
     pub never-made : (f : World) → Fresh f → (cs : List Call) → NeverMade f (series cs (start f))
     pub back-of-fresh : (f : World) → Fresh f → BackOfFresh f
     -- after `fresh` only the depths remain to be good
-    pub fresh-ten : (r : Rules) (depths records before lasts : List ℕ) (u : Run) → Freshens p r records before (Done u) lasts →
+    pub fresh-ten : (r : Rules) (depths records before lasts : List ℕ) (u : Run) → Freshens p r before records (Done u) lasts →
         length depths ≡ squares (p .shape) → ((i : ℕ) → i < squares (p .shape) → shut p i ≡ false → getD depths i 0 ≤ mostDepth) →
         backNumber p (world depths lasts records u) ≡ 10

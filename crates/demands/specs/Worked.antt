@@ -1,11 +1,161 @@
--- Document 01, "Worked by hand": the cases marked P, all in one list.
+-- Document 01, "Worked by hand": the cases marked P, one list of equations. On the left what the definitions give, on the right
+-- what the document says. Sheets are worked from their text.
 -- Assumes nothing.
-use mathlib.Core.List.{List, [], _∷_, _++_}
-use Rattle.reckon.specs.Worked.{Case, tableCases}
-use Rattle.rule.specs.Worked.{squareCases}
-use Rattle.flood.specs.Worked.{worldCases}
-use Rattle.sight.specs.Worked.{arrowCases}
+use mathlib.Core.Path.{_≡_}
+use mathlib.Core.Bool.{false}
+use mathlib.Core.List.{List, [], _∷_}
+use Prim.Native.Nat.{ℕ}
+use Prim.Native.String.{String}
+use lib.ListN.{getD}
+use lib.IntN.{negsuc}
+use lib.Ieee.{Float, fin}
+use Rattle.reckon.specs.Tables.{rainBy, inflowBy}
+use Rattle.grid.specs.Squares.{east}
+use Rattle.rule.specs.declared.rules.Rules.{Rules}
+use Rattle.rule.specs.Weighing.{greatestDrop, heightOf, slopeOf, criticalSpeed, manningSpeed, speedOf, mostThrough, totalOf}
+use Rattle.rule.specs.Length.{candidatesOf}
+use Rattle.ledger.specs.Runs.{Plan, World, seenOf}
+use Rattle.ledger.specs.TakeBack.{backNumber, takenBack}
+use Rattle.moves.specs.Given.{Given}
+use Rattle.moves.specs.Drops.{dropsOf}
+use Rattle.moves.specs.Moves.{stepMoves}
+use Rattle.flood.specs.Step.{stepNumber, stepped}
+use Rattle.sight.specs.Speeds.{zero64, quotientOf}
+use Rattle.sight.specs.Arrows.{view, seenAt}
+use Rattle.sight.specs.declared.arrows.Sight.the-variants.{Moving}
+use Rattle.text.specs.Bytes.{bytesOf}
+use Rattle.sheet.specs.Sheet.{shapeOf, lineTwo, said, planIn, givenIn, startIn}
+use Rattle.answer.specs.Program.{meadowText}
 
--- tables by the clock, one square, steps and take-backs of whole worlds, and the arrow
-abbrev pub provedCases : List Case
-provedCases = tableCases ++ (squareCases ++ (worldCases ++ arrowCases))
+-- ---- texts
+
+-- document 01's sheet, and what `meadow` prints of it
+abbrev pub documentSheet : String
+documentSheet = "grid\t1\t2\t1\nrun\t100\t1000\t1000\t1000\t1000\ncell\t0\t0\to\t0\t100\t1000\ncell\t0\t1\to\t0\t100\t0\n"
+
+abbrev pub documentOutput : String
+documentOutput = "cell\t0\t0\t969\ncell\t0\t1\t31\nout\t0\nsteps\t1\nclock\t1000\n"
+
+-- "one exit square, D 1, k 100, depth 10,000"; "two equal levels"
+abbrev pub exitSheet : String
+exitSheet = "grid\t1\t1\t1\nrun\t100\t1000\t1000\t1000\t1000\ncell\t0\t0\te\t0\t100\t10000\n"
+
+abbrev pub levelSheet : String
+levelSheet = "grid\t1\t2\t1\nrun\t100\t1000\t1000\t1000\t1000\ncell\t0\t0\to\t0\t100\t500\ncell\t0\t1\to\t0\t100\t500\n"
+
+-- ---- what a text says, and steps on it
+
+module _ (text : String) where
+  abbrev rules : Rules
+  rules = lineTwo (bytesOf text) .rules
+
+  abbrev onPlan : Plan
+  onPlan = planIn (shapeOf (bytesOf text)) rules (said (bytesOf text))
+
+  abbrev byGiven : Given
+  byGiven = givenIn (shapeOf (bytesOf text)) rules (said (bytesOf text))
+
+  abbrev start : World
+  start = startIn (shapeOf (bytesOf text)) rules (said (bytesOf text))
+
+  abbrev next : World → World
+  next w = stepped onPlan byGiven w
+
+  -- of square 0 before a step: its depth, its drops, the greatest; how long the step lasts
+  abbrev depth : World → ℕ
+  depth w = getD (w .depths) 0 0
+
+  abbrev drops : World → List ℕ
+  drops w = dropsOf onPlan rules (byGiven .lie .beds) (w .depths) 0
+
+  abbrev steepest : World → ℕ
+  steepest w = greatestDrop (drops w)
+
+  abbrev duration : World → ℕ
+  duration w = stepMoves onPlan byGiven (seenOf w) .duration
+
+  -- h, s, critical and Manning speed, v, m and the total of square 0, which has roughness 100
+  abbrev workings : World → List ℕ
+  workings w =
+      heightOf (depth w)
+      ∷ slopeOf rules (steepest w)
+      ∷ criticalSpeed (depth w)
+      ∷ manningSpeed rules (depth w) 100 (steepest w)
+      ∷ speedOf rules (depth w) 100 (steepest w)
+      ∷ mostThrough rules (depth w) 100 (duration w) (steepest w)
+      ∷ totalOf rules (depth w) (getD (w .lasts) 0 0) 100 (duration w) (drops w)
+      ∷ []
+
+-- D 10 and a tolerance
+abbrev wide : ℕ → Rules
+wide q = record { «square_side» = 10; tolerance = q; shortest = 1; longest = 60_000; update = 60_000 }
+
+-- 1,116,892,707,587,883 / 2^54, the f64 nearest to 0.062, whose bits are 0x3fafbe76c8b43958
+abbrev eastSpeed : Float
+eastSpeed = fin false 1_116_892_707_587_883 (negsuc 53)
+
+-- the sheet's world before its first step, after it, and after its second
+abbrev before : World
+before = start documentSheet
+
+abbrev once : World
+once = next documentSheet before
+
+abbrev twice : World
+twice = next documentSheet once
+
+-- ---- the cases
+
+-- of the sheet
+pub record SheetCases : Type 0 where
+  -- "the sheet above: h 100, s 316, speeds 99 and 31, m 31, total 62, through east 31", and its output, whole
+  pub printed : meadowText (bytesOf documentSheet) ≡ bytesOf documentOutput
+  pub first-drops : drops documentSheet before ≡ 0 ∷ 1_000 ∷ 0 ∷ 0 ∷ []
+  pub first-workings : workings documentSheet before ≡ 100 ∷ 316 ∷ 99 ∷ 31 ∷ 31 ∷ 31 ∷ 62 ∷ []
+  pub first-east : stepMoves (onPlan documentSheet) (byGiven documentSheet) (seenOf before) .leaves 0 east ≡ 31
+  pub first-record : once .records ≡ 1_000 ∷ 1_000 ∷ 0 ∷ 31 ∷ 0 ∷ 0 ∷ 0 ∷ 0 ∷ 0 ∷ 0 ∷ 0 ∷ 0 ∷ 0 ∷ 0 ∷ []
+  -- "its second step (1000 ms): drop 938, h 97, s 306, speed 29, m 28, total 56; depths 941 and 59"
+  pub second-made : stepNumber (onPlan documentSheet) (byGiven documentSheet) once ≡ 0
+  pub second-duration : duration documentSheet once ≡ 1_000
+  pub second-drops : drops documentSheet once ≡ 0 ∷ 938 ∷ 0 ∷ 0 ∷ []
+  pub second-workings : workings documentSheet once ≡ 97 ∷ 306 ∷ 97 ∷ 29 ∷ 29 ∷ 28 ∷ 56 ∷ []
+  pub second-depths : twice .depths ≡ 941 ∷ 59 ∷ []
+  pub second-record : twice .records ≡ 1_000 ∷ 1_000 ∷ 0 ∷ 28 ∷ 0 ∷ 0 ∷ 31 ∷ 0 ∷ 0 ∷ 0 ∷ 0 ∷ 0 ∷ 0 ∷ 0 ∷ []
+  -- "take-back of the first step: depths 1000 and 0, P 0, clock 0"
+  pub back-made : backNumber (onPlan documentSheet) once ≡ 0
+  pub back-depths : takenBack (onPlan documentSheet) once .depths ≡ 1_000 ∷ 0 ∷ []
+  pub back-lasts : takenBack (onPlan documentSheet) once .lasts ≡ 0 ∷ 0 ∷ []
+  pub back-clock : takenBack (onPlan documentSheet) once .run .clock ≡ 0
+  -- "arrow of square 0 0 after it: east is 62,000 / 1,000,000 rounded once, north 0"
+  pub arrow : seenAt (onPlan documentSheet) 1 (view (once .depths) (once .records) (once .run)) 0 0 ≡ Moving (record { east = eastSpeed; north = zero64 })
+  pub arrow-quotient : quotientOf 62_000 1_000_000 ≡ eastSpeed
+
+-- of an exit alone, and of two equal levels
+pub record OtherSheetCases : Type 0 where
+  -- "one exit square, D 1, k 100, depth 10,000, 1000 ms: v 313, m 3,130, total 10,000, each side 2,000; depth 2,000, outflow 8,000"
+  pub exit-drops : drops exitSheet (start exitSheet) ≡ 10_000 ∷ 10_000 ∷ 10_000 ∷ 10_000 ∷ []
+  pub exit-workings : workings exitSheet (start exitSheet) ≡ 464 ∷ 1_000 ∷ 313 ∷ 464 ∷ 313 ∷ 3_130 ∷ 10_000 ∷ []
+  pub exit-record : next exitSheet (start exitSheet) .records ≡ 1_000 ∷ 1_000 ∷ 2_000 ∷ 2_000 ∷ 2_000 ∷ 2_000 ∷ 0 ∷ 0 ∷ []
+  pub exit-depth : next exitSheet (start exitSheet) .depths ≡ 2_000 ∷ []
+  pub exit-outflow : next exitSheet (start exitSheet) .run .outflow ≡ 8_000
+  -- "two equal levels: nothing moves"
+  pub level-made : stepNumber (onPlan levelSheet) (byGiven levelSheet) (start levelSheet) ≡ 0
+  pub level-depths : next levelSheet (start levelSheet) .depths ≡ 500 ∷ 500 ∷ []
+
+-- of one square, and of a table
+pub record NumberCases : Type 0 where
+  -- "d = 1,000,000, k 500, D 10, one drop of 100,000: q 99 gives a candidate of 250 ms; q 100 gives none"
+  pub candidate : candidatesOf (wide 99) 1_000_000 500 (0 ∷ 100_000 ∷ 0 ∷ 0 ∷ []) ≡ 250 ∷ []
+  pub no-candidate : candidatesOf (wide 100) 1_000_000 500 (0 ∷ 100_000 ∷ 0 ∷ 0 ∷ []) ≡ []
+  -- "rain 3,600 µm/h from 0: 0 by 999 ms, 1 by 1000"
+  pub rain-before : rainBy (0 ∷ 604_800_000 ∷ 3_600 ∷ []) 999 ≡ 0
+  pub rain-by : rainBy (0 ∷ 604_800_000 ∷ 3_600 ∷ []) 1_000 ≡ 1
+  -- "inflow 1 l/s, D 2: 0 by 3 ms, 1 by 4"
+  pub inflow-before : inflowBy (0 ∷ 0 ∷ 0 ∷ 604_800_000 ∷ 1 ∷ []) 0 0 2 3 ≡ 0
+  pub inflow-by : inflowBy (0 ∷ 0 ∷ 0 ∷ 604_800_000 ∷ 1 ∷ []) 0 0 2 4 ≡ 1
+
+-- all cases marked P
+pub record ProvedCases : Type 0 where
+  pub sheet : SheetCases
+  pub other-sheets : OtherSheetCases
+  pub numbers : NumberCases

@@ -1,12 +1,13 @@
--- Laws of answers in slices: a slice of known length that is stored over is what was stored; a refused call leaves what there was.
+-- Laws of answers in slices: a slice that is stored over from end to end is what was stored; a refused call leaves what there was.
 -- Assumes nothing.
 use mathlib.Core.Path.{_≡_, refl, sym, ap, _∙_}
 use mathlib.Core.Bool.{Bool, true, false, _&&_}
-use mathlib.Core.List.{List, [], _∷_}
-use Prim.Native.Nat.{ℕ, zero, suc, _≤_, _<_}
+use mathlib.Core.List.{List, _++_, append-nil}
+use Prim.Native.Nat.{ℕ, zero, suc, _+_, _≤_, _<_}
 use native.Mathlib.Omega.{arith}
 use lib.Dec.{leb}
-use lib.ListN.{length, set}
+use lib.ListN.{length, drop-of-length-le}
+use lib.Seq.{sets, sets-eq}
 use borrow.Author.Tests.{ne-eqb, le-leb, lt-leb}
 use Rattle.reckon.specs.Tests.{pick}
 use Rattle.reckon.proofs.TestLaws.{pick-true, pick-false}
@@ -14,43 +15,17 @@ use Rattle.ledger.specs.Runs.{answered}
 use Rattle.ledger.specs.declared.runs.Run.{Run}
 use Rattle.ledger.specs.declared.runs.Answer.{Answer}
 use Rattle.ledger.specs.declared.runs.Answer.the-variants.{Done, Refused}
-use Rattle.exports.specs.Answers.{numberIf, runNumbers, ranNumbers, answerNumber, answerRun, ranRun}
-use Rattle.exports.specs.Steps.{unlessRefused}
+use Rattle.exports.specs.Numbers.{runNumbers}
+use Rattle.exports.specs.Refusals.{lastCheck, numberIf, unlessChecks, unlessRefused}
+use Rattle.exports.specs.inner.Told.{answerNumber, answerRun}
 
 -- ---- stores in a row
 
-module _ {A : Type 0} where
-  pub one-stored : (l : List A) (a : A) → length l ≡ 1 → set l 0 a ≡ a ∷ []
-  one-stored [] a h = absurd (omega (arith, h))
-  one-stored (x ∷ []) a h = refl
-  one-stored (x ∷ y ∷ l) a h = absurd (omega (arith, h))
-
-  pub two-stored : (l : List A) (a b : A) → length l ≡ 2 → set (set l 0 a) 1 b ≡ a ∷ b ∷ []
-  two-stored [] a b h = absurd (omega (arith, h))
-  two-stored (x ∷ l) a b h = ap (λ (r : List A). a ∷ r) (one-stored l b (omega (arith, h)))
-
-  pub five-stored : (l : List A) (a b c d e : A) → length l ≡ 5 → set (set (set (set (set l 0 a) 1 b) 2 c) 3 d) 4 e ≡ a ∷ b ∷ c ∷ d ∷ e ∷ []
-  five-stored (x ∷ y ∷ z ∷ l) a b c d e h = ap (λ (r : List A). a ∷ b ∷ c ∷ r) (two-stored l d e (omega (arith, h)))
-  five-stored [] a b c d e h = absurd (omega (arith, h))
-  five-stored (x ∷ []) a b c d e h = absurd (omega (arith, h))
-  five-stored (x ∷ y ∷ []) a b c d e h = absurd (omega (arith, h))
-
-  pub six-stored :
-      (l : List A) (a b c d e f : A) → length l ≡ 6 →
-      set (set (set (set (set (set l 0 a) 1 b) 2 c) 3 d) 4 e) 5 f ≡ a ∷ b ∷ c ∷ d ∷ e ∷ f ∷ []
-  six-stored (x ∷ l) a b c d e f h = ap (λ (r : List A). a ∷ r) (five-stored l b c d e f (omega (arith, h)))
-  six-stored [] a b c d e f h = absurd (omega (arith, h))
-
-  pub ten-stored :
-      (l : List A) (a b c d e f g i j k : A) → length l ≡ 10 →
-      set (set (set (set (set (set (set (set (set (set l 0 a) 1 b) 2 c) 3 d) 4 e) 5 f) 6 g) 7 i) 8 j) 9 k
-      ≡ a ∷ b ∷ c ∷ d ∷ e ∷ f ∷ g ∷ i ∷ j ∷ k ∷ []
-  ten-stored (x ∷ y ∷ z ∷ v ∷ l) a b c d e f g i j k h =
-      ap (λ (r : List A). a ∷ b ∷ c ∷ d ∷ r) (six-stored l e f g i j k (omega (arith, h)))
-  ten-stored [] a b c d e f g i j k h = absurd (omega (arith, h))
-  ten-stored (x ∷ []) a b c d e f g i j k h = absurd (omega (arith, h))
-  ten-stored (x ∷ y ∷ []) a b c d e f g i j k h = absurd (omega (arith, h))
-  ten-stored (x ∷ y ∷ z ∷ []) a b c d e f g i j k h = absurd (omega (arith, h))
+-- as many stores as the slice has numbers, one after the other from its start
+pub stored : {A : Type 0} (values l : List A) → length l ≡ length values → sets l 0 values ≡ values
+stored {A} values l h =
+    sets-eq values l 0 (omega (arith, h))
+    ∙ (ap (λ (rest : List A). values ++ rest) (drop-of-length-le l {i = 0 + length values} (omega (arith, h))) ∙ append-nil values)
 
 -- ---- a call's number, and what its slices hold
 
@@ -95,15 +70,15 @@ refused-told old e = (ap answerNumber (sym e), ap (λ (z : Answer). answerRun z 
 
 -- ---- a run to an end
 
-module _ {n : ℕ} (u : Run) (steps : ℕ) (old : List ℕ) where
-  pub ran-made : n ≡ 0 → ranRun n u steps old ≡ ranNumbers u steps
-  unfolding ranRun
-  ran-made h = pick-false old (ranNumbers u steps) (ap (λ (k : ℕ). leb 1 k && leb k 6) h)
+module _ {A : Type 0} {n : ℕ} (made old : A) where
+  pub ran-made : n ≡ 0 → unlessChecks n made old ≡ made
+  unfolding unlessChecks
+  ran-made h = pick-false old made (ap (λ (k : ℕ). leb 1 k && leb k lastCheck) h)
 
-  pub ran-late : 6 < n → ranRun n u steps old ≡ ranNumbers u steps
-  unfolding ranRun
-  ran-late h = pick-false old (ranNumbers u steps) (rw (le-leb 1 n (omega (arith, h)), lt-leb n 6 h))
+  pub ran-late : lastCheck < n → unlessChecks n made old ≡ made
+  unfolding unlessChecks
+  ran-late h = pick-false old made (rw (le-leb 1 n (omega (arith, h)), lt-leb n lastCheck h))
 
-  pub ran-early : (n ≡ 0 → ⊥) → n ≤ 6 → ranRun n u steps old ≡ old
-  unfolding ranRun
-  ran-early d h = pick-true old (ranNumbers u steps) (rw (le-leb 1 n (omega (arith, d)), le-leb n 6 h))
+  pub ran-early : (n ≡ 0 → ⊥) → n ≤ lastCheck → unlessChecks n made old ≡ old
+  unfolding unlessChecks
+  ran-early d h = pick-true old made (rw (le-leb 1 n (omega (arith, d)), le-leb n lastCheck h))

@@ -1,4 +1,5 @@
 pub mod AnswerLaws
+pub mod NumberLaws
 pub mod SheetLaws
 pub mod SightLaws
 pub mod StepLaws

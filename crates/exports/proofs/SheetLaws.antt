@@ -1,24 +1,23 @@
 -- What the exported reading of a sheet and the whole of `meadow` give follows from what the calls below give.
 -- Assumes nothing.
 use mathlib.Core.Path.{_≡_, sym, ap, _∙_}
-use mathlib.Core.Bool.{Bool, true, false, _&&_}
+use mathlib.Core.Bool.{true, false}
 use mathlib.Core.List.{List, [], _∷_}
 use Prim.Native.Nat.{ℕ, _≤_, _<_}
 use native.Mathlib.Omega.{arith}
-use lib.Dec.{eqb}
 use lib.ListN.{length, take, drop, replicate, length-replicate}
 use lib.Seq.{take-append-seam}
-use borrow.Author.Tests.{ne-eqb, eq-eqb, le-leb, lt-leb}
+use borrow.Author.Tests.{eq-eqb, le-leb, lt-leb}
 use Rattle.reckon.specs.Lists.{placed}
-use Rattle.reckon.proofs.TestLaws.{pick-true, pick-false, and-both}
+use Rattle.reckon.proofs.TestLaws.{pick-true, pick-false, each-every}
 use Rattle.text.specs.Writing.{Wrote}
 use Rattle.text.proofs.WritingLaws.{wrote-length}
 use Rattle.sheet.specs.Sheet.{Rooms, Reads, roomsAfter}
-use Rattle.sheet.specs.Printed.{Prints, meadowText, mostPrinted}
+use Rattle.answer.specs.Program.{Prints, meadowText, mostPrinted}
 use Rattle.sheet.specs.declared.reading.Heading.{Heading}
 use Rattle.sheet.specs.declared.reading.Sheet.{Sheet}
 use Rattle.sheet.specs.declared.reading.Sheet.the-variants.{Read, Refused}
-use Rattle.exports.specs.Answers.{headingSize, lineSize, headingNumbers}
+use Rattle.exports.specs.Numbers.{headingNumbers, headingSize, lineSize}
 use Rattle.exports.specs.Sheets.{sheetNumber, sheetLine, headingIn, sheetSized, ExportsRead, ExportsMeadow}
 use Rattle.exports.proofs.AnswerLaws.{sized-number, unsized-number}
 
@@ -47,20 +46,12 @@ module _ (s : List ℕ) (before : Rooms) (oldHeading oldLine : List ℕ) where
         line-is = sym (pick-false _ _ unfit);
       }
 
-  pub heading-unsized : (length oldHeading ≡ headingSize → ⊥) → ExportsRead s before oldHeading oldLine 1 before oldHeading oldLine
-  heading-unsized d = sheet-unsized (ap (λ (b : Bool). b && eqb (length oldLine) lineSize) (ne-eqb (length oldHeading) headingSize d))
-
-  pub line-unsized :
-      length oldHeading ≡ headingSize → (length oldLine ≡ lineSize → ⊥) → ExportsRead s before oldHeading oldLine 1 before oldHeading oldLine
-  line-unsized h d =
-      sheet-unsized (rw (eq-eqb (length oldHeading) headingSize h, ne-eqb (length oldLine) lineSize d))
-
   pub sheet-told :
       {a : Sheet} {number : ℕ} {after : Rooms} {heading line : List ℕ} → length oldHeading ≡ headingSize → length oldLine ≡ lineSize →
       Reads s before a after → Told a oldHeading number heading line → ExportsRead s before oldHeading oldLine number after heading line
   sheet-told h l f t =
       let fits : sheetSized s before oldHeading oldLine ≡ true =
-      and-both _ _ (eq-eqb (length oldHeading) headingSize h) (eq-eqb (length oldLine) lineSize l) in
+      each-every _ (eq-eqb (length oldHeading) headingSize h, (eq-eqb (length oldLine) lineSize l, tt)) in
       record {
         number-is = t .0 ∙ (ap sheetNumber (f .answer) ∙ sym (sized-number fits));
         rooms-are = f .rooms-are ∙ (ap (λ (z : Sheet). roomsAfter s z before) (f .answer) ∙ sym (pick-true _ _ fits));

@@ -1,7 +1,7 @@
 -- What the exported arrow and wet rows give follows from what the calls below give.
 -- Assumes nothing.
-use mathlib.Core.Path.{_≡_, refl, sym, ap, _∙_}
-use mathlib.Core.Bool.{true}
+use mathlib.Core.Path.{_≡_, refl, sym, ap, _∙_, subst, subst₂}
+use mathlib.Core.Bool.{true, false}
 use mathlib.Core.List.{List, [], _∷_}
 use Prim.Native.Nat.{ℕ, zero, suc}
 use lib.ListN.{length}
@@ -11,16 +11,18 @@ use Rattle.reckon.specs.Tests.{pick}
 use Rattle.reckon.proofs.TestLaws.{pick-true, pick-false}
 use Rattle.ledger.specs.Runs.{Plan, World}
 use Rattle.sight.specs.Arrows.{Sees}
-use Rattle.sight.specs.WetRows.{WetRowed, counted, onesOver, wetMasks, wetNumber}
+use Rattle.sight.specs.WetRows.{WetRowed, counted, onesOver, wetNumber}
+use Rattle.grid.specs.Masks.{wetMasks}
 use Rattle.sight.specs.declared.speeds.Arrow.{Arrow}
 use Rattle.sight.specs.declared.arrows.Sight.{Sight}
 use Rattle.sight.specs.declared.arrows.Sight.the-variants.{Closed, Dry, Still, Moving, Refused}
 use Rattle.sight.specs.declared.wet_rows.Wet.{Wet}
 use Rattle.sight.specs.declared.wet_rows.Wet.the-variants.{Count}
 use Rattle.sight.specs.declared.wet_rows.Wet.the-variants as Wet
-use Rattle.exports.specs.Answers.{speedsSize, countSize}
-use Rattle.exports.specs.Steps.{unlessRefused}
-use Rattle.exports.specs.Sights.{sightNumber, speedsIn, speedsSized, ExportsArrow, wetNumberOf, countIn, wetGives, ExportsWet}
+use Rattle.exports.specs.Numbers.{countSize}
+use Rattle.exports.specs.Refusals.{unlessRefused}
+use Rattle.exports.specs.Sights.{sightNumber, speedsIn, arrowSized, ExportsArrow, wetGives, ExportsWet}
+use Rattle.exports.specs.inner.Told.{wetNumberOf, countIn}
 use Rattle.exports.proofs.AnswerLaws.{sized-number, unsized-number, refused-leaves}
 
 -- ---- the arrow
@@ -51,17 +53,16 @@ pub seen-moving :
 unfolding sightNumber speedsIn
 seen-moving old e s = sight-told old e refl s
 
-module _ (p : Plan) (D : ℕ) (w : World) (row column : ℕ) (old : List Float) where
-  pub arrow-unsized : (length old ≡ speedsSize → ⊥) → ExportsArrow p D w row column old 1 old
-  arrow-unsized d =
-      let unfit = ne-eqb (length old) speedsSize d in
-      record { number-is = sym (unsized-number _ unfit); speeds-are = sym (pick-false _ _ unfit) }
+module _ (p : Plan) (D : ℕ) (w : World) (row column : ℕ) (run : List ℕ) (old : List Float) where
+  pub arrow-unsized : arrowSized p D w row column run old ≡ false → ExportsArrow p D w row column run old 1 old
+  arrow-unsized unfit = record { number-is = sym (unsized-number _ unfit); speeds-are = sym (pick-false _ _ unfit) }
 
   pub arrow-told :
-      {a : Sight} {number : ℕ} {speeds : List Float} → length old ≡ speedsSize → Sees p D w row column a →
-      (number ≡ sightNumber a) × (speeds ≡ speedsIn a old) → ExportsArrow p D w row column old number speeds
-  arrow-told h f t =
-      let fits : speedsSized p D w row column old ≡ true = eq-eqb (length old) speedsSize h in
+      {q : Plan} {v : World} {a : Sight} {number : ℕ} {speeds : List Float} → arrowSized p D w row column run old ≡ true →
+      q ≡ p → v ≡ w → Sees q D v row column a → (number ≡ sightNumber a) × (speeds ≡ speedsIn a old) →
+      ExportsArrow p D w row column run old number speeds
+  arrow-told {q} {v} {a} fits same-plan same-world seen t =
+      let f = subst₂ (λ (x : Plan) (y : World). Sees x D y row column a) same-plan same-world seen in
       record {
         number-is = t .0 ∙ (ap sightNumber f ∙ sym (sized-number fits));
         speeds-are = t .1 ∙ (ap (λ (z : Sight). speedsIn z old) f ∙ sym (pick-true _ _ fits));
@@ -93,21 +94,22 @@ module _ (p : Plan) (depths : List ℕ) (least : ℕ) (oldRows oldCount : List �
       let one : wetGives p depths least oldRows oldCount ≡ 1 = unsized-number _ (ne-eqb (length oldCount) countSize d) in
       record {
         number-is = sym one;
-        rows-are = sym (refused-leaves (wetMasks p depths least) oldRows one);
-        count-is = sym (refused-leaves (onesOver (wetMasks p depths least) ∷ []) oldCount one);
+        rows-are = sym (refused-leaves (wetMasks (p .shape) (p .marks) depths least) oldRows one);
+        count-is = sym (refused-leaves (onesOver (wetMasks (p .shape) (p .marks) depths least) ∷ []) oldCount one);
       }
 
   pub wet-told :
-      {a : Wet} {number : ℕ} {rows count : List ℕ} → length oldCount ≡ countSize → WetRowed p depths least oldRows a rows →
+      {q : Plan} {a : Wet} {number : ℕ} {rows count : List ℕ} → length oldCount ≡ countSize → q ≡ p → WetRowed q depths least oldRows a rows →
       (number ≡ wetNumberOf a) × (count ≡ countIn a oldCount) → ExportsWet p depths least oldRows oldCount number rows count
   unfolding unlessRefused
-  wet-told h f t =
+  wet-told {q} {a} {number} {rows} h same-plan made t =
+      let f = subst (λ (x : Plan). WetRowed x depths least oldRows a rows) same-plan made in
       let n = wetNumber p depths least (length oldRows) in
-      let k = onesOver (wetMasks p depths least) in
+      let k = onesOver (wetMasks (p .shape) (p .marks) depths least) in
       let gives : wetGives p depths least oldRows oldCount ≡ n = sized-number (eq-eqb (length oldCount) countSize h) in
       record {
         number-is = t .0 ∙ (ap wetNumberOf (f .answer) ∙ (number-counted n k ∙ sym gives));
-        rows-are = f .rows-are ∙ ap (λ (m : ℕ). unlessRefused m (wetMasks p depths least) oldRows) (sym gives);
+        rows-are = f .rows-are ∙ ap (λ (m : ℕ). unlessRefused m (wetMasks (p .shape) (p .marks) depths least) oldRows) (sym gives);
         count-is =
             t .1
             ∙ (ap (λ (z : Wet). countIn z oldCount) (f .answer)

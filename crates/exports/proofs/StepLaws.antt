@@ -1,8 +1,8 @@
 -- What the exported steps give follows from what the calls below give: a number with a run, or with all as it was.
 -- Assumes nothing.
-use mathlib.Core.Path.{_≡_, sym, ap, _∙_}
-use mathlib.Core.Bool.{true}
-use mathlib.Core.List.{List}
+use mathlib.Core.Path.{_≡_, sym, ap, _∙_, subst₂, subst₃}
+use mathlib.Core.Bool.{true, false}
+use mathlib.Core.List.{List, [], _∷_}
 use Prim.Native.Nat.{ℕ}
 use lib.Dec.{eqb}
 use lib.ListN.{length}
@@ -11,32 +11,35 @@ use Rattle.reckon.specs.Lists.{filled}
 use Rattle.reckon.proofs.TestLaws.{pick-true, pick-false}
 use Rattle.grid.specs.Squares.{squares}
 use Rattle.rule.specs.declared.rules.Rules.{Rules}
+use Rattle.ledger.specs.Runs.{Plan, World, seenOf}
 use Rattle.ledger.specs.Runs.{Plan, World}
-use Rattle.ledger.specs.Record.{newestRecord}
+use Rattle.ledger.specs.Record.{newestRecord, roomSlots}
 use Rattle.ledger.specs.Flows.{shut}
+use Rattle.ledger.specs.Record.{newestRecord}
 use Rattle.ledger.specs.After.{worldAfter}
-use Rattle.ledger.specs.Engine.{seenOf}
 use Rattle.ledger.specs.TakeBack.{TakesBack, backNumber, takenBack, worldBefore}
 use Rattle.ledger.specs.declared.runs.Answer.{Answer}
-use Rattle.flood.specs.Drops.{Given}
-use Rattle.flood.specs.Step.{stepMoves}
-use Rattle.flood.specs.Refusals.{Steps, stepNumber, stepped}
+use Rattle.moves.specs.Given.{Given}
+use Rattle.moves.specs.Moves.{stepMoves}
+use Rattle.flood.specs.Step.{Steps, stepNumber, stepped}
 use Rattle.flood.specs.Run.{Ended, RunsTo, Freshens, freshNumber, freshRun, freshLasts}
 use Rattle.flood.specs.declared.run.Ran.{Ran}
-use Rattle.exports.specs.Answers.{runSize, ranSize, runNumbers, answerNumber, answerRun, ranRun}
-use Rattle.exports.specs.Steps.{unlessRefused, freshGives, ExportsFresh, stepGives, ExportsStep, backGives, ExportsBack, ranSized, ExportsRun}
+use Rattle.exports.specs.Numbers.{runNumbers, runSize}
+use Rattle.exports.specs.Refusals.{unlessChecks, unlessRefused}
+use Rattle.exports.specs.inner.Told.{answerNumber, answerRun}
+use Rattle.exports.specs.Steps.{bothSized, freshGives, ExportsFresh, stepGives, ExportsStep, backGives, ExportsBack, ranSized, ExportsRun}
 use Rattle.exports.proofs.AnswerLaws.{sized-number, unsized-number, refused-leaves, chosen-twice, number-answered, run-answered}
 
 -- ---- a fresh run
 
-module _ (p : Plan) (r : Rules) (records before old : List ℕ) where
-  pub fresh-unsized : (length old ≡ runSize → ⊥) → ExportsFresh p r records before old 1 before old
+module _ (p : Plan) (r : Rules) (before records rules old : List ℕ) where
+  pub fresh-unsized : bothSized rules old ≡ false → ExportsFresh p r before records rules old 1 before old
   fresh-unsized d =
-      let one : freshGives p r records before old ≡ 1 = unsized-number _ (ne-eqb (length old) runSize d) in
+      let one : freshGives p r before records rules old ≡ 1 = unsized-number _ d in
       record {
         number-is = sym one;
         lasts-are = sym (refused-leaves (freshLasts p r before records) before one);
-        run-is = sym (refused-leaves (runNumbers (freshRun p r before records)) old one);
+        run-is = sym (refused-leaves (runNumbers (freshRun r (roomSlots p records))) old one);
       }
 
   fresh-stays : unlessRefused (freshNumber p r before records) (freshLasts p r before records) before ≡ freshLasts p r before records
@@ -44,28 +47,29 @@ module _ (p : Plan) (r : Rules) (records before old : List ℕ) where
   fresh-stays =
       chosen-twice (λ (l : List ℕ). l) (eqb (freshNumber p r before records) 0) (filled (squares (p .shape)) (shut p) (λ i. 0) before) before
 
-  module _ {a : Answer} {number : ℕ} {lasts run : List ℕ} where
+  module _ {q : Plan} {s : Rules} {a : Answer} {number : ℕ} {lasts run : List ℕ} where
     pub fresh-told :
-        length old ≡ runSize → Freshens p r records before a lasts → (number ≡ answerNumber a) × (run ≡ answerRun a old) →
-        ExportsFresh p r records before old number lasts run
-    fresh-told h f t =
-        let gives : freshGives p r records before old ≡ freshNumber p r before records = sized-number (eq-eqb (length old) runSize h) in
+        bothSized rules old ≡ true → q ≡ p → s ≡ r → Freshens q s before records a lasts → (number ≡ answerNumber a) × (run ≡ answerRun a old) →
+        ExportsFresh p r before records rules old number lasts run
+    fresh-told h same-plan same-rules made t =
+        let f = subst₂ (λ (x : Plan) (y : Rules). Freshens x y before records a lasts) same-plan same-rules made in
+        let gives : freshGives p r before records rules old ≡ freshNumber p r before records = sized-number h in
         record {
-          number-is = t .0 ∙ (ap answerNumber (f .answer) ∙ (number-answered (freshNumber p r before records) (freshRun p r before records) ∙ sym gives));
+          number-is = t .0 ∙ (ap answerNumber (f .answer) ∙ (number-answered (freshNumber p r before records) (freshRun r (roomSlots p records)) ∙ sym gives));
           lasts-are = f .lasts-are ∙ (sym fresh-stays ∙ ap (λ (n : ℕ). unlessRefused n (freshLasts p r before records) before) (sym gives));
           run-is =
               t .1
               ∙ (ap (λ (z : Answer). answerRun z old) (f .answer)
-              ∙ (run-answered (freshNumber p r before records) (freshRun p r before records) old
-              ∙ ap (λ (n : ℕ). unlessRefused n (runNumbers (freshRun p r before records)) old) (sym gives)));
+              ∙ (run-answered (freshNumber p r before records) (freshRun r (roomSlots p records)) old
+              ∙ ap (λ (n : ℕ). unlessRefused n (runNumbers (freshRun r (roomSlots p records))) old) (sym gives)));
         }
 
 -- ---- a step
 
-module _ (p : Plan) (g : Given) (w : World) (old : List ℕ) where
-  pub step-unsized : (length old ≡ runSize → ⊥) → ExportsStep p g w old 1 (w .depths) (w .lasts) (w .records) old
+module _ (p : Plan) (g : Given) (w : World) (rules old : List ℕ) where
+  pub step-unsized : bothSized rules old ≡ false → ExportsStep p g w rules old 1 (w .depths) (w .lasts) (w .records) old
   step-unsized d =
-      let one : stepGives p g w old ≡ 1 = unsized-number _ (ne-eqb (length old) runSize d) in
+      let one : stepGives p g w rules old ≡ 1 = unsized-number _ d in
       record {
         number-is = sym one;
         depths-are = sym (refused-leaves (stepped p g w .depths) (w .depths) one);
@@ -78,13 +82,14 @@ module _ (p : Plan) (g : Given) (w : World) (old : List ℕ) where
   unfolding stepped unlessRefused
   step-stays f = chosen-twice f (eqb (stepNumber p g w) 0) (worldAfter p (stepMoves p g (seenOf w)) w) w
 
-  module _ {a : Answer} {number : ℕ} {depths lasts records run : List ℕ} where
+  module _ {q : Plan} {h : Given} {v : World} {a : Answer} {number : ℕ} {depths lasts records run : List ℕ} where
     pub step-told :
-        length old ≡ runSize → Steps p g w a depths lasts records → (number ≡ answerNumber a) × (run ≡ answerRun a old) →
-        ExportsStep p g w old number depths lasts records run
-    step-told h f t =
-        let gives : stepGives p g w old ≡ stepNumber p g w = sized-number (eq-eqb (length old) runSize h) in
-        let stays : (x : World → List ℕ) → x (stepped p g w) ≡ unlessRefused (stepGives p g w old) (x (stepped p g w)) (x w) =
+        bothSized rules old ≡ true → q ≡ p → h ≡ g → v ≡ w → Steps q h v a depths lasts records →
+        (number ≡ answerNumber a) × (run ≡ answerRun a old) → ExportsStep p g w rules old number depths lasts records run
+    step-told fits same-plan same-given same-world made t =
+        let f = subst₃ (λ (x : Plan) (y : Given) (z : World). Steps x y z a depths lasts records) same-plan same-given same-world made in
+        let gives : stepGives p g w rules old ≡ stepNumber p g w = sized-number fits in
+        let stays : (x : World → List ℕ) → x (stepped p g w) ≡ unlessRefused (stepGives p g w rules old) (x (stepped p g w)) (x w) =
         λ x. sym (step-stays x) ∙ ap (λ (n : ℕ). unlessRefused n (x (stepped p g w)) (x w)) (sym gives) in
         record {
           number-is = t .0 ∙ (ap answerNumber (f .answer) ∙ (number-answered (stepNumber p g w) (stepped p g w .run) ∙ sym gives));
@@ -115,11 +120,12 @@ module _ (p : Plan) (w : World) (old : List ℕ) where
   unfolding takenBack unlessRefused
   back-stays f = chosen-twice f (eqb (backNumber p w) 0) (worldBefore p w (newestRecord p w)) w
 
-  module _ {a : Answer} {number : ℕ} {depths lasts run : List ℕ} where
+  module _ {q : Plan} {v : World} {a : Answer} {number : ℕ} {depths lasts run : List ℕ} where
     pub back-told :
-        length old ≡ runSize → TakesBack p w a depths lasts → (number ≡ answerNumber a) × (run ≡ answerRun a old) →
+        length old ≡ runSize → q ≡ p → v ≡ w → TakesBack q v a depths lasts → (number ≡ answerNumber a) × (run ≡ answerRun a old) →
         ExportsBack p w old number depths lasts run
-    back-told h f t =
+    back-told h same-plan same-world made t =
+        let f = subst₂ (λ (x : Plan) (y : World). TakesBack x y a depths lasts) same-plan same-world made in
         let gives : backGives p w old ≡ backNumber p w = sized-number (eq-eqb (length old) runSize h) in
         let stays : (x : World → List ℕ) → x (takenBack p w) ≡ unlessRefused (backGives p w old) (x (takenBack p w)) (x w) =
         λ x. sym (back-stays x) ∙ ap (λ (n : ℕ). unlessRefused n (x (takenBack p w)) (x w)) (sym gives) in
@@ -136,29 +142,32 @@ module _ (p : Plan) (w : World) (old : List ℕ) where
 
 -- ---- a run to an end
 
-module _ (p : Plan) (g : Given) (end : ℕ) (w : World) (old : List ℕ) where
-  pub run-unsized : (length old ≡ ranSize → ⊥) → ExportsRun p g end w old 1 (w .depths) (w .lasts) (w .records) old
-  run-unsized d =
-      let unfit = ne-eqb (length old) ranSize d in
+module _ (p : Plan) (g : Given) (end : ℕ) (w : World) (rules old oldSteps : List ℕ) where
+  pub run-unsized :
+      ranSized p g end w rules old oldSteps ≡ false → ExportsRun p g end w rules old oldSteps 1 (w .depths) (w .lasts) (w .records) old oldSteps
+  run-unsized unfit =
       record {
         number-is = sym (unsized-number _ unfit);
         depths-are = sym (pick-false _ _ unfit);
         lasts-are = sym (pick-false _ _ unfit);
         records-are = sym (pick-false _ _ unfit);
         run-is = sym (pick-false _ _ unfit);
+        steps-are = sym (pick-false _ _ unfit);
       }
 
-  module _ {a : Ran} {number : ℕ} {depths lasts records run : List ℕ} where
+  module _ {q : Plan} {h : Given} {v : World} {a : Ran} {number : ℕ} {depths lasts records run steps : List ℕ} where
     pub run-told :
-        length old ≡ ranSize → RunsTo p g end w a depths lasts records →
-        (number ≡ a .refused) × (run ≡ ranRun (a .refused) (a .run) (a .steps) old) → ExportsRun p g end w old number depths lasts records run
-    run-told h f t =
-        let fits : ranSized p g end w old ≡ true = eq-eqb (length old) ranSize h in
+        ranSized p g end w rules old oldSteps ≡ true → q ≡ p → h ≡ g → v ≡ w → RunsTo q h end v a depths lasts records →
+        (number ≡ a .refused) × (run ≡ runNumbers (a .run)) × (steps ≡ unlessChecks (a .refused) (a .steps ∷ []) oldSteps) →
+        ExportsRun p g end w rules old oldSteps number depths lasts records run steps
+    run-told fits same-plan same-given same-world made t =
+        let f = subst₃ (λ (x : Plan) (y : Given) (z : World). RunsTo x y end z a depths lasts records) same-plan same-given same-world made in
         let e = f .ends in
         record {
           number-is = t .0 ∙ (ap (λ (z : Ended). z .number) e ∙ sym (sized-number fits));
           depths-are = ap (λ (z : Ended). z .world .depths) e ∙ sym (pick-true _ _ fits);
           lasts-are = ap (λ (z : Ended). z .world .lasts) e ∙ sym (pick-true _ _ fits);
           records-are = ap (λ (z : Ended). z .world .records) e ∙ sym (pick-true _ _ fits);
-          run-is = t .1 ∙ (ap (λ (z : Ended). ranRun (z .number) (z .world .run) (z .steps) old) e ∙ sym (pick-true _ _ fits));
+          run-is = t .1 ∙ (ap (λ (z : Ended). runNumbers (z .world .run)) e ∙ sym (pick-true _ _ fits));
+          steps-are = t .2 ∙ (ap (λ (z : Ended). unlessChecks (z .number) (z .steps ∷ []) oldSteps) e ∙ sym (pick-true _ _ fits));
         }

@@ -1,4 +1,6 @@
-pub mod Answers
+pub mod inner
+pub mod Numbers
+pub mod Refusals
 pub mod Sheets
 pub mod Sights
 pub mod Steps

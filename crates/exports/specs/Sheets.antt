@@ -1,18 +1,19 @@
 -- What the exported reading of a sheet, and the whole of `meadow`, give.
 -- Assumes nothing.
 use mathlib.Core.Path.{_≡_}
-use mathlib.Core.Bool.{Bool, _&&_}
+use mathlib.Core.Bool.{Bool}
 use mathlib.Core.List.{List, [], _∷_}
 use Prim.Native.Nat.{ℕ}
-use lib.Dec.{eqb, leb}
+use lib.Dec.{leb}
 use lib.ListN.{length}
-use Rattle.reckon.specs.Tests.{pick}
+use Rattle.reckon.specs.Tests.{every, pick}
 use Rattle.reckon.specs.Lists.{placed}
 use Rattle.sheet.specs.Sheet.{Rooms, sheetOf, roomsAfter}
-use Rattle.sheet.specs.Printed.{meadowText, mostPrinted}
+use Rattle.answer.specs.Program.{meadowText, mostPrinted}
 use Rattle.sheet.specs.declared.reading.Sheet.{Sheet}
 use Rattle.sheet.specs.declared.reading.Sheet.the-variants.{Read, Refused}
-use Rattle.exports.specs.Answers.{headingSize, lineSize, numberIf, headingNumbers}
+use Rattle.exports.specs.Numbers.{headingNumbers, headingSize, lineSize, sized}
+use Rattle.exports.specs.Refusals.{numberIf}
 
 unfoldable pub sheetNumber : Sheet → ℕ
 sheetNumber (Read h) = 0
@@ -30,7 +31,7 @@ headingIn (Refused number line) old = old
 
 module _ (s : List ℕ) (before : Rooms) (oldHeading oldLine : List ℕ) where
   abbrev pub sheetSized : Bool
-  sheetSized = eqb (length oldHeading) headingSize && eqb (length oldLine) lineSize
+  sheetSized = every (sized oldHeading headingSize ∷ sized oldLine lineSize ∷ [])
 
   pub record ExportsRead (number : ℕ) (after : Rooms) (heading line : List ℕ) : Type 0 where
     pub number-is : number ≡ numberIf sheetSized (sheetNumber (sheetOf s before))

@@ -4,20 +4,17 @@ use mathlib.Core.Path.{_≡_}
 use mathlib.Core.Bool.{Bool}
 use mathlib.Core.List.{List, [], _∷_}
 use Prim.Native.Nat.{ℕ}
-use lib.Dec.{eqb}
 use lib.ListN.{length}
 use lib.Ieee.{Float}
-use Rattle.reckon.specs.Tests.{pick}
+use Rattle.reckon.specs.Tests.{every, pick}
 use Rattle.ledger.specs.Runs.{Plan, World}
 use Rattle.sight.specs.Arrows.{seenAt}
-use Rattle.sight.specs.WetRows.{onesOver, wetMasks, wetNumber}
+use Rattle.sight.specs.WetRows.{onesOver, wetNumber}
+use Rattle.grid.specs.Masks.{wetMasks}
 use Rattle.sight.specs.declared.arrows.Sight.{Sight}
 use Rattle.sight.specs.declared.arrows.Sight.the-variants.{Closed, Dry, Still, Moving, Refused}
-use Rattle.sight.specs.declared.wet_rows.Wet.{Wet}
-use Rattle.sight.specs.declared.wet_rows.Wet.the-variants.{Count}
-use Rattle.sight.specs.declared.wet_rows.Wet.the-variants as Wet
-use Rattle.exports.specs.Answers.{speedsSize, countSize, numberIf}
-use Rattle.exports.specs.Steps.{unlessRefused}
+use Rattle.exports.specs.Numbers.{countSize, runSize, sized, speedsSize}
+use Rattle.exports.specs.Refusals.{numberIf, unlessRefused}
 
 -- "one of: closed; dry; still; moving, with the arrow; or a refusal", each as a number
 unfoldable pub sightNumber : Sight → ℕ
@@ -35,29 +32,19 @@ speedsIn Still old = old
 speedsIn (Moving a) old = a .east ∷ a .north ∷ []
 speedsIn (Refused n) old = old
 
-module _ (p : Plan) (D : ℕ) (w : World) (row column : ℕ) (old : List Float) where
-  abbrev pub speedsSized : Bool
-  speedsSized = eqb (length old) speedsSize
+module _ (p : Plan) (D : ℕ) (w : World) (row column : ℕ) (run : List ℕ) (old : List Float) where
+  abbrev pub arrowSized : Bool
+  arrowSized = every (sized run runSize ∷ sized old speedsSize ∷ [])
 
   pub record ExportsArrow (number : ℕ) (speeds : List Float) : Type 0 where
-    pub number-is : number ≡ numberIf speedsSized (sightNumber (seenAt p D w row column))
-    pub speeds-are : speeds ≡ pick speedsSized (speedsIn (seenAt p D w row column) old) old
-
--- ---- wet rows
-
-unfoldable pub wetNumberOf : Wet → ℕ
-wetNumberOf (Count n) = 0
-wetNumberOf (Wet.Refused n) = n
-
-unfoldable pub countIn : Wet → List ℕ → List ℕ
-countIn (Count n) old = n ∷ []
-countIn (Wet.Refused n) old = old
+    pub number-is : number ≡ numberIf arrowSized (sightNumber (seenAt p D w row column))
+    pub speeds-are : speeds ≡ pick arrowSized (speedsIn (seenAt p D w row column) old) old
 
 module _ (p : Plan) (depths : List ℕ) (least : ℕ) (oldRows oldCount : List ℕ) where
   abbrev pub wetGives : ℕ
-  wetGives = numberIf (eqb (length oldCount) countSize) (wetNumber p depths least (length oldRows))
+  wetGives = numberIf (sized oldCount countSize) (wetNumber p depths least (length oldRows))
 
   pub record ExportsWet (number : ℕ) (rows count : List ℕ) : Type 0 where
     pub number-is : number ≡ wetGives
-    pub rows-are : rows ≡ unlessRefused wetGives (wetMasks p depths least) oldRows
-    pub count-is : count ≡ unlessRefused wetGives (onesOver (wetMasks p depths least) ∷ []) oldCount
+    pub rows-are : rows ≡ unlessRefused wetGives (wetMasks (p .shape) (p .marks) depths least) oldRows
+    pub count-is : count ≡ unlessRefused wetGives (onesOver (wetMasks (p .shape) (p .marks) depths least) ∷ []) oldCount

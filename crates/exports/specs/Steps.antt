@@ -2,50 +2,35 @@
 -- Assumes nothing.
 use mathlib.Core.Path.{_≡_}
 use mathlib.Core.Bool.{Bool}
-use mathlib.Core.List.{List}
+use mathlib.Core.List.{List, [], _∷_}
 use Prim.Native.Nat.{ℕ}
-use lib.Dec.{eqb}
-use lib.ListN.{length}
-use Rattle.reckon.specs.Tests.{pick}
-use Rattle.grid.specs.declared.squares.Shape.{Shape}
+use Rattle.reckon.specs.Tests.{every, pick}
 use Rattle.rule.specs.declared.rules.Rules.{Rules}
-use Rattle.ledger.specs.declared.runs.Run.{Run}
 use Rattle.ledger.specs.Runs.{Plan, World}
+use Rattle.ledger.specs.Record.{roomSlots}
 use Rattle.ledger.specs.TakeBack.{backNumber, takenBack}
-use Rattle.flood.specs.Drops.{Given}
-use Rattle.flood.specs.Refusals.{stepNumber, stepped}
+use Rattle.moves.specs.Given.{Given}
+use Rattle.flood.specs.Step.{stepNumber, stepped}
 use Rattle.flood.specs.Run.{Ended, runTo, freshNumber, freshRun, freshLasts}
-use Rattle.exports.specs.Answers.{runSize, ranSize, numberIf, runNumbers, ranRun}
+use Rattle.exports.specs.Numbers.{rulesSize, runNumbers, runSize, sized, stepsSize}
+use Rattle.exports.specs.Refusals.{numberIf, unlessChecks, unlessRefused}
 
--- shape, rules and run of the numbers that a caller gives
-abbrev pub shapeOf : ℕ → ℕ → Shape
-shapeOf rows columns = record { rows = rows; columns = columns }
+-- rules that go in, and a run that goes in or comes out
+abbrev pub bothSized : List ℕ → List ℕ → Bool
+bothSized rules run = every (sized rules rulesSize ∷ sized run runSize ∷ [])
 
-abbrev pub rulesOf : ℕ → ℕ → ℕ → ℕ → ℕ → Rules
-rulesOf D q shortest longest U =
-    record { «square_side» = D; tolerance = q; shortest = shortest; longest = longest; update = U }
-
-abbrev pub runOf : ℕ → ℕ → ℕ → ℕ → ℕ → Run
-runOf clock length outflow kept newest = record { clock = clock; length = length; outflow = outflow; kept = kept; newest = newest }
-
--- ---- "with the run as it was and every lent slice as it was"
-
--- what a slice holds afterwards, by the call's number: what the call makes of it where that is 0, else what it held
-unfoldable pub unlessRefused : {A : Type 0} → ℕ → A → A → A
-unlessRefused number made old = pick (eqb number 0) made old
-
-module _ (p : Plan) (r : Rules) (records before old : List ℕ) where
+module _ (p : Plan) (r : Rules) (before records rules old : List ℕ) where
   abbrev pub freshGives : ℕ
-  freshGives = numberIf (eqb (length old) runSize) (freshNumber p r before records)
+  freshGives = numberIf (bothSized rules old) (freshNumber p r before records)
 
   pub record ExportsFresh (number : ℕ) (lasts run : List ℕ) : Type 0 where
     pub number-is : number ≡ freshGives
     pub lasts-are : lasts ≡ unlessRefused freshGives (freshLasts p r before records) before
-    pub run-is : run ≡ unlessRefused freshGives (runNumbers (freshRun p r before records)) old
+    pub run-is : run ≡ unlessRefused freshGives (runNumbers (freshRun r (roomSlots p records))) old
 
-module _ (p : Plan) (g : Given) (w : World) (old : List ℕ) where
+module _ (p : Plan) (g : Given) (w : World) (rules old : List ℕ) where
   abbrev pub stepGives : ℕ
-  stepGives = numberIf (eqb (length old) runSize) (stepNumber p g w)
+  stepGives = numberIf (bothSized rules old) (stepNumber p g w)
 
   pub record ExportsStep (number : ℕ) (depths lasts records run : List ℕ) : Type 0 where
     pub number-is : number ≡ stepGives
@@ -56,7 +41,7 @@ module _ (p : Plan) (g : Given) (w : World) (old : List ℕ) where
 
 module _ (p : Plan) (w : World) (old : List ℕ) where
   abbrev pub backGives : ℕ
-  backGives = numberIf (eqb (length old) runSize) (backNumber p w)
+  backGives = numberIf (sized old runSize) (backNumber p w)
 
   pub record ExportsBack (number : ℕ) (depths lasts run : List ℕ) : Type 0 where
     pub number-is : number ≡ backGives
@@ -65,16 +50,17 @@ module _ (p : Plan) (w : World) (old : List ℕ) where
     pub run-is : run ≡ unlessRefused backGives (runNumbers (takenBack p w .run)) old
 
 -- "If one of its steps is refused, it gives that number with the steps made and leaves the state before that step: the exception"
-module _ (p : Plan) (g : Given) (end : ℕ) (w : World) (old : List ℕ) where
+module _ (p : Plan) (g : Given) (end : ℕ) (w : World) (rules old oldSteps : List ℕ) where
   abbrev pub ranSized : Bool
-  ranSized = eqb (length old) ranSize
+  ranSized = every (sized rules rulesSize ∷ sized old runSize ∷ sized oldSteps stepsSize ∷ [])
 
   abbrev pub ranEnd : Ended
   ranEnd = runTo p g end w
 
-  pub record ExportsRun (number : ℕ) (depths lasts records run : List ℕ) : Type 0 where
+  pub record ExportsRun (number : ℕ) (depths lasts records run steps : List ℕ) : Type 0 where
     pub number-is : number ≡ numberIf ranSized (ranEnd .number)
     pub depths-are : depths ≡ pick ranSized (ranEnd .world .depths) (w .depths)
     pub lasts-are : lasts ≡ pick ranSized (ranEnd .world .lasts) (w .lasts)
     pub records-are : records ≡ pick ranSized (ranEnd .world .records) (w .records)
-    pub run-is : run ≡ pick ranSized (ranRun (ranEnd .number) (ranEnd .world .run) (ranEnd .steps) old) old
+    pub run-is : run ≡ pick ranSized (runNumbers (ranEnd .world .run)) old
+    pub steps-are : steps ≡ pick ranSized (unlessChecks (ranEnd .number) (ranEnd .steps ∷ []) oldSteps) oldSteps

@@ -1,10 +1,10 @@
 // A sheet's text read into rooms, and what `meadow` prints of one.
-use crate::answers::HEADING_NUMBERS;
-use crate::answers::LINE_NUMBERS;
-use crate::answers::NOT_ITS_SIZE;
 use crate::answers::put_heading;
-use sheet::answer::OUT_ROOM;
-use sheet::answer::meadow_of;
+use crate::sizes::HEADING_NUMBERS;
+use crate::sizes::LINE_NUMBERS;
+use crate::sizes::NOT_ITS_SIZE;
+use answer::program::OUT_ROOM;
+use answer::program::meadow_of;
 use sheet::reading::Sheet;
 use sheet::reading::read;
 use text::writing::put_word;
@@ -12,7 +12,7 @@ ghost use mathlib.Core.Path.{_≡_};
 ghost use mathlib.Core.List.{[], _∷_};
 ghost use lib.ListN.{length};
 ghost use Rattle.sheet.specs.Sheet.{rooms};
-ghost use Rattle.exports.specs.Answers.{headingSize, lineSize};
+ghost use Rattle.exports.specs.Numbers.{headingSize, lineSize};
 ghost use Rattle.exports.specs.Sheets.{ExportsMeadow, ExportsRead, headingIn, sheetLine, sheetNumber};
 
 // A sheet's number; its heading, where it was read, and the line of its refusal go into the slices.
@@ -67,6 +67,6 @@ pub extern "C" fn flood_meadow(text: &[u8], out: &mut [u8]) -> usize
         return 0;
     }
     let mut printed = [0u8; OUT_ROOM];
-    let length = meadow_of(text, &mut printed);
-    put_word(out, 0, &printed[..length])
+    let bytes = meadow_of(text, &mut printed);
+    put_word(out, 0, &printed[..bytes])
 }

@@ -1,9 +1,10 @@
 // The flow arrow of a square, and the wet rows with their count.
-use crate::answers::COUNT_NUMBERS;
-use crate::answers::NOT_ITS_SIZE;
-use crate::answers::SPEED_NUMBERS;
-use grid::squares::Shape;
-use ledger::runs::Run;
+use crate::inputs::run_from;
+use crate::inputs::shape_from;
+use crate::sizes::COUNT_NUMBERS;
+use crate::sizes::NOT_ITS_SIZE;
+use crate::sizes::RUN_NUMBERS;
+use crate::sizes::SPEED_NUMBERS;
 use sight::arrows::Sight;
 use sight::arrows::arrow;
 use sight::wet_rows::Wet;
@@ -12,9 +13,9 @@ ghost use mathlib.Core.Path.{_≡_};
 ghost use lib.ListN.{length};
 ghost use Rattle.ledger.specs.Runs.{plan};
 ghost use Rattle.sight.specs.Arrows.{view};
-ghost use Rattle.exports.specs.Answers.{countSize, speedsSize};
-ghost use Rattle.exports.specs.Steps.{runOf, shapeOf};
-ghost use Rattle.exports.specs.Sights.{ExportsArrow, ExportsWet, countIn, sightNumber, speedsIn, wetNumberOf};
+ghost use Rattle.exports.specs.Numbers.{countSize, runValueFrom, shapeFrom, speedsSize};
+ghost use Rattle.exports.specs.Sights.{ExportsArrow, ExportsWet, sightNumber, speedsIn};
+ghost use Rattle.exports.specs.inner.Told.{countIn, wetNumberOf};
 
 // What is seen where nothing is refused: a moving square's speeds have been written; the others are past every refusal's number.
 const MOVING: u32 = 0;
@@ -49,35 +50,32 @@ pub extern "C" fn flood_arrow(
     rows: usize,
     columns: usize,
     square_side: u64,
-    clock: u64,
-    length: u64,
-    outflow: u64,
-    kept: usize,
-    newest: usize,
     marks: &[u8],
     depths: &[u32],
     records: &[u32],
+    run: &[u64],
     row: usize,
     column: usize,
     speeds: &mut [f64],
 ) -> u32
-    ensures { λ r. ⌜ ExportsArrow (plan (shapeOf rows columns) (now (marks .entry))) «square_side» (view (now (depths .entry)) (now (records .entry)) (runOf clock length outflow kept newest)) row column (now (speeds .entry)) r (now (speeds .exit)) ⌝ }
+    ensures { λ r. ⌜ ExportsArrow (plan (shapeFrom rows columns) (now (marks .entry))) «square_side» (view (now (depths .entry)) (now (records .entry)) (runValueFrom (now (run .entry)))) row column (now (run .entry)) (now (speeds .entry)) r (now (speeds .exit)) ⌝ }
 {
+    if run.len() != RUN_NUMBERS {
+        return NOT_ITS_SIZE;
+    }
     if speeds.len() != SPEED_NUMBERS {
         return NOT_ITS_SIZE;
     }
-    let shape = Shape {
-        rows: rows,
-        columns: columns,
-    };
-    let run = Run {
-        clock: clock,
-        length: length,
-        outflow: outflow,
-        kept: kept,
-        newest: newest,
-    };
-    let sight = arrow(shape, square_side, run, marks, depths, records, row, column);
+    let sight = arrow(
+        shape_from(rows, columns),
+        square_side,
+        run_from(run),
+        marks,
+        depths,
+        records,
+        row,
+        column,
+    );
     tell_sight(sight, speeds)
 }
 
@@ -106,14 +104,11 @@ pub extern "C" fn flood_wet_rows(
     wet: &mut [u64],
     count: &mut [u64],
 ) -> u32
-    ensures { λ r. ⌜ ExportsWet (plan (shapeOf rows columns) (now (marks .entry))) (now (depths .entry)) «wet_depth» (now (wet .entry)) (now (count .entry)) r (now (wet .exit)) (now (count .exit)) ⌝ }
+    ensures { λ r. ⌜ ExportsWet (plan (shapeFrom rows columns) (now (marks .entry))) (now (depths .entry)) «wet_depth» (now (wet .entry)) (now (count .entry)) r (now (wet .exit)) (now (count .exit)) ⌝ }
 {
     if count.len() != COUNT_NUMBERS {
         return NOT_ITS_SIZE;
     }
-    let shape = Shape {
-        rows: rows,
-        columns: columns,
-    };
-    tell_wet(wet_rows(shape, marks, depths, wet_depth, wet), count)
+    let answer = wet_rows(shape_from(rows, columns), marks, depths, wet_depth, wet);
+    tell_wet(answer, count)
 }

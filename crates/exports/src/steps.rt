@@ -1,90 +1,89 @@
 // A fresh run, a step, a run to an end and a take-back.
-use crate::answers::NOT_ITS_SIZE;
-use crate::answers::RAN_NUMBERS;
-use crate::answers::RUN_NUMBERS;
-use crate::answers::put_ran;
 use crate::answers::put_run;
+use crate::inputs::rules_from;
+use crate::inputs::run_from;
+use crate::inputs::shape_from;
+use crate::sizes::NOT_ITS_SIZE;
+use crate::sizes::RULES_NUMBERS;
+use crate::sizes::RUN_NUMBERS;
+use crate::sizes::STEPS_NUMBERS;
 use flood::fresh::fresh;
 use flood::run::Ran;
 use flood::run::run_to;
 use flood::step::step;
-use grid::squares::Shape;
 use ledger::runs::Answer;
-use ledger::runs::Run;
 use ledger::take_back::take_back;
-use rule::rules::Rules;
 ghost use mathlib.Core.Path.{_≡_};
+ghost use mathlib.Core.List.{[], _∷_};
 ghost use lib.ListN.{length};
 ghost use Rattle.ledger.specs.Runs.{plan, world};
-ghost use Rattle.flood.specs.Drops.{ground, given};
-ghost use Rattle.exports.specs.Answers.{answerNumber, answerRun, ranRun, ranSize, runSize};
-ghost use Rattle.exports.specs.Steps.{ExportsBack, ExportsFresh, ExportsRun, ExportsStep, rulesOf, runOf, shapeOf};
+ghost use Rattle.moves.specs.Given.{ground, given};
+ghost use Rattle.exports.specs.Numbers.{rulesFrom, runNumbers, runSize, runValueFrom, shapeFrom, stepsSize};
+ghost use Rattle.exports.specs.Refusals.{unlessChecks};
+ghost use Rattle.exports.specs.Steps.{ExportsBack, ExportsFresh, ExportsRun, ExportsStep};
+ghost use Rattle.exports.specs.inner.Told.{answerNumber, answerRun};
 
 // The last of the numbers that are tried before any step.
 const LAST_CHECK: u32 = 6;
 
 // An answer's number; its run, where there is one, goes into the slice.
-fn tell_answer(answer: Answer, run_after: &mut [u64]) -> u32
-    requires { ⌜ length (now «run_after») ≡ runSize ⌝ }
-    ensures { λ r. ⌜ (r ≡ answerNumber answer) × (now («run_after» .exit) ≡ answerRun answer (now («run_after» .entry))) ⌝ }
+fn tell_answer(answer: Answer, run: &mut [u64]) -> u32
+    requires { ⌜ length (now run) ≡ runSize ⌝ }
+    ensures { λ r. ⌜ (r ≡ answerNumber answer) × (now (run .exit) ≡ answerRun answer (now (run .entry))) ⌝ }
 {
     match answer {
         Answer::Refused(number) => number,
-        Answer::Done(run) => {
-            put_run(run, run_after);
+        Answer::Done(after) => {
+            put_run(after, run);
             0
         }
     }
 }
 
-// The number of a run to an end; unless its checks refused it, its run and steps go into the slice.
-fn tell_ran(ran: Ran, run_after: &mut [u64]) -> u32
-    requires { ⌜ length (now «run_after») ≡ ranSize ⌝ }
-    ensures { λ r. ⌜ (r ≡ ran .refused) × (now («run_after» .exit) ≡ ranRun (ran .refused) (ran .run) (ran .steps) (now («run_after» .entry))) ⌝ }
+// The number of a run to an end; its run goes into the slice, and its steps unless its checks refused it.
+fn tell_ran(ran: Ran, run: &mut [u64], steps: &mut [u64]) -> u32
+    requires { ⌜ (length (now run) ≡ runSize) × (length (now steps) ≡ stepsSize) ⌝ }
+    ensures { λ r. ⌜ (r ≡ ran .refused) × (now (run .exit) ≡ runNumbers (ran .run)) × (now (steps .exit) ≡ unlessChecks (ran .refused) (ran .steps ∷ []) (now (steps .entry))) ⌝ }
 {
     let number = ran.refused;
+    put_run(ran.run, run);
     if number == 0 {
-        put_ran(ran.run, ran.steps, run_after);
+        steps[0] = ran.steps;
         return number;
     }
     if LAST_CHECK < number {
-        put_ran(ran.run, ran.steps, run_after);
+        steps[0] = ran.steps;
     }
     number
 }
 
-// A fresh run: the last leaving of squares not closed becomes 0.
+// A fresh run: the last leaving of squares not closed becomes 0, and the run is told.
 #[no_mangle]
 pub extern "C" fn flood_fresh(
     rows: usize,
     columns: usize,
-    square_side: u64,
-    tolerance: u64,
-    shortest: u64,
-    longest: u64,
-    update: u64,
+    rules: &[u64],
     marks: &[u8],
     lasts: &mut [u32],
     records: &[u32],
-    run_after: &mut [u64],
+    run: &mut [u64],
 ) -> u32
-    ensures { λ r. ⌜ ExportsFresh (plan (shapeOf rows columns) (now (marks .entry))) (rulesOf «square_side» tolerance shortest longest update) (now (records .entry)) (now (lasts .entry)) (now («run_after» .entry)) r (now (lasts .exit)) (now («run_after» .exit)) ⌝ }
+    ensures { λ r. ⌜ ExportsFresh (plan (shapeFrom rows columns) (now (marks .entry))) (rulesFrom (now (rules .entry))) (now (lasts .entry)) (now (records .entry)) (now (rules .entry)) (now (run .entry)) r (now (lasts .exit)) (now (run .exit)) ⌝ }
 {
-    if run_after.len() != RUN_NUMBERS {
+    if rules.len() != RULES_NUMBERS {
         return NOT_ITS_SIZE;
     }
-    let shape = Shape {
-        rows: rows,
-        columns: columns,
-    };
-    let rules = Rules {
-        square_side: square_side,
-        tolerance: tolerance,
-        shortest: shortest,
-        longest: longest,
-        update: update,
-    };
-    tell_answer(fresh(shape, rules, marks, lasts, records), run_after)
+    if run.len() != RUN_NUMBERS {
+        return NOT_ITS_SIZE;
+    }
+    let answer = fresh(
+        shape_from(rows, columns),
+        rules_from(rules),
+        marks,
+        lasts,
+        records,
+    );
+    tell_answer(answer, run)
 }
 
 // One step.
@@ -92,16 +91,7 @@ pub extern "C" fn flood_fresh(
 pub extern "C" fn flood_step(
     rows: usize,
     columns: usize,
-    square_side: u64,
-    tolerance: u64,
-    shortest: u64,
-    longest: u64,
-    update: u64,
-    clock: u64,
-    length: u64,
-    outflow: u64,
-    kept: usize,
-    newest: usize,
+    rules: &[u64],
     marks: &[u8],
     beds: &[u32],
     roughness: &[u32],
@@ -110,35 +100,20 @@ pub extern "C" fn flood_step(
     depths: &mut [u32],
     lasts: &mut [u32],
     records: &mut [u32],
-    run_after: &mut [u64],
+    run: &mut [u64],
 ) -> u32
-    ensures { λ r. ⌜ ExportsStep (plan (shapeOf rows columns) (now (marks .entry))) (given (ground (rulesOf «square_side» tolerance shortest longest update) (now (beds .entry)) (now (roughness .entry))) (now (rain .entry)) (now (inflow .entry))) (world (now (depths .entry)) (now (lasts .entry)) (now (records .entry)) (runOf clock length outflow kept newest)) (now («run_after» .entry)) r (now (depths .exit)) (now (lasts .exit)) (now (records .exit)) (now («run_after» .exit)) ⌝ }
+    ensures { λ r. ⌜ ExportsStep (plan (shapeFrom rows columns) (now (marks .entry))) (given (ground (rulesFrom (now (rules .entry))) (now (beds .entry)) (now (roughness .entry))) (now (rain .entry)) (now (inflow .entry))) (world (now (depths .entry)) (now (lasts .entry)) (now (records .entry)) (runValueFrom (now (run .entry)))) (now (rules .entry)) (now (run .entry)) r (now (depths .exit)) (now (lasts .exit)) (now (records .exit)) (now (run .exit)) ⌝ }
 {
-    if run_after.len() != RUN_NUMBERS {
+    if rules.len() != RULES_NUMBERS {
         return NOT_ITS_SIZE;
     }
-    let shape = Shape {
-        rows: rows,
-        columns: columns,
-    };
-    let rules = Rules {
-        square_side: square_side,
-        tolerance: tolerance,
-        shortest: shortest,
-        longest: longest,
-        update: update,
-    };
-    let run = Run {
-        clock: clock,
-        length: length,
-        outflow: outflow,
-        kept: kept,
-        newest: newest,
-    };
+    if run.len() != RUN_NUMBERS {
+        return NOT_ITS_SIZE;
+    }
     let answer = step(
-        shape,
-        rules,
-        run,
+        shape_from(rows, columns),
+        rules_from(rules),
+        run_from(run),
         marks,
         beds,
         roughness,
@@ -148,24 +123,15 @@ pub extern "C" fn flood_step(
         lasts,
         records,
     );
-    tell_answer(answer, run_after)
+    tell_answer(answer, run)
 }
 
-// Steps to an end of the clock.
+// Steps to an end of the clock, and how many were made.
 #[no_mangle]
 pub extern "C" fn flood_run_to(
     rows: usize,
     columns: usize,
-    square_side: u64,
-    tolerance: u64,
-    shortest: u64,
-    longest: u64,
-    update: u64,
-    clock: u64,
-    length: u64,
-    outflow: u64,
-    kept: usize,
-    newest: usize,
+    rules: &[u64],
     end: u64,
     marks: &[u8],
     beds: &[u32],
@@ -175,35 +141,24 @@ pub extern "C" fn flood_run_to(
     depths: &mut [u32],
     lasts: &mut [u32],
     records: &mut [u32],
-    run_after: &mut [u64],
+    run: &mut [u64],
+    steps: &mut [u64],
 ) -> u32
-    ensures { λ r. ⌜ ExportsRun (plan (shapeOf rows columns) (now (marks .entry))) (given (ground (rulesOf «square_side» tolerance shortest longest update) (now (beds .entry)) (now (roughness .entry))) (now (rain .entry)) (now (inflow .entry))) end (world (now (depths .entry)) (now (lasts .entry)) (now (records .entry)) (runOf clock length outflow kept newest)) (now («run_after» .entry)) r (now (depths .exit)) (now (lasts .exit)) (now (records .exit)) (now («run_after» .exit)) ⌝ }
+    ensures { λ r. ⌜ ExportsRun (plan (shapeFrom rows columns) (now (marks .entry))) (given (ground (rulesFrom (now (rules .entry))) (now (beds .entry)) (now (roughness .entry))) (now (rain .entry)) (now (inflow .entry))) end (world (now (depths .entry)) (now (lasts .entry)) (now (records .entry)) (runValueFrom (now (run .entry)))) (now (rules .entry)) (now (run .entry)) (now (steps .entry)) r (now (depths .exit)) (now (lasts .exit)) (now (records .exit)) (now (run .exit)) (now (steps .exit)) ⌝ }
 {
-    if run_after.len() != RAN_NUMBERS {
+    if rules.len() != RULES_NUMBERS {
         return NOT_ITS_SIZE;
     }
-    let shape = Shape {
-        rows: rows,
-        columns: columns,
-    };
-    let rules = Rules {
-        square_side: square_side,
-        tolerance: tolerance,
-        shortest: shortest,
-        longest: longest,
-        update: update,
-    };
-    let run = Run {
-        clock: clock,
-        length: length,
-        outflow: outflow,
-        kept: kept,
-        newest: newest,
-    };
+    if run.len() != RUN_NUMBERS {
+        return NOT_ITS_SIZE;
+    }
+    if steps.len() != STEPS_NUMBERS {
+        return NOT_ITS_SIZE;
+    }
     let ran = run_to(
-        shape,
-        rules,
-        run,
+        shape_from(rows, columns),
+        rules_from(rules),
+        run_from(run),
         end,
         marks,
         beds,
@@ -214,7 +169,7 @@ pub extern "C" fn flood_run_to(
         lasts,
         records,
     );
-    tell_ran(ran, run_after)
+    tell_ran(ran, run, steps)
 }
 
 // The newest step taken back.
@@ -222,35 +177,24 @@ pub extern "C" fn flood_run_to(
 pub extern "C" fn flood_take_back(
     rows: usize,
     columns: usize,
-    clock: u64,
-    length: u64,
-    outflow: u64,
-    kept: usize,
-    newest: usize,
     marks: &[u8],
     depths: &mut [u32],
     lasts: &mut [u32],
     records: &[u32],
-    run_after: &mut [u64],
+    run: &mut [u64],
 ) -> u32
-    ensures { λ r. ⌜ ExportsBack (plan (shapeOf rows columns) (now (marks .entry))) (world (now (depths .entry)) (now (lasts .entry)) (now (records .entry)) (runOf clock length outflow kept newest)) (now («run_after» .entry)) r (now (depths .exit)) (now (lasts .exit)) (now («run_after» .exit)) ⌝ }
+    ensures { λ r. ⌜ ExportsBack (plan (shapeFrom rows columns) (now (marks .entry))) (world (now (depths .entry)) (now (lasts .entry)) (now (records .entry)) (runValueFrom (now (run .entry)))) (now (run .entry)) r (now (depths .exit)) (now (lasts .exit)) (now (run .exit)) ⌝ }
 {
-    if run_after.len() != RUN_NUMBERS {
+    if run.len() != RUN_NUMBERS {
         return NOT_ITS_SIZE;
     }
-    let shape = Shape {
-        rows: rows,
-        columns: columns,
-    };
-    let run = Run {
-        clock: clock,
-        length: length,
-        outflow: outflow,
-        kept: kept,
-        newest: newest,
-    };
-    tell_answer(
-        take_back(shape, run, marks, depths, lasts, records),
-        run_after,
-    )
+    let answer = take_back(
+        shape_from(rows, columns),
+        run_from(run),
+        marks,
+        depths,
+        lasts,
+        records,
+    );
+    tell_answer(answer, run)
 }

@@ -8,24 +8,25 @@ use lib.Dec.{T, leb}
 use lib.ListN.{length, getD}
 use borrow.Author.Tests.{leb-true, le-leb, eqb-true, eq-eqb, not-true, not-false}
 use Rattle.reckon.specs.Tests.{every, numbered, refusal}
-use Rattle.reckon.specs.Ranges.{mostDepth, mostLength, lastClock, mostOutflow, waterFine}
+use Rattle.reckon.specs.Ranges.{mostDepth, mostLength, lastClock, mostOutflow, waterFine, sideFine}
 use Rattle.reckon.specs.Tables.{rainKind, inflowKind, tableFine}
 use Rattle.reckon.proofs.TestLaws.{Each, or-right, or-of, every-each, each-every, every-fails, all-at, all-of, refusal-passed, passed-refusal}
 use Rattle.grid.specs.declared.squares.Shape.{Shape}
-use Rattle.grid.specs.Squares.{FineShape, squares, shapeFine}
+use Rattle.grid.specs.Squares.{ShapeInRange, squares, shapeFine}
 use Rattle.grid.specs.Marks.{Marked, marksFine, inflowSquaresFine}
 use Rattle.grid.proofs.SquareLaws.{ranges-of-fine}
-use Rattle.rule.specs.Rules.{sideFine, rulesFine}
+use Rattle.rule.specs.Rules.{rulesFine}
 use Rattle.rule.specs.declared.rules.Rules.{Rules}
 use Rattle.rule.proofs.RuleLaws.{rules-are, ground-is}
-use Rattle.ledger.specs.Runs.{Plan, World, plan, runFine}
+use Rattle.ledger.specs.Runs.{Plan, World, plan, runValuesFine, runFine, Seen, seenOf}
 use Rattle.ledger.specs.Flows.{shut}
-use Rattle.ledger.specs.TakeBack.{Watered, oneEach, watersFine}
-use Rattle.ledger.specs.Engine.{Seen, seenOf, lookRows, ringOf}
+use Rattle.ledger.specs.Record.{ringOf}
+use Rattle.ledger.specs.Checks.{WaterLent, oneEach, watersFine}
+use Rattle.ledger.specs.TakeBack.{earlyRefusals}
 use Rattle.ledger.specs.declared.runs.Run.{Run}
-use Rattle.flood.specs.Drops.{Given}
-use Rattle.flood.specs.Ready.{Ready}
-use Rattle.flood.specs.Refusals.{groundsFine, endFine, checkRows, stepChecks, runChecks}
+use Rattle.moves.specs.Given.{Given}
+use Rattle.moves.specs.inner.Ready.{Ready}
+use Rattle.flood.specs.Refusals.{groundsFine, endFine, checkRefusals, stepChecks, runChecks}
 
 -- ---- what a call's answer says of the test that it is
 
@@ -54,7 +55,7 @@ every-decided bs k false e f = sym (every-fails bs k e)
 -- of what steps leave as it is, but for the rules
 record GivenFine (p : Plan) (g : Given) : Type 0 where
   shape-fine : shapeFine (p .shape) ≡ true
-  side-fine : sideFine (g .lie .rules) ≡ true
+  side-fine : sideFine (g .lie .rules .«square_side») ≡ true
   marks-each : oneEach p (p .marks) ≡ true
   beds-each : oneEach p (g .lie .beds) ≡ true
   roughness-each : oneEach p (g .lie .roughness) ≡ true
@@ -81,12 +82,12 @@ record Tested (p : Plan) (g : Given) (five ring : Bool) (v : Seen) : Type 0 wher
   ring-fine : ring ≡ true
 
 module _ (p : Plan) (g : Given) (five ring : Bool) (v : Seen) where
-  rows-named : T (numbered (checkRows p g five ring v))
-  unfolding checkRows
+  rows-named : T (numbered (checkRefusals p g five ring v))
+  unfolding checkRefusals
   rows-named = tt
 
-  tested : refusal (checkRows p g five ring v) ≡ 0 → Tested p g five ring v
-  unfolding checkRows
+  tested : refusal (checkRefusals p g five ring v) ≡ 0 → Tested p g five ring v
+  unfolding checkRefusals runValuesFine
   tested e =
       let rows = refusal-passed _ rows-named e in
       let lent = every-each _ (rows .0) in
@@ -122,13 +123,14 @@ module _ (p : Plan) (g : Given) (five ring : Bool) (v : Seen) where
       }
 
   module _ (t : Tested p g five ring v) where
-    run-fine : every (ring ∷ leb (v .clock) lastClock ∷ leb 1 (v .length) ∷ leb (v .length) mostLength ∷ leb (v .outflow) mostOutflow ∷ []) ≡ true
+    run-fine : runValuesFine ring (v .clock) (v .length) (v .outflow) ≡ true
+    unfolding runValuesFine
     run-fine =
         let s = t .seen-fine in
         each-every _ (t .ring-fine, (s .clock-to, (s .length-from, (s .length-to, (s .outflow-to, tt)))))
 
-    passes : refusal (checkRows p g five ring v) ≡ 0
-    unfolding checkRows
+    passes : refusal (checkRefusals p g five ring v) ≡ 0
+    unfolding checkRefusals
     passes =
         let q = t .given-fine in
         let s = t .seen-fine in
@@ -146,8 +148,8 @@ module _ (p : Plan) (g : Given) (five ring : Bool) (v : Seen) where
           ),
         )
 
-    looks : refusal (lookRows p ring v) ≡ 0
-    unfolding lookRows
+    looks : refusal (earlyRefusals p ring v) ≡ 0
+    unfolding earlyRefusals
     looks =
         let q = t .given-fine in
         let s = t .seen-fine in
@@ -184,11 +186,11 @@ module _ (p : Plan) where
         all-of _ _ (λ i h. or-of (shut p i) _ (λ s. each-every _ (le-leb _ _ (d i h s), (le-leb _ _ (l i h s), tt))))
 
 -- row 1, for the calls that are lent everything
-module _ (s : Shape) (marks : List ℕ) (r : Rules) (beds roughness depths lasts : List ℕ) where
+module _ (s : Shape) (marks : List ℕ) (D : ℕ) (beds roughness depths lasts : List ℕ) where
   abbrev pub lentTests : List Bool
   lentTests =
       shapeFine s
-      ∷ sideFine r
+      ∷ sideFine D
       ∷ oneEach (plan s marks) marks
       ∷ oneEach (plan s marks) beds
       ∷ oneEach (plan s marks) roughness
@@ -197,7 +199,7 @@ module _ (s : Shape) (marks : List ℕ) (r : Rules) (beds roughness depths lasts
       ∷ []
 
   module _ (e : every lentTests ≡ true) where
-    pub lent-fine : FineShape s
+    pub lent-fine : ShapeInRange s
     lent-fine = ranges-of-fine s (every-each _ e .0)
 
     pub lent-marked : Marked s marks
@@ -208,7 +210,7 @@ module _ (s : Shape) (marks : List ℕ) (r : Rules) (beds roughness depths lasts
         let t = every-each _ e in
         (lent-marked, each-long (plan s marks) _ (t .1 .1 .1 .0), each-long (plan s marks) _ (t .1 .1 .1 .1 .0))
 
-    pub lent-water : Watered (plan s marks) depths lasts
+    pub lent-water : WaterLent (plan s marks) depths lasts
     lent-water =
         let t = every-each _ e in
         record {
@@ -289,7 +291,7 @@ module _ (p : Plan) (g : Given) (ring : Bool) (v : Seen) where
     ring-is = all-tests .ring-fine
 
     -- what a take-back checks before 10 has passed too
-    pub checks-look : refusal (lookRows p ring v) ≡ 0
+    pub checks-look : refusal (earlyRefusals p ring v) ≡ 0
     checks-look = looks p g (rulesFine (g .lie .rules)) ring v all-tests
 
 -- ---- a run to an end

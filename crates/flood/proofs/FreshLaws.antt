@@ -1,9 +1,9 @@
 -- Laws of a fresh run: what its checks leave as facts, one square more cleared, and its two answers.
 -- Assumes nothing.
-use mathlib.Core.Path.{_≡_, refl, sym, ap, _∙_}
+use mathlib.Core.Path.{_≡_, refl, sym, ap, ap₂, _∙_}
 use mathlib.Core.Bool.{Bool, true, false}
 use mathlib.Core.List.{List, [], _∷_}
-use Prim.Native.Nat.{ℕ, zero, suc, _+_, _-_, _<_}
+use Prim.Native.Nat.{ℕ, _+_, _<_}
 use lib.Dec.{T}
 use lib.ListN.{length, set}
 use borrow.Author.Tests.{eq-eqb, ne-eqb, not-true, eqb-false}
@@ -15,23 +15,24 @@ use Rattle.grid.specs.declared.squares.Shape.{Shape}
 use Rattle.grid.specs.Squares.{squares, shapeFine}
 use Rattle.grid.specs.Marks.{Marked, closed}
 use Rattle.grid.proofs.SquareLaws.{ranges-of-fine}
-use Rattle.rule.specs.Rules.{sideFine}
+use Rattle.reckon.specs.Ranges.{sideFine}
 use Rattle.rule.specs.declared.rules.Rules.{Rules}
 use Rattle.ledger.specs.Runs.{Plan, answered, plan}
 use Rattle.ledger.specs.Flows.{shut}
 use Rattle.ledger.specs.Record.{roomSlots}
-use Rattle.ledger.specs.TakeBack.{oneEach}
+use Rattle.ledger.specs.Checks.{oneEach}
 use Rattle.ledger.specs.declared.runs.Run.{Run}
 use Rattle.ledger.specs.declared.runs.Answer.the-variants.{Done, Refused}
-use Rattle.flood.specs.Run.{freshRows, freshNumber, freshRun, freshLasts, Freshens}
+use Rattle.ledger.proofs.RunLaws.{answered-done, answered-refused}
+use Rattle.flood.specs.Run.{freshRefusals, freshNumber, freshRun, freshLasts, Freshens}
 use Rattle.flood.proofs.CheckLaws.{each-long}
 
 -- ---- the checks
 
 -- row 1
-module _ (s : Shape) (marks : List ℕ) (r : Rules) (lasts : List ℕ) where
+module _ (s : Shape) (marks : List ℕ) (D : ℕ) (lasts : List ℕ) where
   abbrev pub sizeTests : List Bool
-  sizeTests = shapeFine s ∷ sideFine r ∷ oneEach (plan s marks) marks ∷ oneEach (plan s marks) lasts ∷ []
+  sizeTests = shapeFine s ∷ sideFine D ∷ oneEach (plan s marks) marks ∷ oneEach (plan s marks) lasts ∷ []
 
   module _ (e : every sizeTests ≡ true) where
     pub sizes-marked : Marked s marks
@@ -43,18 +44,18 @@ module _ (s : Shape) (marks : List ℕ) (r : Rules) (lasts : List ℕ) where
     sizes-lent = (sizes-marked, each-long (plan s marks) _ (every-each _ e .1 .1 .1 .0))
 
 module _ (p : Plan) (r : Rules) (lasts records : List ℕ) where
-  rows-named : T (numbered (freshRows p r lasts records))
-  unfolding freshRows
+  rows-named : T (numbered (freshRefusals p r lasts records))
+  unfolding freshRefusals
   rows-named = tt
 
   module _ (e : freshNumber p r lasts records ≡ 0) where
-    pub fresh-sizes : every (sizeTests (p .shape) (p .marks) r lasts) ≡ true
-    unfolding freshNumber freshRows
+    pub fresh-sizes : every (sizeTests (p .shape) (p .marks) (r .«square_side») lasts) ≡ true
+    unfolding freshNumber freshRefusals
     fresh-sizes = refusal-passed _ rows-named e .0
 
     -- K is not 0
     pub fresh-slots : roomSlots p records ≡ 0 → ⊥
-    unfolding freshNumber freshRows
+    unfolding freshNumber freshRefusals
     fresh-slots = eqb-false _ _ (not-true _ (refusal-passed _ rows-named e .1 .1 .1 .0))
 
 -- ---- last leaving cleared below i, and then of square i
@@ -81,32 +82,21 @@ clear-whole marks old e q = e ∙ ap (λ (n : ℕ). filled n (closed marks) (λ 
 
 -- ---- the answers
 
-refused-is : (n : ℕ) {k : ℕ} (u : Run) → (n ≡ 0 → ⊥) → n ≡ k → Refused n ≡ answered k u
-unfolding answered
-refused-is zero u d e = absurd (d refl)
-refused-is (suc n) u d e = rw (sym e)
-
-done-is : {k : ℕ} {u v : Run} → k ≡ 0 → u ≡ v → Done u ≡ answered k v
-unfolding answered
-done-is e q = rw e (ap Done q)
-
-module _ (p : Plan) (r : Rules) (records before : List ℕ) {n : ℕ} (e : n ≡ freshNumber p r before records) where
-  pub fresh-refused : (n ≡ 0 → ⊥) → Freshens p r records before (Refused n) before
+module _ (p : Plan) (r : Rules) (before records : List ℕ) {n : ℕ} (e : n ≡ freshNumber p r before records) where
+  pub fresh-refused : (n ≡ 0 → ⊥) → Freshens p r before records (Refused n) before
   unfolding freshLasts
   fresh-refused d =
       record {
-        answer = refused-is n (freshRun p r before records) d e;
+        answer = answered-refused n (freshRun r (roomSlots p records)) d ∙ ap (λ (k : ℕ). answered k (freshRun r (roomSlots p records))) e;
         lasts-are = sym (pick-false _ _ (ne-eqb _ _ (λ z. d (e ∙ z))));
       }
 
   pub fresh-done :
-      n ≡ 0 → {lasts : List ℕ} {slots : ℕ} → lasts ≡ filled (squares (p .shape)) (shut p) (λ i. 0) before → slots ≡ roomSlots p records →
-      Freshens p r records before (Done (record { clock = 0; length = r .longest; outflow = 0; kept = 0; newest = slots - 1 })) lasts
-  unfolding freshLasts freshRun
-  fresh-done z {slots = slots} q k =
+      n ≡ 0 → {lasts : List ℕ} {slots : ℕ} {u : Run} → lasts ≡ filled (squares (p .shape)) (shut p) (λ i. 0) before → slots ≡ roomSlots p records →
+      u ≡ freshRun r slots → Freshens p r before records (Done u) lasts
+  unfolding freshLasts
+  fresh-done z {u = u} q k f =
       record {
-        answer =
-            done-is (sym e ∙ z)
-            (ap (λ (s : ℕ). record { clock = 0; length = r .longest; outflow = 0; kept = 0; newest = s - 1 }) k);
+        answer = answered-done u z ∙ ap₂ answered e (f ∙ ap (freshRun r) k);
         lasts-are = q ∙ sym (pick-true _ _ (eq-eqb _ _ (sym e ∙ z)));
       }

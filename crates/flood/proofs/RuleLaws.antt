@@ -1,98 +1,12 @@
--- What the flood's rule owes: no square sends more than it holds, nothing goes through a wall, off the grid only from an exit, and
--- times stay in range. All of it follows from the weighing's own two laws and from the drops.
+-- The flood's rule is a rule of the ledger's engine.
 -- Assumes nothing.
-use mathlib.Core.Path.{_≡_, refl, sym, ap, ap₂, _∙_, subst}
-use mathlib.Core.Bool.{Bool, true, false}
-use mathlib.Core.List.{List}
-use Prim.Native.Nat.{ℕ, zero, suc, _+_, _≤_, _<_}
-use native.Mathlib.Nat.{le-trans}
-use native.Mathlib.Omega.{arith}
-use lib.ListN.{getD}
-use borrow.Author.Tests.{ltb-true, ltb-false}
-use Rattle.reckon.specs.Tests.{pick, refusal}
-use Rattle.reckon.specs.Ranges.{mostLength}
-use Rattle.reckon.proofs.TestLaws.{pick-true, pick-false, pick-both, pick-same}
-use Rattle.grid.specs.Squares.{north, east, south, west, sides, squares, beside}
-use Rattle.grid.specs.Marks.{exit}
-use Rattle.rule.specs.Weighing.{weighed}
-use Rattle.rule.proofs.WeighingLaws.{fourOf, weighed-le, weighed-none}
 use Rattle.rule.proofs.LengthLaws.{length-from, length-to, lasts-from, lasts-to}
 use Rattle.ledger.specs.Runs.{Plan}
-use Rattle.ledger.specs.Flows.{shut, gone}
-use Rattle.ledger.specs.Engine.{Seen, Owed}
-use Rattle.ledger.specs.Walls.{Walled}
-use Rattle.flood.specs.Drops.{Ground, Given, sideDrop, dropsOf}
-use Rattle.flood.specs.Step.{candidates, leavesFor, stepLength, stepLasts, stepMoves}
-use Rattle.flood.specs.Ready.{Ready}
-use Rattle.flood.specs.Refusals.{stepChecks, floodRule}
+use Rattle.ledger.specs.inner.Engine.{Owed}
+use Rattle.moves.specs.Moves.{stepDuration}
+use Rattle.flood.specs.Step.{floodRule}
+use Rattle.moves.proofs.MoveLaws.{covered, step-length-from, step-length-to, step-lasts-from, step-lasts-to}
 use Rattle.flood.proofs.CheckLaws.{ready, checks-look, checks-named}
-use Rattle.flood.proofs.DropLaws.{drop-closed, drop-rim}
-
--- ---- what leaves a square
-
-module _ (p : Plan) (o : Ground) (depths lasts : List ℕ) (ms i : ℕ) where
-  abbrev weights : List ℕ
-  weights = weighed (o .rules) (getD depths i 0) (getD lasts i 0) (getD (o .roughness) i 0) ms (dropsOf p (o .rules) (o .beds) depths i)
-
-  pub leaves-open : (side : ℕ) → shut p i ≡ false → leavesFor p o depths lasts ms i side ≡ getD weights side 0
-  unfolding leavesFor
-  leaves-open side e = pick-false _ _ e
-
-  pub leaves-closed : (side : ℕ) → shut p i ≡ true → leavesFor p o depths lasts ms i side ≡ 0
-  unfolding leavesFor
-  leaves-closed side e = pick-true _ _ e
-
-  -- no square sends more than it holds
-  pub covered : shut p i ≡ false → gone (leavesFor p o depths lasts ms) i ≤ getD depths i 0
-  unfolding gone
-  covered e =
-      rw (leaves-open north e, leaves-open east e, leaves-open south e, leaves-open west e)
-      (weighed-le (o .rules) (getD depths i 0) (getD lasts i 0) (getD (o .roughness) i 0) ms (dropsOf p (o .rules) (o .beds) depths i))
-
-  -- a side without a drop sends nothing
-  drop-at : (side : ℕ) → side < sides → getD (dropsOf p (o .rules) (o .beds) depths i) side 0 ≡ sideDrop p (o .rules) (o .beds) depths i side
-  unfolding dropsOf
-  drop-at zero h = refl
-  drop-at (suc zero) h = refl
-  drop-at (suc (suc zero)) h = refl
-  drop-at (suc (suc (suc zero))) h = refl
-  drop-at (suc (suc (suc (suc side)))) h = absurd (omega arith)
-
-  no-drop : (side : ℕ) → side < sides → sideDrop p (o .rules) (o .beds) depths i side ≡ 0 → leavesFor p o depths lasts ms i side ≡ 0
-  unfolding leavesFor
-  no-drop side h e =
-      pick-both (λ (x : ℕ). x ≡ 0) (shut p i) refl
-      (weighed-none (o .rules) (getD depths i 0) (getD lasts i 0) (getD (o .roughness) i 0) ms (dropsOf p (o .rules) (o .beds) depths i) side (drop-at side h ∙ e))
-
--- the wall rule
-pub flood-walled : (p : Plan) (o : Ground) (depths lasts : List ℕ) (ms : ℕ) → Walled p (leavesFor p o depths lasts ms)
-flood-walled p o depths lasts ms =
-    record {
-      closed-in = λ i side h l e. leaves-closed p o depths lasts ms i side e;
-      walled = λ i side h l n e. no-drop p o depths lasts ms i side l (drop-closed p (o .rules) (o .beds) depths i side refl (ltb-true _ _ n) e);
-      rimmed = λ i side h l n e. no-drop p o depths lasts ms i side l (drop-rim p (o .rules) (o .beds) depths i side refl (ltb-false _ _ n) e);
-    }
-
--- ---- times
-
-module _ (p : Plan) (g : Given) (v : Seen) (r : Ready p g v) where
-  pub step-length-from : 1 ≤ stepLength p g v
-  unfolding stepLength
-  step-length-from = length-from (g .lie .rules) (v .clock) (v .length) (candidates p (g .lie) (v .depths)) (r .waters .rules) (r .length-from)
-
-  pub step-length-to : stepLength p g v ≤ mostLength
-  unfolding stepLength
-  step-length-to = length-to (g .lie .rules) (v .clock) (v .length) (candidates p (g .lie) (v .depths)) (r .waters .rules) (r .length-to)
-
-  pub step-lasts-from : 1 ≤ stepLasts p g v
-  unfolding stepLasts
-  step-lasts-from = lasts-from (g .lie .rules) (v .clock) (stepLength p g v) (r .waters .rules .update-from) step-length-from
-
-  pub step-lasts-to : stepLasts p g v ≤ mostLength
-  unfolding stepLasts
-  step-lasts-to = le-trans (lasts-to (g .lie .rules) (v .clock) (stepLength p g v)) step-length-to
-
--- ---- what the ledger's engine asks of a rule
 
 pub flood-owed : (p : Plan) → Owed p (floodRule p)
 flood-owed p =
@@ -103,5 +17,5 @@ flood-owed p =
       lasts-to = λ ring g v e. step-lasts-to p g v (ready p g ring v e);
       length-from = λ ring g v e. step-length-from p g v (ready p g ring v e);
       length-to = λ ring g v e. step-length-to p g v (ready p g ring v e);
-      covered = λ ring g v e i h s. covered p (g .lie) (v .depths) (v .lasts) (stepLasts p g v) i s;
+      covered = λ ring g v e i h s. covered p (g .lie) (v .depths) (v .lasts) (stepDuration p g v) i s;
     }

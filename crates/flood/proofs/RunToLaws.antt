@@ -1,34 +1,32 @@
 -- Laws of the run to an end: a valid world stays valid after a step, each step lasts at least 1 ms, so that as many steps as ms are left
 -- are enough, and a run is that many public steps.
 -- Assumes nothing.
-use mathlib.Core.Path.{_≡_, refl, sym, ap, ap₂, _∙_, subst}
-use mathlib.Core.Bool.{Bool, true, false}
-use mathlib.Core.List.{List}
-use Prim.Native.Nat.{ℕ, zero, suc, _+_, _-_, _*_, _≤_, _<_}
+use mathlib.Core.Path.{_≡_, refl, sym, ap, ap₂, _∙_}
+use mathlib.Core.Bool.{true}
+use Prim.Native.Nat.{ℕ, zero, suc, _+_, _-_, _≤_, _<_}
 use native.Mathlib.Numerals.{add-one}
 use native.Mathlib.Decide.{decLt}
 use native.Mathlib.Omega.{arith}
-use lib.Dec.{eqb, ltb}
-use lib.ListN.{length}
 use borrow.Author.Tests.{eq-eqb, ne-eqb, lt-ltb, le-ltb}
-use Rattle.reckon.specs.Tests.{pick, refusal}
+use Rattle.reckon.specs.Tests.{refusal}
 use Rattle.reckon.proofs.TestLaws.{pick-true, pick-false, refusal-both}
-use Rattle.trials.specs.Ring.{ringFine, slotAfter, keptAfter}
+use Rattle.trials.specs.Ring.{slotAfter}
 use Rattle.trials.proofs.RingLaws.{Ring, fine-ring, ring-fine, ring-after}
 use Rattle.trials.proofs.RoomLaws.{slots-stored}
-use Rattle.ledger.specs.Runs.{Plan, World}
-use Rattle.ledger.specs.Record.{recordSize, roomSlots}
-use Rattle.ledger.specs.After.{lateRows, stepRecord, worldAfter}
-use Rattle.ledger.specs.Engine.{seenOf, ringOf}
+use Rattle.ledger.specs.Runs.{Plan, World, seenOf}
+use Rattle.ledger.specs.Record.{recordSize, roomSlots, ringOf}
+use Rattle.ledger.specs.After.{lateRefusals, stepRecord, worldAfter}
 use Rattle.ledger.proofs.ReadBack.{step-long}
 use Rattle.ledger.proofs.EngineLaws.{look-seen, valid-after}
-use Rattle.flood.specs.Drops.{Given}
-use Rattle.flood.specs.Step.{stepLasts, stepMoves}
-use Rattle.flood.specs.Refusals.{stepChecks, runChecks, stepNumber, stepped, floodRule}
+use Rattle.moves.specs.Given.{Given}
+use Rattle.moves.specs.Moves.{stepDuration, stepMoves}
+use Rattle.flood.specs.Refusals.{stepChecks, runChecks}
+use Rattle.flood.specs.Step.{stepNumber, stepped, floodRule}
 use Rattle.flood.specs.Run.{Ended, ended, goOn, runFrom, runTo}
-use Rattle.flood.specs.Fill.{MakesStep}
+use Rattle.flood.specs.Step.{MakesStep}
 use Rattle.flood.proofs.CheckLaws.{ready, ring-is, checks-named, checks-after}
-use Rattle.flood.proofs.RuleLaws.{flood-owed, step-lasts-from}
+use Rattle.moves.proofs.MoveLaws.{step-lasts-from}
+use Rattle.flood.proofs.RuleLaws.{flood-owed}
 
 -- rows 1 to 6 pass
 abbrev pub Valid : Plan → Given → World → Type 0
@@ -45,7 +43,7 @@ module _ (p : Plan) (g : Given) (w : World) where
   unfolding stepped
   refused-is d = pick-false _ _ (ne-eqb _ _ d)
 
-  late-passed : stepNumber p g w ≡ 0 → refusal (lateRows p (stepMoves p g (seenOf w)) w) ≡ 0
+  late-passed : stepNumber p g w ≡ 0 → refusal (lateRefusals p (stepMoves p g (seenOf w)) w) ≡ 0
   unfolding stepNumber
   late-passed e = refusal-both (stepChecks p g (ringOf p w) (seenOf w)) _ (checks-named p g (ringOf p w) (seenOf w)) e .1
 
@@ -84,7 +82,7 @@ module _ (p : Plan) (g : Given) (w : World) where
         }))
 
     -- the clock goes on
-    clock-after : stepped p g w .run .clock ≡ w .run .clock + stepLasts p g (seenOf w)
+    clock-after : stepped p g w .run .clock ≡ w .run .clock + stepDuration p g (seenOf w)
     unfolding worldAfter
     clock-after = ap (λ (x : World). x .run .clock) (made-is made)
 

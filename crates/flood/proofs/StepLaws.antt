@@ -1,39 +1,39 @@
 -- Laws of the step: once the checks have passed, 7 is decided by the clock, 8 where a square could not hold what is added, and else
 -- the ledger settles the record; and a valid world stays valid.
 -- Assumes nothing.
-use mathlib.Core.Path.{_≡_, refl, sym, ap, ap₂, _∙_, subst}
-use mathlib.Core.Bool.{Bool, true, false, _||_}
-use mathlib.Core.List.{List, [], _∷_}
+use mathlib.Core.Path.{_≡_, sym, ap, ap₂, _∙_}
+use mathlib.Core.Bool.{Bool, true, false}
+use mathlib.Core.List.{List}
 use Prim.Native.Nat.{ℕ, _+_, _-_, _≤_, _<_}
 use native.Mathlib.Nat.{le-trans}
 use native.Mathlib.Omega.{arith}
-use lib.Dec.{leb, eqb}
-use lib.ListN.{length, getD}
-use borrow.Author.Tests.{le-leb, lt-leb, leb-true, eq-eqb, ne-eqb}
-use Rattle.reckon.specs.Tests.{pick, every, allBelow, Row, _unless_, refusal}
-use Rattle.reckon.specs.Ranges.{mostDepth, mostLength, lastClock, mostOutflow}
-use Rattle.reckon.proofs.TestLaws.{not-both, no-more, pick-true, pick-false, or-right, or-of, all-at, all-of, refusal-here, refusal-later, refusal-first, refusal-second}
-use Rattle.trials.specs.Ring.{ringFine}
+use lib.Dec.{eqb}
+use lib.ListN.{length, take, replicate, length-replicate}
+use lib.Seq.{length-take-le}
+use borrow.Author.Tests.{le-leb, lt-leb, leb-true, ne-eqb}
+use Rattle.reckon.specs.Tests.{pick, refusal}
+use Rattle.reckon.specs.Ranges.{lastClock}
+use Rattle.reckon.proofs.TestLaws.{not-both, no-more, pick-false, or-right, or-of, all-at, all-of, refusal-here, refusal-later, refusal-first, refusal-second}
 use Rattle.trials.proofs.RingLaws.{fine-ring}
-use Rattle.grid.specs.Squares.{squares}
-use Rattle.ledger.specs.Runs.{Plan, World, answered}
-use Rattle.ledger.specs.Flows.{shut, gone, came}
-use Rattle.ledger.specs.Record.{recordSize, roomSlots, leavesIn, lastedIn}
-use Rattle.ledger.specs.After.{Moves, remains, newDepth, depthsFit, newOutflow, lateRows, stepRecord, worldAfter}
-use Rattle.ledger.specs.Settle.{settleNumber, settled, written, Settles, SettlesTo}
-use Rattle.ledger.specs.Engine.{Seen, seenOf, ringOf}
+use Rattle.grid.specs.Squares.{squares, mostSquares, ShapeInRange, SquaresOf}
+use Rattle.ledger.specs.Runs.{Plan, World, answered, Seen, seenOf}
+use Rattle.ledger.specs.Flows.{shut}
+use Rattle.ledger.specs.Record.{roomSlots, ringOf, mostRecord, SizeOf}
+use Rattle.ledger.specs.After.{Moves, newDepth, depthsFit, lateRefusals, stepRecord, worldAfter, worldWith}
+use Rattle.ledger.specs.inner.Settle.{movesIn, settleNumber, settled, Settles, SettlesTo}
+use Rattle.grid.specs.declared.squares.Shape.{Shape}
 use Rattle.ledger.proofs.ReadBack.{step-long, step-lasted, step-gone, settled-is, late-settled}
-use Rattle.flood.specs.Drops.{Given}
-use Rattle.flood.specs.Step.{addedFor, leavesFor, stepLength, stepLasts, stepMoves}
-use Rattle.flood.specs.Added.{tables, addedFits}
-use Rattle.flood.specs.Ready.{Ready}
+use Rattle.moves.specs.Given.{Given}
+use Rattle.moves.specs.Moves.{stepLength, stepDuration, stepMoves}
+use Rattle.moves.specs.inner.Added.{addedFits}
+use Rattle.moves.specs.inner.Ready.{Ready}
 use Rattle.rule.specs.Rules.{rulesFine}
 use Rattle.ledger.specs.declared.runs.Answer.the-variants.{Done, Refused}
 use Rattle.ledger.proofs.RunLaws.{answered-done, answered-refused}
-use Rattle.flood.specs.Refusals.{checkRows, stepChecks, stepNumber, stepped, Steps}
-use Rattle.flood.specs.Fill.{MakesStep, Passes}
+use Rattle.flood.specs.Refusals.{checkRefusals, stepChecks}
+use Rattle.flood.specs.Step.{stepNumber, stepped, Steps, MakesStep, Passes}
 use Rattle.flood.proofs.CheckLaws.{ready, ring-is, checks-named}
-use Rattle.flood.proofs.RuleLaws.{covered, step-length-to}
+use Rattle.moves.proofs.MoveLaws.{covered, step-length-to}
 
 module _ (p : Plan) (g : Given) (w : World) (passed : refusal (stepChecks p g (ringOf p w) (seenOf w)) ≡ 0) where
   abbrev v : Seen
@@ -49,35 +49,35 @@ module _ (p : Plan) (g : Given) (w : World) (passed : refusal (stepChecks p g (r
   is-ready = ready p g (ringOf p w) v passed
 
   -- the checks pass, so that the late rows decide
-  number-late : stepNumber p g w ≡ refusal (lateRows p m w)
+  number-late : stepNumber p g w ≡ refusal (lateRefusals p m w)
   unfolding stepNumber
-  number-late = refusal-second (stepChecks p g (ringOf p w) v) (lateRows p m w) (checks-named p g (ringOf p w) v) passed
+  number-late = refusal-second (stepChecks p g (ringOf p w) v) (lateRefusals p m w) (checks-named p g (ringOf p w) v) passed
 
   -- a refused step leaves the world as it was
   refused-by : {n : ℕ} → (n ≡ 0 → ⊥) → n ≡ stepNumber p g w → MakesStep p g w n w
   unfolding stepped
   refused-by d e = record { number = e; world-is = sym (pick-false _ _ (ne-eqb _ _ (λ z. d (e ∙ z)))) }
 
-  pub step-seven : lastClock < clock + stepLasts p g v → MakesStep p g w 7 w
-  unfolding lateRows
+  pub step-seven : lastClock < clock + stepDuration p g v → MakesStep p g w 7 w
+  unfolding lateRefusals
   step-seven h = refused-by (λ z. omega arith) (sym (number-late ∙ refusal-here 7 _ (lt-leb _ _ h)))
 
-  module _ (timely : clock + stepLasts p g v ≤ lastClock) where
+  module _ (timely : clock + stepDuration p g v ≤ lastClock) where
     -- what is added is part of the new depth
     added-under : (i : ℕ) → m .added i ≤ newDepth p m w i
     unfolding newDepth
     added-under i = omega arith
 
     -- where all new depths fit, so does all that is added
-    fits-all : depthsFit p m w ≡ true → addedFits p g clock (clock + stepLasts p g v) ≡ true
+    fits-all : depthsFit p m w ≡ true → addedFits p g clock (clock + stepDuration p g v) ≡ true
     unfolding depthsFit addedFits
     fits-all t =
         all-of (squares (p .shape)) _
         (λ i l. or-of (shut p i) _
         (λ c. le-leb _ _ (le-trans (added-under i) (leb-true _ _ (or-right (shut p i) _ (all-at (squares (p .shape)) _ t i l) c)))))
 
-    pub step-eight : addedFits p g clock (clock + stepLasts p g v) ≡ false → MakesStep p g w 8 w
-    unfolding lateRows
+    pub step-eight : addedFits p g clock (clock + stepDuration p g v) ≡ false → MakesStep p g w 8 w
+    unfolding lateRefusals
     step-eight e =
         refused-by (λ z. omega arith)
         (sym (number-late ∙ (refusal-later 7 _ (le-leb _ _ timely) ∙ refusal-here 8 _ (no-more _ (λ t. not-both {A = ⊥} (fits-all t) e)))))
@@ -100,7 +100,7 @@ module _ (p : Plan) (g : Given) (w : World) (passed : refusal (stepChecks p g (r
           clock-to = rw (step-lasted p m w) timely;
           length-to = step-length-to p g v r;
           depths-to = r .flows .lies .depths-to;
-          covered = λ i h s. rw (step-gone p m w i h s) (covered p (g .lie) (w .depths) (w .lasts) (stepLasts p g v) i s);
+          covered = λ i h s. rw (step-gone p m w i h s) (covered p (g .lie) (w .depths) (w .lasts) (stepDuration p g v) i s);
         })
 
     pub step-settled :
@@ -111,22 +111,34 @@ module _ (p : Plan) (g : Given) (w : World) (passed : refusal (stepChecks p g (r
         let long = is-ready .waters .marks-long in
         let number-is : settleNumber p rec held w ≡ stepNumber p g w
         = rw (e, l) (sym (number-late ∙ late-settled p m w long (le-leb _ _ timely))) in
-        let written-is : written p rec held w ≡ worldAfter p m w = rw (e, l) (settled-is p m w long) in
+        let written-is : worldWith p (movesIn rec held) w rec ≡ worldAfter p m w = rw (e, l) (settled-is p m w long) in
         record {
           number = t .number ∙ number-is;
-          world-is = t .world-is ∙ (ap (λ (k : ℕ). pick (eqb k 0) (written p rec held w) w) number-is ∙ ap (λ (x : World). pick (eqb (stepNumber p g w) 0) x w) written-is);
+          world-is = t .world-is ∙ (ap (λ (k : ℕ). pick (eqb k 0) (worldWith p (movesIn rec held) w rec) w) number-is ∙ ap (λ (x : World). pick (eqb (stepNumber p g w) 0) x w) written-is);
         }
+
+-- ---- the parts of the working rooms that a grid needs
+
+module _ (s : Shape) {n : ℕ} (f : ShapeInRange s) where
+  pub record-part : SizeOf s n → n ≤ mostRecord
+  record-part e = omega (arith, f .few, e)
+
+  pub squares-part : SquaresOf s n → n ≤ mostSquares
+  squares-part e = omega (arith, f .few, e)
+
+pub part-long : {n : ℕ} (most : ℕ) → n ≤ most → length (take {A = ℕ} n (replicate most 0)) ≡ n
+part-long {n} most h = length-take-le n (replicate most 0) (omega (arith, h, length-replicate {A = ℕ} most 0))
 
 -- ---- the public step
 
 module _ (p : Plan) (g : Given) (w : World) where
   -- rows 1 to 6 refuse
   pub step-checked :
-      {five : Bool} {n : ℕ} → five ≡ rulesFine (g .lie .rules) → n ≡ refusal (checkRows p g five (ringOf p w) (seenOf w)) → (n ≡ 0 → ⊥) →
+      {five : Bool} {n : ℕ} → five ≡ rulesFine (g .lie .rules) → n ≡ refusal (checkRefusals p g five (ringOf p w) (seenOf w)) → (n ≡ 0 → ⊥) →
       Steps p g w (Refused n) (w .depths) (w .lasts) (w .records)
   unfolding stepNumber stepped
   step-checked {five} {n} f e d =
-      let r : n ≡ refusal (stepChecks p g (ringOf p w) (seenOf w)) = e ∙ ap (λ (b : Bool). refusal (checkRows p g b (ringOf p w) (seenOf w))) f in
+      let r : n ≡ refusal (stepChecks p g (ringOf p w) (seenOf w)) = e ∙ ap (λ (b : Bool). refusal (checkRefusals p g b (ringOf p w) (seenOf w))) f in
       let number-is : n ≡ stepNumber p g w = r ∙ sym (first (λ z. d (r ∙ z))) in
       let stays : stepped p g w ≡ w = refused-stays (λ z. d (number-is ∙ z)) in
       record {
@@ -143,8 +155,8 @@ module _ (p : Plan) (g : Given) (w : World) where
       refused-stays z = pick-false _ _ (ne-eqb _ _ z)
 
   -- they pass: what the inner step gives
-  pub passes-checks : {five : Bool} {n : ℕ} → five ≡ rulesFine (g .lie .rules) → n ≡ refusal (checkRows p g five (ringOf p w) (seenOf w)) → n ≡ 0 → Passes p g w
-  passes-checks f e z = record { checked = sym (ap (λ (b : Bool). refusal (checkRows p g b (ringOf p w) (seenOf w))) f) ∙ (sym e ∙ z) }
+  pub passes-checks : {five : Bool} {n : ℕ} → five ≡ rulesFine (g .lie .rules) → n ≡ refusal (checkRefusals p g five (ringOf p w) (seenOf w)) → n ≡ 0 → Passes p g w
+  passes-checks f e z = record { checked = sym (ap (λ (b : Bool). refusal (checkRefusals p g b (ringOf p w) (seenOf w))) f) ∙ (sym e ∙ z) }
 
   module _ {n : ℕ} {after : World} (m : MakesStep p g w n after) where
     pub step-refused : (n ≡ 0 → ⊥) → Steps p g w (Refused n) (after .depths) (after .lasts) (after .records)

@@ -1,57 +1,48 @@
--- Document 01, "The step": "All amounts are worked from the state before the step."
+-- Document 01, "The step" and "Numbers given back on refusal": a step, refused or made.
 -- Assumes nothing.
-use mathlib.Core.List.{List, []}
-use Prim.Native.Nat.{ℕ, _+_, _/_, _%_}
-use lib.ListN.{getD}
-use Rattle.reckon.specs.Tests.{pick}
-use Rattle.reckon.specs.Lists.{joined}
-use Rattle.reckon.specs.Tables.{rainAdded, inflowAdded}
-use Rattle.grid.specs.Squares.{squares}
-use Rattle.rule.specs.Weighing.{weighed}
-use Rattle.rule.specs.Length.{candidatesOf, lengthAt, lastsFor}
-use Rattle.ledger.specs.Runs.{Plan}
-use Rattle.ledger.specs.Flows.{Leaves, shut}
-use Rattle.ledger.specs.After.{Moves}
-use Rattle.ledger.specs.Engine.{Seen}
-use Rattle.flood.specs.Drops.{Ground, Given, dropsOf}
+use mathlib.Core.List.{List}
+use Prim.Native.Nat.{ℕ, _+_}
+use Rattle.reckon.specs.Tests.{pick, refusal}
+use Rattle.ledger.specs.Runs.{Plan, World, answered, seenOf}
+use Rattle.ledger.specs.After.{lateRefusals, worldAfter}
+use Rattle.moves.specs.Given.{Given}
+use mathlib.Core.Path.{_≡_}
+use mathlib.Core.List.{List, _++_}
+use Prim.Native.Nat.{ℕ}
+use lib.Dec.{eqb}
+use Rattle.ledger.specs.Record.{ringOf}
+use Rattle.ledger.specs.inner.Engine.{StepRule}
+use Rattle.ledger.specs.declared.runs.Answer.{Answer}
+use Rattle.moves.specs.Moves.{stepMoves}
+use Rattle.flood.specs.Refusals.{stepChecks}
 
--- ---- amounts, by how long the step lasts
+module _ (p : Plan) (g : Given) where
+  -- the first number of the table that applies, 0 for none
+  unfoldable pub stepNumber : World → ℕ
+  stepNumber w = refusal (stepChecks p g (ringOf p w) (seenOf w) ++ lateRefusals p (stepMoves p g (seenOf w)) w)
 
-module _ (p : Plan) (o : Ground) (depths : List ℕ) where
-  -- "For each square not closed with d > 0 and each side": the candidates of one square, and of all
-  unfoldable pub squareCandidates : ℕ → List ℕ
-  squareCandidates i = pick (shut p i) [] (candidatesOf (o .rules) (getD depths i 0) (getD (o .roughness) i 0) (dropsOf p (o .rules) (o .beds) depths i))
+  -- "with the run as it was and every lent slice as it was", or the world after the step
+  unfoldable pub stepped : World → World
+  stepped w = pick (eqb (stepNumber w) 0) (worldAfter p (stepMoves p g (seenOf w)) w) w
 
-  unfoldable pub candidates : List ℕ
-  candidates = joined (squares (p .shape)) squareCandidates
+-- the step as a rule of the ledger's engine
+abbrev pub floodRule : Plan → StepRule Given
+floodRule p = record { checks = λ ring g v. stepChecks p g ring v; moves = λ g v. stepMoves p g v }
 
-  -- what leaves a square not closed through a side
-  unfoldable pub leavesFor : List ℕ → ℕ → Leaves
-  leavesFor lasts ms i side =
-      pick (shut p i) 0 (getD (weighed (o .rules) (getD depths i 0) (getD lasts i 0) (getD (o .roughness) i 0) ms (dropsOf p (o .rules) (o .beds) depths i)) side 0)
+-- ---- what the public functions give
 
--- "What a step adds is the amount by its end less the amount by its start": rain on every square, inflow on the square's own rows
-unfoldable pub addedFor : Plan → Given → ℕ → ℕ → ℕ → ℕ
-addedFor p g start end i =
-    rainAdded (g .rain) start end
-    + inflowAdded (g .inflow) (i / p .shape .columns) (i % p .shape .columns) (g .lie .rules .«square_side») start end
+-- the answer, and the world afterwards with the run value that the answer tells
+pub record Steps (p : Plan) (g : Given) (w : World) (a : Answer) (depths lasts records : List ℕ) : Type 0 where
+  pub answer : a ≡ answered (stepNumber p g w) (stepped p g w .run)
+  pub depths-are : depths ≡ stepped p g w .depths
+  pub lasts-are : lasts ≡ stepped p g w .lasts
+  pub records-are : records ≡ stepped p g w .records
 
--- ---- the step
+-- what the inner step asks: rows 1 to 6 pass
+pub record Passes (p : Plan) (g : Given) (w : World) : Type 0 where
+  pub checked : refusal (stepChecks p g (ringOf p w) (seenOf w)) ≡ 0
 
-module _ (p : Plan) (g : Given) (v : Seen) where
-  -- "Step length: when the clock is a multiple of U it is worked afresh .. the run holds it until the next such clock"
-  unfoldable pub stepLength : ℕ
-  stepLength = lengthAt (g .lie .rules) (v .clock) (v .length) (candidates p (g .lie) (v .depths))
-
-  -- "The step lasts the smaller of that length and the time to the next multiple of U"
-  unfoldable pub stepLasts : ℕ
-  stepLasts = lastsFor (g .lie .rules) (v .clock) stepLength
-
-  abbrev pub stepMoves : Moves
-  stepMoves =
-      record {
-        leaves = leavesFor p (g .lie) (v .depths) (v .lasts) stepLasts;
-        added = addedFor p g (v .clock) (v .clock + stepLasts);
-        lasts = stepLasts;
-        length = stepLength;
-      }
+-- and gives: the refusal's number, 0 for none, and the world afterwards
+pub record MakesStep (p : Plan) (g : Given) (w : World) (refused : ℕ) (after : World) : Type 0 where
+  pub number : refused ≡ stepNumber p g w
+  pub world-is : after ≡ stepped p g w

@@ -5,18 +5,18 @@ use grid::marks::marks_fine;
 use grid::squares::Shape;
 use grid::squares::shape_fine;
 use grid::squares::squares_of;
+use ledger::checks::one_each;
+use ledger::checks::waters_fine;
 use ledger::record::record_size;
 use ledger::runs::Run;
 use ledger::runs::run_fine;
-use ledger::take_back::one_each;
-use ledger::take_back::waters_fine;
 use reckon::ranges::LAST_CLOCK;
+use reckon::ranges::side_fine;
 use reckon::tables::inflow_fine;
 use reckon::tables::rain_fine;
 use rule::rules::Rules;
 use rule::rules::ground_fine;
 use rule::rules::rules_fine;
-use rule::rules::side_fine;
 ghost use mathlib.Core.Path.{_≡_};
 ghost use mathlib.Core.Bool.{_||_};
 ghost use mathlib.Core.List.{[], _∷_};
@@ -24,19 +24,19 @@ ghost use Prim.Native.Nat.{_<_};
 ghost use lib.ListN.{length, getD};
 ghost use Rattle.reckon.specs.Tests.{every, refusal};
 ghost use Rattle.reckon.specs.Tables.{rainKind, inflowKind, tableFine};
-ghost use Rattle.grid.specs.Squares.{FineShape, shapeFine, squares};
+ghost use Rattle.grid.specs.Squares.{ShapeInRange, shapeFine, squares};
 ghost use Rattle.grid.specs.Marks.{Marked, closed, inflowSquaresFine};
-ghost use Rattle.rule.specs.Rules.{groundFine, rulesFine, sideFine};
+ghost use Rattle.rule.specs.Rules.{groundFine, rulesFine};
+ghost use Rattle.reckon.specs.Ranges.{sideFine};
 ghost use Rattle.rule.specs.declared.rules.Rules as Declared;
-ghost use Rattle.ledger.specs.Runs.{plan, world};
-ghost use Rattle.ledger.specs.Record.{roomSlots};
-ghost use Rattle.ledger.specs.TakeBack.{oneEach};
-ghost use Rattle.ledger.specs.Engine.{seenOf, ringOf};
-ghost use Rattle.flood.specs.Drops.{given, ground};
-ghost use Rattle.flood.specs.Refusals.{Checks, checkRows, endFine, groundsFine};
+ghost use Rattle.ledger.specs.Runs.{plan, world, seenOf};
+ghost use Rattle.ledger.specs.Record.{roomSlots, ringOf};
+ghost use Rattle.ledger.specs.Checks.{oneEach};
+ghost use Rattle.moves.specs.Given.{ground, given};
+ghost use Rattle.flood.specs.Refusals.{Checks, checkRefusals, endFine, groundsFine};
 
 // Refusal 2 for the ground of one square.
-fn ground_ok(marks: &[u8], beds: &[u32], roughness: &[u32], square: usize) -> bool
+fn ground_at_fine(marks: &[u8], beds: &[u32], roughness: &[u32], square: usize) -> bool
     requires { ⌜ (square < length (now marks)) × (square < length (now beds)) × (square < length (now roughness)) ⌝ }
     ensures { λ r. ⌜ r ≡ (closed (now (marks .entry)) square || groundFine (getD (now (beds .entry)) square 0) (getD (now (roughness .entry)) square 0)) ⌝ }
 {
@@ -54,7 +54,7 @@ fn grounds_fine(shape: Shape, marks: &[u8], beds: &[u32], roughness: &[u32]) -> 
     let squares = squares_of(shape);
     let mut square = 0;
     while square < squares {
-        if !ground_ok(marks, beds, roughness, square) {
+        if !ground_at_fine(marks, beds, roughness, square) {
             return false;
         }
         square += 1;
@@ -72,12 +72,12 @@ fn lent_fine(
     depths: &[u32],
     lasts: &[u32],
 ) -> bool
-    ensures { λ r. ⌜ r ≡ every (shapeFine shape ∷ sideFine rules ∷ oneEach (plan shape (now (marks .entry))) (now (marks .entry)) ∷ oneEach (plan shape (now (marks .entry))) (now (beds .entry)) ∷ oneEach (plan shape (now (marks .entry))) (now (roughness .entry)) ∷ oneEach (plan shape (now (marks .entry))) (now (depths .entry)) ∷ oneEach (plan shape (now (marks .entry))) (now (lasts .entry)) ∷ []) ⌝ }
+    ensures { λ r. ⌜ r ≡ every (shapeFine shape ∷ sideFine (rules .«square_side») ∷ oneEach (plan shape (now (marks .entry))) (now (marks .entry)) ∷ oneEach (plan shape (now (marks .entry))) (now (beds .entry)) ∷ oneEach (plan shape (now (marks .entry))) (now (roughness .entry)) ∷ oneEach (plan shape (now (marks .entry))) (now (depths .entry)) ∷ oneEach (plan shape (now (marks .entry))) (now (lasts .entry)) ∷ []) ⌝ }
 {
     if !shape_fine(shape) {
         return false;
     }
-    if !side_fine(rules) {
+    if !side_fine(rules.square_side) {
         return false;
     }
     if !one_each(shape, marks.len()) {
@@ -132,7 +132,7 @@ fn rules_and_end_fine(rules: Rules, end: u64) -> bool
 
 // How many records the room holds.
 pub(crate) fn slots_of(shape: Shape, records: &[u32]) -> usize
-    requires { ⌜ FineShape shape ⌝ }
+    requires { ⌜ ShapeInRange shape ⌝ }
     ensures { λ r. ⌜ r ≡ roomSlots (plan shape []) (now (records .entry)) ⌝ }
 {
     trials::slots_in(record_size(shape), records.len())
@@ -153,7 +153,7 @@ pub(crate) fn checked(
     lasts: &[u32],
     records: &[u32],
 ) -> u32
-    ensures { λ r. ⌜ r ≡ refusal (checkRows (plan shape (now (marks .entry))) (given (ground rules (now (beds .entry)) (now (roughness .entry))) (now (rain .entry)) (now (inflow .entry))) five (ringOf (plan shape (now (marks .entry))) (world (now (depths .entry)) (now (lasts .entry)) (now (records .entry)) run)) (seenOf (world (now (depths .entry)) (now (lasts .entry)) (now (records .entry)) run))) ⌝ }
+    ensures { λ r. ⌜ r ≡ refusal (checkRefusals (plan shape (now (marks .entry))) (given (ground rules (now (beds .entry)) (now (roughness .entry))) (now (rain .entry)) (now (inflow .entry))) five (ringOf (plan shape (now (marks .entry))) (world (now (depths .entry)) (now (lasts .entry)) (now (records .entry)) run)) (seenOf (world (now (depths .entry)) (now (lasts .entry)) (now (records .entry)) run))) ⌝ }
 {
     if !lent_fine(shape, rules, marks, beds, roughness, depths, lasts) {
         return 1;

@@ -5,12 +5,12 @@ use grid::marks::marks_fine;
 use grid::squares::Shape;
 use grid::squares::shape_fine;
 use grid::squares::squares_of;
+use ledger::checks::one_each;
 use ledger::runs::Answer;
 use ledger::runs::Run;
-use ledger::take_back::one_each;
+use reckon::ranges::side_fine;
 use rule::rules::Rules;
 use rule::rules::rules_fine;
-use rule::rules::side_fine;
 ghost use mathlib.Core.Path.{_≡_};
 ghost use mathlib.Core.List.{[], _∷_};
 ghost use Prim.Native.Nat.{_<_};
@@ -19,19 +19,19 @@ ghost use Rattle.reckon.specs.Tests.{every, pick};
 ghost use Rattle.reckon.specs.Lists.{filled};
 ghost use Rattle.grid.specs.Squares.{shapeFine, squares};
 ghost use Rattle.grid.specs.Marks.{Marked, closed};
-ghost use Rattle.rule.specs.Rules.{sideFine};
+ghost use Rattle.reckon.specs.Ranges.{sideFine};
 ghost use Rattle.ledger.specs.Runs.{plan};
-ghost use Rattle.ledger.specs.TakeBack.{oneEach};
-ghost use Rattle.flood.specs.Run.{Freshens, freshNumber};
+ghost use Rattle.ledger.specs.Checks.{oneEach};
+ghost use Rattle.flood.specs.Run.{Freshens, freshNumber, FreshRunMade};
 
 // Refusal 1: the shape and D are in range, and marks and last leaving have one number a square.
 fn sizes_fine(shape: Shape, rules: Rules, marks: &[u8], lasts: &[u32]) -> bool
-    ensures { λ r. ⌜ r ≡ every (shapeFine shape ∷ sideFine rules ∷ oneEach (plan shape (now (marks .entry))) (now (marks .entry)) ∷ oneEach (plan shape (now (marks .entry))) (now (lasts .entry)) ∷ []) ⌝ }
+    ensures { λ r. ⌜ r ≡ every (shapeFine shape ∷ sideFine (rules .«square_side») ∷ oneEach (plan shape (now (marks .entry))) (now (marks .entry)) ∷ oneEach (plan shape (now (marks .entry))) (now (lasts .entry)) ∷ []) ⌝ }
 {
     if !shape_fine(shape) {
         return false;
     }
-    if !side_fine(rules) {
+    if !side_fine(rules.square_side) {
         return false;
     }
     if !one_each(shape, marks.len()) {
@@ -83,20 +83,28 @@ fn clear_lasts(shape: Shape, marks: &[u8], lasts: &mut [u32])
     }
 }
 
+// The run value that a fresh run starts with, in a record room with so many slots.
+pub fn fresh_run(rules: Rules, slots: usize) -> Run
+    requires { ⌜ 0 < slots ⌝ }
+    ensures { λ r. ⌜ FreshRunMade rules slots r ⌝ }
+{
+    Run {
+        clock: 0,
+        length: rules.longest,
+        outflow: 0,
+        kept: 0,
+        newest: slots - 1,
+    }
+}
+
 // Starts a fresh run: the last leaving of squares not closed becomes 0, and the answer is the run.
 pub fn fresh(shape: Shape, rules: Rules, marks: &[u8], lasts: &mut [u32], records: &[u32]) -> Answer
-    ensures { λ r. ⌜ Freshens (plan shape (now (marks .entry))) rules (now (records .entry)) (now (lasts .entry)) r (now (lasts .exit)) ⌝ }
+    ensures { λ r. ⌜ Freshens (plan shape (now (marks .entry))) rules (now (lasts .entry)) (now (records .entry)) r (now (lasts .exit)) ⌝ }
 {
     let number = fresh_number(shape, rules, marks, lasts, records);
     if number != 0 {
         return Answer::Refused(number);
     }
     clear_lasts(shape, marks, lasts);
-    Answer::Done(Run {
-        clock: 0,
-        length: rules.longest,
-        outflow: 0,
-        kept: 0,
-        newest: slots_of(shape, records) - 1,
-    })
+    Answer::Done(fresh_run(rules, slots_of(shape, records)))
 }

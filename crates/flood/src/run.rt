@@ -1,10 +1,10 @@
 // A run to an end: the checks once, then steps while the clock is below the end.
 use crate::checks::check;
-use crate::step::RECORD_ROOM;
-use crate::step::SQUARE_ROOM;
 use crate::step::make_step;
+use grid::squares::MOST_SQUARES;
 use grid::squares::Shape;
 use grid::squares::squares_of;
+use ledger::record::MOST_RECORD;
 use ledger::record::record_size;
 use ledger::runs::Run;
 use rule::rules::Rules;
@@ -15,9 +15,10 @@ ghost use Rattle.reckon.specs.Ranges.{lastClock};
 ghost use Rattle.grid.specs.Squares.{squares};
 ghost use Rattle.ledger.specs.Runs.{plan, world};
 ghost use Rattle.ledger.specs.Record.{recordSize};
-ghost use Rattle.flood.specs.Drops.{ground, given};
-ghost use Rattle.flood.specs.Fill.{Passes};
-ghost use Rattle.flood.specs.Run.{RunsOn, RunsTo};
+ghost use Rattle.moves.specs.Given.{given, ground};
+ghost use Rattle.flood.specs.Step.{Passes};
+ghost use Rattle.flood.specs.Run.{RunsTo};
+ghost use Rattle.flood.specs.inner.Run.{RunsOn};
 
 // The refusal's number, 0 for none, the steps made, and the run that they leave.
 pub struct Ran {
@@ -84,47 +85,6 @@ fn run_on(
     }
 }
 
-// The same in working rooms as large as any grid's.
-fn run_in(
-    shape: Shape,
-    rules: Rules,
-    run: Run,
-    end: u64,
-    marks: &[u8],
-    beds: &[u32],
-    roughness: &[u32],
-    rain: &[u32],
-    inflow: &[u32],
-    depths: &mut [u32],
-    lasts: &mut [u32],
-    records: &mut [u32],
-    rec: &mut [u32],
-    room: &mut [u32],
-) -> Ran
-    requires { ⌜ Passes (plan shape (now marks)) (given (ground rules (now beds) (now roughness)) (now rain) (now inflow)) (world (now depths) (now lasts) (now records) run) ⌝ }
-    requires { ⌜ (length (now rec) ≡ 24578) × (length (now room) ≡ 4096) × (end ≤ lastClock) ⌝ }
-    ensures { λ r. ⌜ RunsOn (plan shape (now (marks .entry))) (given (ground rules (now (beds .entry)) (now (roughness .entry))) (now (rain .entry)) (now (inflow .entry))) end (world (now (depths .entry)) (now (lasts .entry)) (now (records .entry)) run) r (now (depths .exit)) (now (lasts .exit)) (now (records .exit)) ⌝ }
-{
-    let size = record_size(shape);
-    let squares = squares_of(shape);
-    run_on(
-        shape,
-        rules,
-        run,
-        end,
-        marks,
-        beds,
-        roughness,
-        rain,
-        inflow,
-        depths,
-        lasts,
-        records,
-        &mut rec[..size],
-        &mut room[..squares],
-    )
-}
-
 // A run to an end, or a refusal.
 pub fn run_to(
     shape: Shape,
@@ -163,9 +123,11 @@ pub fn run_to(
             run: run,
         };
     }
-    let mut rec = [0u32; RECORD_ROOM];
-    let mut room = [0u32; SQUARE_ROOM];
-    run_in(
+    let size = record_size(shape);
+    let squares = squares_of(shape);
+    let mut rec = [0u32; MOST_RECORD];
+    let mut room = [0u32; MOST_SQUARES];
+    run_on(
         shape,
         rules,
         run,
@@ -178,7 +140,7 @@ pub fn run_to(
         depths,
         lasts,
         records,
-        &mut rec[..],
-        &mut room[..],
+        &mut rec[..size],
+        &mut room[..squares],
     )
 }

@@ -1,4 +1,4 @@
--- Laws of marks: a mark past the end is closed, lists that are alike serve alike, and the checks square by square and row by row.
+-- Laws of marks: a mark past the end is closed, and the checks square by square and row by row.
 -- Assumes nothing.
 use mathlib.Core.Path.{_≡_, refl, sym, ap, ap₂, _∙_}
 use mathlib.Core.Bool.{Bool, true, false, not}
@@ -6,13 +6,13 @@ use mathlib.Core.List.{List}
 use Prim.Native.Nat.{ℕ, _≤_, _<_}
 use native.Mathlib.Decide.{decLt}
 use native.Mathlib.Omega.{arith}
-use lib.ListN.{length, getD, List·getD-eq-default}
+use lib.ListN.{length, List·getD-eq-default}
 use borrow.Author.Tests.{lt-ltb, le-ltb, eq-eqb}
 use Rattle.reckon.specs.Tests.{pick}
 use Rattle.reckon.proofs.TestLaws.{not-both, pick-true, pick-false, each-every, every-fails}
 use Rattle.grid.specs.declared.squares.Shape.{Shape}
-use Rattle.grid.specs.Squares.{squares, squareAt}
-use Rattle.grid.specs.Marks.{closed, inflowRow, inflowColumn, inflowSquareFine, Alike}
+use Rattle.grid.specs.Squares.{squareAt}
+use Rattle.grid.specs.Marks.{closed, inflowRow, inflowColumn, inflowSquareFine}
 
 -- ---- closed squares
 
@@ -37,24 +37,6 @@ unless-closed marks i x {y} {z} f = go (closed marks i) refl
     go : (b : Bool) → closed marks i ≡ b → pick (closed marks i) x y ≡ pick (closed marks i) x z
     go true e = pick-true x y e ∙ sym (pick-true x z e)
     go false e = pick-false x y e ∙ (f e ∙ sym (pick-false x z e))
-
--- ---- lists that are alike
-
-module _ {marks : List ℕ} where
-  pub alike-same : (a : List ℕ) → Alike marks a a
-  alike-same a = record { at = λ i e. refl }
-
-  pub alike-sym : {a b : List ℕ} → Alike marks a b → Alike marks b a
-  alike-sym h = record { at = λ i e. sym (h .at i e) }
-
-  pub alike-trans : {a b c : List ℕ} → Alike marks a b → Alike marks b c → Alike marks a c
-  alike-trans h g = record { at = λ i e. h .at i e ∙ g .at i e }
-
-  -- whatever is worked from the number of a square that is not closed is the same for both
-  pub alike-worked :
-      {A : Type 0} {a b : List ℕ} → Alike marks a b → (i : ℕ) (x : A) (f : ℕ → A) →
-      pick (closed marks i) x (f (getD a i 0)) ≡ pick (closed marks i) x (f (getD b i 0))
-  alike-worked h i x f = unless-closed marks i x (λ e. ap f (h .at i e))
 
 -- ---- an inflow row's square
 

@@ -1,4 +1,5 @@
--- Laws of masks: a mask's bits are the answers of the row's squares, and its ones are counted square by square.
+-- Laws of masks: a mask's bits are the answers of the row's squares, and its ones are counted square by square; and a row slice filled
+-- row by row is the list of masks.
 -- Assumes nothing.
 use mathlib.Core.Path.{_≡_, refl, sym, ap, ap₂, _∙_}
 use mathlib.Core.Bool.{Bool, true, false, _&&_}
@@ -6,19 +7,20 @@ use mathlib.Core.List.{List}
 use Prim.Native.Nat.{ℕ, zero, suc, _+_, _-_, _*_, _/_, _%_, _^_, _≤_, _<_}
 use native.Mathlib.Nat.{le-refl, le-trans, pow-suc, add-comm, add-suc, add-zero, zero-add, add-assoc, suc-mul, zero-mul, zero-div, div-one, div-div-eq-div-mul}
 use native.Mathlib.Decide.{decLt}
+use native.Mathlib.Numerals.{add-one}
 use native.Mathlib.Omega.{arith}
 use lib.Dec.{leb, ltb, eqb, lit<}
-use lib.ListN.{getD}
+use lib.ListN.{length, getD, set}
 use lib.Count.{ones, ones-step}
 use lib.Pow.{pow-mono, pow-add}
 use borrow.Author.Tests.{lt-ltb, le-ltb}
 use Rattle.reckon.specs.Tests.{pick}
-use Rattle.reckon.specs.Lists.{sumBelow}
-use Rattle.reckon.proofs.ListLaws.{sum-ext}
+use Rattle.reckon.specs.Lists.{tabulate, filled, sumBelow}
+use Rattle.reckon.proofs.ListLaws.{length-tabulate, getD-tabulate, is-tabulate, tabulate-ext, length-filled, filled-in, filled-none, filled-store, sum-ext}
 use Rattle.grid.specs.declared.squares.Shape.{Shape}
-use Rattle.grid.specs.Squares.{squares}
+use Rattle.grid.specs.Squares.{squares, squareAt}
 use Rattle.grid.specs.Marks.{closed, Alike}
-use Rattle.grid.specs.Masks.{bits, saysYes, digit, maskFrom, rowMask, bitAt}
+use Rattle.grid.specs.Masks.{bits, isWet, digit, maskFrom, rowMask, wetMasks, bitAt}
 
 -- ---- digits
 
@@ -169,27 +171,95 @@ module _ (says : ℕ → Bool) (first columns : ℕ) where
         p .1
         ∙ ap₂ (maskFrom says) (let e : first + left ≡ first = omega arith in e) (let e : columns - left ≡ columns = omega arith in e)
 
--- ---- what a square says, and lists that are alike
+-- ---- wet squares, and depths that are alike
 
-module _ (marks numbers : List ℕ) (least i : ℕ) where
-  pub says-closed : closed marks i ≡ true → saysYes marks numbers least i ≡ false
-  unfolding saysYes
-  says-closed e = rw e
+module _ (marks depths : List ℕ) (least i : ℕ) where
+  pub wet-closed : closed marks i ≡ true → isWet marks depths least i ≡ false
+  unfolding isWet
+  wet-closed e = rw e
 
-  pub says-open : closed marks i ≡ false → saysYes marks numbers least i ≡ leb least (getD numbers i 0)
-  unfolding saysYes
-  says-open e = rw e
+  pub wet-open : closed marks i ≡ false → isWet marks depths least i ≡ leb least (getD depths i 0)
+  unfolding isWet
+  wet-open e = rw e
 
-says-alike :
-    (marks : List ℕ) {a b : List ℕ} → Alike marks a b → (least i : ℕ) → saysYes marks a least i ≡ saysYes marks b least i
-says-alike marks {a} {b} h least i = go (closed marks i) refl
+wet-alike :
+    (marks : List ℕ) {a b : List ℕ} → Alike marks a b → (least i : ℕ) → isWet marks a least i ≡ isWet marks b least i
+wet-alike marks {a} {b} h least i = go (closed marks i) refl
   where
-    go : (t : Bool) → closed marks i ≡ t → saysYes marks a least i ≡ saysYes marks b least i
-    go true e = says-closed marks a least i e ∙ sym (says-closed marks b least i e)
-    go false e = says-open marks a least i e ∙ (ap (leb least) (h .at i e) ∙ sym (says-open marks b least i e))
+    go : (t : Bool) → closed marks i ≡ t → isWet marks a least i ≡ isWet marks b least i
+    go true e = wet-closed marks a least i e ∙ sym (wet-closed marks b least i e)
+    go false e = wet-open marks a least i e ∙ (ap (leb least) (h .at i e) ∙ sym (wet-open marks b least i e))
 
 -- the mask of a row depends on no closed square
-pub mask-alike :
+mask-alike :
     (marks : List ℕ) {a b : List ℕ} → Alike marks a b → (least first n : ℕ) →
-    maskFrom (saysYes marks a least) first n ≡ maskFrom (saysYes marks b least) first n
-mask-alike marks h least first n = λ j. maskFrom (λ i. says-alike marks h least i j) first n
+    maskFrom (isWet marks a least) first n ≡ maskFrom (isWet marks b least) first n
+mask-alike marks h least first n = λ j. maskFrom (λ i. wet-alike marks h least i j) first n
+
+-- ---- the masks of all rows
+
+-- no row is skipped
+abbrev none : ℕ → Bool
+none row = false
+
+-- after some rows: where the next begins, and the slice filled so far
+module _ (marks depths : List ℕ) (least columns : ℕ) (old : List ℕ) where
+  abbrev maskOf : ℕ → ℕ
+  maskOf row = maskFrom (isWet marks depths least) (row * columns) columns
+
+  abbrev pub Rowed : List ℕ → ℕ → ℕ → Type 0
+  Rowed rows row first = (first ≡ row * columns) × (rows ≡ filled row none maskOf old)
+
+  pub rowed-none : Rowed old 0 0
+  rowed-none = (sym (zero-mul columns), filled-none none maskOf old)
+
+  module _ (row : ℕ) {rows : List ℕ} {first : ℕ} (r : Rowed rows row first) where
+    pub rowed-long : length rows ≡ length old
+    rowed-long = ap length (r .1) ∙ length-filled row none maskOf old
+
+    pub rowed-more :
+        {mask : ℕ} → row < length old → mask ≡ maskFrom (isWet marks depths least) first columns → Rowed (set rows row mask) (row + 1) (first + columns)
+    rowed-more {mask} h e = (
+      ap (λ (k : ℕ). k + columns) (r .0) ∙ (sym (suc-mul row columns) ∙ ap (λ (k : ℕ). k * columns) (sym (add-one row))),
+      ap (λ (l : List ℕ). set l row mask) (r .1)
+          ∙ filled-store none maskOf old row h refl (e ∙ ap (λ (k : ℕ). maskFrom (isWet marks depths least) k columns) (r .0)),
+    )
+
+    pub rowed-whole : length old ≤ row → rows ≡ tabulate (length old) maskOf
+    rowed-whole h =
+        r .1
+        ∙ is-tabulate (length old) maskOf (filled row none maskOf old) (length-filled row none maskOf old)
+        (λ i l. filled-in row none maskOf old i l (omega arith) refl)
+
+module _ (s : Shape) (marks depths : List ℕ) (least : ℕ) where
+  pub masks-whole :
+      (old : List ℕ) (row : ℕ) {rows : List ℕ} {first : ℕ} → length old ≡ s .rows → s .rows ≤ row →
+      Rowed marks depths least (s .columns) old rows row first → rows ≡ wetMasks s marks depths least
+  unfolding wetMasks
+  masks-whole old row long h r =
+      rowed-whole marks depths least (s .columns) old row r (omega arith) ∙ ap (λ (n : ℕ). tabulate n (rowMask s (isWet marks depths least))) long
+
+  pub masks-long : {rows : List ℕ} → rows ≡ wetMasks s marks depths least → length rows ≡ s .rows
+  unfolding wetMasks
+  masks-long e = ap length e ∙ length-tabulate (s .rows) _
+
+  -- "bit c set exactly when the square in column c is" wet; past the last column no bit is set
+  module _ {row : ℕ} (h : row < s .rows) where
+    row-is : getD (wetMasks s marks depths least) row 0 ≡ rowMask s (isWet marks depths least) row
+    unfolding wetMasks
+    row-is = getD-tabulate (s .rows) _ row h
+
+    pub bit-is :
+        {column : ℕ} → column < s .columns →
+        bitAt (getD (wetMasks s marks depths least) row 0) column ≡ isWet marks depths least (squareAt s row column)
+    bit-is {column} l = ap (λ (m : ℕ). bitAt m column) row-is ∙ mask-in (isWet marks depths least) (row * s .columns) l
+
+    pub bit-past : {column : ℕ} → s .columns ≤ column → bitAt (getD (wetMasks s marks depths least) row 0) column ≡ false
+    bit-past {column} l = ap (λ (m : ℕ). bitAt m column) row-is ∙ mask-past (isWet marks depths least) (row * s .columns) l
+
+-- nor do the masks of all rows depend on a closed square
+pub masks-alike :
+    (s : Shape) (marks : List ℕ) {a b : List ℕ} → Alike marks a b → (least : ℕ) → wetMasks s marks a least ≡ wetMasks s marks b least
+unfolding wetMasks
+masks-alike s marks h least =
+    tabulate-ext (s .rows) _ _ (λ row l. mask-alike marks h least (row * s .columns) (s .columns))

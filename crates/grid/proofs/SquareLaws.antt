@@ -3,31 +3,30 @@
 use mathlib.Core.Path.{_≡_, refl, sym, ap, _∙_}
 use mathlib.Core.Bool.{true, false}
 use Prim.Native.Nat.{ℕ, zero, suc, _+_, _-_, _*_, _/_, _%_, _≤_, _<_}
-use native.Mathlib.Nat.{mul-le-mul, mul-le-mul-right, suc-mul, zero-mod, mod-lt, mod-self, mod-eq-of-lt, mod-add-mod, mul-mod-left, div-add-mod', div-lt-iff-lt-mul, mul-add-mod-self-right, mul-add-div-right, div-eq-of-lt, add-zero}
+use native.Mathlib.Nat.{mul-le-mul, mul-le-mul-right, suc-mul, zero-mod, mod-lt, mod-self, mod-eq-of-lt, mod-add-mod, mul-mod-left, div-add-mod', mul-add-mod-self-right, mul-add-div-right, div-eq-of-lt, add-zero}
 use native.Mathlib.Decide.{decLe, decLt, ℕ-discrete}
 use native.Mathlib.Omega.{arith}
 use lib.Dec.{ltb}
 use borrow.Author.Tests.{not-false, ltb-true, leb-true, le-leb, lt-leb, lt-ltb, le-ltb, eq-eqb, ne-eqb}
-use Rattle.reckon.specs.Tests.{every}
-use Rattle.reckon.proofs.TestLaws.{pick-true, pick-false, pick-both, every-each, each-every, all-at, all-of, all-fails}
+use Rattle.reckon.proofs.TestLaws.{pick-true, pick-false, every-each, each-every, all-at, all-of, all-fails}
 use Rattle.grid.specs.declared.squares.Shape.{Shape}
-use Rattle.grid.specs.Squares.{longest, mostSquares, north, east, south, west, sides, squares, squareAt, beside, opposite, onRim, shapeFine, FineShape, Stands, NextColumn}
+use Rattle.grid.specs.Squares.{mostAlong, mostSquares, north, east, south, west, sides, squares, squareAt, beside, opposite, onRim, shapeFine, ShapeInRange, OnSquare, NextColumn}
 
 -- ---- the shape
 
-pub few-squares : (s : Shape) → s .rows ≤ longest → s .columns ≤ longest → squares s ≤ mostSquares
+pub few-squares : (s : Shape) → s .rows ≤ mostAlong → s .columns ≤ mostAlong → squares s ≤ mostSquares
 few-squares s h g = omega (arith, mul-le-mul h g)
 
-pub fine-shape : (s : Shape) → 1 ≤ s .rows → s .rows ≤ longest → 1 ≤ s .columns → s .columns ≤ longest → FineShape s
+pub fine-shape : (s : Shape) → 1 ≤ s .rows → s .rows ≤ mostAlong → 1 ≤ s .columns → s .columns ≤ mostAlong → ShapeInRange s
 fine-shape s a b c d = record { rows-low = a; rows-high = b; columns-low = c; columns-high = d; few = few-squares s b d }
 
-pub ranges-of-fine : (s : Shape) → shapeFine s ≡ true → FineShape s
+pub ranges-of-fine : (s : Shape) → shapeFine s ≡ true → ShapeInRange s
 unfolding shapeFine
 ranges-of-fine s e =
     let p = every-each _ e in
     fine-shape s (leb-true _ _ (p .0)) (leb-true _ _ (p .1 .0)) (leb-true _ _ (p .1 .1 .0)) (leb-true _ _ (p .1 .1 .1 .0))
 
-pub fine-of-ranges : (s : Shape) → FineShape s → shapeFine s ≡ true
+pub fine-of-ranges : (s : Shape) → ShapeInRange s → shapeFine s ≡ true
 unfolding shapeFine
 fine-of-ranges s f =
     each-every _
@@ -53,9 +52,6 @@ module _ (s : Shape) where
   -- a square is in its row and column
   pub square-in : (i : ℕ) → squareAt s (i / s .columns) (i % s .columns) ≡ i
   square-in i = div-add-mod' i (s .columns)
-
-  pub row-within : {i : ℕ} → 0 < s .columns → i < squares s → i / s .columns < s .rows
-  row-within p h = div-lt-iff-lt-mul p .1 h
 
   pub column-within : (i : ℕ) {column : ℕ} → 0 < s .columns → column ≡ i % s .columns → column < s .columns
   column-within i p e = rw e (mod-lt i p)
@@ -118,17 +114,6 @@ module _ (s : Shape) where
       go (yes e) = absurd (d (rw e (mul-mod-left (s .rows) (s .columns))))
       go (no e) = omega arith
 
-  pub beside-le : {i : ℕ} → i < squares s → (side : ℕ) → beside s i side ≤ squares s
-  unfolding beside
-  beside-le h zero = pick-both (λ (j : ℕ). j ≤ squares s) _ (omega arith) (omega arith)
-  beside-le h (suc zero) = pick-both (λ (j : ℕ). j ≤ squares s) _ (omega arith) (omega arith)
-  beside-le {i} h (suc (suc zero)) = go (decLt (i + s .columns) (squares s))
-    where
-      go : Dec (i + s .columns < squares s) → beside s i south ≤ squares s
-      go (yes l) = rw (south-some i {side = south} refl l) (omega arith)
-      go (no l) = rw (south-none i {side = south} refl (omega arith)) (omega arith)
-  beside-le h (suc (suc (suc _))) = pick-both (λ (j : ℕ). j ≤ squares s) _ (omega arith) (omega arith)
-
 pub opposite-opposite : (side : ℕ) → side < sides → opposite (opposite side) ≡ side
 unfolding opposite
 opposite-opposite zero h = refl
@@ -160,7 +145,7 @@ opposite-small (suc (suc (suc _))) = omega arith
 
 -- ---- the same by the column that a square stands in
 
-module _ (s : Shape) {i column : ℕ} (st : Stands s i column) where
+module _ (s : Shape) {i column : ℕ} (st : OnSquare s i column) where
   pub column-small : column < s .columns
   column-small = column-within s i (st .fine .columns-low) (st .column-is)
 

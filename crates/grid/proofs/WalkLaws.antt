@@ -159,11 +159,7 @@ module _ {A : Type 0} (f : ℕ → A → A) (a : A) where
   walk-visits mask =
       walk-as mask f (onSet mask f) (λ c x e. pick-false (f c x) x e) (λ c x e. sym (pick-true (f c x) x e)) a
 
-  -- where the others change nothing it does what going over all columns does
-  pub walk-all : (mask : ℕ) → Idle mask f → walk mask f a ≡ foldBelow bits f a
-  walk-all mask idle = walk-as mask f f idle (λ c x e. refl) a
-
-  -- the same of a row's mask, over the row's own columns
+  -- over the columns of a row whose mask it is, where the others change nothing: what going over all of them does
   pub walk-row :
       (says : ℕ → Bool) (first n : ℕ) → n ≤ bits → ((c : ℕ) (x : A) → c < n → says (first + c) ≡ false → f c x ≡ x) →
       walk (maskFrom says first n) f a ≡ foldBelow n f a

@@ -7,8 +7,9 @@ use Prim.Native.Nat.{ℕ, _+_, _*_, _/_}
 use lib.Dec.{leb, ltb, eqb}
 use lib.ListN.{length, getD}
 use Rattle.reckon.specs.Tests.{every, allBelow}
+use Rattle.reckon.specs.Tables.{inflowKind}
 use Rattle.grid.specs.declared.squares.Shape.{Shape}
-use Rattle.grid.specs.Squares.{FineShape, squares, squareAt, onRim}
+use Rattle.grid.specs.Squares.{ShapeInRange, squares, squareAt, onRim}
 
 -- "mark: 0 closed, 1 open, 2 exit"
 abbrev pub closedMark : ℕ
@@ -39,7 +40,7 @@ marksFine s marks = allBelow (squares s) (markFine s marks)
 
 -- "Inflow rows: row, column, from, to, litres"
 abbrev pub inflowWords : ℕ
-inflowWords = 5
+inflowWords = inflowKind .width
 
 -- the row and the column that inflow row j names
 abbrev pub inflowRow : List ℕ → ℕ → ℕ
@@ -67,7 +68,7 @@ pub record Alike (marks a b : List ℕ) : Type 0 where
 
 -- one mark a square of a fine grid
 pub record Marked (s : Shape) (marks : List ℕ) : Type 0 where
-  pub fine : FineShape s
+  pub fine : ShapeInRange s
   pub whole : length marks ≡ squares s
 
 -- ---- what the public functions give

@@ -1,4 +1,4 @@
--- Document 01, "Flow arrows and wet rows": a row of the grid as one 64-bit number, its ones, and the walk over its set columns.
+-- Document 01, "Flow arrows and wet rows": the rows of the grid, each as one 64-bit number, its ones, and the walk over its set columns.
 -- Assumes nothing.
 use mathlib.Core.Path.{_≡_}
 use mathlib.Core.Bool.{Bool, _&&_, not}
@@ -8,16 +8,18 @@ use lib.Dec.{leb, ltb, eqb}
 use lib.ListN.{length, getD}
 use lib.Count.{ones}
 use Rattle.reckon.specs.Tests.{pick, firstFailing}
+use Rattle.reckon.specs.Lists.{tabulate}
 use Rattle.grid.specs.declared.squares.Shape.{Shape}
+use Rattle.grid.specs.Squares.{squares, ShapeInRange}
 use Rattle.grid.specs.Marks.{closed}
 
 -- "one 64-bit number"
 abbrev pub bits : ℕ
 bits = 64
 
--- "not closed and at least a given depth": least is that depth, and numbers hold one a square
-unfoldable pub saysYes : List ℕ → List ℕ → ℕ → ℕ → Bool
-saysYes marks numbers least i = not (closed marks i) && leb least (getD numbers i 0)
+-- "not closed and at least a given depth deep": least is that depth
+unfoldable pub isWet : List ℕ → List ℕ → ℕ → ℕ → Bool
+isWet marks depths least i = not (closed marks i) && leb least (getD depths i 0)
 
 -- 1 for yes, 0 for no
 unfoldable pub digit : Bool → ℕ
@@ -31,6 +33,10 @@ maskFrom says first (suc n) = digit (says first) + maskFrom says (suc first) n *
 -- "each grid row becomes one 64-bit number"
 abbrev pub rowMask : Shape → (ℕ → Bool) → ℕ → ℕ
 rowMask s says row = maskFrom says (row * s .columns) (s .columns)
+
+-- the same of every row of the grid: "bit c set exactly when the square in column c is" wet
+unfoldable pub wetMasks : Shape → List ℕ → List ℕ → ℕ → List ℕ
+wetMasks s marks depths least = tabulate (s .rows) (rowMask s (isWet marks depths least))
 
 -- bit c of a number
 unfoldable pub bitAt : ℕ → ℕ → Bool
@@ -58,16 +64,26 @@ walkFrom mask (suc n) f c a = pick (ltb (nextSet mask c) bits) (walkFrom mask n 
 abbrev pub walk : {A : Type 0} → ℕ → (ℕ → A → A) → A → A
 walk mask f a = walkFrom mask bits f 0 a
 
+-- ---- what is asked, and what the public functions give
+
 -- a row of at most 64 squares that both lists have
-pub record RowLent (marks numbers : List ℕ) (first columns : ℕ) : Type 0 where
+pub record RowLent (marks depths : List ℕ) (first columns : ℕ) : Type 0 where
   pub columns-high : columns ≤ bits
   pub marks-long : first + columns ≤ length marks
-  pub numbers-long : first + columns ≤ length numbers
-
--- ---- what the public functions give
+  pub depths-long : first + columns ≤ length depths
 
 abbrev pub RowMasked : List ℕ → List ℕ → ℕ → ℕ → ℕ → ℕ → Type 0
-RowMasked marks numbers least first columns r = r ≡ maskFrom (saysYes marks numbers least) first columns
+RowMasked marks depths least first columns r = r ≡ maskFrom (isWet marks depths least) first columns
+
+-- marks and depths, one number a square, and a row slice, one number a row
+pub record RowsLent (s : Shape) (marks depths rows : List ℕ) : Type 0 where
+  pub fine : ShapeInRange s
+  pub marks-long : length marks ≡ squares s
+  pub depths-long : length depths ≡ squares s
+  pub rows-long : length rows ≡ s .rows
+
+abbrev pub Masked : Shape → List ℕ → List ℕ → ℕ → List ℕ → Type 0
+Masked s marks depths least rows = rows ≡ wetMasks s marks depths least
 
 abbrev pub OnesOf : ℕ → ℕ → Type 0
 OnesOf mask r = r ≡ ones mask

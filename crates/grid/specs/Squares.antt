@@ -9,12 +9,12 @@ use Rattle.reckon.specs.Tests.{pick, every, allBelow}
 use Rattle.grid.specs.declared.squares.Shape.{Shape}
 
 -- "rows, columns: 1 to 64 each"
-abbrev pub longest : ℕ
-longest = 64
+abbrev pub mostAlong : ℕ
+mostAlong = 64
 
 -- the most squares that a grid has
 abbrev pub mostSquares : ℕ
-mostSquares = 4096
+mostSquares = mostAlong * mostAlong
 
 -- "V for north, east, south and west": the sides in this order
 abbrev pub north : ℕ
@@ -65,25 +65,25 @@ onRim s i = not (allBelow sides (λ side. within s (beside s i side)))
 
 -- refusal 1: "shape out of range"
 unfoldable pub shapeFine : Shape → Bool
-shapeFine s = every (leb 1 (s .rows) ∷ leb (s .rows) longest ∷ leb 1 (s .columns) ∷ leb (s .columns) longest ∷ [])
+shapeFine s = every (leb 1 (s .rows) ∷ leb (s .rows) mostAlong ∷ leb 1 (s .columns) ∷ leb (s .columns) mostAlong ∷ [])
 
 -- the same as ranges, with what follows of the number of squares
-pub record FineShape (s : Shape) : Type 0 where
+pub record ShapeInRange (s : Shape) : Type 0 where
   pub rows-low : 1 ≤ s .rows
-  pub rows-high : s .rows ≤ longest
+  pub rows-high : s .rows ≤ mostAlong
   pub columns-low : 1 ≤ s .columns
-  pub columns-high : s .columns ≤ longest
+  pub columns-high : s .columns ≤ mostAlong
   pub few : squares s ≤ mostSquares
 
 -- a row and a column of a fine grid
 pub record OnGrid (s : Shape) (row column : ℕ) : Type 0 where
-  pub fine : FineShape s
+  pub fine : ShapeInRange s
   pub row-in : row < s .rows
   pub column-in : column < s .columns
 
 -- a square of a fine grid, with its column
-pub record Stands (s : Shape) (square column : ℕ) : Type 0 where
-  pub fine : FineShape s
+pub record OnSquare (s : Shape) (square column : ℕ) : Type 0 where
+  pub fine : ShapeInRange s
   pub inside : square < squares s
   pub column-is : column ≡ square % s .columns
 

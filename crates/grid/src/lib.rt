@@ -1,8 +1,8 @@
-// The grid: its squares, their sides, marks and rim, and its rows as 64-bit masks. It knows nothing of water.
+// The grid: its squares, their sides, marks and rim, and its rows as 64-bit masks of the wet squares.
 //
-//   squares   Shape, shape_fine, squares_of, square_at, next_column, beside_on, opposite_side, on_rim
+//   squares   Shape, MOST_SQUARES, shape_fine, squares_of, square_at, next_column, beside_on, opposite_side, on_rim
 //   marks     is_closed, is_exit, marks_fine, inflow_squares_fine
-//   masks     row_mask, ones, next_set
+//   masks     row_mask, mask_rows, ones, next_set
 pub mod marks;
 pub mod masks;
 pub mod squares;

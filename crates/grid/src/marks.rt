@@ -2,7 +2,7 @@
 ghost use mathlib.Core.Path.{_≡_};
 ghost use Prim.Native.Nat.{_*_, _+_, _<_, _≤_};
 ghost use lib.ListN.{length};
-ghost use Rattle.grid.specs.Squares.{Stands};
+ghost use Rattle.grid.specs.Squares.{OnSquare};
 ghost use Rattle.grid.specs.Marks.{ClosedJudged, ExitJudged, InflowSquaresJudged, Marked, MarksJudged, inflowSquareFine, inflowWords, markFine};
 use crate::squares::Shape;
 use crate::squares::next_column;
@@ -10,13 +10,11 @@ use crate::squares::on_rim;
 use crate::squares::square_at;
 use crate::squares::squares_of;
 use reckon::numbers::number;
+use reckon::tables::INFLOW_WIDTH;
 
 const CLOSED: u8 = 0;
 
 const EXIT: u8 = 2;
-
-// The numbers of an inflow row.
-const INFLOW_WORDS: usize = 5;
 
 // Whether a square is closed.
 pub fn is_closed(marks: &[u8], square: usize) -> bool
@@ -36,7 +34,7 @@ pub fn is_exit(marks: &[u8], square: usize) -> bool
 
 // Whether a square's mark is none above 2, and no exit off the rim.
 fn mark_fine(shape: Shape, marks: &[u8], square: usize, column: usize) -> bool
-    requires { ⌜ (Stands shape square column) × (square < length (now marks)) ⌝ }
+    requires { ⌜ (OnSquare shape square column) × (square < length (now marks)) ⌝ }
     ensures { λ r. ⌜ r ≡ markFine shape (now (marks .entry)) square ⌝ }
 {
     let mark = marks[square];
@@ -72,8 +70,8 @@ fn inflow_square_fine(shape: Shape, marks: &[u8], rows: &[u32], j: usize) -> boo
     requires { ⌜ (Marked shape (now marks)) × (inflowWords * j + inflowWords ≤ length (now rows)) ⌝ }
     ensures { λ r. ⌜ r ≡ inflowSquareFine shape (now (marks .entry)) (now (rows .entry)) j ⌝ }
 {
-    let row = number(rows, INFLOW_WORDS * j) as usize;
-    let column = number(rows, INFLOW_WORDS * j + 1) as usize;
+    let row = number(rows, INFLOW_WIDTH * j) as usize;
+    let column = number(rows, INFLOW_WIDTH * j + 1) as usize;
     if shape.rows <= row {
         return false;
     }
@@ -91,7 +89,7 @@ pub fn inflow_squares_fine(shape: Shape, marks: &[u8], rows: &[u32]) -> bool
     requires { ⌜ Marked shape (now marks) ⌝ }
     ensures { λ r. ⌜ InflowSquaresJudged shape (now (marks .entry)) (now (rows .entry)) r ⌝ }
 {
-    let count = rows.len() / INFLOW_WORDS;
+    let count = rows.len() / INFLOW_WIDTH;
     let mut j = 0;
     while j < count {
         if !inflow_square_fine(shape, marks, rows, j) {

@@ -1,8 +1,7 @@
 // The squares of a grid, row by row from the north, and the square on a side of one. No division: a walk over the squares carries
 // the column.
-ghost use mathlib.Core.Path.{_≡_};
 ghost use Prim.Native.Nat.{_<_};
-ghost use Rattle.grid.specs.Squares.{BesideOn, FineShape, NextColumn, OnGrid, OppositeOf, RimJudged, ShapeJudged, SquareFound, SquaresOf, Stands, sides};
+ghost use Rattle.grid.specs.Squares.{BesideOn, ShapeInRange, NextColumn, OnGrid, OppositeOf, RimJudged, ShapeJudged, SquareFound, SquaresOf, OnSquare, sides};
 
 pub struct Shape {
     pub rows: usize,
@@ -18,7 +17,10 @@ pub const SOUTH: usize = 2;
 pub const WEST: usize = 3;
 
 // The most rows, and the most columns.
-const LONGEST: usize = 64;
+const MOST_ALONG: usize = 64;
+
+// The most squares that a grid has: rooms of one number a square are this long.
+pub const MOST_SQUARES: usize = MOST_ALONG * MOST_ALONG;
 
 // Whether there are 1 to 64 rows and 1 to 64 columns.
 pub fn shape_fine(shape: Shape) -> bool
@@ -29,13 +31,13 @@ pub fn shape_fine(shape: Shape) -> bool
     if rows == 0 {
         return false;
     }
-    if LONGEST < rows {
+    if MOST_ALONG < rows {
         return false;
     }
     if columns == 0 {
         return false;
     }
-    if LONGEST < columns {
+    if MOST_ALONG < columns {
         return false;
     }
     true
@@ -43,7 +45,7 @@ pub fn shape_fine(shape: Shape) -> bool
 
 // The number of squares.
 pub fn squares_of(shape: Shape) -> usize
-    requires { ⌜ FineShape shape ⌝ }
+    requires { ⌜ ShapeInRange shape ⌝ }
     ensures { λ r. ⌜ SquaresOf shape r ⌝ }
 {
     shape.rows * shape.columns
@@ -59,7 +61,7 @@ pub fn square_at(shape: Shape, row: usize, column: usize) -> usize
 
 // The column of the square after one in a column.
 pub fn next_column(shape: Shape, column: usize) -> usize
-    requires { ⌜ (FineShape shape) × (column < shape .columns) ⌝ }
+    requires { ⌜ (ShapeInRange shape) × (column < shape .columns) ⌝ }
     ensures { λ r. ⌜ NextColumn shape column r ⌝ }
 {
     let next = column + 1;
@@ -72,7 +74,7 @@ pub fn next_column(shape: Shape, column: usize) -> usize
 
 // The square on a side of a square that stands in a column, or the number of squares where there is none.
 pub fn beside_on(shape: Shape, square: usize, column: usize, side: usize) -> usize
-    requires { ⌜ (Stands shape square column) × (side < sides) ⌝ }
+    requires { ⌜ (OnSquare shape square column) × (side < sides) ⌝ }
     ensures { λ r. ⌜ BesideOn shape square side r ⌝ }
 {
     let columns = shape.columns;
@@ -115,7 +117,7 @@ pub fn opposite_side(side: usize) -> usize
 
 // Whether a square that stands in a column has a side with no square.
 pub fn on_rim(shape: Shape, square: usize, column: usize) -> bool
-    requires { ⌜ Stands shape square column ⌝ }
+    requires { ⌜ OnSquare shape square column ⌝ }
     ensures { λ r. ⌜ RimJudged shape square r ⌝ }
 {
     let columns = shape.columns;

@@ -10,7 +10,7 @@ use lib.ListN.{length, getD, take, drop}
 use borrow.Author.Tests.{leb-true, le-leb, lt-leb, eqb-true, eq-eqb, ne-eqb}
 use Rattle.reckon.specs.Tests.{every, allBelow, _unless_, refusal}
 use Rattle.reckon.specs.Lists.{filled}
-use Rattle.reckon.specs.Ranges.{mostDepth, mostLength}
+use Rattle.reckon.specs.Ranges.{mostDepth}
 use Rattle.reckon.proofs.TestLaws.{pick-true, pick-false, or-right, Each, every-each, each-every, every-fails, refusal-here, refusal-later, passed-refusal}
 use Rattle.trials.specs.Ring.{slotsIn, slotStart}
 use Rattle.trials.specs.Room.{recordIn}
@@ -19,30 +19,17 @@ use Rattle.grid.specs.Marks.{marksFine}
 use Rattle.grid.proofs.SquareLaws.{ranges-of-fine, fine-of-ranges}
 use Rattle.ledger.specs.Runs.{Plan, World, world, ofDepths, runFine, answered}
 use Rattle.ledger.specs.Flows.{shut, gone, came, offGrid}
-use Rattle.ledger.specs.Record.{recordSize, heldIn, lastedIn, leavesIn, lastIn, addedIn, roomSlots, newestRecord, Walked}
-use Rattle.ledger.specs.TakeBack.{oneEach, watersFine, timesFine, heldAndGone, cameAndAdded, depthBefore, squareRestorable, restorable, worldBefore, backRows, backNumber, takenBack, Watered, TakesBack, Kept, Looked, runBefore, Led, Restores}
+use Rattle.ledger.specs.Record.{recordSize, lastedIn, leavesIn, lastIn, addedIn, roomSlots, newestRecord}
+use Rattle.ledger.specs.Checks.{oneEach, watersFine, timesFine, WaterLent}
+use Rattle.ledger.specs.TakeBack.{heldAndGone, cameAndAdded, depthBefore, squareRestorable, restorable, worldBefore, backRefusals, backNumber, takenBack, TakesBack, earlyRefusals, runBefore}
+use Rattle.ledger.specs.inner.TakeBack.{Kept, Looked, RecordAndDepths, Restores}
+use Rattle.ledger.specs.inner.Walks.{Walked}
 use Rattle.ledger.specs.declared.runs.Run.{Run}
 use Rattle.ledger.specs.declared.runs.Answer.the-variants.{Done, Refused}
 use Rattle.ledger.specs.declared.record.Found.{Found}
 use Rattle.ledger.proofs.RunLaws.{every-decides, run-ring, answered-done, answered-refused}
 use Rattle.ledger.proofs.RecordLaws.{part-long, slots-of, slot-fits}
 use Rattle.ledger.proofs.WalkLaws.{walked-unfit}
-
--- ---- 11: the times
-
-module _ (rec : List ℕ) where
-  abbrev times : List Bool
-  times = leb 1 (heldIn rec) ∷ leb (heldIn rec) mostLength ∷ leb 1 (lastedIn rec) ∷ leb (lastedIn rec) mostLength ∷ []
-
-  pub times-fail : (k : ℕ) → getD times k true ≡ false → false ≡ timesFine rec
-  unfolding timesFine
-  times-fail k e = sym (every-fails times k e)
-
-  pub lasted-decides : 1 ≤ heldIn rec → heldIn rec ≤ mostLength → 1 ≤ lastedIn rec → leb (lastedIn rec) mostLength ≡ timesFine rec
-  unfolding timesFine
-  lasted-decides a b c =
-      every-decides (leb 1 (heldIn rec) ∷ leb (heldIn rec) mostLength ∷ leb 1 (lastedIn rec) ∷ []) (leb (lastedIn rec) mostLength)
-      (le-leb _ _ a, (le-leb _ _ b, (le-leb _ _ c, tt)))
 
 -- ---- 11: one square
 
@@ -127,10 +114,10 @@ module _ (p : Plan) (w : World) (rec : List ℕ) where
 -- ---- refusals before 11
 
 module _ (p : Plan) (w : World) where
-  abbrev sized : Bool
+  abbrev pub sized : Bool
   sized = every (shapeFine (p .shape) ∷ oneEach p (p .marks) ∷ oneEach p (w .depths) ∷ oneEach p (w .lasts) ∷ [])
 
-  pub watered-of : sized ≡ true → Watered p (w .depths) (w .lasts)
+  pub watered-of : sized ≡ true → WaterLent p (w .depths) (w .lasts)
   unfolding oneEach
   watered-of e =
       let t = every-each _ e in
@@ -145,28 +132,28 @@ module _ (p : Plan) (w : World) where
   refused-by d e = record { refused = λ z. sym e; passed = λ z. absurd (d z) }
 
   pub looked-1 : sized ≡ false → Looked p w 1
-  unfolding backNumber backRows
+  unfolding backNumber backRefusals earlyRefusals
   looked-1 e = refused-by (λ z. omega arith) (refusal-here 1 _ e)
 
   module _ (s : sized ≡ true) where
     pub looked-2 : marksFine (p .shape) (p .marks) ≡ false → Looked p w 2
-    unfolding backNumber backRows
+    unfolding backNumber backRefusals earlyRefusals
     looked-2 e = refused-by (λ z. omega arith) (refusal-later 1 _ s ∙ refusal-here 2 _ e)
 
     module _ (m : marksFine (p .shape) (p .marks) ≡ true) where
       pub looked-3 : watersFine p (w .depths) (w .lasts) ≡ false → Looked p w 3
-      unfolding backNumber backRows
+      unfolding backNumber backRefusals earlyRefusals
       looked-3 e = refused-by (λ z. omega arith) (refusal-later 1 _ s ∙ (refusal-later 2 _ m ∙ refusal-here 3 _ e))
 
       module _ (l : watersFine p (w .depths) (w .lasts) ≡ true) where
         pub looked-6 : runFine (roomSlots p (w .records)) (w .run) ≡ false → Looked p w 6
-        unfolding backNumber backRows
+        unfolding backNumber backRefusals earlyRefusals runFine
         looked-6 e =
             refused-by (λ z. omega arith) (refusal-later 1 _ s ∙ (refusal-later 2 _ m ∙ (refusal-later 3 _ l ∙ refusal-here 6 _ e)))
 
         module _ (r : runFine (roomSlots p (w .records)) (w .run) ≡ true) where
           pub looked-10 : w .run .kept ≡ 0 → Looked p w 10
-          unfolding backNumber backRows
+          unfolding backNumber backRefusals earlyRefusals runFine
           looked-10 e =
               refused-by (λ z. omega arith)
               (refusal-later 1 _ s
@@ -182,7 +169,7 @@ module _ (p : Plan) (w : World) where
   -- ---- the answer
 
   late : Kept p w → backNumber p w ≡ refusal (11 unless restorable p w (newestRecord p w) ∷ [])
-  unfolding backNumber backRows oneEach
+  unfolding backNumber backRefusals earlyRefusals runFine oneEach
   late k =
       refusal-later 1 _
       (each-every _ (
@@ -253,7 +240,7 @@ module _ (p : Plan) (w : World) (k : Kept p w) {size slots : ℕ} (e : size ≡ 
     pub newest-long : length (take (at + size - at) (drop at (w .records))) ≡ recordSize p
     newest-long = part-long at size (w .records) (omega (arith, newest-fits)) ∙ e
 
-    pub newest-led : {depths : List ℕ} → length depths ≡ squares (p .shape) → Led p (take (at + size - at) (drop at (w .records))) depths
+    pub newest-led : {depths : List ℕ} → length depths ≡ squares (p .shape) → RecordAndDepths p (take (at + size - at) (drop at (w .records))) depths
     newest-led l =
         record {
           recorded = record { fine = k .watered .fine; marks-long = k .watered .marks-long; record-long = newest-long };

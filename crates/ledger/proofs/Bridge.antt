@@ -12,11 +12,11 @@ use Rattle.reckon.proofs.TestLaws.{pick-true, pick-false, refusal-first, refusa
 use Rattle.trials.specs.Ring.{slotBefore}
 use Rattle.trials.specs.Series.{Outcome, Engine, State, refused, done, andThen, looked, fromRecord, restored, stepped, step, takeBack}
 use Rattle.trials.proofs.StepLaws.{not-done}
-use Rattle.ledger.specs.Runs.{Plan, World, runFine}
-use Rattle.ledger.specs.Record.{roomSlots, newestRecord}
-use Rattle.ledger.specs.After.{Moves, remains, newDepth, depthsFit, newOutflow, lateRows, stepRecord, worldAfter}
-use Rattle.ledger.specs.TakeBack.{restorable, worldBefore, backRows, backNumber, takenBack}
-use Rattle.ledger.specs.Engine.{Seen, seenOf, ringOf, bare, StepRule, outcome, lookRows, madeNumber, engine, stateOf}
+use Rattle.ledger.specs.Runs.{Plan, World, Seen, seenOf}
+use Rattle.ledger.specs.Record.{roomSlots, newestRecord, ringOf}
+use Rattle.ledger.specs.After.{Moves, remains, newDepth, depthsFit, newOutflow, lateRefusals, stepRecord, worldAfter}
+use Rattle.ledger.specs.TakeBack.{restorable, worldBefore, backRefusals, backNumber, takenBack, earlyRefusals}
+use Rattle.ledger.specs.inner.Engine.{bare, StepRule, outcome, madeNumber, engine, stateOf}
 use Rattle.ledger.proofs.EngineLaws.{restorable-bare, before-bare}
 
 outcome-none : {A : Type 0} {n : ℕ} (a : A) → n ≡ 0 → outcome n a ≡ done a
@@ -34,7 +34,7 @@ outcome-then (suc n) a f = refl
 
 module _ (p : Plan) (w : World) where
   abbrev look : ℕ
-  look = refusal (lookRows p (ringOf p w) (seenOf w))
+  look = refusal (earlyRefusals p (ringOf p w) (seenOf w))
 
   -- ---- the take-back's number: the look's, then 10 and 11
 
@@ -42,12 +42,12 @@ module _ (p : Plan) (w : World) where
   lastRows = 10 unless not (eqb (w .run .kept) 0) ∷ 11 unless restorable p w (newestRecord p w) ∷ []
 
   number-look : {n : ℕ} → look ≡ suc n → backNumber p w ≡ suc n
-  unfolding backNumber backRows lookRows runFine
-  number-look {n} e = refusal-first (lookRows p (ringOf p w) (seenOf w)) lastRows tt (λ z. let y : suc n ≡ 0 = sym e ∙ z in omega arith) ∙ e
+  unfolding backNumber backRefusals earlyRefusals
+  number-look {n} e = refusal-first (earlyRefusals p (ringOf p w) (seenOf w)) lastRows tt (λ z. let y : suc n ≡ 0 = sym e ∙ z in omega arith) ∙ e
 
   number-last : look ≡ 0 → backNumber p w ≡ refusal lastRows
-  unfolding backNumber backRows lookRows runFine
-  number-last e = refusal-second (lookRows p (ringOf p w) (seenOf w)) lastRows tt e
+  unfolding backNumber backRefusals earlyRefusals
+  number-last e = refusal-second (earlyRefusals p (ringOf p w) (seenOf w)) lastRows tt e
 
   number-none : look ≡ 0 → w .run .kept ≡ 0 → backNumber p w ≡ 10
   number-none e k = number-last e ∙ refusal-here 10 _ (ap not (eq-eqb (w .run .kept) 0 k))
@@ -134,9 +134,9 @@ module _ (p : Plan) (w : World) where
     -- the step of the state is that of the world
     pub step-bridge : (g : Given) →
         step (engine p rule) g (stateOf p rule w)
-        ≡ outcome (refusal (rule .checks (ringOf p w) g (seenOf w) ++ lateRows p (rule .moves g (seenOf w)) w))
+        ≡ outcome (refusal (rule .checks (ringOf p w) g (seenOf w) ++ lateRefusals p (rule .moves g (seenOf w)) w))
         (stateOf p rule (worldAfter p (rule .moves g (seenOf w)) w))
-    unfolding step worldAfter stepRecord lateRows depthsFit newDepth remains newOutflow
+    unfolding step worldAfter stepRecord lateRefusals depthsFit newDepth remains newOutflow
     step-bridge g =
         let m : Moves = rule .moves g (seenOf w) in
         outcome-then (madeNumber p rule (ringOf p w) g (seenOf w)) (seenOf (worldAfter p m (bare (seenOf w))), stepRecord p m (bare (seenOf w))) (stepped E K s)

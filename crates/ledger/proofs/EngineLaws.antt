@@ -14,17 +14,18 @@ use Rattle.reckon.specs.Ranges.{mostDepth, mostLength, lastClock, mostOutflow, 
 use Rattle.reckon.proofs.TestLaws.{or-right, or-of, every-each, each-every, all-at, all-of, refusal-passed, passed-refusal, refusal-both, pick-true}
 use Rattle.reckon.proofs.ListLaws.{length-filled, filled-in, filled-skipped}
 use Rattle.trials.specs.Series.{done}
-use Rattle.trials.specs.Owes.{Laws}
+use Rattle.trials.specs.inner.Owes.{Laws}
 use Rattle.trials.proofs.RoomLaws.{slots-stored, read-stored, read-other}
 use Rattle.trials.proofs.StepLaws.{not-done}
 use Rattle.grid.specs.Squares.{squares, shapeFine}
 use Rattle.grid.specs.Marks.{marksFine}
-use Rattle.ledger.specs.Runs.{Plan, World}
+use Rattle.ledger.specs.Runs.{Plan, World, Seen, seenOf, runValuesFine}
 use Rattle.ledger.specs.Flows.{shut, gone, came, offGrid}
 use Rattle.ledger.specs.Record.{recordSize, lastedIn, leavesIn, lastIn, roomSlots}
-use Rattle.ledger.specs.After.{Moves, remains, newDepth, depthsFit, newOutflow, lateRows, stepRecord, worldAfter}
-use Rattle.ledger.specs.TakeBack.{oneEach, watersFine, timesFine, heldAndGone, cameAndAdded, depthBefore, squareRestorable, restorable, worldBefore}
-use Rattle.ledger.specs.Engine.{Seen, seenOf, bare, StepRule, outcome, lookRows, madeNumber, engine, Owed}
+use Rattle.ledger.specs.After.{Moves, remains, newDepth, depthsFit, newOutflow, lateRefusals, stepRecord, worldAfter}
+use Rattle.ledger.specs.Checks.{oneEach, watersFine, timesFine}
+use Rattle.ledger.specs.TakeBack.{heldAndGone, cameAndAdded, depthBefore, squareRestorable, restorable, worldBefore, earlyRefusals}
+use Rattle.ledger.specs.inner.Engine.{bare, StepRule, outcome, madeNumber, engine, Owed}
 use Rattle.ledger.proofs.ReadBack.{step-long, step-held, step-lasted, step-off, step-came, step-gone, step-last, step-added}
 
 -- a room filled in part, and then in the same places with the old numbers, is as it was
@@ -77,10 +78,10 @@ module _ (p : Plan) where
         let both = every-each _ (or-right (shut p i) _ (all-at (squares (p .shape)) _ h i inside) e) in
         (leb-true _ _ (both .0), leb-true _ _ (both .1 .0))
 
-    pub look-seen : refusal (lookRows p ring v) ≡ 0 → Looks ring v
-    unfolding lookRows oneEach
+    pub look-seen : refusal (earlyRefusals p ring v) ≡ 0 → Looks ring v
+    unfolding earlyRefusals oneEach runValuesFine
     look-seen e =
-        let rows = refusal-passed (lookRows p ring v) tt e in
+        let rows = refusal-passed (earlyRefusals p ring v) tt e in
         let sizes = every-each _ (rows .0) in
         let run = every-each _ (rows .1 .1 .1 .0) in
         record {
@@ -104,8 +105,8 @@ module _ (p : Plan) where
         all-of (squares (p .shape)) _
         (λ i inside. or-of (shut p i) _ (λ e. each-every _ (omega (arith, le-leb, L .depth-to i inside e, L .last-to i inside e))))
 
-    pub seen-look : Looks ring v → refusal (lookRows p ring v) ≡ 0
-    unfolding lookRows oneEach
+    pub seen-look : Looks ring v → refusal (earlyRefusals p ring v) ≡ 0
+    unfolding earlyRefusals oneEach runValuesFine
     seen-look L =
         passed-refusal _
         (each-every _ (L .shape-fine, omega (arith, eq-eqb)), (L .marks-fine, (waters-of L, (each-every _ (L .ring-fine, omega (arith, le-leb)), tt))))
@@ -114,31 +115,31 @@ module _ (p : Plan) where
 
   -- what a rule owes of what a step moves
   record Bounded (m : Moves) (v : Seen) : Type 0 where
-    lasts-from : 1 ≤ m .lasts
-    lasts-to : m .lasts ≤ mostLength
+    lasts-from : 1 ≤ m .duration
+    lasts-to : m .duration ≤ mostLength
     length-from : 1 ≤ m .length
     length-to : m .length ≤ mostLength
     covered : (i : ℕ) → i < squares (p .shape) → shut p i ≡ false → gone (m .leaves) i ≤ getD (v .depths) i 0
 
-  module _ (m : Moves) (w : World) (L : Looks true (seenOf w)) (B : Bounded m (seenOf w)) (late : refusal (lateRows p m w) ≡ 0) where
+  module _ (m : Moves) (w : World) (L : Looks true (seenOf w)) (B : Bounded m (seenOf w)) (late : refusal (lateRefusals p m w) ≡ 0) where
     abbrev nextWorld : World
     nextWorld = worldAfter p m w
 
     abbrev nextRecord : List ℕ
     nextRecord = stepRecord p m w
 
-    clock-fits : w .run .clock + m .lasts ≤ lastClock
-    unfolding lateRows
-    clock-fits = leb-true _ _ (refusal-passed (lateRows p m w) tt late .0)
+    clock-fits : w .run .clock + m .duration ≤ lastClock
+    unfolding lateRefusals
+    clock-fits = leb-true _ _ (refusal-passed (lateRefusals p m w) tt late .0)
 
     depth-fits : (i : ℕ) → i < squares (p .shape) → shut p i ≡ false → newDepth p m w i ≤ mostDepth
-    unfolding lateRows depthsFit
+    unfolding lateRefusals depthsFit
     depth-fits i inside e =
-        leb-true _ _ (or-right (shut p i) _ (all-at (squares (p .shape)) _ (refusal-passed (lateRows p m w) tt late .1 .0) i inside) e)
+        leb-true _ _ (or-right (shut p i) _ (all-at (squares (p .shape)) _ (refusal-passed (lateRefusals p m w) tt late .1 .0) i inside) e)
 
     outflow-fits : newOutflow p m w ≤ mostOutflow
-    unfolding lateRows
-    outflow-fits = leb-true _ _ (refusal-passed (lateRows p m w) tt late .1 .1 .0)
+    unfolding lateRefusals
+    outflow-fits = leb-true _ _ (refusal-passed (lateRefusals p m w) tt late .1 .1 .0)
 
     -- a square that is not closed
     module _ (i : ℕ) (inside : i < squares (p .shape)) (not-closed : shut p i ≡ false) where
@@ -200,7 +201,7 @@ module _ (p : Plan) where
     restorable-after : restorable p nextWorld nextRecord ≡ true
     unfolding restorable worldAfter newOutflow
     restorable-after =
-        let in-time : lastedIn nextRecord ≤ w .run .clock + m .lasts = omega (arith, step-lasted p m w) in
+        let in-time : lastedIn nextRecord ≤ w .run .clock + m .duration = omega (arith, step-lasted p m w) in
         let in-total : offGrid p (leavesIn nextRecord) ≤ w .run .outflow + offGrid p (m .leaves) = omega (arith, step-off p m w) in
         each-every _ (times-back, (le-leb _ _ in-time, (all-of (squares (p .shape)) _ square-back, (le-leb _ _ in-total, tt))))
 
@@ -214,7 +215,7 @@ module _ (p : Plan) where
         lasts : filled (squares (p .shape)) (shut p) (lastIn nextRecord) (nextWorld .lasts) ≡ w .lasts
         lasts = refilled (squares (p .shape)) (shut p) (lastIn nextRecord) (gone (m .leaves)) (w .lasts) (L .lasts-long) (step-last p m w)
 
-        clock : w .run .clock + m .lasts - lastedIn nextRecord ≡ w .run .clock
+        clock : w .run .clock + m .duration - lastedIn nextRecord ≡ w .run .clock
         clock = omega (arith, step-lasted p m w)
 
         outflow : w .run .outflow + offGrid p (m .leaves) - offGrid p (leavesIn nextRecord) ≡ w .run .outflow
@@ -251,7 +252,7 @@ module _ (p : Plan) where
 
     -- where the checks pass and no late row refuses, the look at what is seen after the step passes
     pub valid-after : (ring : Bool) (g : Given) (w : World) → refusal (rule .checks ring g (seenOf w)) ≡ 0 →
-        refusal (lateRows p (rule .moves g (seenOf w)) w) ≡ 0 → refusal (lookRows p true (seenOf (worldAfter p (rule .moves g (seenOf w)) w))) ≡ 0
+        refusal (lateRefusals p (rule .moves g (seenOf w)) w) ≡ 0 → refusal (earlyRefusals p true (seenOf (worldAfter p (rule .moves g (seenOf w)) w))) ≡ 0
     valid-after ring g w ok late =
         seen-look true (seenOf (worldAfter p (rule .moves g (seenOf w)) w))
         (looks-after (rule .moves g (seenOf w)) w (look-passed ring g (seenOf w) ok) (bounds-kept ring g (seenOf w) ok) late)
@@ -259,13 +260,13 @@ module _ (p : Plan) where
     -- What is known of a step that was made.
     record Made (ring : Bool) (g : Given) (v : Seen) (made : Seen × List ℕ) : Type 0 where
       checked : refusal (rule .checks ring g v) ≡ 0
-      timely : refusal (lateRows p (rule .moves g v) (bare v)) ≡ 0
+      timely : refusal (lateRefusals p (rule .moves g v) (bare v)) ≡ 0
       is-it : made ≡ (seenOf (worldAfter p (rule .moves g v) (bare v)), stepRecord p (rule .moves g v) (bare v))
 
     is-made : {ring : Bool} {g : Given} {v : Seen} {made : Seen × List ℕ} → engine p rule .make ring g v ≡ done made → Made ring g v made
     is-made {ring} {g} {v} {made} e =
         let both = outcome-done (madeNumber p rule ring g v) e in
-        let none = refusal-both (rule .checks ring g v) (lateRows p (rule .moves g v) (bare v)) (o .named ring g v) (both .0) in
+        let none = refusal-both (rule .checks ring g v) (lateRefusals p (rule .moves g v) (bare v)) (o .named ring g v) (both .0) in
         record { checked = none .0; timely = none .1; is-it = sym (both .1) }
 
     unmakes : {g : Given} {v : Seen} {made : Seen × List ℕ} → Made true g v made → engine p rule .unmake (made .1) (made .0) ≡ done v

@@ -1,7 +1,7 @@
 -- Laws of amounts: a side's case decides what was sent or went off the grid; and sums of 32-bit words stay far below 64 bits.
 -- Assumes nothing.
 use mathlib.Core.Path.{_≡_, refl, sym, ap, ap₂, _∙_}
-use mathlib.Core.Bool.{true, false}
+use mathlib.Core.Bool.{false}
 use mathlib.Core.List.{List}
 use Prim.Native.Nat.{ℕ, _+_, _-_, _*_, _≤_, _<_}
 use native.Mathlib.Nat.{mul-le-mul-right}
@@ -12,9 +12,8 @@ use Rattle.reckon.specs.Tests.{pick}
 use Rattle.reckon.specs.Lists.{sumBelow}
 use Rattle.reckon.proofs.TestLaws.{pick-true, pick-false, pick-same, pick-both}
 use Rattle.reckon.proofs.ListLaws.{sum-le}
-use Rattle.grid.specs.Squares.{north, east, south, west, sides, squares, within, beside, opposite, onRim, FineShape}
+use Rattle.grid.specs.Squares.{north, east, south, west, sides, mostSquares, squares, within, beside, opposite, onRim, ShapeInRange}
 use Rattle.grid.proofs.SquareLaws.{each-within, north-is, east-is, south-is, west-is}
-use Rattle.grid.specs.Marks.{closed}
 use Rattle.grid.proofs.MarkLaws.{closed-past}
 use Rattle.ledger.specs.Runs.{Plan}
 use Rattle.ledger.specs.Flows.{Leaves, fourSides, shut, gone, sent, came, offSide, offSquare, offGrid}
@@ -70,11 +69,12 @@ module _ (p : Plan) (out : Leaves) (i : ℕ) (off : onRim (p .shape) i ≡ false
 
 -- ---- sums of words
 
+-- the largest word, and the most that the four sides of a square have together
 abbrev pub word : ℕ
 word = 4294967295
 
 abbrev pub fourWords : ℕ
-fourWords = 17179869180
+fourWords = sides * word
 
 four-small : (f : ℕ → ℕ) → ((side : ℕ) → f side ≤ word) → fourSides f ≤ fourWords
 four-small f h = omega (arith, h north, h east, h south, h west)
@@ -91,10 +91,6 @@ module _ (rec : List ℕ) (words : (k : ℕ) → getD rec k 0 < 4294967296) wher
   pub gone-small : (i : ℕ) → gone (leavesIn rec) i ≤ fourWords
   unfolding gone
   gone-small i = four-small (leavesIn rec i) (leaving-small i)
-
-  -- what a square sent, nothing where it is closed
-  pub from-small : (marks : List ℕ) (i side : ℕ) → pick (closed marks i) 0 (leavesIn rec i side) ≤ word
-  from-small marks i side = pick-both (λ (k : ℕ). k ≤ word) _ (omega arith) (leaving-small i side)
 
   module _ (p : Plan) where
     pub sent-small : (i side : ℕ) → sent p (leavesIn rec) i side ≤ word
@@ -116,7 +112,6 @@ module _ (rec : List ℕ) (words : (k : ℕ) → getD rec k 0 < 4294967296) wher
     pub off-sum-small : (n : ℕ) → sumBelow n (offSquare p (leavesIn rec)) ≤ n * fourWords
     off-sum-small n = sum-le n fourWords (offSquare p (leavesIn rec)) (λ i l. off-small i)
 
-    -- 4,096 squares of four words each
-    pub off-grid-small : FineShape (p .shape) → offGrid p (leavesIn rec) ≤ 70368744161280
+    pub off-grid-small : ShapeInRange (p .shape) → offGrid p (leavesIn rec) ≤ mostSquares * fourWords
     unfolding offGrid
     off-grid-small f = omega (arith, off-sum-small (squares (p .shape)), mul-le-mul-right fourWords (f .few))

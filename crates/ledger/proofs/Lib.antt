@@ -1,5 +1,6 @@
 pub mod BackLaws
 pub mod Bridge
+pub mod CheckLaws
 pub mod EngineLaws
 pub mod FlowLaws
 pub mod ReadBack

@@ -6,21 +6,25 @@ use mathlib.Core.List.{List, [], _∷_}
 use Prim.Native.Nat.{ℕ, zero, suc, _+_, _*_, _<_}
 use native.Mathlib.Omega.{arith}
 use lib.Dec.{leb}
-use lib.ListN.{length, getD}
+use lib.ListN.{length, getD, getD-replicate}
 use lib.Seq.{getD-append-add}
 use Rattle.reckon.specs.Tests.{_unless_, refusal}
 use Rattle.reckon.specs.Lists.{joined}
 use Rattle.reckon.specs.Ranges.{mostDepth, lastClock, mostOutflow}
 use Rattle.reckon.proofs.TestLaws.{pick-true, pick-false, pick-both, all-ext, refusal-later}
 use Rattle.reckon.proofs.ListLaws.{filled-ext, length-joined, getD-joined, sum-ext}
-use Rattle.grid.specs.Squares.{sides, squares, beside, opposite}
+use Rattle.grid.specs.Squares.{north, east, south, west, sides, squares, beside, opposite}
 use Rattle.grid.proofs.SquareLaws.{opposite-small}
 use Rattle.grid.proofs.MarkLaws.{marked, unless-closed}
 use Rattle.ledger.specs.Runs.{Plan, World}
-use Rattle.ledger.specs.Flows.{Leaves, shut, gone, sent, came, offSide, offSquare, offGrid}
+use Rattle.ledger.specs.Flows.{Leaves, fourSides, shut, gone, sent, came, offSide, offSquare, offGrid}
 use Rattle.ledger.specs.Record.{squareWords, lastWord, addedWord, recordSize, heldIn, lastedIn, wordPlace, leavesIn, lastIn, addedIn, squareRecord, recordOf}
-use Rattle.ledger.specs.After.{Moves, remains, newDepth, depthsFit, newOutflow, lateRows, stepRecord, worldAfter}
-use Rattle.ledger.specs.Settle.{movesIn, settleRows, settleNumber, written}
+use Rattle.ledger.specs.After.{Moves, remains, newDepth, depthsFit, newOutflow, lateRefusals, stepRecord, worldAfter, worldWith}
+use Rattle.ledger.specs.inner.Settle.{movesIn, settleRefusals, settleNumber}
+
+-- what is the same of each side is the same of the four
+four-same : {f g : ℕ → ℕ} → ((side : ℕ) → side < sides → f side ≡ g side) → fourSides f ≡ fourSides g
+four-same h = rw (h north (omega arith), h east (omega arith), h south (omega arith), h west (omega arith))
 
 -- ---- the words of a record
 
@@ -54,20 +58,12 @@ module _ (p : Plan) (held lasted : ℕ) (out : Leaves) (last added : ℕ → ℕ
     -- "A closed square gets six zeros"
     pub closed-read : shut p i ≡ true → (word : ℕ) → word < squareWords → getD rec (wordPlace i word) 0 ≡ 0
     unfolding squareRecord
-    closed-read e word h = word-read word h ∙ (ap (λ (l : List ℕ). getD l word 0) (pick-true _ _ e) ∙ zeros word h)
-      where
-        zeros : (word : ℕ) → word < squareWords → getD {A = ℕ} (0 ∷ 0 ∷ 0 ∷ 0 ∷ 0 ∷ 0 ∷ []) word 0 ≡ 0
-        zeros zero h = refl
-        zeros (suc zero) h = refl
-        zeros (suc (suc zero)) h = refl
-        zeros (suc (suc (suc zero))) h = refl
-        zeros (suc (suc (suc (suc zero)))) h = refl
-        zeros (suc (suc (suc (suc (suc zero))))) h = refl
-        zeros (suc (suc (suc (suc (suc (suc _)))))) h = absurd (omega arith)
+    closed-read e word h =
+        word-read word h ∙ (ap (λ (l : List ℕ). getD l word 0) (pick-true _ _ e) ∙ getD-replicate squareWords word 0 0 h)
 
     module _ (not-closed : shut p i ≡ false) where
       abbrev words : List ℕ
-      words = out i 0 ∷ out i 1 ∷ out i 2 ∷ out i 3 ∷ last i ∷ added i ∷ []
+      words = out i north ∷ out i east ∷ out i south ∷ out i west ∷ last i ∷ added i ∷ []
 
       open-read : (word : ℕ) → word < squareWords → getD rec (wordPlace i word) 0 ≡ getD words word 0
       unfolding squareRecord
@@ -94,8 +90,7 @@ module _ (p : Plan) (held lasted : ℕ) (out : Leaves) (last added : ℕ → ℕ
 
       pub gone-read : gone (leavesIn rec) i ≡ gone out i
       unfolding gone
-      gone-read =
-          rw (leaves-read 0 (omega arith), leaves-read 1 (omega arith), leaves-read 2 (omega arith), leaves-read 3 (omega arith))
+      gone-read = four-same leaves-read
 
   -- what squares not closed sent off the grid: closed ones are not asked
   off-side-read : (i : ℕ) → i < squares (p .shape) → shut p i ≡ false → (side : ℕ) → side < sides →
@@ -107,9 +102,7 @@ module _ (p : Plan) (held lasted : ℕ) (out : Leaves) (last added : ℕ → ℕ
   unfolding offSquare
   off-square-read i inside =
       unless-closed (p .marks) i 0
-      (λ e.
-      let same = off-side-read i inside e in
-      rw (same 0 (omega arith), same 1 (omega arith), same 2 (omega arith), same 3 (omega arith)))
+      (λ e. four-same (off-side-read i inside e))
 
   pub off-read : offGrid p (leavesIn rec) ≡ offGrid p out
   unfolding offGrid
@@ -125,7 +118,7 @@ module _ (p : Plan) (held lasted : ℕ) (out : Leaves) (last added : ℕ → ℕ
 
     pub came-read : (i : ℕ) → came p (leavesIn rec) i ≡ came p out i
     unfolding came
-    came-read i = rw (sent-read i 0, sent-read i 1, sent-read i 2, sent-read i 3)
+    came-read i = four-same (λ side h. sent-read i side)
 
 -- ---- the record of a step
 
@@ -135,36 +128,36 @@ module _ (p : Plan) (m : Moves) (w : World) where
 
   pub step-long : length (stepRecord p m w) ≡ recordSize p
   unfolding stepRecord
-  step-long = record-long p (w .run .length) (m .lasts) (m .leaves) lastBefore (m .added)
+  step-long = record-long p (w .run .length) (m .duration) (m .leaves) lastBefore (m .added)
 
   pub step-held : heldIn (stepRecord p m w) ≡ w .run .length
   unfolding stepRecord
-  step-held = held-read p (w .run .length) (m .lasts) (m .leaves) lastBefore (m .added)
+  step-held = held-read p (w .run .length) (m .duration) (m .leaves) lastBefore (m .added)
 
-  pub step-lasted : lastedIn (stepRecord p m w) ≡ m .lasts
+  pub step-lasted : lastedIn (stepRecord p m w) ≡ m .duration
   unfolding stepRecord
-  step-lasted = lasted-read p (w .run .length) (m .lasts) (m .leaves) lastBefore (m .added)
+  step-lasted = lasted-read p (w .run .length) (m .duration) (m .leaves) lastBefore (m .added)
 
   pub step-off : offGrid p (leavesIn (stepRecord p m w)) ≡ offGrid p (m .leaves)
   unfolding stepRecord
-  step-off = off-read p (w .run .length) (m .lasts) (m .leaves) lastBefore (m .added)
+  step-off = off-read p (w .run .length) (m .duration) (m .leaves) lastBefore (m .added)
 
   pub step-came : length (p .marks) ≡ squares (p .shape) → (i : ℕ) → came p (leavesIn (stepRecord p m w)) i ≡ came p (m .leaves) i
   unfolding stepRecord
-  step-came marks-long i = came-read p (w .run .length) (m .lasts) (m .leaves) lastBefore (m .added) marks-long i
+  step-came marks-long i = came-read p (w .run .length) (m .duration) (m .leaves) lastBefore (m .added) marks-long i
 
   module _ (i : ℕ) (inside : i < squares (p .shape)) (not-closed : shut p i ≡ false) where
     pub step-gone : gone (leavesIn (stepRecord p m w)) i ≡ gone (m .leaves) i
     unfolding stepRecord
-    step-gone = gone-read p (w .run .length) (m .lasts) (m .leaves) lastBefore (m .added) i inside not-closed
+    step-gone = gone-read p (w .run .length) (m .duration) (m .leaves) lastBefore (m .added) i inside not-closed
 
     pub step-last : lastIn (stepRecord p m w) i ≡ getD (w .lasts) i 0
     unfolding stepRecord
-    step-last = last-read p (w .run .length) (m .lasts) (m .leaves) lastBefore (m .added) i inside not-closed
+    step-last = last-read p (w .run .length) (m .duration) (m .leaves) lastBefore (m .added) i inside not-closed
 
     pub step-added : addedIn (stepRecord p m w) i ≡ m .added i
     unfolding stepRecord
-    step-added = added-read p (w .run .length) (m .lasts) (m .leaves) lastBefore (m .added) i inside not-closed
+    step-added = added-read p (w .run .length) (m .duration) (m .leaves) lastBefore (m .added) i inside not-closed
 
 -- ---- a step settled by its record
 
@@ -190,16 +183,16 @@ module _ (p : Plan) (m : Moves) (w : World) (marks-long : length (p .marks) ≡ 
       at i inside false e = rw (depth-read i inside e)
 
   -- the world that its record writes is the world after the step
-  pub settled-is : written p (stepRecord p m w) (m .length) w ≡ worldAfter p m w
-  unfolding written worldAfter
+  pub settled-is : worldWith p moved w (stepRecord p m w) ≡ worldAfter p m w
+  unfolding worldAfter
   settled-is =
       let depths = filled-ext (squares (p .shape)) (shut p) (newDepth p moved w) (newDepth p m w) (w .depths) depth-read in
       let lasts = filled-ext (squares (p .shape)) (shut p) (gone (moved .leaves)) (gone (m .leaves)) (w .lasts) (step-gone p m w) in
       rw (depths, lasts, outflow-read, step-lasted p m w)
 
   -- what is refused where 7 is not: 8 or 9, by the record
-  pub late-settled : leb (w .run .clock + m .lasts) lastClock ≡ true → refusal (lateRows p m w) ≡ settleNumber p (stepRecord p m w) (m .length) w
-  unfolding lateRows settleNumber settleRows
+  pub late-settled : leb (w .run .clock + m .duration) lastClock ≡ true → refusal (lateRefusals p m w) ≡ settleNumber p (stepRecord p m w) (m .length) w
+  unfolding lateRefusals settleNumber settleRefusals
   late-settled e =
       let same : refusal (8 unless depthsFit p m w ∷ 9 unless leb (newOutflow p m w) mostOutflow ∷ []) ≡ settleNumber p (stepRecord p m w) (m .length) w
       = rw (fit-read, outflow-read) in

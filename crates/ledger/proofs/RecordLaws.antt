@@ -1,13 +1,12 @@
--- Laws of a record that is written: words stored one after the other are placed, and squares written from the first on make a record.
+-- Laws of a record that is written: squares written from the first on make a record.
 -- Assumes nothing.
 use mathlib.Core.Path.{_≡_, refl, sym, ap, _∙_, subst}
 use mathlib.Core.Bool.{true, false}
 use mathlib.Core.List.{List, [], _∷_, _++_, append-assoc}
-use Prim.Native.Nat.{ℕ, suc, _+_, _-_, _≤_, _<_}
+use Prim.Native.Nat.{ℕ, _+_, _-_, _≤_, _<_}
 use native.Mathlib.Omega.{arith}
-use lib.ListN.{length, getD, set, take, drop, length-append, length-drop}
-use lib.Seq.{sets, sets-eq, drop-drop, take-at, take-all, length-take-le}
-use borrow.Rule.Slice.PartMut.{putMid}
+use lib.ListN.{length, getD, take, drop, length-append, length-drop}
+use lib.Seq.{take-at, take-all, length-take-le}
 use Rattle.reckon.specs.Lists.{joined, placed}
 use Rattle.reckon.proofs.TestLaws.{pick-true, pick-false}
 use Rattle.reckon.proofs.ListLaws.{joined-none, joined-more, length-placed}
@@ -16,35 +15,12 @@ use Rattle.trials.proofs.RingLaws.{slot-within}
 use Rattle.grid.specs.Squares.{north, east, south, west, sides, squares}
 use Rattle.ledger.specs.Runs.{Plan}
 use Rattle.ledger.specs.Flows.{Leaves, shut}
-use Rattle.ledger.specs.Record.{squareWords, recordSize, wordPlace, squareRecord, recordOf, roomSlots, HeadPut, SquarePut, ClosedPut}
+use Rattle.ledger.specs.Record.{headWords, squareWords, recordSize, wordPlace, squareRecord, recordOf, roomSlots, HeadPut, SquarePut, ClosedPut}
 
--- ---- words stored
-
-pub stored-placed : (l : List ℕ) (a : ℕ) (v : List ℕ) → a + length v ≤ length l → sets l a v ≡ placed l a v
-unfolding placed
-stored-placed l a v h =
-    sets-eq v l a h
-    ∙ (append-assoc (take a l) v (drop (a + length v) l) ∙ ap (λ (r : List ℕ). take a l ++ (v ++ r)) (sym (drop-drop (length v) a l)))
-
--- six stores, as the code makes them
-pub six-placed :
-    (l : List ℕ) (a n e s w p d : ℕ) → a + squareWords ≤ length l →
-    set (set (set (set (set (set l a n) (a + 1) e) (a + 2) s) (a + 3) w) (a + 4) p) (a + 5) d ≡ placed l a (n ∷ e ∷ s ∷ w ∷ p ∷ d ∷ [])
-six-placed l a n e s w p d h =
-    let e1 : a + 1 ≡ suc a = omega arith in
-    let e2 : a + 2 ≡ suc (suc a) = omega arith in
-    let e3 : a + 3 ≡ suc (suc (suc a)) = omega arith in
-    let e4 : a + 4 ≡ suc (suc (suc (suc a))) = omega arith in
-    let e5 : a + 5 ≡ suc (suc (suc (suc (suc a)))) = omega arith in
-    rw (e1, e2, e3, e4, e5) (stored-placed l a (n ∷ e ∷ s ∷ w ∷ p ∷ d ∷ []) h)
+-- ---- words placed
 
 pub placed-at : (l : List ℕ) {a b : ℕ} (v : List ℕ) → a ≡ b → placed l a v ≡ placed l b v
 placed-at l v e = ap (λ (k : ℕ). placed l k v) e
-
--- a part that was lent and has come back
-pub placed-back : (a k : ℕ) (l : List ℕ) {ys new : List ℕ} → ys ≡ new → length new ≡ k → putMid a k l ys ≡ placed l a new
-unfolding placed
-placed-back a k l e h = rw (e, ← h)
 
 pub part-long : (a k : ℕ) (l : List ℕ) → a + k ≤ length l → length (take (a + k - a) (drop a l)) ≡ k
 part-long a k l h =
@@ -74,7 +50,7 @@ module _ {p : Plan} {held lasted : ℕ} {out : Leaves} {last added : ℕ → ℕ
       record {
         long = ap length e ∙ (length-placed old 0 (held ∷ lasted ∷ []) fits ∙ l);
         so-far =
-            ap (take 2) e
+            ap (take headWords) e
             ∙ (take-placed old 0 (held ∷ lasted ∷ []) fits
             ∙ ap (λ (r : List ℕ). held ∷ lasted ∷ r) (sym (joined-none (squareRecord p out last added))));
       }

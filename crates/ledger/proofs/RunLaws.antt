@@ -11,7 +11,7 @@ use Rattle.reckon.specs.Ranges.{mostLength, lastClock, mostOutflow}
 use Rattle.reckon.proofs.TestLaws.{Each, every-each, and-true}
 use Rattle.trials.specs.Ring.{ringFine}
 use Rattle.trials.proofs.RingLaws.{Ring, fine-ring}
-use Rattle.ledger.specs.Runs.{runFine, answered}
+use Rattle.ledger.specs.Runs.{runValuesFine, runFine, answered}
 use Rattle.ledger.specs.declared.runs.Run.{Run}
 use Rattle.ledger.specs.declared.runs.Answer.the-variants.{Done, Refused}
 
@@ -23,13 +23,13 @@ every-decides (a ∷ bs) b h = rw (h .0) (every-decides bs b (h .1))
 pub outflow-decides :
     (K : ℕ) (u : Run) → ringFine K (u .kept) (u .newest) ≡ true → u .clock ≤ lastClock → 1 ≤ u .length → u .length ≤ mostLength →
     leb (u .outflow) mostOutflow ≡ runFine K u
-unfolding runFine
+unfolding runFine runValuesFine
 outflow-decides K u r a b c =
     every-decides (ringFine K (u .kept) (u .newest) ∷ leb (u .clock) lastClock ∷ leb 1 (u .length) ∷ leb (u .length) mostLength ∷ [])
     (leb (u .outflow) mostOutflow) (r, (le-leb _ _ a, (le-leb _ _ b, (le-leb _ _ c, tt))))
 
 pub run-ring : (K : ℕ) (u : Run) → runFine K u ≡ true → Ring K (u .kept) (u .newest)
-unfolding runFine
+unfolding runFine runValuesFine
 run-ring K u e = fine-ring K (u .kept) (u .newest) (every-each _ e .0)
 
 -- ---- answers

@@ -19,8 +19,8 @@ use Rattle.grid.specs.Squares.{squares}
 use Rattle.ledger.specs.Runs.{Plan, World, world, ofDepths}
 use Rattle.ledger.specs.Flows.{shut, gone, offSquare, offGrid}
 use Rattle.ledger.specs.Record.{recordSize, lastedIn, leavesIn, roomSlots, Recorded}
-use Rattle.ledger.specs.After.{remains, newDepth, depthsFit, newOutflow}
-use Rattle.ledger.specs.Settle.{movesIn, settleRows, settleNumber, written, settled, Settles, SettlesTo, depthBy, depthsBy, Gathers, GatheredOne, GatheredAll, SmallLeaving}
+use Rattle.ledger.specs.After.{remains, newDepth, depthsFit, newOutflow, worldWith}
+use Rattle.ledger.specs.inner.Settle.{movesIn, settleRefusals, settleNumber, settled, Settles, SettlesTo, depthBy, depthsBy, Gathers, GatheredOne, GatheredAll, SmallLeaving}
 use Rattle.ledger.proofs.RecordLaws.{slots-of, slot-fits}
 use Rattle.ledger.proofs.WalkLaws.{nothing, copied, walked-unfit, walked-fit}
 
@@ -98,21 +98,21 @@ module _ (p : Plan) (rec : List ℕ) (held : ℕ) (w : World) where
   as-it-was d e = record { number = sym e; world-is = sym (pick-false _ _ (ne-eqb (settleNumber p rec held w) 0 (λ z. d (sym e ∙ z)))) }
 
   pub settles-deep : depthsFit p (movesIn rec 0) (ofDepths (w .depths)) ≡ false → SettlesTo p rec held w 8 w
-  unfolding settleNumber settleRows
+  unfolding settleNumber settleRefusals
   settles-deep e = as-it-was (λ z. omega arith) (refusal-here 8 _ (fit-is ∙ e))
 
   module _ (e : depthsFit p (movesIn rec 0) (ofDepths (w .depths)) ≡ true) {o : ℕ} (f : o ≡ newOutflow p (movesIn rec held) w) where
     pub settles-over : mostOutflow < o → SettlesTo p rec held w 9 w
-    unfolding settleNumber settleRows
+    unfolding settleNumber settleRefusals
     settles-over h =
         as-it-was (λ z. omega arith)
         (refusal-later 8 _ (fit-is ∙ e) ∙ refusal-here 9 _ (lt-leb (newOutflow p (movesIn rec held) w) mostOutflow (omega arith)))
 
-    pub settles-written : {after : World} → o ≤ mostOutflow → after ≡ written p rec held w → SettlesTo p rec held w 0 after
-    unfolding settleNumber settleRows settled
+    pub settles-written : {after : World} → o ≤ mostOutflow → after ≡ worldWith p (movesIn rec held) w rec → SettlesTo p rec held w 0 after
+    unfolding settleNumber settleRefusals settled
     settles-written h q =
         let z : settleNumber p rec held w ≡ 0 =
-        passed-refusal (settleRows p rec held w) (fit-is ∙ e, (le-leb (newOutflow p (movesIn rec held) w) mostOutflow (omega arith), tt)) in
+        passed-refusal (settleRefusals p rec held w) (fit-is ∙ e, (le-leb (newOutflow p (movesIn rec held) w) mostOutflow (omega arith), tt)) in
         record { number = sym z; world-is = q ∙ sym (pick-true _ _ (eq-eqb _ 0 z)) }
 
   pub outflow-by : {off : ℕ} → off ≡ offGrid p (leavesIn rec) → w .run .outflow + off ≡ newOutflow p (movesIn rec held) w
@@ -125,8 +125,8 @@ module _ (p : Plan) (rec : List ℕ) (held : ℕ) (w : World) where
       d ≡ depthsBy p rec (w .depths) → l ≡ filled (squares (p .shape)) (shut p) (gone (leavesIn rec)) (w .lasts) →
       at ≡ slotStart (recordSize p) slot → r ≡ placed (w .records) at rec →
       clock ≡ w .run .clock + lastedIn rec → outflow ≡ newOutflow p (movesIn rec held) w → kept ≡ keptAfter slots (w .run .kept) →
-      world d l r (record { clock = clock; length = held; outflow = outflow; kept = kept; newest = slot }) ≡ written p rec held w
-  unfolding written newDepth remains
+      world d l r (record { clock = clock; length = held; outflow = outflow; kept = kept; newest = slot }) ≡ worldWith p (movesIn rec held) w rec
+  unfolding newDepth remains
   written-is s t d l a r c o k = rw (d, l, r, a, c, o, k, t, s)
 
 -- the slot that is written lies in the room

@@ -13,11 +13,12 @@ use Rattle.reckon.specs.Lists.{filled, sumBelow}
 use Rattle.reckon.proofs.TestLaws.{not-both, pick-true, pick-false}
 use Rattle.reckon.proofs.ListLaws.{length-filled, filled-in, filled-store, filled-keep, sum-whole}
 use Rattle.grid.specs.declared.squares.Shape.{Shape}
-use Rattle.grid.specs.Squares.{squares, FineShape, Stands, NextColumn}
+use Rattle.grid.specs.Squares.{squares, ShapeInRange, OnSquare, NextColumn}
 use Rattle.grid.proofs.SquareLaws.{carried, column-within}
 use Rattle.ledger.specs.Runs.{Plan}
 use Rattle.ledger.specs.Flows.{offSquare, offGrid}
-use Rattle.ledger.specs.Record.{leavesIn, Walked}
+use Rattle.ledger.specs.Record.{leavesIn}
+use Rattle.ledger.specs.inner.Walks.{Walked}
 
 -- ---- where a walk stands
 
@@ -31,10 +32,10 @@ module _ (s : Shape) where
   walk-none e = record { whole = e; so-far = omega arith; column-is = sym (zero-mod (s .columns)) }
 
   module _ {n square column : ℕ} (w : Walk s n square column) where
-    pub walk-stands : FineShape s → square < n → Stands s square column
+    pub walk-stands : ShapeInRange s → square < n → OnSquare s square column
     walk-stands f h = record { fine = f; inside = omega (arith, w .whole); column-is = w .column-is }
 
-    pub walk-column : FineShape s → column < s .columns
+    pub walk-column : ShapeInRange s → column < s .columns
     walk-column f = column-within s square (f .columns-low) (w .column-is)
 
     pub walk-next : {next : ℕ} → square < n → NextColumn s column next → Walk s n (square + 1) next

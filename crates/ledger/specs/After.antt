@@ -15,13 +15,12 @@ use Rattle.grid.specs.Squares.{squares}
 use Rattle.ledger.specs.Runs.{Plan, World}
 use Rattle.ledger.specs.Flows.{Leaves, shut, gone, came, offGrid}
 use Rattle.ledger.specs.Record.{recordSize, roomSlots, recordOf}
-use Rattle.ledger.specs.declared.runs.Run.{Run}
 
 -- What a step moves: the amounts through the sides, what is added to each square, how long it lasts (ms), the length it leaves held.
 pub record Moves : Type 0 where
   pub leaves : Leaves
   pub added : ℕ → ℕ
-  pub lasts : ℕ
+  pub duration : ℕ
   pub length : ℕ
 
 module _ (p : Plan) (m : Moves) (w : World) where
@@ -42,30 +41,34 @@ module _ (p : Plan) (m : Moves) (w : World) where
   newOutflow = w .run .outflow + offGrid p (m .leaves)
 
   -- refusals 7, 8 and 9, in the table's order
-  unfoldable pub lateRows : List Row
-  lateRows =
-      7 unless leb (w .run .clock + m .lasts) lastClock
+  unfoldable pub lateRefusals : List Row
+  lateRefusals =
+      7 unless leb (w .run .clock + m .duration) lastClock
       ∷ 8 unless depthsFit
       ∷ 9 unless leb newOutflow mostOutflow
       ∷ []
 
   -- "length held before the step, how long the step lasted, then for each square .."
   unfoldable pub stepRecord : List ℕ
-  stepRecord = recordOf p (w .run .length) (m .lasts) (m .leaves) (λ i. getD (w .lasts) i 0) (m .added)
+  stepRecord = recordOf p (w .run .length) (m .duration) (m .leaves) (λ i. getD (w .lasts) i 0) (m .added)
 
-  -- "P is then the sum of the four"; "A step writes the slot after the newest .. and kept rises by one up to K"
-  unfoldable pub worldAfter : World
-  worldAfter =
+  -- "P is then the sum of the four"; "A step writes the slot after the newest .. and kept rises by one up to K": with a record as written
+  abbrev pub worldWith : List ℕ → World
+  worldWith rec =
       record {
         depths = filled (squares (p .shape)) (shut p) newDepth (w .depths);
         lasts = filled (squares (p .shape)) (shut p) (gone (m .leaves)) (w .lasts);
-        records = storedIn (recordSize p) (w .records) (slotAfter (roomSlots p (w .records)) (w .run .newest)) stepRecord;
+        records = storedIn (recordSize p) (w .records) (slotAfter (roomSlots p (w .records)) (w .run .newest)) rec;
         run =
             record {
-              clock = w .run .clock + m .lasts;
+              clock = w .run .clock + m .duration;
               length = m .length;
               outflow = newOutflow;
               kept = keptAfter (roomSlots p (w .records)) (w .run .kept);
               newest = slotAfter (roomSlots p (w .records)) (w .run .newest);
             };
       }
+
+  -- the world after the step: with the step's own record
+  unfoldable pub worldAfter : World
+  worldAfter = worldWith stepRecord

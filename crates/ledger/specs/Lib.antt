@@ -1,8 +1,8 @@
 pub mod After
-pub mod Engine
+pub mod Checks
 pub mod Flows
+pub mod inner
 pub mod Record
 pub mod Runs
-pub mod Settle
 pub mod TakeBack
 pub mod Walls

@@ -1,19 +1,19 @@
 -- Document 01, "The record": its words, by name.
 -- Assumes nothing.
 use mathlib.Core.Path.{_≡_}
-use mathlib.Core.Bool.{Bool, true}
+use mathlib.Core.Bool.{Bool}
 use mathlib.Core.List.{List, [], _∷_}
 use Prim.Native.Nat.{ℕ, _+_, _*_}
-use lib.ListN.{length, getD}
+use lib.ListN.{length, getD, replicate}
 use Rattle.reckon.specs.Tests.{pick}
 use Rattle.reckon.specs.Lists.{joined, placed}
-use Rattle.trials.specs.Ring.{slotsIn}
+use Rattle.trials.specs.Ring.{slotsIn, ringFine}
 use Rattle.trials.specs.Room.{recordIn}
 use Rattle.grid.specs.declared.squares.Shape.{Shape}
-use Rattle.grid.specs.Squares.{north, east, south, west, squares, FineShape}
+use Rattle.grid.specs.Squares.{north, east, south, west, mostSquares, squares, ShapeInRange}
+use Rattle.grid.specs.Squares.{north, east, south, west, squares, mostSquares, ShapeInRange}
 use Rattle.ledger.specs.Runs.{Plan, World, plan}
-use Rattle.ledger.specs.Flows.{Leaves, shut, gone, sent, came, offSquare, offGrid}
-use Rattle.ledger.specs.declared.record.Found.{Found}
+use Rattle.ledger.specs.Flows.{Leaves, shut, gone, sent, came, offSquare}
 
 -- "One record is 2 + 6·squares numbers": the words before the squares, and those of a square
 abbrev pub headWords : ℕ
@@ -31,6 +31,10 @@ addedWord = 5
 
 abbrev pub recordSize : Plan → ℕ
 recordSize p = headWords + squareWords * squares (p .shape)
+
+-- the largest record: that of the most squares
+abbrev pub mostRecord : ℕ
+mostRecord = headWords + squareWords * mostSquares
 
 -- ---- a record read
 
@@ -59,7 +63,7 @@ addedIn rec i = getD rec (wordPlace i addedWord) 0
 -- "A closed square gets six zeros"
 unfoldable pub squareRecord : Plan → Leaves → (ℕ → ℕ) → (ℕ → ℕ) → ℕ → List ℕ
 squareRecord p out last added i =
-    pick (shut p i) (0 ∷ 0 ∷ 0 ∷ 0 ∷ 0 ∷ 0 ∷ []) (out i north ∷ out i east ∷ out i south ∷ out i west ∷ last i ∷ added i ∷ [])
+    pick (shut p i) (replicate squareWords 0) (out i north ∷ out i east ∷ out i south ∷ out i west ∷ last i ∷ added i ∷ [])
 
 unfoldable pub recordOf : Plan → ℕ → ℕ → Leaves → (ℕ → ℕ) → (ℕ → ℕ) → List ℕ
 recordOf p held lasted out last added = held ∷ lasted ∷ joined (squares (p .shape)) (squareRecord p out last added)
@@ -70,6 +74,10 @@ recordOf p held lasted out last added = held ∷ lasted ∷ joined (squares (p .
 unfoldable pub roomSlots : Plan → List ℕ → ℕ
 roomSlots p records = slotsIn (recordSize p) (length records)
 
+-- whether K, kept and newest of a world are in range
+abbrev pub ringOf : Plan → World → Bool
+ringOf p w = ringFine (roomSlots p (w .records)) (w .run .kept) (w .run .newest)
+
 -- the newest record
 unfoldable pub newestRecord : Plan → World → List ℕ
 newestRecord p w = recordIn (recordSize p) (w .records) (w .run .newest)
@@ -78,7 +86,7 @@ newestRecord p w = recordIn (recordSize p) (w .records) (w .run .newest)
 
 -- a record of a plan, each of its size
 pub record Recorded (p : Plan) (rec : List ℕ) : Type 0 where
-  pub fine : FineShape (p .shape)
+  pub fine : ShapeInRange (p .shape)
   pub marks-long : length (p .marks) ≡ squares (p .shape)
   pub record-long : length rec ≡ recordSize p
 
@@ -122,10 +130,4 @@ SquarePut old i leaves last added new =
     placed old (wordPlace i north) (getD leaves north 0 ∷ getD leaves east 0 ∷ getD leaves south 0 ∷ getD leaves west 0 ∷ last ∷ added ∷ [])
 
 abbrev pub ClosedPut : List ℕ → ℕ → List ℕ → Type 0
-ClosedPut old i new = new ≡ placed old (wordPlace i north) (0 ∷ 0 ∷ 0 ∷ 0 ∷ 0 ∷ 0 ∷ [])
-
--- ---- what a walk over the squares finds: whether a test holds, and if so what left the grid
-
-pub record Walked (p : Plan) (rec : List ℕ) (test : Bool) (r : Found) : Type 0 where
-  pub fits-is : r .fits ≡ test
-  pub off-is : r .fits ≡ true → r .off ≡ offGrid p (leavesIn rec)
+ClosedPut old i new = new ≡ placed old (wordPlace i north) (replicate squareWords 0)

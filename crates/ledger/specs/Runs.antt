@@ -1,4 +1,5 @@
--- Document 01, "Units and ranges": the plan of a grid, the world that calls change, the run value, and the answer that gives one.
+-- Document 01, "Units and ranges": the plan of a grid, the world that calls change, what is seen of it, the run
+-- value, and the answer that gives one.
 -- Assumes nothing.
 use mathlib.Core.Path.{_≡_}
 use mathlib.Core.Bool.{Bool}
@@ -35,16 +36,25 @@ world d p r u = record { depths = d; lasts = p; records = r; run = u }
 abbrev pub ofDepths : List ℕ → World
 ofDepths d = world d [] [] (record { clock = 0; length = 0; outflow = 0; kept = 0; newest = 0 })
 
--- refusal 6: "K = 0, or a run value out of range"
+-- demand 3: "depths, the total last to leave each square, clock, step length and outflow"
+pub record Seen : Type 0 where
+  pub depths : List ℕ
+  pub lasts : List ℕ
+  pub clock : ℕ
+  pub length : ℕ
+  pub outflow : ℕ
+
+abbrev pub seenOf : World → Seen
+seenOf w = record { depths = w .depths; lasts = w .lasts; clock = w .run .clock; length = w .run .length; outflow = w .run .outflow }
+
+-- refusal 6: "K = 0, or a run value out of range": whether K, kept and newest are in range, then clock, length and outflow
+unfoldable pub runValuesFine : Bool → ℕ → ℕ → ℕ → Bool
+runValuesFine ring clock length outflow =
+    every (ring ∷ leb clock lastClock ∷ leb 1 length ∷ leb length mostLength ∷ leb outflow mostOutflow ∷ [])
+
+-- the same of a run value and K
 unfoldable pub runFine : ℕ → Run → Bool
-runFine K u =
-    every
-    (ringFine K (u .kept) (u .newest)
-    ∷ leb (u .clock) lastClock
-    ∷ leb 1 (u .length)
-    ∷ leb (u .length) mostLength
-    ∷ leb (u .outflow) mostOutflow
-    ∷ [])
+runFine K u = runValuesFine (ringFine K (u .kept) (u .newest)) (u .clock) (u .length) (u .outflow)
 
 -- Refusal's number and run value as an answer: 0 is no refusal, so that a refusal is never taken for a run.
 unfoldable pub answered : ℕ → Run → Answer
@@ -53,5 +63,5 @@ answered (suc n) u = Refused (suc n)
 
 -- ---- what the public function gives
 
-abbrev pub RunFine : ℕ → Run → Bool → Type 0
-RunFine K u r = r ≡ runFine K u
+abbrev pub RunJudged : ℕ → Run → Bool → Type 0
+RunJudged K u r = r ≡ runFine K u

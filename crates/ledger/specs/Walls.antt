@@ -4,10 +4,12 @@ use mathlib.Core.Path.{_≡_}
 use mathlib.Core.Bool.{true, false}
 use Prim.Native.Nat.{ℕ, _<_}
 use lib.ListN.{getD}
+use Rattle.reckon.specs.Tests.{pick}
+use Rattle.reckon.specs.Lists.{sumBelow}
 use Rattle.grid.specs.Squares.{sides, squares, within, beside, opposite}
 use Rattle.grid.specs.Marks.{exit}
 use Rattle.ledger.specs.Runs.{Plan, World}
-use Rattle.ledger.specs.Flows.{Leaves, shut, sent, offSide}
+use Rattle.ledger.specs.Flows.{Leaves, fourSides, shut, sent, offSide}
 
 pub record Walled (p : Plan) (out : Leaves) : Type 0 where
   -- a closed square "sent nothing"
@@ -19,14 +21,24 @@ pub record Walled (p : Plan) (out : Leaves) : Type 0 where
   pub rimmed : (i side : ℕ) → i < squares (p .shape) → side < sides → within (p .shape) (beside (p .shape) i side) ≡ false →
       exit (p .marks) i ≡ false → out i side ≡ 0
 
--- Where what goes through a side of a square goes to.
-pub data Goes (p : Plan) (out : Leaves) (i side : ℕ) : Type 0 where
-  -- nothing goes
-  stays : out i side ≡ 0 → Goes p out i side
-  -- all of it comes to the neighbour, which is not closed
-  arrives : shut p (beside (p .shape) i side) ≡ false → sent p out (beside (p .shape) i side) (opposite side) ≡ out i side → Goes p out i side
-  -- all of it leaves the grid, and the square is an exit
-  drains : exit (p .marks) i ≡ true → offSide p out i side ≡ out i side → Goes p out i side
+module _ (p : Plan) (out : Leaves) where
+  -- what goes through a side of a square and comes to the neighbour there, which is not closed
+  unfoldable pub reaches : ℕ → ℕ → ℕ
+  reaches i side =
+      pick (within (p .shape) (beside (p .shape) i side))
+      (pick (shut p (beside (p .shape) i side)) 0 (sent p out (beside (p .shape) i side) (opposite side))) 0
+
+  -- what goes through a side of a square, which is an exit, and leaves the grid
+  unfoldable pub drains : ℕ → ℕ → ℕ
+  drains i side = pick (exit (p .marks) i) (offSide p out i side) 0
+
+  -- what the neighbours of a square, closed or not, send through their sides towards it
+  unfoldable pub sentTowards : ℕ → ℕ → ℕ
+  sentTowards i side = pick (within (p .shape) (beside (p .shape) i side)) (out (beside (p .shape) i side) (opposite side)) 0
+
+  -- "walls that no water enters": all that arrives in closed squares
+  unfoldable pub intoWalls : ℕ
+  intoWalls = sumBelow (squares (p .shape)) (λ i. pick (shut p i) (fourSides (sentTowards i)) 0)
 
 -- "What a closed square holds is not altered": depth and last leaving of closed squares are the same in both worlds
 pub record Untouched (p : Plan) (old new : World) : Type 0 where

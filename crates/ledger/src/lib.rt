@@ -2,10 +2,12 @@
 // and its words; the take-back. It does not know the rule that gave the amounts.
 //
 //   runs        Run, Answer; run_fine
-//   record      record_size; a record's words read: held_before, lasted, leaving, last_before, added_by; its amounts: gone_from,
+//   checks      one_each, waters_fine, times_fine
+//   record      MOST_RECORD, record_size; a record's words read: held_before, lasted, leaving, last_before, added_by; its amounts: gone_from,
 //               sent_to, came_to, off_from; its words written: put_head, put_square, put_closed
 //   settle      Settled; settle
-//   take_back   one_each, waters_fine, times_fine, take_back
+//   take_back   take_back
+pub mod checks;
 pub mod record;
 pub mod runs;
 pub mod settle;

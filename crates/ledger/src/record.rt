@@ -1,19 +1,18 @@
 // The record of a step: its words read and written by name, and the amounts that they give. Only this file knows a word's place.
 ghost use mathlib.Core.Path.{_≡_};
 ghost use mathlib.Core.Bool.{false};
-ghost use mathlib.Core.List.{[], _∷_};
-ghost use Prim.Native.Nat.{_+_, _<_, _^_, _≤_};
+ghost use Prim.Native.Nat.{_<_, _^_, _≤_};
 ghost use lib.ListN.{getD, length};
 ghost use Rattle.reckon.specs.Tests.{pick};
-ghost use Rattle.reckon.specs.Lists.{placed};
 ghost use Rattle.reckon.specs.Ranges.{mostLength};
-ghost use Rattle.grid.specs.Squares.{FineShape, Stands, east, north, onRim, sides, south, squares, west};
+ghost use Rattle.grid.specs.Squares.{ShapeInRange, OnSquare, east, north, onRim, sides, south, squares, west};
 ghost use Rattle.grid.specs.Marks.{closed};
 ghost use Rattle.ledger.specs.Runs.{plan};
 ghost use Rattle.ledger.specs.Flows.{offSide};
 ghost use Rattle.ledger.specs.Record.{AddedBy, CameTo, ClosedPut, GoneFrom, HeadPut, HeldBefore, LastBefore, Lasted, Leaving, OffFrom, Recorded, SentTo, SizeOf, SquarePut, addedWord, headWords, lastWord, leavesIn, squareWords, wordPlace};
 use grid::marks::is_closed;
 use grid::squares::EAST;
+use grid::squares::MOST_SQUARES;
 use grid::squares::NORTH;
 use grid::squares::SOUTH;
 use grid::squares::Shape;
@@ -22,16 +21,20 @@ use grid::squares::beside_on;
 use grid::squares::on_rim;
 use grid::squares::opposite_side;
 use grid::squares::squares_of;
+use reckon::copying::copy_into;
 use reckon::numbers::number;
 
 // The words before the squares, and those of a square: its four sides, then these two.
-const HEAD_WORDS: usize = 2;
+pub const HEAD_WORDS: usize = 2;
 
-const SQUARE_WORDS: usize = 6;
+pub const SQUARE_WORDS: usize = 6;
 
 const LAST_WORD: usize = 4;
 
 const ADDED_WORD: usize = 5;
+
+// The words of the largest record: a room for one record is this long.
+pub const MOST_RECORD: usize = HEAD_WORDS + SQUARE_WORDS * MOST_SQUARES;
 
 // What a walk over the squares finds: whether each passes its test, and if so what left the grid.
 pub(crate) struct Found {
@@ -47,7 +50,7 @@ pub(crate) const UNFIT: Found = Found {
 
 // The words of a record.
 pub fn record_size(shape: Shape) -> usize
-    requires { ⌜ FineShape shape ⌝ }
+    requires { ⌜ ShapeInRange shape ⌝ }
     ensures { λ r. ⌜ SizeOf shape r ⌝ }
 {
     HEAD_WORDS + SQUARE_WORDS * squares_of(shape)
@@ -134,7 +137,7 @@ pub fn sent_to(
     side: usize,
 ) -> u64
     requires { ⌜ Recorded (plan shape (now marks)) (now rec) ⌝ }
-    requires { ⌜ Stands shape square column ⌝ }
+    requires { ⌜ OnSquare shape square column ⌝ }
     requires { ⌜ side < sides ⌝ }
     ensures { λ r. ⌜ SentTo (plan shape (now (marks .entry))) (now (rec .entry)) square side r ⌝ }
 {
@@ -162,7 +165,7 @@ pub(crate) fn came_within(shape: Shape, marks: &[u8], rec: &[u32], square: usize
 // What the neighbours sent.
 pub fn came_to(shape: Shape, marks: &[u8], rec: &[u32], square: usize, column: usize) -> u64
     requires { ⌜ Recorded (plan shape (now marks)) (now rec) ⌝ }
-    requires { ⌜ Stands shape square column ⌝ }
+    requires { ⌜ OnSquare shape square column ⌝ }
     ensures { λ r. ⌜ CameTo (plan shape (now (marks .entry))) (now (rec .entry)) square r ⌝ }
 {
     let north = sent_to(shape, marks, rec, square, column, NORTH);
@@ -182,7 +185,7 @@ fn off_side(
     side: usize,
 ) -> u64
     requires { ⌜ Recorded (plan shape (now marks)) (now rec) ⌝ }
-    requires { ⌜ Stands shape square column ⌝ }
+    requires { ⌜ OnSquare shape square column ⌝ }
     requires { ⌜ side < sides ⌝ }
     ensures { λ r. ⌜ r ≡ offSide (plan shape (now (marks .entry))) (leavesIn (now (rec .entry))) square side ⌝ }
 {
@@ -195,7 +198,7 @@ fn off_side(
 // What a square sent off the grid: nothing where it is closed.
 pub fn off_from(shape: Shape, marks: &[u8], rec: &[u32], square: usize, column: usize) -> u64
     requires { ⌜ Recorded (plan shape (now marks)) (now rec) ⌝ }
-    requires { ⌜ Stands shape square column ⌝ }
+    requires { ⌜ OnSquare shape square column ⌝ }
     ensures { λ r. ⌜ OffFrom (plan shape (now (marks .entry))) (now (rec .entry)) square r ⌝ }
 {
     if is_closed(marks, square) {
@@ -209,19 +212,6 @@ pub fn off_from(shape: Shape, marks: &[u8], rec: &[u32], square: usize, column: 
     let south = off_side(shape, marks, rec, square, column, SOUTH);
     let west = off_side(shape, marks, rec, square, column, WEST);
     north + east + south + west
-}
-
-// Stores six words one after the other.
-fn put_six(rec: &mut [u32], at: usize, words: [u32; 6])
-    requires { ⌜ at + squareWords ≤ length (now rec) ⌝ }
-    ensures { λ _. ⌜ now (rec .exit) ≡ placed (now (rec .entry)) at (getD words 0 0 ∷ getD words 1 0 ∷ getD words 2 0 ∷ getD words 3 0 ∷ getD words 4 0 ∷ getD words 5 0 ∷ []) ⌝ }
-{
-    rec[at] = words[0];
-    rec[at + 1] = words[1];
-    rec[at + 2] = words[2];
-    rec[at + 3] = words[3];
-    rec[at + 4] = words[4];
-    rec[at + 5] = words[5];
 }
 
 // Writes the length held before the step, and how long it lasts.
@@ -240,7 +230,7 @@ pub fn put_square(rec: &mut [u32], square: usize, leaves: [u64; 4], last: u32, a
     requires { ⌜ (getD leaves north 0 < 2 ^ 32) × (getD leaves east 0 < 2 ^ 32) × (getD leaves south 0 < 2 ^ 32) × (getD leaves west 0 < 2 ^ 32) ⌝ }
     ensures { λ _. ⌜ SquarePut (now (rec .entry)) square leaves last added (now (rec .exit)) ⌝ }
 {
-    let words = [
+    let words: [u32; SQUARE_WORDS] = [
         leaves[0] as u32,
         leaves[1] as u32,
         leaves[2] as u32,
@@ -248,13 +238,14 @@ pub fn put_square(rec: &mut [u32], square: usize, leaves: [u64; 4], last: u32, a
         last,
         added,
     ];
-    put_six(rec, word_place(square, NORTH), words);
+    copy_into(&words, rec, word_place(square, NORTH));
 }
 
-// Writes a closed square: six zeros.
+// Writes a closed square: zeros.
 pub fn put_closed(rec: &mut [u32], square: usize)
     requires { ⌜ wordPlace square squareWords ≤ length (now rec) ⌝ }
     ensures { λ _. ⌜ ClosedPut (now (rec .entry)) square (now (rec .exit)) ⌝ }
 {
-    put_six(rec, word_place(square, NORTH), [0, 0, 0, 0, 0, 0]);
+    let words = [0u32; SQUARE_WORDS];
+    copy_into(&words, rec, word_place(square, NORTH));
 }

@@ -1,5 +1,5 @@
 // The run value, and the answer of a call that gives one.
-ghost use Rattle.ledger.specs.Runs.{RunFine};
+ghost use Rattle.ledger.specs.Runs.{RunJudged};
 
 // clock and length are in ms; outflow is in µm over one square; kept and newest are of the ring of records.
 pub struct Run {
@@ -17,7 +17,7 @@ pub enum Answer {
 
 // Refusal 6: K is not 0, and the run value is in range.
 pub fn run_fine(k: usize, run: Run) -> bool
-    ensures { λ r. ⌜ RunFine k run r ⌝ }
+    ensures { λ r. ⌜ RunJudged k run r ⌝ }
 {
     if !trials::ring_fine(k, run.kept, run.newest) {
         return false;

@@ -2,18 +2,17 @@
 // Nothing lent but the working room is written before both are decided.
 ghost use mathlib.Core.Path.{_≡_};
 ghost use mathlib.Core.Bool.{false};
-ghost use Prim.Native.Nat.{_+_, _<_, _≤_};
+ghost use Prim.Native.Nat.{_+_, _<_};
 ghost use lib.ListN.{length, set};
 ghost use Rattle.reckon.specs.Tests.{pick};
 ghost use Rattle.reckon.specs.Lists.{filled};
-ghost use Rattle.reckon.specs.Ranges.{mostDepth};
-ghost use Rattle.grid.specs.Squares.{Stands, squares, west};
+ghost use Rattle.grid.specs.Squares.{OnSquare, squares, west};
 ghost use Rattle.grid.specs.Marks.{closed};
 ghost use Rattle.ledger.specs.Runs.{plan, world};
 ghost use Rattle.ledger.specs.Flows.{came, gone};
 ghost use Rattle.ledger.specs.Record.{Recorded, addedIn, leavesIn, wordPlace};
-ghost use Rattle.ledger.specs.After.{newOutflow};
-ghost use Rattle.ledger.specs.Settle.{GatheredAll, GatheredOne, Gathers, Settles, SettlesTo, SmallLeaving, SmallSquare, depthBy, depthsBy, movesIn, written};
+ghost use Rattle.ledger.specs.After.{newOutflow, worldWith};
+ghost use Rattle.ledger.specs.inner.Settle.{GatheredAll, GatheredOne, Gathers, Settles, SettlesTo, SmallLeaving, SmallSquare, depthBy, depthsBy, movesIn};
 use crate::record::Found;
 use crate::record::UNFIT;
 use crate::record::added_by;
@@ -29,6 +28,7 @@ use grid::squares::Shape;
 use grid::squares::next_column;
 use grid::squares::on_rim;
 use grid::squares::squares_of;
+use reckon::copying::copy_into;
 use reckon::numbers::number;
 use reckon::ranges::MOST_DEPTH;
 use reckon::ranges::MOST_OUTFLOW;
@@ -42,7 +42,7 @@ pub struct Settled {
 // What a square gains: from its neighbours, which are all there unless it is on the rim, and what is added.
 fn gains(shape: Shape, marks: &[u8], rec: &[u32], square: usize, column: usize) -> u64
     requires { ⌜ Recorded (plan shape (now marks)) (now rec) ⌝ }
-    requires { ⌜ Stands shape square column ⌝ }
+    requires { ⌜ OnSquare shape square column ⌝ }
     ensures { λ r. ⌜ r ≡ came (plan shape (now (marks .entry))) (leavesIn (now (rec .entry))) square + addedIn (now (rec .entry)) square ⌝ }
 {
     if on_rim(shape, square, column) {
@@ -61,7 +61,7 @@ fn new_depth(
     column: usize,
 ) -> u64
     requires { ⌜ Gathers (plan shape (now marks)) (now rec) (now depths) ⌝ }
-    requires { ⌜ (Stands shape square column) × (closed (now marks) square ≡ false) ⌝ }
+    requires { ⌜ (OnSquare shape square column) × (closed (now marks) square ≡ false) ⌝ }
     ensures { λ r. ⌜ r ≡ depthBy (plan shape (now (marks .entry))) (now (rec .entry)) (now (depths .entry)) square ⌝ }
 {
     let gained = gains(shape, marks, rec, square, column);
@@ -81,36 +81,36 @@ fn gather_square(
     depths: &[u32],
     square: usize,
     column: usize,
-    fresh: &mut [u32],
+    working: &mut [u32],
 ) -> bool
     requires { ⌜ Gathers (plan shape (now marks)) (now rec) (now depths) ⌝ }
-    requires { ⌜ (Stands shape square column) × (square < length (now fresh)) ⌝ }
-    ensures { λ r. ⌜ GatheredOne (plan shape (now (marks .entry))) (now (rec .entry)) (now (depths .entry)) square (now (fresh .entry)) r (now (fresh .exit)) ⌝ }
+    requires { ⌜ (OnSquare shape square column) × (square < length (now working)) ⌝ }
+    ensures { λ r. ⌜ GatheredOne (plan shape (now (marks .entry))) (now (rec .entry)) (now (depths .entry)) square (now (working .entry)) r (now (working .exit)) ⌝ }
 {
     if is_closed(marks, square) {
-        fresh[square] = depths[square];
+        working[square] = depths[square];
         return true;
     }
     let depth = new_depth(shape, marks, rec, depths, square, column);
     if (MOST_DEPTH as u64) < depth {
         return false;
     }
-    fresh[square] = depth as u32;
+    working[square] = depth as u32;
     true
 }
 
 // Gathers every square's new depth, and what leaves the grid.
-fn gather(shape: Shape, marks: &[u8], rec: &[u32], depths: &[u32], fresh: &mut [u32]) -> Found
+fn gather(shape: Shape, marks: &[u8], rec: &[u32], depths: &[u32], working: &mut [u32]) -> Found
     requires { ⌜ Gathers (plan shape (now marks)) (now rec) (now depths) ⌝ }
-    requires { ⌜ length (now fresh) ≡ squares shape ⌝ }
-    ensures { λ r. ⌜ GatheredAll (plan shape (now (marks .entry))) (now (rec .entry)) (now (depths .entry)) r (now (fresh .exit)) ⌝ }
+    requires { ⌜ length (now working) ≡ squares shape ⌝ }
+    ensures { λ r. ⌜ GatheredAll (plan shape (now (marks .entry))) (now (rec .entry)) (now (depths .entry)) r (now (working .exit)) ⌝ }
 {
     let squares = squares_of(shape);
     let mut off: u64 = 0;
     let mut square = 0;
     let mut column = 0;
     while square < squares {
-        if !gather_square(shape, marks, rec, depths, square, column, fresh) {
+        if !gather_square(shape, marks, rec, depths, square, column, working) {
             return UNFIT;
         }
         off += off_from(shape, marks, rec, square, column);
@@ -120,19 +120,6 @@ fn gather(shape: Shape, marks: &[u8], rec: &[u32], depths: &[u32], fresh: &mut [
     Found {
         fits: true,
         off: off,
-    }
-}
-
-// Copies numbers over as many others.
-fn copy(from: &[u32], to: &mut [u32])
-    requires { ⌜ length (now to) ≡ length (now from) ⌝ }
-    ensures { λ _. ⌜ now (to .exit) ≡ now (from .entry) ⌝ }
-{
-    let count = from.len();
-    let mut i = 0;
-    while i < count {
-        to[i] = from[i];
-        i += 1;
     }
 }
 
@@ -174,24 +161,22 @@ fn write(
     held: u64,
     outflow: u64,
     run: Run,
-    fresh: &[u32],
+    working: &[u32],
     depths: &mut [u32],
     lasts: &mut [u32],
     records: &mut [u32],
 ) -> Run
     requires { ⌜ Settles (plan shape (now marks)) (now rec) held (world (now depths) (now lasts) (now records) run) ⌝ }
-    requires { ⌜ now fresh ≡ depthsBy (plan shape (now marks)) (now rec) (now depths) ⌝ }
+    requires { ⌜ now working ≡ depthsBy (plan shape (now marks)) (now rec) (now depths) ⌝ }
     requires { ⌜ outflow ≡ newOutflow (plan shape (now marks)) (movesIn (now rec) held) (world (now depths) (now lasts) (now records) run) ⌝ }
-    ensures { λ r. ⌜ world (now (depths .exit)) (now (lasts .exit)) (now (records .exit)) r ≡ written (plan shape (now (marks .entry))) (now (rec .entry)) held (world (now (depths .entry)) (now (lasts .entry)) (now (records .entry)) run) ⌝ }
+    ensures { λ r. ⌜ world (now (depths .exit)) (now (lasts .exit)) (now (records .exit)) r ≡ worldWith (plan shape (now (marks .entry))) (movesIn (now (rec .entry)) held) (world (now (depths .entry)) (now (lasts .entry)) (now (records .entry)) run) (now (rec .entry)) ⌝ }
 {
     let size = record_size(shape);
     let slots = trials::slots_in(size, records.len());
     let slot = trials::slot_after(slots, run.newest);
-    let at = trials::slot_start(size, slot);
-    let end = at + size;
-    copy(rec, &mut records[at..end]);
+    copy_into(rec, records, trials::slot_start(size, slot));
     write_lasts(shape, marks, rec, depths, lasts);
-    copy(fresh, depths);
+    copy_into(working, depths, 0);
     Run {
         clock: run.clock + lasted(rec),
         length: held,
@@ -201,7 +186,7 @@ fn write(
     }
 }
 
-// Settles a step by its record and the length that it leaves held. `fresh` is working room for the new depths.
+// Settles a step by its record and the length that it leaves held. `working` is working room for the new depths.
 pub fn settle(
     shape: Shape,
     marks: &[u8],
@@ -211,13 +196,13 @@ pub fn settle(
     depths: &mut [u32],
     lasts: &mut [u32],
     records: &mut [u32],
-    fresh: &mut [u32],
+    working: &mut [u32],
 ) -> Settled
     requires { ⌜ Settles (plan shape (now marks)) (now rec) held (world (now depths) (now lasts) (now records) run) ⌝ }
-    requires { ⌜ length (now fresh) ≡ squares shape ⌝ }
+    requires { ⌜ length (now working) ≡ squares shape ⌝ }
     ensures { λ r. ⌜ SettlesTo (plan shape (now (marks .entry))) (now (rec .entry)) held (world (now (depths .entry)) (now (lasts .entry)) (now (records .entry)) run) (r .refused) (world (now (depths .exit)) (now (lasts .exit)) (now (records .exit)) (r .run)) ⌝ }
 {
-    let found = gather(shape, marks, rec, depths, fresh);
+    let found = gather(shape, marks, rec, depths, working);
     if !found.fits {
         return Settled {
             refused: 8,
@@ -238,7 +223,7 @@ pub fn settle(
         held,
         outflow,
         run,
-        fresh,
+        working,
         depths,
         lasts,
         records,

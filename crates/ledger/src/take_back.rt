@@ -1,19 +1,24 @@
 // The take-back: the newest record's step undone. It reads the newest record, marks, depths, last leaving and run; the record room is
 // not written.
 ghost use mathlib.Core.Path.{_≡_};
-ghost use mathlib.Core.Bool.{_||_, false, true};
+ghost use mathlib.Core.Bool.{false, true};
 ghost use mathlib.Core.List.{[], _∷_};
 ghost use Prim.Native.Nat.{_+_, _<_, _≤_};
 ghost use lib.ListN.{getD, length, set};
 ghost use Rattle.reckon.specs.Tests.{allBelow, every, pick};
 ghost use Rattle.reckon.specs.Lists.{filled};
-ghost use Rattle.reckon.specs.Ranges.{waterFine};
-ghost use Rattle.grid.specs.Squares.{FineShape, Stands, shapeFine, squares, west};
+ghost use Rattle.grid.specs.Squares.{OnSquare, shapeFine, squares, west};
 ghost use Rattle.grid.specs.Marks.{closed};
 ghost use Rattle.ledger.specs.Runs.{ofDepths, plan, world};
 ghost use Rattle.ledger.specs.Flows.{came, gone};
-ghost use Rattle.ledger.specs.Record.{Recorded, Walked, addedIn, headWords, lastIn, lastWord, lastedIn, leavesIn, wordPlace};
-ghost use Rattle.ledger.specs.TakeBack.{Led, Looked, OneEach, Restores, TakesBack, TimesJudged, Watered, WatersJudged, depthBefore, oneEach, restorable, runBefore, squareRestorable};
+ghost use Rattle.ledger.specs.Record.{Recorded, addedIn, headWords, lastIn, lastWord, lastedIn, leavesIn, wordPlace};
+ghost use Rattle.ledger.specs.Checks.{oneEach};
+ghost use Rattle.ledger.specs.TakeBack.{TakesBack, depthBefore, restorable, runBefore, squareRestorable};
+ghost use Rattle.ledger.specs.inner.TakeBack.{RecordAndDepths, Looked, Restores};
+ghost use Rattle.ledger.specs.inner.Walks.{Walked};
+use crate::checks::one_each;
+use crate::checks::times_fine;
+use crate::checks::waters_fine;
 use crate::record::Found;
 use crate::record::UNFIT;
 use crate::record::added_by;
@@ -35,43 +40,6 @@ use grid::squares::shape_fine;
 use grid::squares::squares_of;
 use reckon::numbers::number;
 use reckon::ranges::MOST_DEPTH;
-use reckon::ranges::MOST_LENGTH;
-use reckon::ranges::water_fine;
-
-// Whether there is one number a square.
-pub fn one_each(shape: Shape, numbers: usize) -> bool
-    requires { ⌜ FineShape shape ⌝ }
-    ensures { λ r. ⌜ OneEach shape numbers r ⌝ }
-{
-    numbers == squares_of(shape)
-}
-
-// Refusal 3 for one square.
-fn square_fine(marks: &[u8], depths: &[u32], lasts: &[u32], square: usize) -> bool
-    requires { ⌜ (square < length (now marks)) × (square < length (now depths)) × (square < length (now lasts)) ⌝ }
-    ensures { λ r. ⌜ r ≡ (closed (now (marks .entry)) square || waterFine (getD (now (depths .entry)) square 0) (getD (now (lasts .entry)) square 0)) ⌝ }
-{
-    if is_closed(marks, square) {
-        return true;
-    }
-    water_fine(depths[square], lasts[square])
-}
-
-// Refusal 3: depth and last leaving of every square not closed are in range.
-pub fn waters_fine(shape: Shape, marks: &[u8], depths: &[u32], lasts: &[u32]) -> bool
-    requires { ⌜ Watered (plan shape (now marks)) (now depths) (now lasts) ⌝ }
-    ensures { λ r. ⌜ WatersJudged (plan shape (now (marks .entry))) (now (depths .entry)) (now (lasts .entry)) r ⌝ }
-{
-    let squares = squares_of(shape);
-    let mut square = 0;
-    while square < squares {
-        if !square_fine(marks, depths, lasts, square) {
-            return false;
-        }
-        square += 1;
-    }
-    true
-}
 
 // Refusal 1: the shape is in range, and marks, depths and last leaving have one number a square.
 fn sizes_fine(shape: Shape, marks: &[u8], depths: &[u32], lasts: &[u32]) -> bool
@@ -111,25 +79,6 @@ fn look(shape: Shape, run: Run, marks: &[u8], depths: &[u32], lasts: &[u32], rec
     0
 }
 
-// Refusal 11: length held and time lasted are 1 to 60,000.
-pub fn times_fine(rec: &[u32]) -> bool
-    requires { ⌜ headWords ≤ length (now rec) ⌝ }
-    ensures { λ r. ⌜ TimesJudged (now (rec .entry)) r ⌝ }
-{
-    let held = held_before(rec);
-    let lasts = lasted(rec);
-    if held < 1 {
-        return false;
-    }
-    if MOST_LENGTH < held {
-        return false;
-    }
-    if lasts < 1 {
-        return false;
-    }
-    lasts <= MOST_LENGTH
-}
-
 // A square's depth and what left it: what its depth before is taken from.
 fn held_and_gone(rec: &[u32], depths: &[u32], square: usize) -> u64
     requires { ⌜ (square < length (now depths)) × (wordPlace square west < length (now rec)) ⌝ }
@@ -141,7 +90,7 @@ fn held_and_gone(rec: &[u32], depths: &[u32], square: usize) -> u64
 // What came to a square and what was added: what is taken off that.
 fn came_and_added(shape: Shape, marks: &[u8], rec: &[u32], square: usize, column: usize) -> u64
     requires { ⌜ Recorded (plan shape (now marks)) (now rec) ⌝ }
-    requires { ⌜ Stands shape square column ⌝ }
+    requires { ⌜ OnSquare shape square column ⌝ }
     ensures { λ r. ⌜ r ≡ came (plan shape (now (marks .entry))) (leavesIn (now (rec .entry))) square + addedIn (now (rec .entry)) square ⌝ }
 {
     came_to(shape, marks, rec, square, column) + added_by(rec, square)
@@ -156,8 +105,8 @@ fn square_restorable(
     square: usize,
     column: usize,
 ) -> bool
-    requires { ⌜ Led (plan shape (now marks)) (now rec) (now depths) ⌝ }
-    requires { ⌜ Stands shape square column ⌝ }
+    requires { ⌜ RecordAndDepths (plan shape (now marks)) (now rec) (now depths) ⌝ }
+    requires { ⌜ OnSquare shape square column ⌝ }
     ensures { λ r. ⌜ r ≡ squareRestorable (plan shape (now (marks .entry))) (ofDepths (now (depths .entry))) (now (rec .entry)) square ⌝ }
 {
     if is_closed(marks, square) {
@@ -176,7 +125,7 @@ fn square_restorable(
 
 // Whether every square can be restored, and what left the grid.
 fn try_squares(shape: Shape, marks: &[u8], rec: &[u32], depths: &[u32]) -> Found
-    requires { ⌜ Led (plan shape (now marks)) (now rec) (now depths) ⌝ }
+    requires { ⌜ RecordAndDepths (plan shape (now marks)) (now rec) (now depths) ⌝ }
     ensures { λ r. ⌜ Walked (plan shape (now (marks .entry))) (now (rec .entry)) (allBelow (squares shape) (squareRestorable (plan shape (now (marks .entry))) (ofDepths (now (depths .entry))) (now (rec .entry)))) r ⌝ }
 {
     let squares = squares_of(shape);
@@ -199,7 +148,7 @@ fn try_squares(shape: Shape, marks: &[u8], rec: &[u32], depths: &[u32]) -> Found
 
 // Refusal 11: whether a record can be taken back, and what left the grid.
 fn try_record(shape: Shape, run: Run, marks: &[u8], rec: &[u32], depths: &[u32]) -> Found
-    requires { ⌜ Led (plan shape (now marks)) (now rec) (now depths) ⌝ }
+    requires { ⌜ RecordAndDepths (plan shape (now marks)) (now rec) (now depths) ⌝ }
     ensures { λ r. ⌜ Walked (plan shape (now (marks .entry))) (now (rec .entry)) (restorable (plan shape (now (marks .entry))) (world (now (depths .entry)) [] [] run) (now (rec .entry))) r ⌝ }
 {
     if !times_fine(rec) {
@@ -227,8 +176,8 @@ fn restore_depth(
     column: usize,
     depths: &mut [u32],
 )
-    requires { ⌜ Led (plan shape (now marks)) (now rec) (now depths) ⌝ }
-    requires { ⌜ (Stands shape square column) × (closed (now marks) square ≡ false → Restores (plan shape (now marks)) (now rec) (now depths) square) ⌝ }
+    requires { ⌜ RecordAndDepths (plan shape (now marks)) (now rec) (now depths) ⌝ }
+    requires { ⌜ (OnSquare shape square column) × (closed (now marks) square ≡ false → Restores (plan shape (now marks)) (now rec) (now depths) square) ⌝ }
     ensures { λ _. ⌜ now (depths .exit) ≡ pick (closed (now (marks .entry)) square) (now (depths .entry)) (set (now (depths .entry)) square (depthBefore (plan shape (now (marks .entry))) (ofDepths (now (depths .entry))) (now (rec .entry)) square)) ⌝ }
 {
     if is_closed(marks, square) {
@@ -241,7 +190,7 @@ fn restore_depth(
 
 // Restores the depth of every square that is not closed.
 fn restore_depths(shape: Shape, marks: &[u8], rec: &[u32], depths: &mut [u32])
-    requires { ⌜ Led (plan shape (now marks)) (now rec) (now depths) ⌝ }
+    requires { ⌜ RecordAndDepths (plan shape (now marks)) (now rec) (now depths) ⌝ }
     requires { ⌜ allBelow (squares shape) (squareRestorable (plan shape (now marks)) (ofDepths (now depths)) (now rec)) ≡ true ⌝ }
     ensures { λ _. ⌜ now (depths .exit) ≡ filled (squares shape) (closed (now (marks .entry))) (depthBefore (plan shape (now (marks .entry))) (ofDepths (now (depths .entry))) (now (rec .entry))) (now (depths .entry)) ⌝ }
 {
@@ -268,7 +217,7 @@ fn restore_last(marks: &[u8], rec: &[u32], square: usize, lasts: &mut [u32])
 
 // Restores the last leaving of every square that is not closed.
 fn restore_lasts(shape: Shape, marks: &[u8], rec: &[u32], lasts: &mut [u32])
-    requires { ⌜ Led (plan shape (now marks)) (now rec) (now lasts) ⌝ }
+    requires { ⌜ RecordAndDepths (plan shape (now marks)) (now rec) (now lasts) ⌝ }
     ensures { λ _. ⌜ now (lasts .exit) ≡ filled (squares shape) (closed (now (marks .entry))) (lastIn (now (rec .entry))) (now (lasts .entry)) ⌝ }
 {
     let squares = squares_of(shape);

@@ -1,7 +1,7 @@
 -- Laws of quotients of variables, rounded down.
 -- Assumes nothing.
-use mathlib.Core.Path.{_≡_, sym, _∙_, ap}
-use Prim.Native.Nat.{ℕ, zero, suc, _+_, _*_, _/_, _≤_, _<_, min}
+use mathlib.Core.Path.{_≡_, ap}
+use Prim.Native.Nat.{ℕ, zero, suc, _+_, _*_, _/_, _≤_, _<_}
 use native.Mathlib.Nat.{le-trans, le-of-lt, zero-lt-suc, div-zero, le-div-iff-mul-le, div-mul-le-self, div-le-of-le-mul, mul-comm, mul-le-mul-left, mul-le-mul-right, mul-suc}
 use native.Mathlib.Omega.{arith}
 use Rattle.reckon.specs.Numbers.{heldPart}

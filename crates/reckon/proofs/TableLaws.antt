@@ -1,10 +1,10 @@
--- Laws of the tables, over both kinds: how large a term and a sum can be, that what a table has given never falls, and that a table
+-- Laws of the tables, over both kinds: how large a term and a sum can be, that what a table has tableGives never falls, and that a table
 -- which passes its test is in range.
 -- Assumes nothing.
-use mathlib.Core.Path.{_≡_, refl, sym, _∙_, ap, subst}
+use mathlib.Core.Path.{_≡_, _∙_, ap}
 use mathlib.Core.Bool.{Bool, true, false}
 use mathlib.Core.List.{List, [], _∷_}
-use Prim.Native.Nat.{ℕ, _+_, _-_, _*_, _/_, _%_, _≤_, _<_, min}
+use Prim.Native.Nat.{ℕ, _+_, _-_, _*_, _/_, _%_, _≤_, _<_}
 use native.Mathlib.Nat.{le-refl, le-trans, mul-le-mul, mul-le-mul-left, div-le-self, zero-div}
 use native.Mathlib.Omega.{arith}
 use lib.Dec.{eqb, leb}
@@ -12,8 +12,9 @@ use lib.ListN.{length, getD}
 use borrow.Author.Tests.{leb-true, le-leb, lt-leb, eq-eqb, ne-eqb}
 use Rattle.reckon.specs.Tests.{pick, every, allBelow}
 use Rattle.reckon.specs.Lists.{sumBelow}
-use Rattle.reckon.specs.Ranges.{lastClock, mostRain, mostLitres, mostRows}
-use Rattle.reckon.specs.Tables.{rainKind, inflowKind, hour, rowStart, ran, rowGives, given, rainBy, onSquare, inflowBy, rowFine, tableFine, Fits}
+use Rattle.reckon.specs.Ranges.{lastClock, mostRain, mostLitres, mostTableRows}
+use Rattle.reckon.specs.Tables.{rainKind, inflowKind, hour, rowStart, ran, rowGives, tableGives, rainBy, onSquare, inflowBy, rowFine, tableFine}
+use Rattle.reckon.specs.inner.Fits.{Fits}
 use Rattle.reckon.specs.declared.tables.Kind.{Kind}
 use Rattle.reckon.proofs.TestLaws.{pick-false, pick-both, and-both, and-false, and-true, every-each, each-every, every-fails, all-at, all-fails}
 use Rattle.reckon.proofs.ListLaws.{sum-mono, sum-le, sum-zero}
@@ -57,48 +58,48 @@ module _ (k : Kind) (counts : ℕ → Bool) (rows : List ℕ) where
   pub terms-le : {t : ℕ} → Fits k rows t → (j : ℕ) → j ≤ length rows / k .width → sumBelow j (term k counts rows t) ≤ j * (k .most * lastClock)
   terms-le f j h = sum-le j _ _ (λ i l. term-le f i (omega arith))
 
-  given-mono : {t u : ℕ} → t ≤ u → given k counts rows t ≤ given k counts rows u
-  unfolding given
+  given-mono : {t u : ℕ} → t ≤ u → tableGives k counts rows t ≤ tableGives k counts rows u
+  unfolding tableGives
   given-mono h = sum-mono _ _ _ (λ j l. pick-mono (counts j) (gives-mono rows (rowStart k j) h))
 
--- how much a table can have given at the most, as a bound far below 64 bits
+-- how much a table can have tableGives at the most, as a bound far below 64 bits
 pub rain-le : (rows : List ℕ) {t : ℕ} → Fits rainKind rows t → rainBy rows t ≤ 64 * (mostRain * lastClock)
-unfolding rainBy given
+unfolding rainBy tableGives
 rain-le rows {t} f =
-    le-trans (div-le-self _ hour) (omega (arith, terms-le rainKind (λ j. true) rows f (length rows / 3) (le-refl _), f .few))
+    le-trans (div-le-self _ hour) (omega (arith, terms-le rainKind (λ j. true) rows f (length rows / rainKind .width) (le-refl _), f .few))
 
 pub inflow-le : (rows : List ℕ) (r c side : ℕ) {t : ℕ} → Fits inflowKind rows t → inflowBy rows r c side t ≤ 64 * (mostLitres * lastClock)
-unfolding inflowBy given
+unfolding inflowBy tableGives
 inflow-le rows r c side {t} f =
-    le-trans (div-le-self _ (side * side)) (omega (arith, terms-le inflowKind (onSquare rows r c) rows f (length rows / 5) (le-refl _), f .few))
+    le-trans (div-le-self _ (side * side)) (omega (arith, terms-le inflowKind (onSquare rows r c) rows f (length rows / inflowKind .width) (le-refl _), f .few))
 
 -- a square that no inflow row is for gets nothing
 pub inflow-none :
-    (rows : List ℕ) (r c side t : ℕ) → ((j : ℕ) → j < length rows / 5 → onSquare rows r c j ≡ false) → inflowBy rows r c side t ≡ 0
-unfolding inflowBy given
+    (rows : List ℕ) (r c side t : ℕ) → ((j : ℕ) → j < length rows / inflowKind .width → onSquare rows r c j ≡ false) → inflowBy rows r c side t ≡ 0
+unfolding inflowBy tableGives
 inflow-none rows r c side t h =
-    ap (λ (x : ℕ). x / (side * side)) (sum-zero (length rows / 5) _ (λ j l. pick-false _ _ (h j l))) ∙ zero-div (side * side)
+    ap (λ (x : ℕ). x / (side * side)) (sum-zero (length rows / inflowKind .width) _ (λ j l. pick-false _ _ (h j l))) ∙ zero-div (side * side)
 
 -- every rain row counts, and it starts with its from
-pub rain-term : (rows : List ℕ) (t j : ℕ) → rowGives rows (3 * j) t ≡ term rainKind (λ i. true) rows t j
+pub rain-term : (rows : List ℕ) (t j : ℕ) → rowGives rows (rainKind .width * j) t ≡ term rainKind (λ i. true) rows t j
 unfolding pick
 rain-term rows t j = ap (λ (at : ℕ). rowGives rows at t) (omega arith)
 
 -- whether an inflow row counts for a square
 module _ (rows : List ℕ) (r c j : ℕ) where
-  pub other-row : (getD rows (5 * j) 0 ≡ r → ⊥) → onSquare rows r c j ≡ false
+  pub other-row : (getD rows (inflowKind .width * j) 0 ≡ r → ⊥) → onSquare rows r c j ≡ false
   unfolding onSquare
   other-row h = rw (ne-eqb _ _ h)
 
-  pub other-column : (getD rows (5 * j + 1) 0 ≡ c → ⊥) → onSquare rows r c j ≡ false
+  pub other-column : (getD rows (inflowKind .width * j + 1) 0 ≡ c → ⊥) → onSquare rows r c j ≡ false
   unfolding onSquare
-  other-column h = and-false (eqb (getD rows (5 * j) 0) r) _ (ne-eqb _ _ h)
+  other-column h = and-false (eqb (getD rows (inflowKind .width * j) 0) r) _ (ne-eqb _ _ h)
 
-  pub same-square : getD rows (5 * j) 0 ≡ r → getD rows (5 * j + 1) 0 ≡ c → onSquare rows r c j ≡ true
+  pub same-square : getD rows (inflowKind .width * j) 0 ≡ r → getD rows (inflowKind .width * j + 1) 0 ≡ c → onSquare rows r c j ≡ true
   unfolding onSquare
   same-square p q = and-both _ _ (eq-eqb _ _ p) (eq-eqb _ _ q)
 
--- ---- what a table has given never falls
+-- ---- what a table has tableGives never falls
 
 pub rain-mono : (rows : List ℕ) {t u : ℕ} → t ≤ u → rainBy rows t ≤ rainBy rows u
 unfolding rainBy
@@ -132,13 +133,13 @@ module _ (k : Kind) (rows : List ℕ) where
   rowPasses j = rowFine (k .most) rows (rowStart k j)
 
   abbrev tests : List Bool
-  tests = eqb (length rows % k .width) 0 ∷ leb (length rows / k .width) mostRows ∷ allBelow (length rows / k .width) rowPasses ∷ []
+  tests = eqb (length rows % k .width) 0 ∷ leb (length rows / k .width) mostTableRows ∷ allBelow (length rows / k .width) rowPasses ∷ []
 
   pub table-odd : (length rows % k .width ≡ 0 → ⊥) → tableFine k rows ≡ false
   unfolding tableFine
   table-odd h = every-fails tests 0 (ne-eqb _ _ h)
 
-  pub table-many : mostRows < length rows / k .width → tableFine k rows ≡ false
+  pub table-many : mostTableRows < length rows / k .width → tableFine k rows ≡ false
   unfolding tableFine
   table-many h = every-fails tests 1 (lt-leb _ _ h)
 
@@ -147,7 +148,7 @@ module _ (k : Kind) (rows : List ℕ) where
   table-row j h e = every-fails tests 2 (all-fails (length rows / k .width) rowPasses j h e)
 
   pub table-passes :
-      length rows % k .width ≡ 0 → length rows / k .width ≤ mostRows → allBelow (length rows / k .width) rowPasses ≡ true →
+      length rows % k .width ≡ 0 → length rows / k .width ≤ mostTableRows → allBelow (length rows / k .width) rowPasses ≡ true →
       tableFine k rows ≡ true
   unfolding tableFine
   table-passes a b e = each-every tests (eq-eqb _ _ a, (le-leb _ _ b, (e, tt)))

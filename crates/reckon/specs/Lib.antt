@@ -1,3 +1,4 @@
+pub mod Copying
 pub mod Lists
 pub mod Numbers
 pub mod Ranges
@@ -5,4 +6,4 @@ pub mod RootSearch
 pub mod Roots
 pub mod Tables
 pub mod Tests
-pub mod Worked
+pub mod inner

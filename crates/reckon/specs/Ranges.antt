@@ -1,4 +1,4 @@
--- Document 01, "Units and ranges": the ends of the ranges by the names of its table, and the test of a depth and a last leaving.
+-- Document 01, "Units and ranges": the ends of the ranges by the names of its table, and the tests that several crates share.
 -- Assumes nothing.
 use mathlib.Core.Path.{_≡_}
 use mathlib.Core.Bool.{Bool}
@@ -52,14 +52,21 @@ abbrev pub mostOutflow : ℕ
 mostOutflow = 1_000_000_000_000_000
 
 -- "At most 64 rows of each"
-abbrev pub mostRows : ℕ
-mostRows = 64
+abbrev pub mostTableRows : ℕ
+mostTableRows = 64
+
+-- refusal 1: "D out of range"
+unfoldable pub sideFine : ℕ → Bool
+sideFine D = every (leb 1 D ∷ leb D mostSide ∷ [])
 
 -- refusal 3: "depth or P of a square not closed out of range"
 unfoldable pub waterFine : ℕ → ℕ → Bool
 waterFine d p = every (leb d mostDepth ∷ leb p mostDepth ∷ [])
 
--- ---- what the public function gives
+-- ---- what the public functions give
 
-abbrev pub WaterFine : ℕ → ℕ → Bool → Type 0
-WaterFine d p r = r ≡ waterFine d p
+abbrev pub SideJudged : ℕ → Bool → Type 0
+SideJudged D r = r ≡ sideFine D
+
+abbrev pub WaterJudged : ℕ → ℕ → Bool → Type 0
+WaterJudged d p r = r ≡ waterFine d p

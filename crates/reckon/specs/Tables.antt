@@ -1,14 +1,14 @@
--- Document 01, "Units and ranges": the tables of rain and of inflow, and what they have given by a clock.
+-- Document 01, "Units and ranges": the tables of rain and of inflow, and what they have tableGives by a clock.
 -- Assumes nothing.
 use mathlib.Core.Path.{_≡_}
 use mathlib.Core.Bool.{Bool, true, _&&_}
 use mathlib.Core.List.{List, [], _∷_}
-use Prim.Native.Nat.{ℕ, _+_, _-_, _*_, _/_, _%_, _≤_, _<_, min}
+use Prim.Native.Nat.{ℕ, _+_, _-_, _*_, _/_, _%_, min}
 use lib.Dec.{eqb, leb}
 use lib.ListN.{length, getD}
 use Rattle.reckon.specs.Tests.{pick, every, allBelow}
 use Rattle.reckon.specs.Lists.{sumBelow}
-use Rattle.reckon.specs.Ranges.{lastClock, mostRain, mostLitres, mostRows}
+use Rattle.reckon.specs.Ranges.{lastClock, mostRain, mostLitres, mostTableRows}
 use Rattle.reckon.specs.declared.tables.Kind.{Kind}
 
 -- "Rain rows: from, to, rate": "µm per hour, 0 to 1,000,000"
@@ -18,6 +18,10 @@ rainKind = record { width = 3; lead = 0; most = mostRain }
 -- "Inflow rows: row, column, from, to, litres": "litres per second, 0 to 100,000"
 abbrev pub inflowKind : Kind
 inflowKind = record { width = 5; lead = 2; most = mostLitres }
+
+-- "192 for rain or 320 for inflow": room for the most rows
+abbrev pub tableRoom : Kind → ℕ
+tableRoom k = k .width * mostTableRows
 
 -- the ms of an hour
 abbrev pub hour : ℕ
@@ -36,20 +40,20 @@ unfoldable pub rowGives : List ℕ → ℕ → ℕ → ℕ
 rowGives rows at t = getD rows (at + 2) 0 * ran (getD rows at 0) (getD rows (at + 1) 0) t
 
 -- "overlapping rows add": the sum over the rows that count
-unfoldable pub given : Kind → (ℕ → Bool) → List ℕ → ℕ → ℕ
-given k counts rows t = sumBelow (length rows / k .width) (λ j. pick (counts j) (rowGives rows (rowStart k j) t) 0)
+unfoldable pub tableGives : Kind → (ℕ → Bool) → List ℕ → ℕ → ℕ
+tableGives k counts rows t = sumBelow (length rows / k .width) (λ j. pick (counts j) (rowGives rows (rowStart k j) t) 0)
 
 -- "Rain by clock t: sum of rate·time run, / 3,600,000"
 unfoldable pub rainBy : List ℕ → ℕ → ℕ
-rainBy rows t = given rainKind (λ j. true) rows t / hour
+rainBy rows t = tableGives rainKind (λ j. true) rows t / hour
 
 -- the inflow row j is for the square at row r, column c
 unfoldable pub onSquare : List ℕ → ℕ → ℕ → ℕ → Bool
-onSquare rows r c j = eqb (getD rows (5 * j) 0) r && eqb (getD rows (5 * j + 1) 0) c
+onSquare rows r c j = eqb (getD rows (inflowKind .width * j) 0) r && eqb (getD rows (inflowKind .width * j + 1) 0) c
 
 -- "Inflow by t on a square: sum of litres·time run, / D²"
 unfoldable pub inflowBy : List ℕ → ℕ → ℕ → ℕ → ℕ → ℕ
-inflowBy rows r c side t = given inflowKind (onSquare rows r c) rows t / (side * side)
+inflowBy rows r c side t = tableGives inflowKind (onSquare rows r c) rows t / (side * side)
 
 -- "What a step adds is the amount by its end less the amount by its start"
 abbrev pub rainAdded : List ℕ → ℕ → ℕ → ℕ
@@ -68,23 +72,17 @@ unfoldable pub tableFine : Kind → List ℕ → Bool
 tableFine k rows =
     every
     (eqb (length rows % k .width) 0
-    ∷ leb (length rows / k .width) mostRows
+    ∷ leb (length rows / k .width) mostTableRows
     ∷ allBelow (length rows / k .width) (λ j. rowFine (k .most) rows (rowStart k j))
     ∷ [])
 
--- ---- what is asked of a table, and what the public functions give
+-- ---- what the public functions give
 
--- few enough rows, amounts and clock in range: what a table that passes its test meets (`fine-fits`)
-pub record Fits (k : Kind) (rows : List ℕ) (t : ℕ) : Type 0 where
-  pub few : length rows / k .width ≤ mostRows
-  pub amounts : (j : ℕ) → j < length rows / k .width → getD rows (rowStart k j + 2) 0 ≤ k .most
-  pub clock : t ≤ lastClock
+abbrev pub RainJudged : List ℕ → Bool → Type 0
+RainJudged rows r = r ≡ tableFine rainKind rows
 
-abbrev pub RainFine : List ℕ → Bool → Type 0
-RainFine rows r = r ≡ tableFine rainKind rows
-
-abbrev pub InflowFine : List ℕ → Bool → Type 0
-InflowFine rows r = r ≡ tableFine inflowKind rows
+abbrev pub InflowJudged : List ℕ → Bool → Type 0
+InflowJudged rows r = r ≡ tableFine inflowKind rows
 
 abbrev pub RainBy : List ℕ → ℕ → ℕ → Type 0
 RainBy rows t r = r ≡ rainBy rows t

@@ -1,5 +1,5 @@
-// The ends of document 01's ranges, and the test of a depth and a last leaving, which steps and take-backs share.
-ghost use Rattle.reckon.specs.Ranges.{WaterFine};
+// The ends of document 01's ranges, and the tests that several crates share: of the side D, and of a depth and a last leaving.
+ghost use Rattle.reckon.specs.Ranges.{SideJudged, WaterJudged};
 
 pub const MOST_SIDE: u64 = 100;
 
@@ -23,11 +23,21 @@ pub const MOST_LITRES: u64 = 100_000;
 
 pub const MOST_OUTFLOW: u64 = 1_000_000_000_000_000;
 
-pub const MOST_ROWS: usize = 64;
+pub const MOST_TABLE_ROWS: usize = 64;
+
+// Refusal 1: the side D is in range.
+pub fn side_fine(side: u64) -> bool
+    ensures { λ r. ⌜ SideJudged side r ⌝ }
+{
+    if side < 1 {
+        return false;
+    }
+    side <= MOST_SIDE
+}
 
 // Refusal 3: depth and last leaving of a square not closed are in range.
 pub fn water_fine(depth: u32, last: u32) -> bool
-    ensures { λ r. ⌜ WaterFine depth last r ⌝ }
+    ensures { λ r. ⌜ WaterJudged depth last r ⌝ }
 {
     if MOST_DEPTH < depth {
         return false;

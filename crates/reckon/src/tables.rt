@@ -1,16 +1,18 @@
-// What a table of rain or of inflow has given by a clock, and whether a table is in range.
+// What a table of rain or of inflow has tableGives by a clock, and whether a table is in range.
 // Rain rows: from, to, rate. Inflow rows: row, column, from, to, litres.
 use crate::numbers::lesser;
 use crate::numbers::number;
 use crate::ranges::LAST_CLOCK;
 use crate::ranges::MOST_LITRES;
 use crate::ranges::MOST_RAIN;
-use crate::ranges::MOST_ROWS;
+use crate::ranges::MOST_TABLE_ROWS;
 ghost use mathlib.Core.Path.{_≡_};
 ghost use Prim.Native.Nat.{_+_, _*_, _/_, _≤_, _<_};
 ghost use lib.ListN.{length, getD};
 ghost use Rattle.reckon.specs.Tests.{pick};
-ghost use Rattle.reckon.specs.Tables.{rainKind, inflowKind, ran, rowStart, rowGives, onSquare, rowFine, tableFine, Fits, RainFine, InflowFine, RainBy, InflowBy, RainAdded, InflowAdded};
+ghost use Rattle.reckon.specs.Ranges.{mostSide, lastClock, mostRain};
+ghost use Rattle.reckon.specs.Tables.{rainKind, inflowKind, ran, rowStart, rowGives, onSquare, rowFine, tableFine, RainJudged, InflowJudged, RainBy, InflowBy, RainAdded, InflowAdded};
+ghost use Rattle.reckon.specs.inner.Fits.{Fits};
 
 // A kind of table: how many numbers a row has, how many of them stand before its from, the most that its last may be.
 pub struct Kind {
@@ -19,15 +21,28 @@ pub struct Kind {
     pub most: u64,
 }
 
+// The numbers of a row.
+pub const RAIN_WIDTH: usize = 3;
+
+pub const INFLOW_WIDTH: usize = 5;
+
+// Room for the most rows of each.
+pub const RAIN_ROOM: usize = RAIN_WIDTH * MOST_TABLE_ROWS;
+
+pub const INFLOW_ROOM: usize = INFLOW_WIDTH * MOST_TABLE_ROWS;
+
+// The numbers of an inflow row before its from: row and column.
+const INFLOW_LEAD: usize = 2;
+
 const RAIN: Kind = Kind {
-    width: 3,
+    width: RAIN_WIDTH,
     lead: 0,
     most: MOST_RAIN,
 };
 
 const INFLOW: Kind = Kind {
-    width: 5,
-    lead: 2,
+    width: INFLOW_WIDTH,
+    lead: INFLOW_LEAD,
     most: MOST_LITRES,
 };
 
@@ -41,9 +56,9 @@ fn row_ran(from: u64, to: u64, t: u64) -> u64
     if from < end { end - from } else { 0 }
 }
 
-// What the row whose from, to and amount stand at a place has given by clock t.
+// What the row whose from, to and amount stand at a place has tableGives by clock t.
 fn row_gives(rows: &[u32], at: usize, t: u64) -> u64
-    requires { ⌜ (at + 2 < length (now rows)) × (getD (now rows) (at + 2) 0 ≤ 1000000) × (t ≤ 604800000) ⌝ }
+    requires { ⌜ (at + 2 < length (now rows)) × (getD (now rows) (at + 2) 0 ≤ mostRain) × (t ≤ lastClock) ⌝ }
     ensures { λ r. ⌜ r ≡ rowGives (now (rows .entry)) at t ⌝ }
 {
     let from = number(rows, at);
@@ -57,11 +72,11 @@ pub fn rain_by(rows: &[u32], t: u64) -> u64
     requires { ⌜ Fits rainKind (now rows) t ⌝ }
     ensures { λ r. ⌜ RainBy (now (rows .entry)) t r ⌝ }
 {
-    let n = rows.len() / 3;
+    let n = rows.len() / RAIN_WIDTH;
     let mut sum: u64 = 0;
     let mut j: usize = 0;
     while j < n {
-        sum += row_gives(rows, 3 * j, t);
+        sum += row_gives(rows, RAIN_WIDTH * j, t);
         j += 1;
     }
     sum / HOUR
@@ -69,25 +84,25 @@ pub fn rain_by(rows: &[u32], t: u64) -> u64
 
 // What row j of an inflow table adds to the sum of the square at row r, column c.
 fn inflow_row(rows: &[u32], j: usize, r: u64, c: u64, t: u64) -> u64
-    requires { ⌜ (j < length (now rows) / 5) × Fits inflowKind (now rows) t ⌝ }
+    requires { ⌜ (j < length (now rows) / inflowKind .width) × Fits inflowKind (now rows) t ⌝ }
     ensures { λ x. ⌜ x ≡ pick (onSquare (now (rows .entry)) r c j) (rowGives (now (rows .entry)) (rowStart inflowKind j) t) 0 ⌝ }
 {
-    if number(rows, 5 * j) != r {
+    if number(rows, INFLOW_WIDTH * j) != r {
         return 0;
     }
-    if number(rows, 5 * j + 1) != c {
+    if number(rows, INFLOW_WIDTH * j + 1) != c {
         return 0;
     }
-    row_gives(rows, 5 * j + 2, t)
+    row_gives(rows, INFLOW_WIDTH * j + INFLOW_LEAD, t)
 }
 
-// Inflow by clock t on the square at row r, column c, in µm over a square of the given side.
+// Inflow by clock t on the square at row r, column c, in µm over a square of the tableGives side.
 pub fn inflow_by(rows: &[u32], r: u64, c: u64, side: u64, t: u64) -> u64
     requires { ⌜ Fits inflowKind (now rows) t ⌝ }
-    requires { ⌜ (0 < side) × (side ≤ 100) ⌝ }
+    requires { ⌜ (0 < side) × (side ≤ mostSide) ⌝ }
     ensures { λ x. ⌜ InflowBy (now (rows .entry)) r c side t x ⌝ }
 {
-    let n = rows.len() / 5;
+    let n = rows.len() / INFLOW_WIDTH;
     let mut sum: u64 = 0;
     let mut j: usize = 0;
     while j < n {
@@ -109,7 +124,7 @@ pub fn rain_added(rows: &[u32], start: u64, end: u64) -> u64
 // What inflow adds between two clocks on the square at row r, column c.
 pub fn inflow_added(rows: &[u32], r: u64, c: u64, side: u64, start: u64, end: u64) -> u64
     requires { ⌜ Fits inflowKind (now rows) end ⌝ }
-    requires { ⌜ (start ≤ end) × (0 < side) × (side ≤ 100) ⌝ }
+    requires { ⌜ (start ≤ end) × (0 < side) × (side ≤ mostSide) ⌝ }
     ensures { λ x. ⌜ InflowAdded (now (rows .entry)) r c side start end x ⌝ }
 {
     inflow_by(rows, r, c, side, end) - inflow_by(rows, r, c, side, start)
@@ -132,7 +147,7 @@ fn row_fine(most: u64, rows: &[u32], at: usize) -> bool
 
 // Whole rows, at most 64 of them, each in range.
 fn table_fine(kind: Kind, rows: &[u32]) -> bool
-    requires { ⌜ (kind .lead + 3 ≡ kind .width) × (kind .width ≤ 5) ⌝ }
+    requires { ⌜ (kind .lead + 3 ≡ kind .width) × (kind .width ≤ inflowKind .width) ⌝ }
     ensures { λ r. ⌜ r ≡ tableFine kind (now (rows .entry)) ⌝ }
 {
     let width = kind.width;
@@ -140,7 +155,7 @@ fn table_fine(kind: Kind, rows: &[u32]) -> bool
     if rows.len() % width != 0 {
         return false;
     }
-    if MOST_ROWS < n {
+    if MOST_TABLE_ROWS < n {
         return false;
     }
     let mut j: usize = 0;
@@ -154,13 +169,13 @@ fn table_fine(kind: Kind, rows: &[u32]) -> bool
 }
 
 pub fn rain_fine(rows: &[u32]) -> bool
-    ensures { λ r. ⌜ RainFine (now (rows .entry)) r ⌝ }
+    ensures { λ r. ⌜ RainJudged (now (rows .entry)) r ⌝ }
 {
     table_fine(RAIN, rows)
 }
 
 pub fn inflow_fine(rows: &[u32]) -> bool
-    ensures { λ r. ⌜ InflowFine (now (rows .entry)) r ⌝ }
+    ensures { λ r. ⌜ InflowJudged (now (rows .entry)) r ⌝ }
 {
     table_fine(INFLOW, rows)
 }

@@ -1,24 +1,24 @@
 -- Laws of the step length: the gentlest drop that counts has the least candidate, so that one root a square is enough; a length that
 -- starts at the longest is the one of the list; a step lasts from 1 to 60,000 ms and never past the next multiple of U.
 -- Assumes nothing.
-use mathlib.Core.Path.{_≡_, refl, sym, _∙_, ap, ap₂, subst}
+use mathlib.Core.Path.{_≡_, refl, sym, _∙_, ap, ap₂}
 use mathlib.Core.Bool.{Bool, true, false}
 use mathlib.Core.List.{List, [], _∷_, _++_}
-use Prim.Native.Nat.{ℕ, zero, suc, _+_, _-_, _*_, _/_, _%_, _≤_, _<_, min, max}
+use Prim.Native.Nat.{ℕ, _+_, _-_, _*_, _%_, _≤_, _<_, min}
 use native.Mathlib.Nat.{le-trans, mul-le-mul, mul-le-mul-left, mod-lt, min-eq-left, min-eq-right}
 use native.Mathlib.Decide.{decLe, ℕ-discrete}
 use native.Mathlib.Omega.{arith}
 use lib.Dec.{eqb, ltb}
 use lib.ListN.{getD}
-use borrow.Author.Tests.{eq-eqb, ne-eqb, ltb-true, ltb-false}
+use borrow.Author.Tests.{eq-eqb, ne-eqb, ltb-true}
 use Rattle.reckon.specs.Tests.{pick}
 use Rattle.reckon.proofs.TestLaws.{pick-true, pick-false, pick-both}
 use Rattle.reckon.proofs.QuotientLaws.{div-mono}
 use Rattle.reckon.proofs.RootLaws.{root-mono}
 use Rattle.reckon.specs.Ranges.{mostLength}
-use Rattle.rule.specs.Rules.{RulesInRange}
-use Rattle.rule.specs.Weighing.{lesserPositive, leastDrop, heightOf, slopeOf, mostDrop, DropsInRange, SquareInRange}
-use Rattle.rule.specs.Length.{candidate, counts, sideCandidates, candidatesOf, leastFrom, heldBetween, freshLength, isUpdate, lengthAt, lastsFor}
+use Rattle.rule.specs.inner.InRange.{RulesInRange, mostDrop, DropsInRange, SquareInRange}
+use Rattle.rule.specs.Weighing.{lesserPositive, leastDrop, heightOf, slopeOf}
+use Rattle.rule.specs.Length.{candidate, counts, sideCandidates, candidatesOf, leastFrom, heldBetween, freshLength, isUpdate, lengthAt, durationFor}
 use Rattle.rule.specs.declared.rules.Rules.{Rules}
 use Rattle.rule.proofs.WeighingLaws.{slope-root, positive-first, positive-second, positive-both, positive-le}
 
@@ -195,15 +195,15 @@ length-to r clock held cs o h =
 
 -- ---- how long a step lasts
 
-pub lasts-from : (r : Rules) (clock length : ℕ) → 0 < r .update → 1 ≤ length → 1 ≤ lastsFor r clock length
-unfolding lastsFor
+pub lasts-from : (r : Rules) (clock length : ℕ) → 0 < r .update → 1 ≤ length → 1 ≤ durationFor r clock length
+unfolding durationFor
 lasts-from r clock length u h = omega (arith, mod-lt clock u)
 
-pub lasts-to : (r : Rules) (clock length : ℕ) → lastsFor r clock length ≤ length
-unfolding lastsFor
+pub lasts-to : (r : Rules) (clock length : ℕ) → durationFor r clock length ≤ length
+unfolding durationFor
 lasts-to r clock length = omega arith
 
 -- never past the next multiple of U
-pub lasts-within : (r : Rules) (clock length : ℕ) → 0 < r .update → clock % r .update + lastsFor r clock length ≤ r .update
-unfolding lastsFor
+pub lasts-within : (r : Rules) (clock length : ℕ) → 0 < r .update → clock % r .update + durationFor r clock length ≤ r .update
+unfolding durationFor
 lasts-within r clock length u = omega (arith, mod-lt clock u)

@@ -2,4 +2,3 @@ pub mod DropLaws
 pub mod LengthLaws
 pub mod RuleLaws
 pub mod WeighingLaws
-pub mod WorkedSquares

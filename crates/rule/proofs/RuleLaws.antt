@@ -1,18 +1,18 @@
 -- The tests of the rules and of one square, as facts.
 -- Assumes nothing.
-use mathlib.Core.Path.{_≡_, refl, sym, _∙_}
-use mathlib.Core.Bool.{Bool, true, false}
-use mathlib.Core.List.{List, [], _∷_}
-use Prim.Native.Nat.{ℕ, _≤_, _<_}
+use mathlib.Core.Path.{_≡_}
+use mathlib.Core.Bool.{true}
+use mathlib.Core.List.{[], _∷_}
+use Prim.Native.Nat.{ℕ}
 use lib.Dec.{leb}
-use borrow.Author.Tests.{leb-true, le-leb, lt-leb}
-use Rattle.reckon.specs.Tests.{every}
-use Rattle.reckon.proofs.TestLaws.{every-each, every-fails}
-use Rattle.reckon.specs.Ranges.{mostSide, mostBed, mostDepth, mostRoughness, mostTolerance, mostLength, mostUpdate}
-use Rattle.rule.specs.Rules.{sideFine, groundFine, rulesFine, RulesInRange, GroundInRange}
+use borrow.Author.Tests.{leb-true}
+use Rattle.reckon.proofs.TestLaws.{every-each}
+use Rattle.reckon.specs.Ranges.{mostSide, mostBed, mostRoughness, mostTolerance, mostLength, mostUpdate, sideFine}
+use Rattle.rule.specs.Rules.{groundFine, rulesFine}
+use Rattle.rule.specs.inner.InRange.{RulesInRange, GroundInRange}
 use Rattle.rule.specs.declared.rules.Rules.{Rules}
 
-pub rules-are : (r : Rules) → sideFine r ≡ true → rulesFine r ≡ true → RulesInRange r
+pub rules-are : (r : Rules) → sideFine (r .«square_side») ≡ true → rulesFine r ≡ true → RulesInRange r
 unfolding sideFine rulesFine
 rules-are r a b =
     let s = every-each (leb 1 (r .«square_side») ∷ leb (r .«square_side») mostSide ∷ []) a in

@@ -1,23 +1,23 @@
 -- Laws of the weighing: how large each part can be, that m may be held to d first, and what every use above rests on: the four sum to
 -- at most the depth, and a side without a drop sends nothing.
 -- Assumes nothing.
-use mathlib.Core.Path.{_≡_, refl, sym, _∙_, ap, ap₂, subst}
-use mathlib.Core.Bool.{Bool, true, false, _||_}
+use mathlib.Core.Path.{_≡_, refl, sym, _∙_, ap}
+use mathlib.Core.Bool.{_||_}
 use mathlib.Core.List.{List, [], _∷_}
-use Prim.Native.Nat.{ℕ, zero, suc, _+_, _*_, _/_, _^_, _≤_, _<_, min, max}
+use Prim.Native.Nat.{ℕ, zero, suc, _+_, _*_, _/_, _≤_, _<_, min}
 use native.Mathlib.Nat.{le-trans, mul-le-mul, mul-le-mul-left, mul-le-mul-right, div-le-self, div-mul-le-self, mul-add, add-mul, mul-zero, le-of-mul-le-mul-right, min-eq-left, min-eq-right, zero-div}
 use native.Mathlib.Decide.{decLe, ℕ-discrete}
 use native.Mathlib.Omega.{arith}
 use lib.Dec.{eqb}
 use lib.ListN.{getD}
 use borrow.Author.Tests.{eq-eqb, ne-eqb}
-use Rattle.reckon.specs.Tests.{pick}
-use Rattle.reckon.specs.Roots.{Root, rootOf}
+use Rattle.reckon.specs.Roots.{Root}
 use Rattle.reckon.proofs.TestLaws.{pick-true, pick-false, pick-both}
 use Rattle.reckon.proofs.QuotientLaws.{div-mono, le-scaled}
 use Rattle.reckon.proofs.RootLaws.{root-is, root-right, root-le, root-over}
-use Rattle.reckon.specs.Ranges.{mostDepth, mostSide, mostRoughness, mostLength}
-use Rattle.rule.specs.Weighing.{lesserPositive, leastDrop, greatestDrop, dropSum, heightOf, slopeOf, criticalSpeed, manningSpeed, speedOf, mostThrough, totalOf, throughSides, weighed, mostDrop, DropsInRange, SquareInRange}
+use Rattle.reckon.specs.Ranges.{mostDepth}
+use Rattle.rule.specs.Weighing.{lesserPositive, leastDrop, greatestDrop, dropSum, heightOf, slopeOf, criticalSpeed, speedOf, mostThrough, totalOf, throughSides, weighed}
+use Rattle.rule.specs.inner.InRange.{mostDrop, DropsInRange}
 use Rattle.rule.specs.declared.rules.Rules.{Rules}
 
 -- ---- the three roots: what the functions give, and how large they are

@@ -3,12 +3,11 @@
 use mathlib.Core.Path.{_≡_}
 use mathlib.Core.Bool.{Bool}
 use mathlib.Core.List.{List, [], _∷_, _++_}
-use Prim.Native.Nat.{ℕ, _-_, _*_, _/_, _%_, _≤_, min, max}
+use Prim.Native.Nat.{ℕ, _-_, _*_, _/_, _%_, min, max}
 use lib.Dec.{eqb, ltb}
 use lib.ListN.{getD}
 use Rattle.reckon.specs.Tests.{pick}
-use Rattle.reckon.specs.Ranges.{mostTolerance}
-use Rattle.rule.specs.Weighing.{heightOf, slopeOf, SquareInRange, DropsInRange}
+use Rattle.rule.specs.Weighing.{heightOf, slopeOf}
 use Rattle.rule.specs.declared.rules.Rules.{Rules}
 
 -- "take s from that side's V; the candidate is 50,000·D²·k·s / (d·h)"
@@ -52,15 +51,10 @@ unfoldable pub lengthAt : Rules → ℕ → ℕ → List ℕ → ℕ
 lengthAt r clock held candidates = pick (isUpdate r clock) (freshLength r candidates) held
 
 -- "The step lasts the smaller of that length and the time to the next multiple of U"
-unfoldable pub lastsFor : Rules → ℕ → ℕ → ℕ
-lastsFor r clock length = min length (r .update - clock % r .update)
+unfoldable pub durationFor : Rules → ℕ → ℕ → ℕ
+durationFor r clock length = min length (r .update - clock % r .update)
 
--- ---- what is asked, and what the public functions give
-
-pub record Candidacy (r : Rules) (d k : ℕ) (v : List ℕ) : Type 0 where
-  pub square : SquareInRange r d k
-  pub tolerance-to : r .tolerance ≤ mostTolerance
-  pub drops : DropsInRange v
+-- ---- what the public functions give
 
 abbrev pub Shorter : Rules → ℕ → ℕ → ℕ → List ℕ → ℕ → Type 0
 Shorter rules best d k v r = r ≡ leastFrom best (candidatesOf rules d k v)
@@ -71,5 +65,5 @@ HeldLength rules c r = r ≡ heldBetween rules c
 abbrev pub IsUpdate : Rules → ℕ → Bool → Type 0
 IsUpdate rules clock r = r ≡ isUpdate rules clock
 
-abbrev pub LastsFor : Rules → ℕ → ℕ → ℕ → Type 0
-LastsFor rules clock length r = r ≡ lastsFor rules clock length
+abbrev pub DurationFor : Rules → ℕ → ℕ → ℕ → Type 0
+DurationFor rules clock length r = r ≡ durationFor rules clock length

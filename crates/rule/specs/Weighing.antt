@@ -2,14 +2,13 @@
 -- how long the step lasts (ms) and its four drops V for north, east, south and west. Divisions round down.
 -- Assumes nothing.
 use mathlib.Core.Path.{_≡_}
-use mathlib.Core.Bool.{Bool, _||_}
+use mathlib.Core.Bool.{_||_}
 use mathlib.Core.List.{List, [], _∷_}
-use Prim.Native.Nat.{ℕ, _+_, _*_, _/_, _≤_, min, max}
+use Prim.Native.Nat.{ℕ, _+_, _*_, _/_, min, max}
 use lib.Dec.{eqb}
 use lib.ListN.{getD}
 use Rattle.reckon.specs.Tests.{pick}
 use Rattle.reckon.specs.Roots.{rootOf}
-use Rattle.reckon.specs.Ranges.{mostDepth, mostRoughness, mostSide, mostLength}
 use Rattle.rule.specs.declared.rules.Rules.{Rules}
 
 -- the lesser of two drops that are positive, 0 where neither is
@@ -69,31 +68,7 @@ throughSides total v =
 unfoldable pub weighed : Rules → ℕ → ℕ → ℕ → ℕ → List ℕ → List ℕ
 weighed r d p k ms v = pick (eqb d 0 || eqb (greatestDrop v) 0) (0 ∷ 0 ∷ 0 ∷ 0 ∷ []) (throughSides (totalOf r d p k ms v) v)
 
--- ---- what is asked, and what the public function gives
-
--- no level is above the highest bed with the greatest depth on it
-abbrev pub mostDrop : ℕ
-mostDrop = 1_100_000_000
-
-pub record DropsInRange (v : List ℕ) : Type 0 where
-  pub north : getD v 0 0 ≤ mostDrop
-  pub east : getD v 1 0 ≤ mostDrop
-  pub south : getD v 2 0 ≤ mostDrop
-  pub west : getD v 3 0 ≤ mostDrop
-
--- side, depth and roughness, as a speed or a candidate asks them
-pub record SquareInRange (r : Rules) (d k : ℕ) : Type 0 where
-  pub side-from : 1 ≤ r .«square_side»
-  pub side-to : r .«square_side» ≤ mostSide
-  pub depth-to : d ≤ mostDepth
-  pub roughness-from : 1 ≤ k
-  pub roughness-to : k ≤ mostRoughness
-
-pub record Weighable (r : Rules) (d p k ms : ℕ) (v : List ℕ) : Type 0 where
-  pub square : SquareInRange r d k
-  pub last-to : p ≤ mostDepth
-  pub lasts-to : ms ≤ mostLength
-  pub drops : DropsInRange v
+-- ---- what the public function gives
 
 abbrev pub Weighs : Rules → ℕ → ℕ → ℕ → ℕ → List ℕ → List ℕ → Type 0
 Weighs rules d p k ms v r = r ≡ weighed rules d p k ms v

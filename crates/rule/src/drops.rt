@@ -1,8 +1,5 @@
 // Drops: how far the water stands above what lies beside it.
-ghost use mathlib.Core.Path.{_≡_};
-ghost use Prim.Native.Nat.{_+_, _≤_};
 ghost use Rattle.rule.specs.Drops.{DropTo, DropOff};
-ghost use Rattle.reckon.specs.Ranges.{mostBed, mostDepth};
 use crate::rules::Rules;
 
 // The drop from a square's level towards that of an open or exit neighbour: 0 where it is no drop.

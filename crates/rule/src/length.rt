@@ -9,8 +9,8 @@ ghost use mathlib.Core.Path.{_≡_};
 ghost use Prim.Native.Nat.{_<_, _≤_};
 ghost use Rattle.reckon.specs.Tests.{pick};
 ghost use Rattle.reckon.specs.Ranges.{mostTolerance};
-ghost use Rattle.rule.specs.Weighing.{mostDrop, SquareInRange};
-ghost use Rattle.rule.specs.Length.{candidate, counts, Candidacy, Shorter, HeldLength, IsUpdate, LastsFor};
+ghost use Rattle.rule.specs.inner.InRange.{mostDrop, SquareInRange, Candidacy};
+ghost use Rattle.rule.specs.Length.{candidate, counts, Shorter, HeldLength, IsUpdate, DurationFor};
 
 // How long a step may last by one side of a square with water, ms.
 fn side_candidate(rules: Rules, depth: u64, roughness: u64, drop: u64) -> u64
@@ -67,9 +67,9 @@ pub fn is_update(rules: Rules, clock: u64) -> bool
 }
 
 // How long a step of a given length lasts, so that no step passes a multiple of U.
-pub fn lasts_for(rules: Rules, clock: u64, length: u64) -> u64
+pub fn duration_for(rules: Rules, clock: u64, length: u64) -> u64
     requires { ⌜ 0 < rules .update ⌝ }
-    ensures { λ r. ⌜ LastsFor rules clock length r ⌝ }
+    ensures { λ r. ⌜ DurationFor rules clock length r ⌝ }
 {
     let update = rules.update;
     lesser(length, update - clock % update)

@@ -1,12 +1,10 @@
-// The rules of a call, and the ranges of document 01: one test for each refusal number.
+// The rules of a call; the tests of refusals 5 and 2 that concern the rules or one square.
 use reckon::ranges::MOST_BED;
 use reckon::ranges::MOST_LENGTH;
 use reckon::ranges::MOST_ROUGHNESS;
-use reckon::ranges::MOST_SIDE;
 use reckon::ranges::MOST_TOLERANCE;
 use reckon::ranges::MOST_UPDATE;
-ghost use mathlib.Core.Path.{_≡_};
-ghost use Rattle.rule.specs.Rules.{SideFine, RulesFine, GroundFine};
+ghost use Rattle.rule.specs.Rules.{RulesJudged, GroundJudged};
 
 // square_side is D in m; tolerance is q in ten-thousandths; shortest, longest and update (U) are in ms.
 pub struct Rules {
@@ -17,19 +15,9 @@ pub struct Rules {
     pub update: u64,
 }
 
-// Refusal 1: the side D is in range.
-pub fn side_fine(rules: Rules) -> bool
-    ensures { λ r. ⌜ SideFine rules r ⌝ }
-{
-    if rules.square_side < 1 {
-        return false;
-    }
-    rules.square_side <= MOST_SIDE
-}
-
 // Refusal 5: tolerance, step limits and update time are in range.
 pub fn rules_fine(rules: Rules) -> bool
-    ensures { λ r. ⌜ RulesFine rules r ⌝ }
+    ensures { λ r. ⌜ RulesJudged rules r ⌝ }
 {
     if MOST_TOLERANCE < rules.tolerance {
         return false;
@@ -51,7 +39,7 @@ pub fn rules_fine(rules: Rules) -> bool
 
 // Refusal 2: bed and roughness of a square not closed are in range.
 pub fn ground_fine(bed: u32, roughness: u32) -> bool
-    ensures { λ r. ⌜ GroundFine bed roughness r ⌝ }
+    ensures { λ r. ⌜ GroundJudged bed roughness r ⌝ }
 {
     if MOST_BED < bed {
         return false;

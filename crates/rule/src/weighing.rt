@@ -8,7 +8,8 @@ use reckon::roots::square_root;
 ghost use mathlib.Core.Path.{_≡_};
 ghost use Prim.Native.Nat.{_*_, _/_, _<_, _≤_, min};
 ghost use Rattle.reckon.specs.Ranges.{mostDepth, mostLength};
-ghost use Rattle.rule.specs.Weighing.{lesserPositive, leastDrop, greatestDrop, dropSum, heightOf, slopeOf, criticalSpeed, speedOf, mostThrough, totalOf, throughSides, mostDrop, DropsInRange, SquareInRange, Weighable, Weighs};
+ghost use Rattle.rule.specs.Weighing.{lesserPositive, leastDrop, greatestDrop, dropSum, heightOf, slopeOf, criticalSpeed, speedOf, mostThrough, totalOf, throughSides, Weighs};
+ghost use Rattle.rule.specs.inner.InRange.{mostDrop, DropsInRange, SquareInRange, Weighable};
 
 // The lesser of two drops that are positive, 0 where neither is.
 fn lesser_positive(a: u64, b: u64) -> u64

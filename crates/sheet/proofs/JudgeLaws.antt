@@ -12,7 +12,7 @@ use lib.Seq.{ext-getD, getD-take, length-take-le, take-append-le, take-length}
 use borrow.Author.Tests.{lt-leb}
 use Rattle.reckon.specs.Tests.{every, refusal}
 use Rattle.reckon.specs.Lists.{placed, filled}
-use Rattle.reckon.specs.Ranges.{mostRain, mostLitres}
+use Rattle.reckon.specs.Ranges.{mostTableRows}
 use Rattle.reckon.specs.Tables.{rainKind, inflowKind, tableFine}
 use Rattle.reckon.proofs.TestLaws.{every-fails}
 use Rattle.reckon.proofs.ListLaws.{length-filled, filled-in, filled-skipped}
@@ -23,14 +23,14 @@ use Rattle.rule.specs.declared.rules.Rules.{Rules}
 use Rattle.ledger.specs.Runs.{World, world}
 use Rattle.ledger.specs.Record.{recordSize, roomSlots}
 use Rattle.ledger.specs.declared.runs.Run.{Run}
-use Rattle.flood.specs.Refusals.{checkRows, runChecks}
+use Rattle.flood.specs.Refusals.{checkRefusals, runChecks}
 use Rattle.flood.specs.Run.{freshRun}
 use Rattle.text.specs.Reading.{mostFields}
 use Rattle.sheet.specs.Lines.{rainWord, inflowWord}
-use Rattle.sheet.specs.Sheet.{Rooms, rooms, cellsRooms, planIn, givenIn, noLasts, noRecords, checksIn, rowsRead, tableRows, lineTwo, shapeOf, cellsAt, rainAt, rainRows, inflowAt, inflowRows, badLine, cellsFilled, saidCells, checksOf}
-use Rattle.sheet.specs.Inner.{BodyIs, TextRead, Decided, numberOf}
+use Rattle.sheet.specs.Sheet.{Cells, Rooms, cellsRooms, planIn, givenIn, noLasts, noRecords, checksIn, rowsRead, tableRows, lineTwo, shapeOf, rainAt, rainRows, inflowAt, inflowRows, badLine, cellsFilled, allCells, noCells, said, checksOf}
+use Rattle.sheet.specs.inner.Reading.{BodyIs, TextRead, Decided, numberOf, lookedRows}
 use Rattle.sheet.specs.declared.reading.Body.{Body}
-use Rattle.sheet.proofs.RoomLaws.{table-long}
+use Rattle.sheet.proofs.RoomLaws.{cells-same, table-long}
 
 -- ---- rooms of zeros
 
@@ -41,6 +41,11 @@ take-zeros (suc n) (suc m) h = ap (λ (l : List ℕ). 0 ∷ l) (take-zeros n m (
 
 pub zeros-are : (n m : ℕ) {k : ℕ} → n ≡ k → k ≤ m → take {A = ℕ} n (replicate m 0) ≡ replicate k 0
 zeros-are n m e h = take-zeros n m (omega (arith, e, h)) ∙ ap (λ (j : ℕ). replicate j 0) e
+
+-- so many first numbers of a room that is as long as one of zeros
+pub taken-long :
+    {n size : ℕ} (room : List ℕ) → n ≤ size → length room ≡ length (replicate {A = ℕ} size 0) → n ≡ length (take n room)
+taken-long {n} {size} room l e = sym (length-take-le n room (omega (arith, l, e, length-replicate {A = ℕ} size 0)))
 
 -- the first numbers of a room into which a list was put are that list
 pub take-put : (old new : List ℕ) (n : ℕ) → length new ≡ n → take n (placed old 0 new) ≡ new
@@ -60,50 +65,46 @@ pub world-same : {d l l′ c c′ : List ℕ} {u u′ : Run} → l ≡ l′ → 
 world-same e f g = cc
 
 pub judge-is :
-    {number : ℕ} {lasts records : List ℕ} (shape : Shape) (r : Rules) (held : Rooms) (end : ℕ) →
-    number ≡
-    refusal
-    (runChecks (planIn shape r held) (givenIn shape r held) end
-    (world (held .depths) lasts records (record { clock = 0; length = r .longest; outflow = 0; kept = 0; newest = 0 }))) →
+    {number : ℕ} {lasts records : List ℕ} {u : Run} (shape : Shape) (r : Rules) (held : Rooms) (end : ℕ) →
+    number ≡ refusal (runChecks (planIn shape r held) (givenIn shape r held) end (world (held .cells .depths) lasts records u)) → u ≡ freshRun r 1 →
     lasts ≡ noLasts shape r held → records ≡ noRecords shape r held → number ≡ checksIn shape r held end
-unfolding checksIn freshRun
-judge-is {number} {lasts} {records} shape r held end e l c =
+unfolding checksIn
+judge-is shape r held end e f l c =
     e
     ∙ ap (λ (w : World). refusal (runChecks (planIn shape r held) (givenIn shape r held) end w))
-    (world-same l c
-    (ap (λ (k : ℕ). record { clock = 0; length = r .longest; outflow = 0; kept = 0; newest = k - 1 }) (sym (one-slot shape r held))))
+    (world-same l c (f ∙ ap (freshRun r) (sym (one-slot shape r held))))
 
 -- ---- tables with a row too many
 
 -- the rows looked at, where a row too many is enough
 module _ (s : List ℕ) (p : ℕ) (word : List ℕ) (width : ℕ) (few : width ≤ mostFields) (some : 0 < width) (rows : ℕ) where
   abbrev shown : List ℕ
-  shown = tableRows s p word width (min rows 65)
+  shown = tableRows s p word width (min rows lookedRows)
 
-  shown-all : rows ≤ 64 → shown ≡ tableRows s p word width rows
+  shown-all : rows ≤ mostTableRows → shown ≡ tableRows s p word width rows
   shown-all h = ap (tableRows s p word width) (omega arith)
 
   long-is : (n : ℕ) → length (tableRows s p word width n) / width ≡ n
   long-is n = ap (λ (k : ℕ). k / width) (table-long s p word width few n) ∙ mul-div-cancel-left n some
 
   -- over 64 rows no table is fine, however many there are
-  not-fine : (n : ℕ) → 64 < n → (most : ℕ) (lead : ℕ) →
+  not-fine : (n : ℕ) → mostTableRows < n → (most : ℕ) (lead : ℕ) →
       tableFine (record { width = width; lead = lead; most = most }) (tableRows s p word width n) ≡ false
   unfolding tableFine
-  not-fine n h most lead = every-fails _ 1 (lt-leb (length (tableRows s p word width n) / width) 64 (omega (arith, h, long-is n)))
+  not-fine n h most lead = every-fails _ 1 (lt-leb (length (tableRows s p word width n) / width) mostTableRows (omega (arith, h, long-is n)))
 
   -- what goes by a table that must be fine goes by the rows looked at
   pub looked-same :
       (most lead : ℕ) (a : Bool) (g : List ℕ → Bool) →
       (a && (tableFine (record { width = width; lead = lead; most = most }) shown && g shown)) ≡
       (a && (tableFine (record { width = width; lead = lead; most = most }) (tableRows s p word width rows) && g (tableRows s p word width rows)))
-  looked-same most lead a g = go (decLt 64 rows)
+  looked-same most lead a g = go (decLt mostTableRows rows)
     where
       go :
-          Dec (64 < rows) →
+          Dec (mostTableRows < rows) →
           (a && (tableFine (record { width = width; lead = lead; most = most }) shown && g shown)) ≡
           (a && (tableFine (record { width = width; lead = lead; most = most }) (tableRows s p word width rows) && g (tableRows s p word width rows)))
-      go (yes h) = rw (not-fine (min rows 65) (omega arith) most lead, not-fine rows h most lead)
+      go (yes h) = rw (not-fine (min rows lookedRows) (omega arith) most lead, not-fine rows h most lead)
       go (no h) = rw (shown-all (omega arith))
 
 tables-same :
@@ -117,12 +118,12 @@ tables-same t t′ u u′ g e f =
 
 -- two tables of which only the rows looked at are handed over
 pub checks-looked :
-    (shape : Shape) (r : Rules) (m b k d t t′ u u′ : List ℕ) (end : ℕ) →
+    (shape : Shape) (r : Rules) (c : Cells) (t t′ u u′ : List ℕ) (end : ℕ) →
     ((a : Bool) (g : List ℕ → Bool) → (a && (tableFine rainKind t && g t)) ≡ (a && (tableFine rainKind t′ && g t′))) →
     ((a : Bool) (g : List ℕ → Bool) → (a && (tableFine inflowKind u && g u)) ≡ (a && (tableFine inflowKind u′ && g u′))) →
-    checksIn shape r (rooms m b k d t u) end ≡ checksIn shape r (rooms m b k d t′ u′) end
-unfolding checksIn checkRows
-checks-looked shape r m b k d t t′ u u′ end e f = rw (tables-same t t′ u u′ (inflowSquaresFine shape m) e f)
+    checksIn shape r (record { cells = c; rain = t; inflow = u }) end ≡ checksIn shape r (record { cells = c; rain = t′; inflow = u′ }) end
+unfolding checksIn checkRefusals
+checks-looked shape r c t t′ u u′ end e f = rw (tables-same t t′ u u′ (inflowSquaresFine shape (c .marks)) e f)
 
 -- ---- what was read, judged
 
@@ -132,11 +133,11 @@ rows-at :
 rows-at s word width e h = e ∙ ap (λ (p : ℕ). rowsRead s p word width) (sym h)
 
 module _ {s : List ℕ} {b : Body} (i : BodyIs s b) where
-  pub rain-rows-at : b .«rain_rows» ≡ rowsRead s (b .«rain_at») rainWord 3
-  rain-rows-at = rows-at s rainWord 3 (i .rain-rows-are) (i .rain-at-is)
+  pub rain-rows-at : b .«rain_rows» ≡ rowsRead s (b .«rain_at») rainWord (rainKind .width)
+  rain-rows-at = rows-at s rainWord (rainKind .width) (i .rain-rows-are) (i .rain-at-is)
 
-  pub inflow-rows-at : b .«inflow_rows» ≡ rowsRead s (b .«inflow_at») inflowWord 5
-  inflow-rows-at = rows-at s inflowWord 5 (i .inflow-rows-are) (i .inflow-at-is)
+  pub inflow-rows-at : b .«inflow_rows» ≡ rowsRead s (b .«inflow_at») inflowWord (inflowKind .width)
+  inflow-rows-at = rows-at s inflowWord (inflowKind .width) (i .inflow-rows-are) (i .inflow-at-is)
 
 -- a table that was put into a room, and its first numbers
 pub table-taken :
@@ -146,43 +147,34 @@ table-taken s p word width few old rows e =
     ap (take (width * rows)) e ∙ take-put old (tableRows s p word width rows) (width * rows) (table-long s p word width few rows)
 
 checks-same :
-    {shape shape′ : Shape} {r r′ : Rules} {m b k d t t′ u u′ : List ℕ} {end end′ : ℕ} {held : Rooms} → shape ≡ shape′ → r ≡ r′ →
-    cellsRooms m b k d ≡ held → t ≡ t′ → u ≡ u′ → end ≡ end′ →
-    checksIn shape r (rooms m b k d t u) end ≡
-    checksIn shape′ r′ (rooms (held .marks) (held .beds) (held .roughness) (held .depths) t′ u′) end′
-checks-same e f g h i j =
-    go e f (ap (λ (z : Rooms). z .marks) g) (ap (λ (z : Rooms). z .beds) g) (ap (λ (z : Rooms). z .roughness) g)
-    (ap (λ (z : Rooms). z .depths) g) h i j
-  where
-    go :
-        {shape shape′ : Shape} {r r′ : Rules} {m m′ b b′ k k′ d d′ t t′ u u′ : List ℕ} {end end′ : ℕ} → shape ≡ shape′ → r ≡ r′ → m ≡ m′ →
-        b ≡ b′ → k ≡ k′ → d ≡ d′ → t ≡ t′ → u ≡ u′ → end ≡ end′ →
-        checksIn shape r (rooms m b k d t u) end ≡ checksIn shape′ r′ (rooms m′ b′ k′ d′ t′ u′) end′
-    go e f a b c d h i j = cc
+    {shape shape′ : Shape} {r r′ : Rules} {c c′ : Cells} {t t′ u u′ : List ℕ} {end end′ : ℕ} → shape ≡ shape′ → r ≡ r′ → c ≡ c′ → t ≡ t′ →
+    u ≡ u′ → end ≡ end′ →
+    checksIn shape r (record { cells = c; rain = t; inflow = u }) end ≡
+    checksIn shape′ r′ (record { cells = c′; rain = t′; inflow = u′ }) end′
+checks-same e f g h i j = cc
 
 shown-at :
-    (s : List ℕ) {p place rows all n : ℕ} (word : List ℕ) (width : ℕ) → p ≡ place → rows ≡ min n 65 → n ≡ all →
-    tableRows s p word width rows ≡ tableRows s place word width (min all 65)
+    (s : List ℕ) {p place rows all n : ℕ} (word : List ℕ) (width : ℕ) → p ≡ place → rows ≡ min n lookedRows → n ≡ all →
+    tableRows s p word width rows ≡ tableRows s place word width (min all lookedRows)
 shown-at s word width e f g = cc
 
 pub body-judged :
-    (s : List ℕ) {shape : Shape} {b : Body} {m be k d t u : List ℕ} {rows frows number : ℕ} → shape ≡ shapeOf s → BodyIs s b →
-    cellsRooms m be k d ≡ saidCells s → rows ≡ min (b .«rain_rows») 65 → frows ≡ min (b .«inflow_rows») 65 →
-    t ≡ tableRows s (b .«rain_at») rainWord 3 rows → u ≡ tableRows s (b .«inflow_at») inflowWord 5 frows →
-    number ≡ checksIn shape (b .rules) (rooms m be k d t u) (b .end) → number ≡ checksOf s
-body-judged s {shape} {b} {m} {be} {k} {d} {t} {u} e i c h g p q n =
+    (s : List ℕ) {shape : Shape} {b : Body} {c : Cells} {t u : List ℕ} {rows frows number : ℕ} → shape ≡ shapeOf s → BodyIs s b →
+    c ≡ said s .cells → rows ≡ min (b .«rain_rows») lookedRows → frows ≡ min (b .«inflow_rows») lookedRows →
+    t ≡ tableRows s (b .«rain_at») rainWord (rainKind .width) rows → u ≡ tableRows s (b .«inflow_at») inflowWord (inflowKind .width) frows →
+    number ≡ checksIn shape (b .rules) (record { cells = c; rain = t; inflow = u }) (b .end) → number ≡ checksOf s
+body-judged s e i c h g p q n =
     n
-    ∙ (checks-same e (i .rules-are) c (p ∙ shown-at s rainWord 3 (i .rain-at-is) h (i .rain-rows-are))
-    (q ∙ shown-at s inflowWord 5 (i .inflow-at-is) g (i .inflow-rows-are)) (i .end-is)
-    ∙ checks-looked (shapeOf s) (lineTwo s .rules) (saidCells s .marks) (saidCells s .beds) (saidCells s .roughness) (saidCells s .depths)
-    _ _ _ _ (lineTwo s .end)
-    (looked-same s (rainAt s) rainWord 3 (omega arith) (omega arith) (rainRows s) mostRain 0)
-    (looked-same s (inflowAt s) inflowWord 5 (omega arith) (omega arith) (inflowRows s) mostLitres 2))
+    ∙ (checks-same e (i .rules-are) c (p ∙ shown-at s rainWord (rainKind .width) (i .rain-at-is) h (i .rain-rows-are))
+    (q ∙ shown-at s inflowWord (inflowKind .width) (i .inflow-at-is) g (i .inflow-rows-are)) (i .end-is)
+    ∙ checks-looked (shapeOf s) (lineTwo s .rules) (said s .cells) _ _ _ _ (lineTwo s .end)
+    (looked-same s (rainAt s) rainWord (rainKind .width) (omega arith) (omega arith) (rainRows s) (rainKind .most) (rainKind .lead))
+    (looked-same s (inflowAt s) inflowWord (inflowKind .width) (omega arith) (omega arith) (inflowRows s) (inflowKind .most) (inflowKind .lead)))
 
 -- ---- the first numbers of rooms that were filled
 
 module _ (n : ℕ) (skipped : ℕ → Bool) (f : ℕ → ℕ) (old : List ℕ) (h : n ≤ length old) where
-  pub take-filled : take n (filled n skipped f old) ≡ filled n skipped f (take n old)
+  take-filled : take n (filled n skipped f old) ≡ filled n skipped f (take n old)
   take-filled =
       ext-getD 0 _ _ (long ∙ sym (length-filled n skipped f (take n old) ∙ first)) (λ i l. at i (omega (arith, l, long)) (skipped i) refl)
     where
@@ -203,7 +195,7 @@ module _ (n : ℕ) (skipped : ℕ → Bool) (f : ℕ → ℕ) (old : List ℕ) (
 
 -- rooms of m zeros, of which n numbers are looked at
 module _ (n : ℕ) (skipped : ℕ → Bool) (f : ℕ → ℕ) (m : ℕ) (h : n ≤ m) where
-  pub zeros-filled : take n (filled n skipped f (replicate m 0)) ≡ filled n skipped f (replicate n 0)
+  zeros-filled : take n (filled n skipped f (replicate m 0)) ≡ filled n skipped f (replicate n 0)
   zeros-filled =
       take-filled n skipped f (replicate m 0) (omega (arith, h, length-replicate m (the-zero)))
       ∙ ap (filled n skipped f) (take-zeros n m h)
@@ -211,31 +203,27 @@ module _ (n : ℕ) (skipped : ℕ → Bool) (f : ℕ → ℕ) (m : ℕ) (h : n �
       the-zero : ℕ
       the-zero = 0
 
-cells-same : {m m′ b b′ k k′ d d′ : List ℕ} → m ≡ m′ → b ≡ b′ → k ≡ k′ → d ≡ d′ → cellsRooms m b k d ≡ cellsRooms m′ b′ k′ d′
-cells-same e f g h = cc
-
+-- the first numbers of rooms of zeros that were filled are what the sheet says
 pub said-from :
-    (s : List ℕ) (size : ℕ) {n : ℕ} {m b k d : List ℕ} → n ≡ squares (shapeOf s) → squares (shapeOf s) ≤ size →
-    cellsRooms m b k d ≡
-    cellsFilled s (cellsAt s) (shapeOf s .columns) (squares (shapeOf s))
-    (cellsRooms (replicate size 0) (replicate size 0) (replicate size 0) (replicate size 0)) →
-    cellsRooms (take n m) (take n b) (take n k) (take n d) ≡ saidCells s
+    (s : List ℕ) (size : ℕ) {n : ℕ} {c : Cells} → n ≡ squares (shapeOf s) → squares (shapeOf s) ≤ size → c ≡ allCells s (noCells size) →
+    cellsRooms (take n (c .marks)) (take n (c .beds)) (take n (c .roughness)) (take n (c .depths)) ≡ said s .cells
 unfolding cellsFilled
-said-from s size {n} {m} {b} {k} {d} e h c =
-    cells-same (part m (λ i. false) _ (ap (λ (r : Rooms). r .marks) c)) (part b _ _ (ap (λ (r : Rooms). r .beds) c))
-    (part k _ _ (ap (λ (r : Rooms). r .roughness) c)) (part d _ _ (ap (λ (r : Rooms). r .depths) c))
+said-from s size {n} {c} e h g =
+    cells-same (part (λ r. r .marks) _ _ refl) (part (λ r. r .beds) _ _ refl) (part (λ r. r .roughness) _ _ refl) (part (λ r. r .depths) _ _ refl)
   where
     part :
-        (l : List ℕ) (skipped : ℕ → Bool) (f : ℕ → ℕ) → l ≡ filled (squares (shapeOf s)) skipped f (replicate size 0) →
-        take n l ≡ filled (squares (shapeOf s)) skipped f (replicate (squares (shapeOf s)) 0)
-    part l skipped f q =
-        ap (take n) q
+        (room : Cells → List ℕ) (skipped : ℕ → Bool) (f : ℕ → ℕ) →
+        room (allCells s (noCells size)) ≡ filled (squares (shapeOf s)) skipped f (replicate size 0) →
+        take n (room c) ≡ filled (squares (shapeOf s)) skipped f (replicate (squares (shapeOf s)) 0)
+    part room skipped f q =
+        ap (λ (x : Cells). take n (room x)) g
+        ∙ (ap (take n) q
         ∙ (ap (λ (j : ℕ). take j (filled (squares (shapeOf s)) skipped f (replicate size 0))) e
-        ∙ zeros-filled (squares (shapeOf s)) skipped f size h)
+        ∙ zeros-filled (squares (shapeOf s)) skipped f size h))
 
 -- ---- the verdict
 
-pub decided-bad : {s : List ℕ} {b : Body} {before after : Rooms} → TextRead s b before after → (b .bad ≡ 0 → ⊥) → Decided s (record { number = 12; line = b .bad; body = b })
+pub decided-bad : {s : List ℕ} {b : Body} {before after : Cells} → TextRead s b before after → (b .bad ≡ 0 → ⊥) → Decided s (record { number = 12; line = b .bad; body = b })
 unfolding numberOf
 decided-bad {s} {b} t d =
     record { line-is = t .bad-is; number-is = go (badLine s) (t .bad-is); body-is = λ z. absurd (omega (arith, z)) }
@@ -245,7 +233,7 @@ decided-bad {s} {b} t d =
     go (suc k) e = refl
 
 pub decided-good :
-    {s : List ℕ} {b : Body} {before after : Rooms} {number : ℕ} → TextRead s b before after → b .bad ≡ 0 → number ≡ checksOf s →
+    {s : List ℕ} {b : Body} {before after : Cells} {number : ℕ} → TextRead s b before after → b .bad ≡ 0 → number ≡ checksOf s →
     Decided s (record { number = number; line = 0; body = b })
 unfolding numberOf
 decided-good {s} {b} t z e =

@@ -1,4 +1,4 @@
--- Laws of the kinds of line: what is handed on field by field is the line, and a line that is found ends where the next one starts.
+-- Laws of the kinds of line: a line that is found ends where the next one starts, and a square's line is judged by its place.
 -- Assumes nothing.
 use mathlib.Core.Path.{_≡_, refl, sym, ap, subst, _∙_}
 use mathlib.Core.Bool.{Bool, true, false}
@@ -9,47 +9,15 @@ use lib.ListN.{length, getD, drop, take, length-append, length-drop}
 use borrow.Author.Tests.{eq-eqb, ne-eqb}
 use Rattle.reckon.specs.Tests.{pick}
 use Rattle.reckon.proofs.TestLaws.{not-both, pick-true, pick-false}
-use Rattle.rule.specs.declared.rules.Rules.{Rules}
-use Rattle.text.specs.Reading.{tab, newline, mostFields, isByte, wordAt, fieldsAt, restOfLine, lineOf, nextLine, LineOf}
-use Rattle.text.specs.Writing.{fieldsText, restText, lineText, plain, Stands}
+use Rattle.text.specs.Reading.{tab, newline, mostFields, isByte, wordAt, fieldsAt, restOfLine, nextLine, LineOf}
+use Rattle.text.specs.Writing.{fieldsText, restText, lineText}
+use Rattle.text.specs.inner.Standing.{plain, Stands}
 use Rattle.text.specs.declared.reading.Fields.{Fields}
 use Rattle.text.proofs.StandLaws.{stands-both, stands-byte, stands-word}
 use Rattle.text.proofs.RoundTrip.{fields-found, rest-found, line-found}
 use Rattle.text.proofs.LineLaws.{plain-cons, plain-both, plain-fields, line-ends}
-use Rattle.sheet.specs.Lines.{gridWord, runWord, cellWord, asGrid, gridLine, asRun, runLine, noCell, closedCell, asOpen, openCell, markedCell, placedCell, cellLine, xLetter, oLetter, eLetter}
+use Rattle.sheet.specs.Lines.{cellWord, noCell, closedCell, asOpen, openCell, markedCell, placedCell, cellLine, xLetter, oLetter, eLetter, openFields, placeFields}
 use Rattle.sheet.specs.declared.lines.CellLine.{CellLine}
-use Rattle.sheet.specs.declared.lines.GridLine.{GridLine}
-use Rattle.sheet.specs.declared.lines.RunLine.{RunLine}
-
--- ---- lines handed on field by field
-
-pub grid-is :
-    {f : Fields} {a b d : ℕ} (s : List ℕ) → f ≡ lineOf s 0 gridWord 3 → a ≡ getD (f .values) 0 0 → b ≡ getD (f .values) 1 0 →
-    d ≡ getD (f .values) 2 0 →
-    _≡_ {A = GridLine}
-    (record {
-      found = f .found;
-      shape = record { rows = a; columns = b };
-      rules = record { «square_side» = d; tolerance = 0; shortest = 0; longest = 0; update = 0 };
-      next = f .next;
-    })
-    (gridLine s)
-unfolding gridLine asGrid
-grid-is s e p q r = rw (p, q, r) (ap asGrid e)
-
-pub run-is :
-    {f : Fields} {a b d u v : ℕ} (s : List ℕ) (at : ℕ) (r : Rules) → f ≡ lineOf s at runWord 5 → a ≡ getD (f .values) 0 0 →
-    b ≡ getD (f .values) 1 0 → d ≡ getD (f .values) 2 0 → u ≡ getD (f .values) 3 0 → v ≡ getD (f .values) 4 0 →
-    _≡_ {A = RunLine}
-    (record {
-      found = f .found;
-      rules = record { «square_side» = r .«square_side»; tolerance = a; shortest = b; longest = d; update = u };
-      end = v;
-      next = f .next;
-    })
-    (runLine s at r)
-unfolding runLine asRun
-run-is s at r e p q h k l = rw (p, q, h, k, l) (ap (asRun r) e)
 
 -- ---- a line that is found
 
@@ -115,7 +83,8 @@ none-ends : (s : List ℕ) (p : ℕ) → Ends s p noCell
 unfolding noCell
 none-ends s p e = not-both e refl
 
-choice : {A : Type 0} (P : A → Type 0) (b : Bool) {x y : A} → (b ≡ true → P x) → (b ≡ false → P y) → P (pick b x y)
+-- what holds of each side where its test says so holds of the choice
+pub choice : {A : Type 0} (P : A → Type 0) (b : Bool) {x y : A} → (b ≡ true → P x) → (b ≡ false → P y) → P (pick b x y)
 unfolding pick
 choice P true f g = f refl
 choice P false f g = g refl
@@ -129,11 +98,11 @@ closed-ends s p =
 open-ends : (s : List ℕ) (p mark : ℕ) → Ends s p (openCell s p mark)
 unfolding openCell asOpen restText
 open-ends s p mark e =
-    let vs : List ℕ = take 3 (restOfLine s p 3 .values) in
+    let vs : List ℕ = take openFields (restOfLine s p openFields .values) in
     record {
       text = fieldsText vs;
       plain-is = plain-fields vs;
-      stands = rest-found {f = restOfLine s p 3} s p 3 (omega arith) e refl .stands;
+      stands = rest-found {f = restOfLine s p openFields} s p openFields (omega arith) e refl .stands;
     }
 
 -- a tab and a mark before what follows
@@ -177,12 +146,12 @@ unfolding cellLine placedCell
 cell-ends s p row column =
     choice (Ends s p) (wordAt s p cellWord)
     (λ t.
-    choice (Ends s p) (fieldsAt s (p + length cellWord) 2 .found)
+    choice (Ends s p) (fieldsAt s (p + length cellWord) placeFields .found)
     (λ h.
     choice (Ends s p) _
     (λ r.
     choice (Ends s p) _
-    (λ q. after-place s p cellWord 2 (markedCell s (fieldsAt s (p + length cellWord) 2 .next)) (omega arith) plain-cell t h (marked-ends s (fieldsAt s (p + length cellWord) 2 .next)))
+    (λ q. after-place s p cellWord placeFields (markedCell s (fieldsAt s (p + length cellWord) placeFields .next)) (omega arith) plain-cell t h (marked-ends s (fieldsAt s (p + length cellWord) placeFields .next)))
     (λ n. none-ends s p))
     (λ n. none-ends s p))
     (λ n. none-ends s p))
@@ -195,22 +164,21 @@ module _ {f g : Fields} (s : List ℕ) (row column : ℕ) (e : f ≡ g) where
   unfolding placedCell
   place-unfound h = subst (λ (k : Fields). placedCell s row column k ≡ noCell) e (pick-false _ _ h)
 
-  module _ (t : f .found ≡ true) {a : ℕ} (v : a ≡ getD (f .values) 0 0) where
-    pub place-row : (a ≡ row → ⊥) → placedCell s row column g ≡ noCell
+  module _ (t : f .found ≡ true) where
+    pub place-row : (getD (f .values) 0 0 ≡ row → ⊥) → placedCell s row column g ≡ noCell
     unfolding placedCell
     place-row d =
-        subst (λ (k : Fields). placedCell s row column k ≡ noCell) e
-        (pick-true _ _ t ∙ pick-false _ _ (ne-eqb _ _ (λ z. d (v ∙ z))))
+        subst (λ (k : Fields). placedCell s row column k ≡ noCell) e (pick-true _ _ t ∙ pick-false _ _ (ne-eqb _ _ d))
 
-    module _ (h : a ≡ row) {b : ℕ} (w : b ≡ getD (f .values) 1 0) where
-      pub place-column : (b ≡ column → ⊥) → placedCell s row column g ≡ noCell
+    module _ (h : getD (f .values) 0 0 ≡ row) where
+      pub place-column : (getD (f .values) 1 0 ≡ column → ⊥) → placedCell s row column g ≡ noCell
       unfolding placedCell
       place-column d =
           subst (λ (k : Fields). placedCell s row column k ≡ noCell) e
-          (pick-true _ _ t ∙ (pick-true _ _ (eq-eqb _ _ (sym v ∙ h)) ∙ pick-false _ _ (ne-eqb _ _ (λ z. d (w ∙ z)))))
+          (pick-true _ _ t ∙ (pick-true _ _ (eq-eqb _ _ h) ∙ pick-false _ _ (ne-eqb _ _ d)))
 
-      pub place-right : b ≡ column → placedCell s row column g ≡ markedCell s (f .next)
+      pub place-right : getD (f .values) 1 0 ≡ column → placedCell s row column g ≡ markedCell s (f .next)
       unfolding placedCell
       place-right k =
-          subst (λ (k : Fields). placedCell s row column k ≡ markedCell s (f .next)) e
-          (pick-true _ _ t ∙ (pick-true _ _ (eq-eqb _ _ (sym v ∙ h)) ∙ pick-true _ _ (eq-eqb _ _ (sym w ∙ k))))
+          subst (λ (z : Fields). placedCell s row column z ≡ markedCell s (f .next)) e
+          (pick-true _ _ t ∙ (pick-true _ _ (eq-eqb _ _ h) ∙ pick-true _ _ (eq-eqb _ _ k)))

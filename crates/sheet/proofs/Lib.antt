@@ -1,9 +1,8 @@
 pub mod JudgeLaws
 pub mod KindLaws
-pub mod MeadowLaws
+pub mod LetterLaws
 pub mod NumberLaws
 pub mod PassLaws
-pub mod PrintLaws
 pub mod ReadLaws
 pub mod RoomLaws
 pub mod RunLaws

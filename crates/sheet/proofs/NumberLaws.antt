@@ -9,14 +9,15 @@ use native.Mathlib.Omega.{arith}
 use lib.ListN.{length, replicate, length-replicate}
 use borrow.Author.Tests.{eq-eqb, le-leb, leb-true}
 use Rattle.reckon.specs.Tests.{pick, every, _unless_, refusal}
-use Rattle.reckon.specs.Ranges.{lastClock, mostOutflow}
+use Rattle.reckon.specs.Ranges.{lastClock, mostOutflow, sideFine}
 use Rattle.reckon.proofs.TestLaws.{not-both, every-each, each-every}
 use Rattle.reckon.proofs.ListLaws.{length-filled}
 use Rattle.grid.specs.Squares.{squares, shapeFine}
-use Rattle.rule.specs.Rules.{sideFine, rulesFine}
+use Rattle.rule.specs.Rules.{rulesFine}
+use Rattle.ledger.specs.Runs.{runValuesFine}
 use Rattle.ledger.specs.Record.{roomSlots}
-use Rattle.ledger.specs.TakeBack.{oneEach}
-use Rattle.flood.specs.Refusals.{checkRows}
+use Rattle.ledger.specs.Checks.{oneEach}
+use Rattle.flood.specs.Refusals.{checkRefusals}
 use Rattle.flood.specs.Run.{freshRun}
 use Rattle.sheet.specs.Lines.{runLine, asRun}
 use Rattle.sheet.specs.Sheet.{Rooms, roomsFine, lineOne, lineTwo, shapeOf, planIn, noRecords, cellsFilled, said, checksIn, checksOf}
@@ -47,7 +48,7 @@ table-six true true true true false n h q = absurd (omega (arith, q))
 table-six true true true true true false h q = (refl, refl)
 table-six true true true true true true h q = absurd (omega (arith, q))
 
-module _ (s : List ℕ) (lent : Rooms) (f : roomsFine (shapeOf s) (lineOne s .rules) lent ≡ true) where
+module _ (s : List ℕ) (lent : Rooms) (f : roomsFine (shapeOf s) (lineOne s .side) lent ≡ true) where
   room-fine : (l : List ℕ) → length l ≡ squares (shapeOf s) → oneEach (planIn (shapeOf s) (lineTwo s .rules) (said s)) l ≡ true
   unfolding oneEach
   room-fine l e = eq-eqb _ _ e
@@ -55,18 +56,18 @@ module _ (s : List ℕ) (lent : Rooms) (f : roomsFine (shapeOf s) (lineOne s .ru
   zeros : length (replicate {A = ℕ} (squares (shapeOf s)) 0) ≡ squares (shapeOf s)
   zeros = length-replicate (squares (shapeOf s)) 0
 
-  side-fine : sideFine (lineTwo s .rules) ≡ true
-  unfolding roomsFine sideFine runLine asRun
+  side-fine : sideFine (lineTwo s .rules .«square_side») ≡ true
+  unfolding roomsFine runLine asRun
   side-fine = every-each _ f .1 .0
 
   abbrev lentTests : List Bool
   lentTests =
       shapeFine (shapeOf s)
-      ∷ sideFine (lineTwo s .rules)
-      ∷ oneEach (planIn (shapeOf s) (lineTwo s .rules) (said s)) (said s .marks)
-      ∷ oneEach (planIn (shapeOf s) (lineTwo s .rules) (said s)) (said s .beds)
-      ∷ oneEach (planIn (shapeOf s) (lineTwo s .rules) (said s)) (said s .roughness)
-      ∷ oneEach (planIn (shapeOf s) (lineTwo s .rules) (said s)) (said s .depths)
+      ∷ sideFine (lineTwo s .rules .«square_side»)
+      ∷ oneEach (planIn (shapeOf s) (lineTwo s .rules) (said s)) (said s .cells .marks)
+      ∷ oneEach (planIn (shapeOf s) (lineTwo s .rules) (said s)) (said s .cells .beds)
+      ∷ oneEach (planIn (shapeOf s) (lineTwo s .rules) (said s)) (said s .cells .roughness)
+      ∷ oneEach (planIn (shapeOf s) (lineTwo s .rules) (said s)) (said s .cells .depths)
       ∷ oneEach (planIn (shapeOf s) (lineTwo s .rules) (said s)) (replicate (squares (shapeOf s)) 0)
       ∷ []
 
@@ -91,11 +92,11 @@ module _ (s : List ℕ) (lent : Rooms) (f : roomsFine (shapeOf s) (lineOne s .ru
       )
 
   pub never-one : checksOf s ≡ 1 → ⊥
-  unfolding checksIn checkRows
+  unfolding checksIn checkRefusals
   never-one q = table-one _ _ _ _ _ _ row-one q
 
   pub never-six : checksOf s ≡ 6 → ⊥
-  unfolding checksIn checkRows freshRun rulesFine
+  unfolding checksIn checkRefusals runValuesFine freshRun rulesFine
   never-six q =
       let both = table-six _ _ _ _ _ _ row-one q in
       let rules = every-each _ (every-each _ (both .0) .0) in

@@ -11,6 +11,7 @@ use lib.ListN.{length, getD, take, replicate, length-replicate}
 use lib.Seq.{ext-getD, getD-take, length-take-le}
 use Rattle.reckon.specs.Tests.{refusal}
 use Rattle.reckon.specs.Lists.{filled}
+use Rattle.reckon.specs.Tables.{rainKind, inflowKind}
 use Rattle.reckon.proofs.TestLaws.{not-both}
 use Rattle.reckon.proofs.ListLaws.{length-filled, filled-in}
 use Rattle.grid.specs.Squares.{squares}
@@ -18,16 +19,15 @@ use Rattle.grid.specs.Marks.{closed}
 use Rattle.grid.proofs.MarkLaws.{closed-past}
 use Rattle.ledger.specs.Runs.{plan, world}
 use Rattle.ledger.specs.Record.{roomSlots}
-use Rattle.flood.specs.Drops.{ground, given}
+use Rattle.moves.specs.Given.{ground, given}
 use Rattle.flood.specs.Refusals.{runChecks}
 use Rattle.flood.specs.Run.{freshRun}
 use Rattle.text.proofs.ReadingLaws.{by-lt}
 use Rattle.sheet.specs.Lines.{rainWord, inflowWord}
-use Rattle.sheet.specs.Sheet.{Rooms, lineOne, lineTwo, shapeOf, cellsAt, rainAt, rainRows, inflowAt, inflowRows, cellFrom, closedFrom, cellsFilled, tablesFilled, said, roomsFilled}
+use Rattle.sheet.specs.Sheet.{Rooms, lineOne, lineTwo, shapeOf, cellsAt, rainAt, rainRows, inflowAt, inflowRows, cellFrom, closedFrom, cellsFilled, said, roomsFilled}
 use Rattle.sheet.specs.declared.reading.Heading.{Heading}
 use Rattle.sheet.proofs.JudgeLaws.{table-taken}
-use Rattle.sheet.proofs.SheetLaws.{rooms-cells}
-use Rattle.sheet.proofs.MeadowLaws.{Well}
+use Rattle.sheet.proofs.SheetLaws.{Well, rooms-cells}
 use Rattle.sheet.proofs.RunLaws.{run-passes}
 
 -- the numbers of squares not closed are the sheet's, whatever a room held before
@@ -66,14 +66,14 @@ module _ (s : List ℕ) (before : Rooms) (h : Heading) (w : Well s before h) (la
       refusal
       (runChecks (plan (shapeOf s) m)
       (given
-      (ground (lineTwo s .rules) (take (squares (shapeOf s)) (roomsFilled s before .beds))
-      (take (squares (shapeOf s)) (roomsFilled s before .roughness))) t u)
+      (ground (lineTwo s .rules) (take (squares (shapeOf s)) (roomsFilled s before .cells .beds))
+      (take (squares (shapeOf s)) (roomsFilled s before .cells .roughness))) t u)
       (lineTwo s .end)
-      (world (take (squares (shapeOf s)) (roomsFilled s before .depths)) lasts records
-      (freshRun (plan (shapeOf s) m) (lineTwo s .rules) lasts records))) ≡ 0
+      (world (take (squares (shapeOf s)) (roomsFilled s before .cells .depths)) lasts records
+      (freshRun (lineTwo s .rules) (roomSlots (plan (shapeOf s) m) records)))) ≡ 0
 
   not-closed :
-      (i : ℕ) → closed (said s .marks) i ≡ false →
+      (i : ℕ) → closed (said s .cells .marks) i ≡ false →
       (i < squares (shapeOf s)) × (closedFrom s (cellsAt s) (shapeOf s .columns) i ≡ false)
   unfolding closed cellsFilled
   not-closed i k =
@@ -85,36 +85,36 @@ module _ (s : List ℕ) (before : Rooms) (h : Heading) (w : Well s before h) (la
       (λ l. (l, sym (ap (λ (x : ℕ). eqb x 0) (filled-in n (λ j. false) f (replicate n 0) i (omega (arith, l, zeros)) l refl)) ∙ k))
       (λ l. not-both (closed-past (filled n (λ j. false) f (replicate n 0)) i (omega (arith, l, long))) k)
 
-  said-passes : Passes (said s .marks) (said s .rain) (said s .inflow)
-  unfolding cellsFilled tablesFilled
+  said-passes : Passes (said s .cells .marks) (said s .rain) (said s .inflow)
+  unfolding cellsFilled roomsFilled
   said-passes long none one =
       let n : ℕ = squares (shapeOf s) in
-      let cells = rooms-cells (shapeOf s) (lineOne s .rules) before (w .fine) in
+      let cells = rooms-cells (shapeOf s) (lineOne s .side) before (w .fine) in
       let zeros : length (replicate {A = ℕ} n 0) ≡ n = length-replicate n 0 in
       run-passes (shapeOf s) (lineTwo s .rules) (said s) (lineTwo s .end) (w .checks) _ _ _ lasts records
       (record {
-        beds-long = room-long n _ _ (before .beds) (cells .1);
-        roughness-long = room-long n _ _ (before .roughness) (cells .2);
-        depths-long = room-long n _ _ (before .depths) (cells .3);
+        beds-long = room-long n _ _ (before .cells .beds) (cells .1);
+        roughness-long = room-long n _ _ (before .cells .roughness) (cells .2);
+        depths-long = room-long n _ _ (before .cells .depths) (cells .3);
         lasts-long = long;
-        beds-alike = λ i k. let o = not-closed i k in room-alike n _ _ (before .beds) (replicate n 0) i (o .0) (o .1) (cells .1) (omega (arith, zeros));
-        roughness-alike = λ i k. let o = not-closed i k in room-alike n _ _ (before .roughness) (replicate n 0) i (o .0) (o .1) (cells .2) (omega (arith, zeros));
-        depths-alike = λ i k. let o = not-closed i k in room-alike n _ _ (before .depths) (replicate n 0) i (o .0) (o .1) (cells .3) (omega (arith, zeros));
+        beds-alike = λ i k. let o = not-closed i k in room-alike n _ _ (before .cells .beds) (replicate n 0) i (o .0) (o .1) (cells .1) (omega (arith, zeros));
+        roughness-alike = λ i k. let o = not-closed i k in room-alike n _ _ (before .cells .roughness) (replicate n 0) i (o .0) (o .1) (cells .2) (omega (arith, zeros));
+        depths-alike = λ i k. let o = not-closed i k in room-alike n _ _ (before .cells .depths) (replicate n 0) i (o .0) (o .1) (cells .3) (omega (arith, zeros));
         lasts-none = none;
         room-one = one;
       })
 
   pub sheet-passes :
-      Passes (take (squares (shapeOf s)) (roomsFilled s before .marks)) (take (3 * rainRows s) (roomsFilled s before .rain))
-      (take (5 * inflowRows s) (roomsFilled s before .inflow))
-  unfolding cellsFilled tablesFilled
+      Passes (take (squares (shapeOf s)) (roomsFilled s before .cells .marks)) (take (rainKind .width * rainRows s) (roomsFilled s before .rain))
+      (take (inflowKind .width * inflowRows s) (roomsFilled s before .inflow))
+  unfolding cellsFilled roomsFilled
   sheet-passes =
-      let cells = rooms-cells (shapeOf s) (lineOne s .rules) before (w .fine) in
-      let m = marks-same (squares (shapeOf s)) _ (before .marks) (cells .0) in
-      let t = table-taken s (rainAt s) rainWord 3 (omega arith) (before .rain) (rainRows s) refl in
-      let u = table-taken s (inflowAt s) inflowWord 5 (omega arith) (before .inflow) (inflowRows s) refl in
+      let cells = rooms-cells (shapeOf s) (lineOne s .side) before (w .fine) in
+      let m = marks-same (squares (shapeOf s)) _ (before .cells .marks) (cells .0) in
+      let t = table-taken s (rainAt s) rainWord (rainKind .width) (omega arith) (before .rain) (rainRows s) refl in
+      let u = table-taken s (inflowAt s) inflowWord (inflowKind .width) (omega arith) (before .inflow) (inflowRows s) refl in
       subst
-      (λ (x : List ℕ). Passes x (take (3 * rainRows s) (roomsFilled s before .rain)) (take (5 * inflowRows s) (roomsFilled s before .inflow)))
+      (λ (x : List ℕ). Passes x (take (rainKind .width * rainRows s) (roomsFilled s before .rain)) (take (inflowKind .width * inflowRows s) (roomsFilled s before .inflow)))
       (sym m)
-      (subst (λ (x : List ℕ). Passes (said s .marks) x (take (5 * inflowRows s) (roomsFilled s before .inflow))) (sym t)
-      (subst (λ (x : List ℕ). Passes (said s .marks) (said s .rain) x) (sym u) said-passes))
+      (subst (λ (x : List ℕ). Passes (said s .cells .marks) x (take (inflowKind .width * inflowRows s) (roomsFilled s before .inflow))) (sym t)
+      (subst (λ (x : List ℕ). Passes (said s .cells .marks) (said s .rain) x) (sym u) said-passes))

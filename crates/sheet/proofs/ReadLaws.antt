@@ -10,12 +10,13 @@ use lib.ListN.{length}
 use borrow.Author.Tests.{le-leb, lt-leb}
 use Rattle.reckon.specs.Tests.{pick}
 use Rattle.reckon.proofs.TestLaws.{refusal-here, refusal-later, passed-refusal, failing-le}
+use Rattle.reckon.specs.Tables.{rainKind, inflowKind}
 use Rattle.grid.specs.Squares.{squares}
 use Rattle.text.specs.Reading.{nextLine, lineFrom}
-use Rattle.text.specs.Writing.{plain}
-use Rattle.sheet.specs.Lines.{gridWord, runWord, rainWord, inflowWord, gridLine, runLine, asGrid, asRun}
-use Rattle.sheet.specs.Sheet.{Rooms, lineTwo, shapeOf, cellsAt, cellsRead, rainAt, inflowAt, afterAll, badLine, cellsFilled}
-use Rattle.sheet.specs.Inner.{CellsRead, RowsCounted, TextRead}
+use Rattle.text.specs.inner.Standing.{plain}
+use Rattle.sheet.specs.Lines.{gridWord, runWord, rainWord, inflowWord, gridLine, runLine, asGrid, asRun, gridFields, runFields}
+use Rattle.sheet.specs.Sheet.{Cells, lineTwo, shapeOf, cellsAt, cellsRead, rainAt, inflowAt, afterAll, firstCell, badLine, cellsFilled}
+use Rattle.sheet.specs.inner.Reading.{CellsRead, RowsCounted, TextRead}
 use Rattle.sheet.specs.declared.lines.GridLine.{GridLine}
 use Rattle.sheet.specs.declared.lines.RunLine.{RunLine}
 use Rattle.sheet.specs.declared.rooms.Scan.{Scan}
@@ -41,20 +42,24 @@ plain-inflow = refl
 -- line 1 and line 2 end with their lines
 grid-lined : (s : List ℕ) → gridLine s .found ≡ true → Lined s 0 (gridLine s .next)
 unfolding gridLine asGrid
-grid-lined s t = row-lined s 0 gridWord 3 (omega arith) plain-grid refl t
+grid-lined s t = row-lined s 0 gridWord gridFields (omega arith) plain-grid refl t
 
-run-lined : (s : List ℕ) (p : ℕ) (top : GridLine) → runLine s p (top .rules) .found ≡ true → Lined s p (runLine s p (top .rules) .next)
+run-lined : (s : List ℕ) (p D : ℕ) → runLine s p D .found ≡ true → Lined s p (runLine s p D .next)
 unfolding runLine asRun
-run-lined s p top t = row-lined s p runWord 5 (omega arith) plain-run refl t
+run-lined s p D t = row-lined s p runWord runFields (omega arith) plain-run refl t
 
-unread : {s : List ℕ} {b : Body} {before after : Rooms} {k : ℕ} → b .bad ≡ k → (k ≡ 0 → ⊥) → k ≡ badLine s → TextRead s b before after
+unread : {s : List ℕ} {b : Body} {before after : Cells} {k : ℕ} → b .bad ≡ k → (k ≡ 0 → ⊥) → k ≡ badLine s → TextRead s b before after
 unread h d e = record { bad-is = h ∙ e; body-is = λ z. absurd (d (sym h ∙ z)); rooms-are = λ z. absurd (d (sym h ∙ z)) }
 
-module _
-    (s : List ℕ) {top : GridLine} {run : RunLine} (e : top ≡ gridLine s) (t : top .found ≡ true)
-    (r : run ≡ runLine s (top .next) (top .rules)) where
+-- lines 1 and 2, of which line 1 was found
+pub record HeadRead (s : List ℕ) (top : GridLine) (run : RunLine) : Type 0 where
+  pub grid-is : top ≡ gridLine s
+  pub grid-found : top .found ≡ true
+  pub run-is : run ≡ runLine s (top .next) (top .side)
+
+module _ {s : List ℕ} {top : GridLine} {run : RunLine} (k : HeadRead s top run) where
   one-lined : Lined s 0 (top .next)
-  one-lined = subst (λ (g : GridLine). Lined s 0 (g .next)) (sym e) (grid-lined s (subst (λ (g : GridLine). g .found ≡ true) e t))
+  one-lined = subst (λ (g : GridLine). Lined s 0 (g .next)) (sym (k .grid-is)) (grid-lined s (subst (λ (g : GridLine). g .found ≡ true) (k .grid-is) (k .grid-found)))
 
   one-next : top .next ≡ lineFrom s 0 1
   unfolding lineFrom
@@ -62,10 +67,10 @@ module _
 
   two-is : run ≡ lineTwo s
   two-is =
-      r
-      ∙ (ap (λ (g : GridLine). runLine s (top .next) (g .rules)) e ∙ ap (λ (p : ℕ). runLine s p (gridLine s .rules)) one-next)
+      k .run-is
+      ∙ (ap (λ (g : GridLine). runLine s (top .next) (g .side)) (k .grid-is) ∙ ap (λ (p : ℕ). runLine s p (gridLine s .side)) one-next)
 
-  pub body-run : run .found ≡ false → {b : Body} {before after : Rooms} → b .bad ≡ 2 → TextRead s b before after
+  pub body-run : run .found ≡ false → {b : Body} {before after : Cells} → b .bad ≡ 2 → TextRead s b before after
   unfolding badLine
   body-run f h =
       unread h (λ z. omega (arith, z))
@@ -74,8 +79,8 @@ module _
   module _ (f : run .found ≡ true) where
     two-lined : Lined s (top .next) (run .next)
     two-lined =
-        subst (λ (g : RunLine). Lined s (top .next) (g .next)) (sym r)
-        (run-lined s (top .next) top (subst (λ (g : RunLine). g .found ≡ true) r f))
+        subst (λ (g : RunLine). Lined s (top .next) (g .next)) (sym (k .run-is))
+        (run-lined s (top .next) (top .side) (subst (λ (g : RunLine). g .found ≡ true) (k .run-is) f))
 
     two-next : run .next ≡ cellsAt s
     unfolding lineFrom
@@ -87,27 +92,27 @@ module _
     two-found : lineTwo s .found ≡ true
     two-found = subst (λ (g : RunLine). g .found ≡ true) two-is f
 
-    module _ {cells : Scan} {before after : Rooms} (c : CellsRead s (run .next) (top .shape) cells before after) where
+    module _ {cells : Scan} {before after : Cells} (c : CellsRead s (run .next) (top .shape) cells before after) where
       cells-are : CellsRead s (cellsAt s) (shapeOf s) cells before after
       cells-are =
           subst (λ (p : ℕ). CellsRead s p (shapeOf s) cells before after) two-next
-          (subst (λ (g : GridLine). CellsRead s (run .next) (g .shape) cells before after) e c)
+          (subst (λ (g : GridLine). CellsRead s (run .next) (g .shape) cells before after) (k .grid-is) c)
 
       shape-same : squares (top .shape) ≡ squares (shapeOf s)
-      shape-same = ap (λ (g : GridLine). squares (g .shape)) e
+      shape-same = ap (λ (g : GridLine). squares (g .shape)) (k .grid-is)
 
-      pub body-cells : cells .count < squares (top .shape) → {b : Body} → b .bad ≡ cells .count + 3 → TextRead s b before after
+      pub body-cells : cells .count < squares (top .shape) → {b : Body} → b .bad ≡ cells .count + firstCell → TextRead s b before after
       unfolding badLine
       body-cells l h =
           unread h (λ z. omega (arith, z))
           (sym
           (refusal-later 2 _ two-found
           ∙ (refusal-here _ _ (lt-leb (squares (shapeOf s)) (cellsRead s (cellsAt s) (shapeOf s)) (omega (arith, l, shape-same, cells-are .count-is)))
-          ∙ ap (λ (k : ℕ). k + 3) (sym (cells-are .count-is)))))
+          ∙ ap (λ (k : ℕ). k + firstCell) (sym (cells-are .count-is)))))
 
       module _
-          (h : squares (top .shape) ≤ cells .count) {rain inflow : Scan} (ra : RowsCounted s (cells .next) rainWord 3 rain)
-          (fl : RowsCounted s (rain .next) inflowWord 5 inflow) where
+          (h : squares (top .shape) ≤ cells .count) {rain inflow : Scan} (ra : RowsCounted s (cells .next) rainWord (rainKind .width) rain)
+          (fl : RowsCounted s (rain .next) inflowWord (inflowKind .width) inflow) where
         few-cells : cellsRead s (cellsAt s) (shapeOf s) ≤ squares (shapeOf s)
         unfolding cellsRead
         few-cells = failing-le _ _
@@ -118,14 +123,14 @@ module _
         rain-at : cells .next ≡ rainAt s
         rain-at = cells-are .next-is ∙ ap (lineFrom s (cellsAt s)) all-cells
 
-        rain-are : RowsCounted s (rainAt s) rainWord 3 rain
-        rain-are = subst (λ (p : ℕ). RowsCounted s p rainWord 3 rain) rain-at ra
+        rain-are : RowsCounted s (rainAt s) rainWord (rainKind .width) rain
+        rain-are = subst (λ (p : ℕ). RowsCounted s p rainWord (rainKind .width) rain) rain-at ra
 
         inflow-at : rain .next ≡ inflowAt s
         inflow-at = rain-are .next-is ∙ ap (lineFrom s (rainAt s)) (rain-are .count-is)
 
-        inflow-are : RowsCounted s (inflowAt s) inflowWord 5 inflow
-        inflow-are = subst (λ (p : ℕ). RowsCounted s p inflowWord 5 inflow) inflow-at fl
+        inflow-are : RowsCounted s (inflowAt s) inflowWord (inflowKind .width) inflow
+        inflow-are = subst (λ (p : ℕ). RowsCounted s p inflowWord (inflowKind .width) inflow) inflow-at fl
 
         after-at : inflow .next ≡ afterAll s
         after-at = inflow-are .next-is ∙ ap (lineFrom s (inflowAt s)) (inflow-are .count-is)
@@ -137,10 +142,10 @@ module _
         cells-fine = le-leb (squares (shapeOf s)) (cellsRead s (cellsAt s) (shapeOf s)) (omega (arith, all-cells, cells-are .count-is))
 
         pub body-rest :
-            inflow .next < length s → {b : Body} → b .bad ≡ squares (top .shape) + rain .count + inflow .count + 3 → TextRead s b before after
+            inflow .next < length s → {b : Body} → b .bad ≡ squares (top .shape) + rain .count + inflow .count + firstCell → TextRead s b before after
         unfolding badLine
-        body-rest l k =
-            unread k (λ z. omega (arith, z))
+        body-rest l h′ =
+            unread h′ (λ z. omega (arith, z))
             (sym
             (refusal-later 2 _ two-found
             ∙ (refusal-later _ _ cells-fine

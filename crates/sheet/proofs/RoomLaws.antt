@@ -2,15 +2,15 @@
 -- Assumes nothing.
 use mathlib.Core.Path.{_≡_, refl, sym, ap, subst, _∙_}
 use mathlib.Core.Bool.{Bool, true, false}
-use mathlib.Core.List.{List, [], _∷_}
+use mathlib.Core.List.{List}
 use Prim.Native.Nat.{ℕ, _+_, _*_, _/_, _%_, _≤_, _<_}
 use native.Mathlib.Nat.{not-suc-le-zero, mul-suc, mul-le-mul-left}
 use native.Mathlib.Numerals.{add-one}
 use native.Mathlib.Decide.{ℕ-discrete}
 use native.Mathlib.Omega.{arith}
 use lib.Dec.{eqb}
-use lib.ListN.{length, getD, set, take, length-take}
-use lib.Seq.{length-take-le, take-suc}
+use lib.ListN.{length, set, take}
+use lib.Seq.{length-take-le}
 use borrow.Author.Count.{below-more}
 use Rattle.reckon.specs.Tests.{pick, firstFailing}
 use Rattle.reckon.specs.Lists.{filled, placed}
@@ -20,13 +20,13 @@ use Rattle.grid.specs.Squares.{squares}
 use Rattle.grid.specs.declared.squares.Shape.{Shape}
 use Rattle.text.specs.Reading.{Reading, mostFields, lineOf, nextLine, lineFrom, padded, asFields, readLine}
 use Rattle.text.specs.Reading.Reading.{read, unread}
-use Rattle.text.specs.Writing.{plain}
+use Rattle.text.specs.inner.Standing.{plain}
 use Rattle.text.specs.declared.reading.Fields.{Fields}
 use Rattle.text.proofs.LineLaws.{line-next}
-use Rattle.text.proofs.WritingLaws.{placed-both, placed-none, placed-byte}
+use Rattle.text.proofs.WritingLaws.{placed-both, placed-none}
 use Rattle.sheet.specs.Lines.{cellLine}
-use Rattle.sheet.specs.Sheet.{Rooms, cellFrom, cellsRead, rowLine, rowsRead, tableRows, cellsRooms, closedFrom, cellsFilled}
-use Rattle.sheet.specs.Inner.{CellsRead, RowsCounted}
+use Rattle.sheet.specs.Sheet.{Cells, cellFrom, cellsRead, rowLine, rowsRead, tableRows, cellsRooms, closedFrom, cellsFilled}
+use Rattle.sheet.specs.inner.Reading.{CellsRead, RowsCounted}
 use Rattle.sheet.specs.declared.lines.CellLine.{CellLine}
 use Rattle.sheet.proofs.KindLaws.{Lined, lined-next, lined-forth, lined-inside, row-lined, cell-ends}
 
@@ -64,79 +64,100 @@ module _ (skipped : ℕ → Bool) (f : ℕ → ℕ) (old : List ℕ) (i : ℕ) w
       go true s n = n ∙ (e ∙ filled-keep skipped f old i h (λ d. not-both (sym s) d))
       go false s n = n ∙ (ap (λ (x : List ℕ). set x i v) e ∙ filled-store skipped f old i h (sym s) q)
 
-rooms-same : {m m′ b b′ k k′ d d′ : List ℕ} → m ≡ m′ → b ≡ b′ → k ≡ k′ → d ≡ d′ → cellsRooms m b k d ≡ cellsRooms m′ b′ k′ d′
-rooms-same e f g h = cc
+-- rooms that hold the same numbers
+pub cells-same :
+    {x y : Cells} → x .marks ≡ y .marks → x .beds ≡ y .beds → x .roughness ≡ y .roughness → x .depths ≡ y .depths → x ≡ y
+cells-same e f g h = go e f g h
+  where
+    go : {m m′ b b′ k k′ d d′ : List ℕ} → m ≡ m′ → b ≡ b′ → k ≡ k′ → d ≡ d′ → cellsRooms m b k d ≡ cellsRooms m′ b′ k′ d′
+    go e f g h = cc
 
 -- the first squares' lines were read, and the rooms are filled with them
-pub record Filling (s : List ℕ) (p columns next i : ℕ) (old new : Rooms) : Type 0 where
+pub record Filling (s : List ℕ) (p columns next i : ℕ) (old new : Cells) : Type 0 where
   pub lines : Passed s p (λ k. cellFrom s p columns k .found) next i
   pub rooms-are : new ≡ cellsFilled s p columns i old
 
 -- a line's numbers are stored, its bed, roughness and depth where it is not closed
-pub record Stored (c : CellLine) (i : ℕ) (m b k d m′ b′ k′ d′ : List ℕ) : Type 0 where
-  pub marks : m′ ≡ set m i (c .mark)
-  pub beds : b′ ≡ pick (eqb (c .mark) 0) b (set b i (c .bed))
-  pub roughness : k′ ≡ pick (eqb (c .mark) 0) k (set k i (c .roughness))
-  pub depths : d′ ≡ pick (eqb (c .mark) 0) d (set d i (c .depth))
+pub record Stored (c : CellLine) (i : ℕ) (old new : Cells) : Type 0 where
+  pub marks : new .marks ≡ set (old .marks) i (c .mark)
+  pub beds : new .beds ≡ pick (eqb (c .mark) 0) (old .beds) (set (old .beds) i (c .bed))
+  pub roughness : new .roughness ≡ pick (eqb (c .mark) 0) (old .roughness) (set (old .roughness) i (c .roughness))
+  pub depths : new .depths ≡ pick (eqb (c .mark) 0) (old .depths) (set (old .depths) i (c .depth))
 
-pub filling-none :
-    (s : List ℕ) (p columns : ℕ) (m b k d : List ℕ) → Filling s p columns p 0 (cellsRooms m b k d) (cellsRooms m b k d)
+-- a square of each room
+pub record Within (i : ℕ) (lent : Cells) : Type 0 where
+  pub marks : i < length (lent .marks)
+  pub beds : i < length (lent .beds)
+  pub roughness : i < length (lent .roughness)
+  pub depths : i < length (lent .depths)
+
+pub filling-none : (s : List ℕ) (p columns : ℕ) (old : Cells) → Filling s p columns p 0 old old
 unfolding cellsFilled
-filling-none s p columns m b k d =
+filling-none s p columns old =
     record {
       lines = passed-none s p (λ j. cellFrom s p columns j .found);
-      rooms-are = rooms-same (filled-none _ _ m) (filled-none _ _ b) (filled-none _ _ k) (filled-none _ _ d);
+      rooms-are = cells-same (filled-none _ _ _) (filled-none _ _ _) (filled-none _ _ _) (filled-none _ _ _);
     }
 
-module _
-    (s : List ℕ) (p columns : ℕ) {next i : ℕ} {m b k d m′ b′ k′ d′ : List ℕ}
-    (a : Filling s p columns next i (cellsRooms m b k d) (cellsRooms m′ b′ k′ d′)) where
-  pub long-marks : length m′ ≡ length m
-  unfolding cellsFilled
-  long-marks = ap (λ (r : Rooms). length (r .marks)) (a .rooms-are) ∙ length-filled i _ _ m
+module _ (s : List ℕ) (p columns : ℕ) {next i : ℕ} {old new : Cells} (a : Filling s p columns next i old new) where
+  -- a room is as long as it was
+  long :
+      (room : Cells → List ℕ) (skipped : ℕ → Bool) (f : ℕ → ℕ) → room (cellsFilled s p columns i old) ≡ filled i skipped f (room old) →
+      length (room new) ≡ length (room old)
+  long room skipped f e =
+      ap (λ (r : Cells). length (room r)) (a .rooms-are) ∙ (ap length e ∙ length-filled i skipped f (room old))
 
-  pub long-beds : length b′ ≡ length b
+  pub long-marks : length (new .marks) ≡ length (old .marks)
   unfolding cellsFilled
-  long-beds = ap (λ (r : Rooms). length (r .beds)) (a .rooms-are) ∙ length-filled i _ _ b
+  long-marks = long (λ r. r .marks) _ _ refl
 
-  pub long-roughness : length k′ ≡ length k
+  pub long-beds : length (new .beds) ≡ length (old .beds)
   unfolding cellsFilled
-  long-roughness = ap (λ (r : Rooms). length (r .roughness)) (a .rooms-are) ∙ length-filled i _ _ k
+  long-beds = long (λ r. r .beds) _ _ refl
 
-  pub long-depths : length d′ ≡ length d
+  pub long-roughness : length (new .roughness) ≡ length (old .roughness)
   unfolding cellsFilled
-  long-depths = ap (λ (r : Rooms). length (r .depths)) (a .rooms-are) ∙ length-filled i _ _ d
+  long-roughness = long (λ r. r .roughness) _ _ refl
+
+  pub long-depths : length (new .depths) ≡ length (old .depths)
+  unfolding cellsFilled
+  long-depths = long (λ r. r .depths) _ _ refl
 
   module _ {c : CellLine} (e : c ≡ cellLine s next (i / columns) (i % columns)) where
     this : c ≡ cellFrom s p columns i
     this = e ∙ ap (λ (q : ℕ). cellLine s q (i / columns) (i % columns)) (a .lines .here)
 
     pub filling-more :
-        c .found ≡ true → i < length m → i < length b → i < length k → i < length d → {m″ b″ k″ d″ : List ℕ} →
-        Stored c i m′ b′ k′ d′ m″ b″ k″ d″ → Filling s p columns (c .next) (i + 1) (cellsRooms m b k d) (cellsRooms m″ b″ k″ d″)
+        {after : Cells} → c .found ≡ true → Within i old → Stored c i new after → Filling s p columns (c .next) (i + 1) old after
     unfolding cellsFilled
-    filling-more t hm hb hk hd w =
-        let closed : eqb (c .mark) 0 ≡ closedFrom s p columns i = ap (λ (z : CellLine). eqb (z .mark) 0) this in
+    filling-more {after} t in-old w =
         let lined : Lined s next (c .next) =
         subst (λ (z : CellLine). Lined s next (z .next)) (sym e)
         (cell-ends s next (i / columns) (i % columns) (subst (λ (z : CellLine). z .found ≡ true) e t)) in
         record {
           lines = passed-more s p (λ j. cellFrom s p columns j .found) (a .lines) (subst (λ (z : CellLine). z .found ≡ true) this t) lined;
           rooms-are =
-              rooms-same
-              (stored (λ j. false) (λ j. cellFrom s p columns j .mark) m i hm
-              (ap (λ (r : Rooms). r .marks) (a .rooms-are)) (ap (λ (z : CellLine). z .mark) this) refl (w .marks ∙ sym (pick-false _ _ refl)))
-              (stored (closedFrom s p columns) (λ j. cellFrom s p columns j .bed) b i hb
-              (ap (λ (r : Rooms). r .beds) (a .rooms-are)) (ap (λ (z : CellLine). z .bed) this) closed (w .beds))
-              (stored (closedFrom s p columns) (λ j. cellFrom s p columns j .roughness) k i hk
-              (ap (λ (r : Rooms). r .roughness) (a .rooms-are)) (ap (λ (z : CellLine). z .roughness) this) closed (w .roughness))
-              (stored (closedFrom s p columns) (λ j. cellFrom s p columns j .depth) d i hd
-              (ap (λ (r : Rooms). r .depths) (a .rooms-are)) (ap (λ (z : CellLine). z .depth) this) closed (w .depths));
+              cells-same
+              (stored (λ j. false) (λ j. cellFrom s p columns j .mark) (old .marks) i (in-old .marks)
+              (ap (λ (r : Cells). r .marks) (a .rooms-are)) (ap (λ (z : CellLine). z .mark) this) refl (w .marks ∙ sym (pick-false _ _ refl)))
+              (kept (λ z. z .bed) _ (in-old .beds) (ap (λ (r : Cells). r .beds) (a .rooms-are)) (w .beds))
+              (kept (λ z. z .roughness) _ (in-old .roughness) (ap (λ (r : Cells). r .roughness) (a .rooms-are)) (w .roughness))
+              (kept (λ z. z .depth) _ (in-old .depths) (ap (λ (r : Cells). r .depths) (a .rooms-are)) (w .depths));
         }
+      where
+        -- a room that skips closed squares
+        kept :
+            (number : CellLine → ℕ) (room : List ℕ) {here after : List ℕ} → i < length room →
+            here ≡ filled i (closedFrom s p columns) (λ j. number (cellFrom s p columns j)) room →
+            after ≡ pick (eqb (c .mark) 0) here (set here i (number c)) →
+            after ≡ filled (i + 1) (closedFrom s p columns) (λ j. number (cellFrom s p columns j)) room
+        kept number room h g w =
+            stored (closedFrom s p columns) (λ j. number (cellFrom s p columns j)) room i h g (ap number this)
+            (ap (λ (z : CellLine). eqb (z .mark) 0) this) w
 
     pub filling-stop :
         (shape : Shape) → columns ≡ shape .columns → i < squares shape → c .found ≡ false →
-        CellsRead s p shape (record { count = i; next = next }) (cellsRooms m b k d) (cellsRooms m′ b′ k′ d′)
+        CellsRead s p shape (record { count = i; next = next }) old new
     unfolding cellsRead
     filling-stop shape h l f =
         record {
@@ -146,13 +167,12 @@ module _
               (failing-at (squares shape) (λ j. cellFrom s p columns j .found) i l (a .lines .so-far)
               (subst (λ (z : CellLine). z .found ≡ false) this f)));
           next-is = a .lines .here;
-          rooms-are = subst (λ (w : ℕ). cellsRooms m′ b′ k′ d′ ≡ cellsFilled s p w i (cellsRooms m b k d)) h (a .rooms-are);
+          rooms-are = subst (λ (w : ℕ). new ≡ cellsFilled s p w i old) h (a .rooms-are);
           passed = a .lines .passed;
         }
 
   pub filling-all :
-      (shape : Shape) → columns ≡ shape .columns → i ≡ squares shape →
-      CellsRead s p shape (record { count = i; next = next }) (cellsRooms m b k d) (cellsRooms m′ b′ k′ d′)
+      (shape : Shape) → columns ≡ shape .columns → i ≡ squares shape → CellsRead s p shape (record { count = i; next = next }) old new
   unfolding cellsRead
   filling-all shape h e =
       record {
@@ -163,7 +183,7 @@ module _
             (failing-none (squares shape) (λ j. cellFrom s p columns j .found)
             (λ j l. a .lines .so-far j (omega (arith, e, l)))));
         next-is = a .lines .here;
-        rooms-are = subst (λ (w : ℕ). cellsRooms m′ b′ k′ d′ ≡ cellsFilled s p w i (cellsRooms m b k d)) h (a .rooms-are);
+        rooms-are = subst (λ (w : ℕ). new ≡ cellsFilled s p w i old) h (a .rooms-are);
         passed = a .lines .passed;
       }
 
@@ -282,25 +302,3 @@ unfolding rowsRead
 row-read s p word width {next} {i} a e l =
     ap (λ (z : Fields). z .found) (e ∙ ap (λ (q : ℕ). lineOf s q word width) (a .here))
     ∙ failing-before (length s) (λ j. rowLine s p word width j .found) i l
-
--- ---- the numbers of one row
-
-module _ (old : List ℕ) (at : ℕ) (values : List ℕ) where
-  pub row-none : old ≡ placed old at (take 0 values)
-  row-none = sym (placed-none old at)
-
-  module _ (k : ℕ) (fits : at + k ≤ length old) where
-    pub row-length : {room : List ℕ} → room ≡ placed old at (take k values) → length room ≡ length old
-    row-length e = ap length e ∙ length-placed old at (take k values) (omega (arith, fits, length-take k values))
-
-    pub row-put :
-        k < length values → at + k < length old → {room : List ℕ} → room ≡ placed old at (take k values) →
-        set room (at + k) (getD values k 0) ≡ placed old at (take (k + 1) values)
-    row-put l h {room} e =
-        let long : length (take k values) ≡ k = length-take-le k values (omega (arith, l)) in
-        ap (λ (r : List ℕ). set r (at + k) (getD values k 0)) e
-        ∙ (placed-byte (placed old at (take k values)) (at + k) (getD values k 0)
-        (omega (arith, h, length-placed old at (take k values) (omega (arith, fits, long))))
-        ∙ (ap (λ (q : ℕ). placed (placed old at (take k values)) q (getD values k 0 ∷ [])) (omega (arith, long))
-        ∙ (placed-both old at (take k values) (getD values k 0 ∷ []) (omega (arith, h, long))
-        ∙ ap (placed old at) (rw (add-one k) (sym (take-suc values k 0 l))))))

@@ -1,4 +1,3 @@
-pub mod Inner
 pub mod Lines
-pub mod Printed
 pub mod Sheet
+pub mod inner

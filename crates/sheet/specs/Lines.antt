@@ -1,17 +1,17 @@
--- Document 01, "The sheet and its program": the kinds of line. What the fields of each are stands here and nowhere else.
+-- Document 01, "The sheet and its program": the kinds of line, each with its fields in their order.
 -- Assumes nothing.
 use mathlib.Core.Bool.{true, false}
-use mathlib.Core.List.{List, [], _∷_}
-use Prim.Native.Nat.{ℕ, _+_}
+use mathlib.Core.List.{List, [], _∷_, _++_}
+use Prim.Native.Nat.{ℕ, zero, suc, _+_}
 use lib.Dec.{eqb}
 use lib.ListN.{length, getD}
 use Rattle.reckon.specs.Tests.{pick}
-use Rattle.rule.specs.declared.rules.Rules.{Rules}
 use Rattle.text.specs.Reading.{tab, newline, isByte, wordAt, fieldsAt, restOfLine, lineOf}
 use Rattle.text.specs.declared.reading.Fields.{Fields}
 use Rattle.sheet.specs.declared.lines.GridLine.{GridLine}
 use Rattle.sheet.specs.declared.lines.RunLine.{RunLine}
 use Rattle.sheet.specs.declared.lines.CellLine.{CellLine}
+use Rattle.text.specs.Writing.{fieldsText}
 
 -- the words that lines begin with
 abbrev pub gridWord : List ℕ
@@ -29,27 +29,33 @@ rainWord = 114 ∷ 97 ∷ 105 ∷ 110 ∷ []
 abbrev pub inflowWord : List ℕ
 inflowWord = 105 ∷ 110 ∷ 102 ∷ 108 ∷ 111 ∷ 119 ∷ []
 
--- "`grid` rows columns D": the shape, and of the rules D alone
+-- "`grid` rows columns D"
+abbrev pub gridFields : ℕ
+gridFields = 3
+
 unfoldable pub asGrid : Fields → GridLine
 asGrid f =
     record {
       found = f .found;
       shape = record { rows = getD (f .values) 0 0; columns = getD (f .values) 1 0 };
-      rules = record { «square_side» = getD (f .values) 2 0; tolerance = 0; shortest = 0; longest = 0; update = 0 };
+      side = getD (f .values) 2 0;
       next = f .next;
     }
 
 unfoldable pub gridLine : List ℕ → GridLine
-gridLine s = asGrid (lineOf s 0 gridWord 3)
+gridLine s = asGrid (lineOf s 0 gridWord gridFields)
 
 -- "`run` q shortest longest U end"; D is told by line 1
-unfoldable pub asRun : Rules → Fields → RunLine
-asRun r f =
+abbrev pub runFields : ℕ
+runFields = 5
+
+unfoldable pub asRun : ℕ → Fields → RunLine
+asRun D f =
     record {
       found = f .found;
       rules =
           record {
-            «square_side» = r .«square_side»;
+            «square_side» = D;
             tolerance = getD (f .values) 0 0;
             shortest = getD (f .values) 1 0;
             longest = getD (f .values) 2 0;
@@ -59,8 +65,8 @@ asRun r f =
       next = f .next;
     }
 
-unfoldable pub runLine : List ℕ → ℕ → Rules → RunLine
-runLine s p r = asRun r (lineOf s p runWord 5)
+unfoldable pub runLine : List ℕ → ℕ → ℕ → RunLine
+runLine s p D = asRun D (lineOf s p runWord runFields)
 
 -- a line that is no square's
 unfoldable pub noCell : CellLine
@@ -72,6 +78,9 @@ closedCell s p =
     pick (isByte s p newline) (record { found = true; mark = 0; bed = 0; roughness = 0; depth = 0; next = p + 1 }) noCell
 
 -- "bed, roughness, depth"
+abbrev pub openFields : ℕ
+openFields = 3
+
 unfoldable pub asOpen : ℕ → Fields → CellLine
 asOpen mark f =
     record {
@@ -84,7 +93,7 @@ asOpen mark f =
     }
 
 unfoldable pub openCell : List ℕ → ℕ → ℕ → CellLine
-openCell s p mark = asOpen mark (restOfLine s p 3)
+openCell s p mark = asOpen mark (restOfLine s p openFields)
 
 -- "mark `x`, `o` or `e`", after its tab; "mark: 0 closed, 1 open, 2 exit"
 abbrev pub xLetter : ℕ
@@ -104,6 +113,9 @@ markedCell s p =
     noCell
 
 -- "row, column (from 0)": those of the square whose line it is
+abbrev pub placeFields : ℕ
+placeFields = 2
+
 unfoldable pub placedCell : List ℕ → ℕ → ℕ → Fields → CellLine
 placedCell s row column f =
     pick (f .found)
@@ -113,4 +125,15 @@ placedCell s row column f =
 -- "`cell` .. row, column (from 0), mark, bed, roughness, depth"
 unfoldable pub cellLine : List ℕ → ℕ → ℕ → ℕ → CellLine
 cellLine s p row column =
-    pick (wordAt s p cellWord) (placedCell s row column (fieldsAt s (p + length cellWord) 2)) noCell
+    pick (wordAt s p cellWord) (placedCell s row column (fieldsAt s (p + length cellWord) placeFields)) noCell
+
+-- "mark `x`, `o` or `e`": the letter of a mark, "0 closed, 1 open, 2 exit"; there is no other mark, and no other letter
+unfoldable pub letterOf : ℕ → ℕ
+letterOf zero = xLetter
+letterOf (suc zero) = oLetter
+letterOf (suc (suc zero)) = eLetter
+letterOf (suc (suc (suc mark))) = 0
+
+-- what the line of a square begins with: "`cell` .. row, column (from 0), mark"
+abbrev pub lineHead : ℕ → ℕ → ℕ → List ℕ
+lineHead row column mark = cellWord ++ (fieldsText (row ∷ column ∷ []) ++ (tab ∷ letterOf mark ∷ []))

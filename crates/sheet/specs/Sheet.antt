@@ -3,20 +3,19 @@
 use mathlib.Core.Path.{_≡_}
 use mathlib.Core.Bool.{Bool, false}
 use mathlib.Core.List.{List, [], _∷_}
-use Prim.Native.Nat.{ℕ, zero, suc, _+_, _*_, _/_, _%_}
+use Prim.Native.Nat.{ℕ, zero, suc, _+_, _/_, _%_}
 use lib.Dec.{eqb, leb}
 use lib.ListN.{length, take, replicate}
 use Rattle.reckon.specs.Tests.{pick, every, firstFailing, _unless_, refusal}
 use Rattle.reckon.specs.Lists.{filled, joined, placed}
-use Rattle.reckon.specs.Ranges.{mostRows}
-use Rattle.reckon.specs.Tables.{rainKind, inflowKind}
+use Rattle.reckon.specs.Ranges.{sideFine}
+use Rattle.reckon.specs.Tables.{rainKind, inflowKind, tableRoom}
 use Rattle.grid.specs.Squares.{squares, shapeFine}
 use Rattle.grid.specs.declared.squares.Shape.{Shape}
-use Rattle.rule.specs.Rules.{sideFine}
 use Rattle.rule.specs.declared.rules.Rules.{Rules}
 use Rattle.ledger.specs.Runs.{Plan, World, plan, world}
-use Rattle.ledger.specs.Record.{recordSize}
-use Rattle.flood.specs.Drops.{Given, ground, given}
+use Rattle.ledger.specs.Record.{recordSize, roomSlots}
+use Rattle.moves.specs.Given.{Given, ground, given}
 use Rattle.flood.specs.Refusals.{runChecks}
 use Rattle.flood.specs.Run.{freshRun}
 use Rattle.text.specs.Reading.{lineOf, lineFrom}
@@ -51,6 +50,10 @@ tableRows s p word width rows = joined rows (λ j. take width (rowLine s p word 
 
 -- ---- the lines of a sheet
 
+-- the number of the first square's
+abbrev pub firstCell : ℕ
+firstCell = 3
+
 module _ (s : List ℕ) where
   -- line 1: "`grid` rows columns D"
   abbrev pub lineOne : GridLine
@@ -61,7 +64,7 @@ module _ (s : List ℕ) where
 
   -- line 2: "`run` q shortest longest U end"
   abbrev pub lineTwo : RunLine
-  lineTwo = runLine s (lineFrom s 0 1) (lineOne .rules)
+  lineTwo = runLine s (lineFrom s 0 1) (lineOne .side)
 
   -- "one `cell` a square in row order"
   abbrev pub cellsAt : ℕ
@@ -95,69 +98,73 @@ module _ (s : List ℕ) where
   badLine =
       refusal
       (2 unless lineTwo .found
-      ∷ (cellsRead s cellsAt shapeOf + 3) unless leb (squares shapeOf) (cellsRead s cellsAt shapeOf)
-      ∷ (squares shapeOf + rainRows + inflowRows + 3) unless leb (length s) afterAll
+      ∷ (cellsRead s cellsAt shapeOf + firstCell) unless leb (squares shapeOf) (cellsRead s cellsAt shapeOf)
+      ∷ (squares shapeOf + rainRows + inflowRows + firstCell) unless leb (length s) afterAll
       ∷ [])
 
 -- ---- the rooms
 
-pub record Rooms : Type 0 where
+-- those that hold one number a square
+pub record Cells : Type 0 where
   pub marks : List ℕ
   pub beds : List ℕ
   pub roughness : List ℕ
   pub depths : List ℕ
+
+abbrev pub cellsRooms : List ℕ → List ℕ → List ℕ → List ℕ → Cells
+cellsRooms m b k d = record { marks = m; beds = b; roughness = k; depths = d }
+
+-- n zeros in each
+abbrev pub noCells : ℕ → Cells
+noCells n = cellsRooms (replicate n 0) (replicate n 0) (replicate n 0) (replicate n 0)
+
+-- these and those of the tables
+pub record Rooms : Type 0 where
+  pub cells : Cells
   pub rain : List ℕ
   pub inflow : List ℕ
 
 abbrev pub rooms : List ℕ → List ℕ → List ℕ → List ℕ → List ℕ → List ℕ → Rooms
-rooms m b k d r f = record { marks = m; beds = b; roughness = k; depths = d; rain = r; inflow = f }
-
--- those of the squares alone
-abbrev pub cellsRooms : List ℕ → List ℕ → List ℕ → List ℕ → Rooms
-cellsRooms m b k d = rooms m b k d [] []
+rooms m b k d r f = record { cells = cellsRooms m b k d; rain = r; inflow = f }
 
 -- "Each room is filled from its start; the rest of it stays": n squares' lines at p, the bed, roughness and depth of a closed square left
 module _ (s : List ℕ) (p columns : ℕ) where
   abbrev pub closedFrom : ℕ → Bool
   closedFrom i = eqb (cellFrom s p columns i .mark) 0
 
-  unfoldable pub cellsFilled : ℕ → Rooms → Rooms
+  unfoldable pub cellsFilled : ℕ → Cells → Cells
   cellsFilled n old =
       record {
         marks = filled n (λ i. false) (λ i. cellFrom s p columns i .mark) (old .marks);
         beds = filled n closedFrom (λ i. cellFrom s p columns i .bed) (old .beds);
         roughness = filled n closedFrom (λ i. cellFrom s p columns i .roughness) (old .roughness);
         depths = filled n closedFrom (λ i. cellFrom s p columns i .depth) (old .depths);
-        rain = old .rain;
-        inflow = old .inflow;
       }
 
-unfoldable pub tablesFilled : List ℕ → Rooms → Rooms
-tablesFilled s old =
+-- all squares' lines, and the tables
+abbrev pub allCells : List ℕ → Cells → Cells
+allCells s = cellsFilled s (cellsAt s) (shapeOf s .columns) (squares (shapeOf s))
+
+unfoldable pub roomsFilled : List ℕ → Rooms → Rooms
+roomsFilled s old =
     record {
-      marks = old .marks;
-      beds = old .beds;
-      roughness = old .roughness;
-      depths = old .depths;
+      cells = allCells s (old .cells);
       rain = placed (old .rain) 0 (rainTable s);
       inflow = placed (old .inflow) 0 (inflowTable s);
     }
 
-abbrev pub roomsFilled : List ℕ → Rooms → Rooms
-roomsFilled s old = tablesFilled s (cellsFilled s (cellsAt s) (shapeOf s .columns) (squares (shapeOf s)) old)
-
 -- "shape (1, also a lent room under one number a square, 192 for rain or 320 for inflow)"
-unfoldable pub roomsFine : Shape → Rules → Rooms → Bool
-roomsFine shape r lent =
+unfoldable pub roomsFine : Shape → ℕ → Rooms → Bool
+roomsFine shape D lent =
     every
     (shapeFine shape
-    ∷ sideFine r
-    ∷ leb (squares shape) (length (lent .marks))
-    ∷ leb (squares shape) (length (lent .beds))
-    ∷ leb (squares shape) (length (lent .roughness))
-    ∷ leb (squares shape) (length (lent .depths))
-    ∷ leb (rainKind .width * mostRows) (length (lent .rain))
-    ∷ leb (inflowKind .width * mostRows) (length (lent .inflow))
+    ∷ sideFine D
+    ∷ leb (squares shape) (length (lent .cells .marks))
+    ∷ leb (squares shape) (length (lent .cells .beds))
+    ∷ leb (squares shape) (length (lent .cells .roughness))
+    ∷ leb (squares shape) (length (lent .cells .depths))
+    ∷ leb (tableRoom rainKind) (length (lent .rain))
+    ∷ leb (tableRoom inflowKind) (length (lent .inflow))
     ∷ [])
 
 -- ---- "then 2 to 5": the checks of a run to the sheet's end, from a fresh run with room for one record (`never-one`, `never-six`)
@@ -165,10 +172,10 @@ roomsFine shape r lent =
 -- the plan, what is given and the world of a fresh run, by what rooms hold
 module _ (shape : Shape) (r : Rules) (held : Rooms) where
   abbrev pub planIn : Plan
-  planIn = plan shape (held .marks)
+  planIn = plan shape (held .cells .marks)
 
   abbrev pub givenIn : Given
-  givenIn = given (ground r (held .beds) (held .roughness)) (held .rain) (held .inflow)
+  givenIn = given (ground r (held .cells .beds) (held .cells .roughness)) (held .rain) (held .inflow)
 
   abbrev pub noLasts : List ℕ
   noLasts = replicate (squares shape) 0
@@ -177,22 +184,15 @@ module _ (shape : Shape) (r : Rules) (held : Rooms) where
   noRecords = replicate (recordSize planIn) 0
 
   abbrev pub startIn : World
-  startIn = world (held .depths) noLasts noRecords (freshRun planIn r noLasts noRecords)
+  startIn = world (held .cells .depths) noLasts noRecords (freshRun r (roomSlots planIn noRecords))
 
   unfoldable pub checksIn : ℕ → ℕ
   checksIn end = refusal (runChecks planIn givenIn end startIn)
 
 module _ (s : List ℕ) where
   -- what the sheet says, in rooms of one number a square and tables of just its rows
-  abbrev pub noCells : List ℕ
-  noCells = replicate (squares (shapeOf s)) 0
-
-  abbrev pub saidCells : Rooms
-  saidCells = cellsFilled s (cellsAt s) (shapeOf s .columns) (squares (shapeOf s)) (cellsRooms noCells noCells noCells noCells)
-
   abbrev pub said : Rooms
-  said =
-      rooms (saidCells .marks) (saidCells .beds) (saidCells .roughness) (saidCells .depths) (rainTable s) (inflowTable s)
+  said = record { cells = allCells s (noCells (squares (shapeOf s))); rain = rainTable s; inflow = inflowTable s }
 
   abbrev pub checksOf : ℕ
   checksOf = checksIn (shapeOf s) (lineTwo s .rules) said (lineTwo s .end)
@@ -220,7 +220,7 @@ judged zero zero h = Read h
 unfoldable pub sheetOf : List ℕ → Rooms → Sheet
 sheetOf s lent =
     pick (lineOne s .found)
-    (pick (roomsFine (shapeOf s) (lineOne s .rules) lent) (judged (badLine s) (checksOf s) (headingOf s)) (Refused 1 0))
+    (pick (roomsFine (shapeOf s) (lineOne s .side) lent) (judged (badLine s) (checksOf s) (headingOf s)) (Refused 1 0))
     (Refused 12 1)
 
 -- what the rooms hold afterwards

@@ -1,6 +1,5 @@
-// The kinds of line of a sheet: what the fields of each are stands here and nowhere else.
+// The kinds of line of a sheet, each with its fields in their order.
 use grid::squares::Shape;
-use reckon::numbers::number;
 use rule::rules::Rules;
 use text::reading::NEWLINE;
 use text::reading::TAB;
@@ -11,7 +10,7 @@ use text::reading::rest_of_line;
 use text::reading::word_at;
 ghost use mathlib.Core.Path.{_≡_};
 ghost use Prim.Native.Nat.{_+_};
-ghost use Rattle.sheet.specs.Lines.{closedCell, cellLine, gridLine, markedCell, noCell, openCell, runLine};
+ghost use Rattle.sheet.specs.Lines.{cellLine, closedCell, gridLine, markedCell, noCell, openCell, runLine};
 
 // Marks.
 const CLOSED: u8 = 0;
@@ -20,71 +19,69 @@ const OPEN: u8 = 1;
 
 const EXIT: u8 = 2;
 
-// Line 1: the shape, and of the rules the side D alone.
-pub struct GridLine {
-    pub found: bool,
-    pub shape: Shape,
-    pub rules: Rules,
-    pub next: usize,
+// Line 1: the shape and the side D.
+pub(crate) struct GridLine {
+    pub(crate) found: bool,
+    pub(crate) shape: Shape,
+    pub(crate) side: u64,
+    pub(crate) next: usize,
 }
 
 // Line 2: all of the rules, and the end of the run.
-pub struct RunLine {
-    pub found: bool,
-    pub rules: Rules,
-    pub end: u64,
-    pub next: usize,
+pub(crate) struct RunLine {
+    pub(crate) found: bool,
+    pub(crate) rules: Rules,
+    pub(crate) end: u64,
+    pub(crate) next: usize,
 }
 
 // A square's line. A closed square has no bed, roughness or depth: 0 stands for each.
-pub struct CellLine {
-    pub found: bool,
-    pub mark: u8,
-    pub bed: u32,
-    pub roughness: u32,
-    pub depth: u32,
-    pub next: usize,
+pub(crate) struct CellLine {
+    pub(crate) found: bool,
+    pub(crate) mark: u8,
+    pub(crate) bed: u32,
+    pub(crate) roughness: u32,
+    pub(crate) depth: u32,
+    pub(crate) next: usize,
 }
 
 // `grid` rows columns D.
+const GRID_FIELDS: usize = 3;
+
 pub(crate) fn grid_line(text: &[u8]) -> GridLine
     ensures { λ r. ⌜ r ≡ gridLine (now (text .entry)) ⌝ }
 {
-    let line = line_of(text, 0, b"grid", 3);
+    let line = line_of(text, 0, b"grid", GRID_FIELDS);
     let values = line.values;
     GridLine {
         found: line.found,
         shape: Shape {
-            rows: number(&values, 0) as usize,
-            columns: number(&values, 1) as usize,
+            rows: values[0] as usize,
+            columns: values[1] as usize,
         },
-        rules: Rules {
-            square_side: number(&values, 2),
-            tolerance: 0,
-            shortest: 0,
-            longest: 0,
-            update: 0,
-        },
+        side: values[2] as u64,
         next: line.next,
     }
 }
 
-// `run` q shortest longest U end, where the rules tell D.
-pub(crate) fn run_line(text: &[u8], at: usize, rules: Rules) -> RunLine
-    ensures { λ r. ⌜ r ≡ runLine (now (text .entry)) at rules ⌝ }
+// `run` q shortest longest U end; line 1 tells D.
+const RUN_FIELDS: usize = 5;
+
+pub(crate) fn run_line(text: &[u8], at: usize, side: u64) -> RunLine
+    ensures { λ r. ⌜ r ≡ runLine (now (text .entry)) at side ⌝ }
 {
-    let line = line_of(text, at, b"run", 5);
+    let line = line_of(text, at, b"run", RUN_FIELDS);
     let values = line.values;
     RunLine {
         found: line.found,
         rules: Rules {
-            square_side: rules.square_side,
-            tolerance: number(&values, 0),
-            shortest: number(&values, 1),
-            longest: number(&values, 2),
-            update: number(&values, 3),
+            square_side: side,
+            tolerance: values[0] as u64,
+            shortest: values[1] as u64,
+            longest: values[2] as u64,
+            update: values[3] as u64,
         },
-        end: number(&values, 4),
+        end: values[4] as u64,
         next: line.next,
     }
 }
@@ -121,10 +118,12 @@ fn closed_cell(text: &[u8], at: usize) -> CellLine
 }
 
 // After the mark of a square not closed: bed, roughness, depth, and the end of the line.
+const OPEN_FIELDS: usize = 3;
+
 fn open_cell(text: &[u8], at: usize, mark: u8) -> CellLine
     ensures { λ r. ⌜ r ≡ openCell (now (text .entry)) at mark ⌝ }
 {
-    let rest = rest_of_line(text, at, 3);
+    let rest = rest_of_line(text, at, OPEN_FIELDS);
     let values = rest.values;
     CellLine {
         found: rest.found,
@@ -156,21 +155,23 @@ fn marked_cell(text: &[u8], at: usize) -> CellLine
 }
 
 // `cell` row column mark bed roughness depth, for the square in a row and a column; an `x` line ends after its mark.
+const PLACE_FIELDS: usize = 2;
+
 pub(crate) fn cell_line(text: &[u8], at: usize, row: usize, column: usize) -> CellLine
     ensures { λ r. ⌜ r ≡ cellLine (now (text .entry)) at row column ⌝ }
 {
     if !word_at(text, at, b"cell") {
         return no_cell();
     }
-    let place = fields_at(text, at + 4, 2);
+    let place = fields_at(text, at + 4, PLACE_FIELDS);
     if !place.found {
         return no_cell();
     }
     let values = place.values;
-    if number(&values, 0) as usize != row {
+    if values[0] as usize != row {
         return no_cell();
     }
-    if number(&values, 1) as usize != column {
+    if values[1] as usize != column {
         return no_cell();
     }
     marked_cell(text, place.next)

@@ -6,14 +6,20 @@ use crate::rooms::count_rows;
 use crate::rooms::fill_cells;
 use crate::rooms::fill_rows;
 use flood::checks::check;
+use flood::fresh::fresh_run;
+use grid::squares::MOST_SQUARES;
 use grid::squares::Shape;
 use grid::squares::shape_fine;
 use grid::squares::squares_of;
+use ledger::record::MOST_RECORD;
 use ledger::record::record_size;
-use ledger::runs::Run;
-use reckon::ranges::MOST_ROWS;
+use reckon::ranges::MOST_TABLE_ROWS;
+use reckon::ranges::side_fine;
+use reckon::tables::INFLOW_ROOM;
+use reckon::tables::INFLOW_WIDTH;
+use reckon::tables::RAIN_ROOM;
+use reckon::tables::RAIN_WIDTH;
 use rule::rules::Rules;
-use rule::rules::side_fine;
 ghost use mathlib.Core.Path.{_≡_};
 ghost use mathlib.Core.Bool.{true};
 ghost use mathlib.Core.List.{[], _∷_};
@@ -21,11 +27,12 @@ ghost use Prim.Native.Nat.{_*_, _+_, _≤_, min};
 ghost use lib.Dec.{leb};
 ghost use lib.ListN.{length};
 ghost use Rattle.reckon.specs.Tests.{every};
-ghost use Rattle.grid.specs.Squares.{FineShape, shapeFine, squares};
-ghost use Rattle.rule.specs.Rules.{sideFine};
+ghost use Rattle.reckon.specs.Ranges.{sideFine};
+ghost use Rattle.reckon.specs.Tables.{inflowKind, rainKind, tableRoom};
+ghost use Rattle.grid.specs.Squares.{ShapeInRange, shapeFine, squares};
 ghost use Rattle.sheet.specs.Lines.{gridLine};
-ghost use Rattle.sheet.specs.Inner.{BodyIs, Decided, TextRead};
-ghost use Rattle.sheet.specs.Sheet.{Reads, cellsRooms, checksIn, checksOf, rooms, saidCells, shapeOf};
+ghost use Rattle.sheet.specs.Sheet.{Reads, cellsRooms, checksIn, checksOf, rooms, said, shapeOf};
+ghost use Rattle.sheet.specs.inner.Reading.{BodyIs, Decided, TextRead, lookedRows};
 
 // What a sheet's first two lines say, and how many rows its tables have. The end is in ms.
 pub struct Heading {
@@ -42,23 +49,15 @@ pub enum Sheet {
     Refused(u32, usize),
 }
 
-// The numbers of a row of each table, and those that its room must have.
-pub(crate) const RAIN_WIDTH: usize = 3;
+// One row too many is enough to refuse a table.
+const LOOKED_ROWS: usize = MOST_TABLE_ROWS + 1;
 
-pub(crate) const INFLOW_WIDTH: usize = 5;
+const RAIN_LOOKED: usize = RAIN_WIDTH * LOOKED_ROWS;
 
-pub(crate) const RAIN_ROOM: usize = 192;
+const INFLOW_LOOKED: usize = INFLOW_WIDTH * LOOKED_ROWS;
 
-pub(crate) const INFLOW_ROOM: usize = 320;
-
-// The numbers of the largest grid, and of its record; those of one row too many in each table.
-const SQUARE_ROOM: usize = 4_096;
-
-const RECORD_ROOM: usize = 24_578;
-
-const RAIN_SCRATCH: usize = 195;
-
-const INFLOW_SCRATCH: usize = 325;
+// The line of the first square, from 1.
+const FIRST_CELL_LINE: usize = 3;
 
 // What the text after line 1 says: the number of the first line that cannot be read, 0 for none; rules and end; where the cell lines and
 // the tables start, and how many rows they have.
@@ -84,13 +83,13 @@ pub(crate) struct Sizes {
 }
 
 // Refusal 1: shape and D are in range, and every room is large enough.
-fn rooms_fine(shape: Shape, rules: Rules, lent: Sizes) -> bool
-    ensures { λ r. ⌜ r ≡ every (shapeFine shape ∷ sideFine rules ∷ leb (squares shape) (lent .marks) ∷ leb (squares shape) (lent .beds) ∷ leb (squares shape) (lent .roughness) ∷ leb (squares shape) (lent .depths) ∷ leb 192 (lent .rain) ∷ leb 320 (lent .inflow) ∷ []) ⌝ }
+fn rooms_fine(shape: Shape, side: u64, lent: Sizes) -> bool
+    ensures { λ r. ⌜ r ≡ every (shapeFine shape ∷ sideFine side ∷ leb (squares shape) (lent .marks) ∷ leb (squares shape) (lent .beds) ∷ leb (squares shape) (lent .roughness) ∷ leb (squares shape) (lent .depths) ∷ leb (tableRoom rainKind) (lent .rain) ∷ leb (tableRoom inflowKind) (lent .inflow) ∷ []) ⌝ }
 {
     if !shape_fine(shape) {
         return false;
     }
-    if !side_fine(rules) {
+    if !side_fine(side) {
         return false;
     }
     let squares = squares_of(shape);
@@ -137,11 +136,11 @@ fn read_body(
     roughness: &mut [u32],
     depths: &mut [u32],
 ) -> Body
-    requires { ⌜ (top ≡ gridLine (now text)) × (top .found ≡ true) × (FineShape (top .shape)) ⌝ }
+    requires { ⌜ (top ≡ gridLine (now text)) × (top .found ≡ true) × (ShapeInRange (top .shape)) ⌝ }
     requires { ⌜ (squares (top .shape) ≤ length (now marks)) × (squares (top .shape) ≤ length (now beds)) × (squares (top .shape) ≤ length (now roughness)) × (squares (top .shape) ≤ length (now depths)) ⌝ }
     ensures { λ r. ⌜ TextRead (now (text .entry)) r (cellsRooms (now (marks .entry)) (now (beds .entry)) (now (roughness .entry)) (now (depths .entry))) (cellsRooms (now (marks .exit)) (now (beds .exit)) (now (roughness .exit)) (now (depths .exit))) ⌝ }
 {
-    let run = run_line(text, top.next, top.rules);
+    let run = run_line(text, top.next, top.side);
     let rules = run.rules;
     if !run.found {
         return bad_body(2, rules);
@@ -150,12 +149,12 @@ fn read_body(
     let squares = squares_of(shape);
     let cells = fill_cells(text, run.next, shape, marks, beds, roughness, depths);
     if cells.count < squares {
-        return bad_body(cells.count + 3, rules);
+        return bad_body(cells.count + FIRST_CELL_LINE, rules);
     }
     let rain = count_rows(text, cells.next, b"rain", RAIN_WIDTH);
     let inflow = count_rows(text, rain.next, b"inflow", INFLOW_WIDTH);
     if inflow.next < text.len() {
-        return bad_body(squares + rain.count + inflow.count + 3, rules);
+        return bad_body(squares + rain.count + inflow.count + FIRST_CELL_LINE, rules);
     }
     Body {
         bad: 0,
@@ -169,12 +168,12 @@ fn read_body(
     }
 }
 
-// The rows of a table that are looked at: one too many is enough to refuse it.
+// The rows of a table that are looked at.
 fn looked_at(rows: usize) -> usize
-    ensures { λ r. ⌜ r ≡ min rows 65 ⌝ }
+    ensures { λ r. ⌜ r ≡ min rows lookedRows ⌝ }
 {
-    if MOST_ROWS < rows {
-        return MOST_ROWS + 1;
+    if MOST_TABLE_ROWS < rows {
+        return LOOKED_ROWS;
     }
     rows
 }
@@ -191,20 +190,14 @@ fn judge(
     rain: &[u32],
     inflow: &[u32],
 ) -> u32
-    requires { ⌜ FineShape shape ⌝ }
+    requires { ⌜ ShapeInRange shape ⌝ }
     ensures { λ r. ⌜ r ≡ checksIn shape rules (rooms (now (marks .entry)) (now (beds .entry)) (now (roughness .entry)) (now (depths .entry)) (now (rain .entry)) (now (inflow .entry))) end ⌝ }
 {
-    let lasts = [0u32; SQUARE_ROOM];
-    let records = [0u32; RECORD_ROOM];
+    let lasts = [0u32; MOST_SQUARES];
+    let records = [0u32; MOST_RECORD];
     let squares = squares_of(shape);
     let size = record_size(shape);
-    let run = Run {
-        clock: 0,
-        length: rules.longest,
-        outflow: 0,
-        kept: 0,
-        newest: 0,
-    };
+    let run = fresh_run(rules, 1);
     check(
         shape,
         rules,
@@ -231,12 +224,12 @@ fn judge_body(
     roughness: &[u32],
     depths: &[u32],
 ) -> u32
-    requires { ⌜ (FineShape shape) × (shape ≡ shapeOf (now text)) × (BodyIs (now text) body) ⌝ }
-    requires { ⌜ cellsRooms (now marks) (now beds) (now roughness) (now depths) ≡ saidCells (now text) ⌝ }
+    requires { ⌜ (ShapeInRange shape) × (shape ≡ shapeOf (now text)) × (BodyIs (now text) body) ⌝ }
+    requires { ⌜ cellsRooms (now marks) (now beds) (now roughness) (now depths) ≡ said (now text) .cells ⌝ }
     ensures { λ r. ⌜ r ≡ checksOf (now (text .entry)) ⌝ }
 {
-    let mut rain = [0u32; RAIN_SCRATCH];
-    let mut inflow = [0u32; INFLOW_SCRATCH];
+    let mut rain = [0u32; RAIN_LOOKED];
+    let mut inflow = [0u32; INFLOW_LOOKED];
     let rain_rows = looked_at(body.rain_rows);
     let inflow_rows = looked_at(body.inflow_rows);
     fill_rows(
@@ -279,13 +272,13 @@ pub(crate) struct Verdict {
 
 // Whether a text whose line 1 and rooms are good is refused: all other text, and then 2 to 5.
 fn decide(text: &[u8], top: GridLine) -> Verdict
-    requires { ⌜ (top ≡ gridLine (now text)) × (top .found ≡ true) × (FineShape (top .shape)) ⌝ }
+    requires { ⌜ (top ≡ gridLine (now text)) × (top .found ≡ true) × (ShapeInRange (top .shape)) ⌝ }
     ensures { λ r. ⌜ Decided (now (text .entry)) r ⌝ }
 {
-    let mut marks = [0u8; SQUARE_ROOM];
-    let mut beds = [0u32; SQUARE_ROOM];
-    let mut roughness = [0u32; SQUARE_ROOM];
-    let mut depths = [0u32; SQUARE_ROOM];
+    let mut marks = [0u8; MOST_SQUARES];
+    let mut beds = [0u32; MOST_SQUARES];
+    let mut roughness = [0u32; MOST_SQUARES];
+    let mut depths = [0u32; MOST_SQUARES];
     let body = read_body(
         text,
         top,
@@ -344,7 +337,7 @@ pub fn read(
         rain: rain.len(),
         inflow: inflow.len(),
     };
-    if !rooms_fine(shape, top.rules, lent) {
+    if !rooms_fine(shape, top.side, lent) {
         return Sheet::Refused(1, 0);
     }
     let verdict = decide(text, top);

@@ -3,6 +3,7 @@ use crate::lines::CellLine;
 use crate::lines::cell_line;
 use grid::squares::Shape;
 use grid::squares::squares_of;
+use reckon::copying::copy_into;
 use text::reading::line_of;
 ghost use mathlib.Core.Path.{_≡_};
 ghost use mathlib.Core.Bool.{true};
@@ -11,11 +12,11 @@ ghost use lib.Dec.{eqb};
 ghost use lib.ListN.{length, set, take};
 ghost use Rattle.reckon.specs.Tests.{pick};
 ghost use Rattle.reckon.specs.Lists.{placed};
-ghost use Rattle.grid.specs.Squares.{FineShape, squares};
+ghost use Rattle.grid.specs.Squares.{ShapeInRange, squares};
 ghost use Rattle.text.specs.Reading.{mostFields};
-ghost use Rattle.text.specs.Writing.{plain};
-ghost use Rattle.sheet.specs.Inner.{CellsRead, RowsCounted};
-ghost use Rattle.sheet.specs.Sheet.{rowsRead, tableRows, cellsRooms};
+ghost use Rattle.text.specs.inner.Standing.{plain};
+ghost use Rattle.sheet.specs.Sheet.{cellsRooms, rowsRead, tableRows};
+ghost use Rattle.sheet.specs.inner.Reading.{CellsRead, RowsCounted};
 
 // How many lines were read, and where the line after them starts.
 pub(crate) struct Scan {
@@ -57,7 +58,7 @@ pub(crate) fn fill_cells(
     roughness: &mut [u32],
     depths: &mut [u32],
 ) -> Scan
-    requires { ⌜ FineShape shape ⌝ }
+    requires { ⌜ ShapeInRange shape ⌝ }
     requires { ⌜ (squares shape ≤ length (now marks)) × (squares shape ≤ length (now beds)) × (squares shape ≤ length (now roughness)) × (squares shape ≤ length (now depths)) ⌝ }
     ensures { λ r. ⌜ CellsRead (now (text .entry)) at shape r (cellsRooms (now (marks .entry)) (now (beds .entry)) (now (roughness .entry)) (now (depths .entry))) (cellsRooms (now (marks .exit)) (now (beds .exit)) (now (roughness .exit)) (now (depths .exit))) ⌝ }
 {
@@ -112,11 +113,7 @@ fn put_row(values: &[u32], width: usize, at: usize, room: &mut [u32])
     requires { ⌜ (width ≤ length (now values)) × (at + width ≤ length (now room)) ⌝ }
     ensures { λ _. ⌜ now (room .exit) ≡ placed (now (room .entry)) at (take width (now (values .entry))) ⌝ }
 {
-    let mut k: usize = 0;
-    while k < width {
-        room[at + k] = values[k];
-        k += 1;
-    }
+    copy_into(&values[..width], room, at);
 }
 
 // Some of the lines of a table, as many as are asked for, into its room.

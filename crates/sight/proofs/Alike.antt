@@ -3,29 +3,28 @@
 use mathlib.Core.Path.{_≡_, refl, ap, ap₂, _∙_}
 use mathlib.Core.Bool.{Bool, true, false, _&&_, _||_, not}
 use mathlib.Core.List.{List, [], _∷_, _++_}
-use Prim.Native.Nat.{ℕ, zero, suc, _+_, _*_, _<_}
+use Prim.Native.Nat.{ℕ, zero, suc, _+_, _<_}
 use native.Mathlib.Omega.{arith}
 use lib.Dec.{eqb, leb}
 use lib.ListN.{length, getD}
 use Rattle.reckon.specs.Tests.{pick, every, Row, _unless_, refusal}
 use Rattle.reckon.specs.Ranges.{mostDepth}
 use Rattle.reckon.proofs.TestLaws.{all-ext}
-use Rattle.reckon.proofs.ListLaws.{tabulate-ext}
 use Rattle.trials.specs.Ring.{slotsIn}
 use Rattle.grid.specs.Squares.{north, east, south, west, squares, sides, squareAt, within, beside, opposite, shapeFine}
 use Rattle.grid.specs.Marks.{Alike, marksFine}
 use Rattle.grid.proofs.SquareLaws.{opposite-small}
 use Rattle.grid.proofs.MarkLaws.{unless-closed}
-use Rattle.grid.proofs.MaskLaws.{mask-alike}
+use Rattle.grid.proofs.MaskLaws.{masks-alike}
 use Rattle.ledger.specs.declared.runs.Run.{Run}
 use Rattle.ledger.specs.Runs.{Plan, runFine}
 use Rattle.ledger.specs.Flows.{shut, sent}
 use Rattle.ledger.specs.Record.{recordSize, heldIn, lastedIn, leavesIn, roomSlots, newestRecord}
-use Rattle.ledger.specs.TakeBack.{oneEach, timesFine}
-use Rattle.sight.specs.Refusals.{depthsFine, sharedRows}
-use Rattle.sight.specs.Speeds.{speedOf, arrowOf}
-use Rattle.sight.specs.Arrows.{netNone, outThrough, nearDepth, throughSide, allStill, arrowBy, sighted, seenBy, view, askedFine, earlyRows, arrowRows, arrowNumber, seenAt}
-use Rattle.sight.specs.WetRows.{wetMasks, onesOver, wetRefusals, wetNumber, counted, WetRowed}
+use Rattle.ledger.specs.Checks.{oneEach, timesFine}
+use Rattle.sight.specs.Refusals.{depthsFine, sharedRefusals}
+use Rattle.sight.specs.Speeds.{sideSpeed, arrowOf}
+use Rattle.sight.specs.Arrows.{netNone, outThrough, nearDepth, throughSide, allStill, arrowBy, sighted, seenBy, view, askedFine, arrowEarlyRefusals, arrowRefusals, arrowNumber, seenAt}
+use Rattle.sight.specs.WetRows.{onesOver, wetRefusals, wetNumber, counted, WetRowed}
 use Rattle.sight.specs.declared.speeds.Arrow.{Arrow}
 use Rattle.sight.specs.declared.wet_rows.Wet.{Wet}
 
@@ -55,8 +54,8 @@ module _ (p : Plan) {a b : List ℕ} (h : AlikeDepths p a b) where
       go i true e = rw e
       go i false e = ap (λ (d : ℕ). shut p i || leb d mostDepth) (h .alike .at i e)
 
-  shared-alike : (more : Bool) → sharedRows p a more ≡ sharedRows p b more
-  unfolding sharedRows
+  shared-alike : (more : Bool) → sharedRefusals p a more ≡ sharedRefusals p b more
+  unfolding sharedRefusals
   shared-alike more =
       ap₂ (λ (s t : Bool).
       1 unless every (shapeFine (p .shape) ∷ oneEach p (p .marks) ∷ s ∷ [])
@@ -68,12 +67,7 @@ module _ (p : Plan) {a b : List ℕ} (h : AlikeDepths p a b) where
 
   -- ---- wet rows
 
-  masks-alike : (least : ℕ) → wetMasks p a least ≡ wetMasks p b least
-  unfolding wetMasks
-  masks-alike least =
-      tabulate-ext (p .shape .rows) _ _ (λ row l. mask-alike (p .marks) (h .alike) least (row * p .shape .columns) (p .shape .columns))
-
-  wet-number-alike : (least numbers : ℕ) → wetNumber p a least numbers ≡ wetNumber p b least numbers
+  pub wet-number-alike : (least numbers : ℕ) → wetNumber p a least numbers ≡ wetNumber p b least numbers
   unfolding wetNumber wetRefusals
   wet-number-alike least numbers =
       ap (λ (rows : List Row). refusal (rows ++ (5 unless leb least mostDepth ∷ []))) (shared-alike (eqb numbers (p .shape .rows)))
@@ -82,8 +76,8 @@ module _ (p : Plan) {a b : List ℕ} (h : AlikeDepths p a b) where
   pub wet-alike : {least : ℕ} {old : List ℕ} {r : Wet} {rows : List ℕ} → WetRowed p a least old r rows → WetRowed p b least old r rows
   wet-alike {least} {old} {r} {rows} w =
       record {
-        answer = w .answer ∙ ap₂ counted (wet-number-alike least (length old)) (ap onesOver (masks-alike least));
-        rows-are = w .rows-are ∙ ap₂ (λ (n : ℕ) (l : List ℕ). pick (eqb n 0) l old) (wet-number-alike least (length old)) (masks-alike least);
+        answer = w .answer ∙ ap₂ counted (wet-number-alike least (length old)) (ap onesOver (masks-alike (p .shape) (p .marks) (h .alike) least));
+        rows-are = w .rows-are ∙ ap₂ (λ (n : ℕ) (l : List ℕ). pick (eqb n 0) l old) (wet-number-alike least (length old)) (masks-alike (p .shape) (p .marks) (h .alike) least);
       }
 
 -- ---- arrows
@@ -110,7 +104,7 @@ module _ (p : Plan) (D : ℕ) {d e r s : List ℕ} (h : AlikeDepths p d e) (g : 
       let l = g .lasted in
       λ k.
       sighted number (shut p i) (eqb (h .alike .at i o k) 0) (every (netNone (n k) ∷ netNone (ea k) ∷ netNone (so k) ∷ netNone (we k) ∷ []))
-      (arrowOf (speedOf D (l k) (n k)) (speedOf D (l k) (ea k)) (speedOf D (l k) (so k)) (speedOf D (l k) (we k)))
+      (arrowOf (sideSpeed D (l k) (n k)) (sideSpeed D (l k) (ea k)) (sideSpeed D (l k) (so k)) (sideSpeed D (l k) (we k)))
 
   closed-same : (number : ℕ) {c : Bool} (a b m n : Bool) (x y : Arrow) → c ≡ true → sighted number c a m x ≡ sighted number c b n y
   unfolding sighted
@@ -138,7 +132,7 @@ pub arrow-alike :
     (p : Plan) (D : ℕ) {d e : List ℕ} (r s : List ℕ) (run : Run) (row column : ℕ) →
     AlikeDepths p d e → length r ≡ length s → AlikeRecords p (newestRecord p (view d r run)) (newestRecord p (view e s run)) →
     seenAt p D (view d r run) row column ≡ seenAt p D (view e s run) row column
-unfolding seenAt arrowNumber arrowRows earlyRows
+unfolding seenAt arrowNumber arrowRefusals arrowEarlyRefusals
 arrow-alike p D {d} {e} r s run row column h m g =
     let shared = shared-alike p h (askedFine (p .shape) D row column) in
     let slots = room-alike p r s m in

@@ -12,21 +12,22 @@ use borrow.Author.Tests.{eq-eqb, ne-eqb, le-ltb, lt-ltb, ltb-true, leb-true}
 use Rattle.reckon.specs.Tests.{every, refusal}
 use Rattle.reckon.specs.Ranges.{mostDepth, mostSide}
 use Rattle.reckon.proofs.TestLaws.{pick-true, pick-false, and-both, and-false, every-each, refusal-here, refusal-later, refusal-first, refusal-second, refusal-both, refusal-passed, passed-refusal}
-use Rattle.trials.specs.Ring.{slotsIn, slotStart, ringFine}
+use Rattle.trials.specs.Ring.{slotsIn, slotStart}
 use Rattle.trials.specs.Room.{recordIn}
 use Rattle.trials.proofs.RingLaws.{slot-within}
 use Rattle.grid.specs.declared.squares.Shape.{Shape}
-use Rattle.grid.specs.Squares.{north, east, south, west, squares, squareAt, within, beside, opposite, OnGrid, Stands}
+use Rattle.grid.specs.Squares.{north, east, south, west, squares, squareAt, within, beside, opposite, OnGrid, OnSquare}
 use Rattle.grid.proofs.SquareLaws.{square-within, column-of}
 use Rattle.grid.proofs.MarkLaws.{closed-past}
-use Rattle.ledger.specs.declared.runs.Run.{Run}
 use Rattle.ledger.specs.Runs.{Plan, World, runFine}
 use Rattle.ledger.specs.Flows.{shut, sent}
 use Rattle.ledger.specs.Record.{recordSize, lastedIn, wordPlace, leavesIn, roomSlots, newestRecord}
-use Rattle.ledger.specs.TakeBack.{timesFine}
-use Rattle.sight.specs.Refusals.{sharedRows}
-use Rattle.sight.specs.Speeds.{speedOf, arrowOf, Ranged}
-use Rattle.sight.specs.Arrows.{netNone, outThrough, nearDepth, throughSide, allStill, arrowBy, sighted, seenBy, askedFine, earlyRows, arrowRows, arrowNumber, seenAt, Laid, Timed, Sided}
+use Rattle.ledger.specs.Checks.{timesFine}
+use Rattle.ledger.proofs.RunLaws.{run-ring}
+use Rattle.sight.specs.Refusals.{sharedRefusals}
+use Rattle.sight.specs.Speeds.{sideSpeed, arrowOf}
+use Rattle.sight.specs.inner.Arrows.{Ranged, SightLent, Timed, Sided}
+use Rattle.sight.specs.Arrows.{netNone, outThrough, nearDepth, throughSide, allStill, arrowBy, sighted, seenBy, askedFine, arrowEarlyRefusals, arrowRefusals, arrowNumber, seenAt}
 use Rattle.sight.specs.declared.speeds.Arrow.{Arrow}
 use Rattle.sight.specs.declared.speeds.Through.{Through}
 use Rattle.sight.specs.declared.arrows.Sight.{Sight}
@@ -210,39 +211,39 @@ module _ (p : Plan) (D : ℕ) (depths rec : List ℕ) (i : ℕ) where
 
       pub seen-moving :
           {lasts : ℕ} {a : Arrow} → still ≡ false → lasts ≡ lastedIn rec →
-          a ≡ arrowOf (speedOf D lasts n) (speedOf D lasts e) (speedOf D lasts s) (speedOf D lasts w) →
+          a ≡ arrowOf (sideSpeed D lasts n) (sideSpeed D lasts e) (sideSpeed D lasts s) (sideSpeed D lasts w) →
           Moving a ≡ seenBy 0 p D depths rec i
       unfolding seenBy arrowBy
       seen-moving z l q =
           ap Moving
           (q
           ∙ (λ k.
-          arrowOf (speedOf D (l k) (ns .is k)) (speedOf D (l k) (es .is k)) (speedOf D (l k) (ss .is k)) (speedOf D (l k) (ws .is k))))
+          arrowOf (sideSpeed D (l k) (ns .is k)) (sideSpeed D (l k) (es .is k)) (sideSpeed D (l k) (ss .is k)) (sideSpeed D (l k) (ws .is k))))
           ∙ sighted-moving _ o wet (sym still-is ∙ z)
 
 -- ---- refusals before 11
 
 module _ (p : Plan) (D : ℕ) (w : World) (row column : ℕ) {asked : Bool} {shared : ℕ}
-    (a : asked ≡ askedFine (p .shape) D row column) (s : shared ≡ refusal (sharedRows p (w .depths) asked)) where
-  whole : shared ≡ refusal (sharedRows p (w .depths) (askedFine (p .shape) D row column))
-  whole = s ∙ ap (λ (b : Bool). refusal (sharedRows p (w .depths) b)) a
+    (a : asked ≡ askedFine (p .shape) D row column) (s : shared ≡ refusal (sharedRefusals p (w .depths) asked)) where
+  whole : shared ≡ refusal (sharedRefusals p (w .depths) (askedFine (p .shape) D row column))
+  whole = s ∙ ap (λ (b : Bool). refusal (sharedRefusals p (w .depths) b)) a
 
-  pub early-shared : (shared ≡ 0 → ⊥) → shared ≡ refusal (earlyRows p D w row column)
-  unfolding earlyRows sharedRows
+  pub early-shared : (shared ≡ 0 → ⊥) → shared ≡ refusal (arrowEarlyRefusals p D w row column)
+  unfolding arrowEarlyRefusals sharedRefusals
   early-shared n = whole ∙ sym (refusal-first _ _ tt (λ e. n (whole ∙ e)))
 
   module _ (e : shared ≡ 0) {fine : Bool} (f : fine ≡ runFine (roomSlots p (w .records)) (w .run)) where
-    pub early-run : fine ≡ false → 6 ≡ refusal (earlyRows p D w row column)
-    unfolding earlyRows sharedRows
+    pub early-run : fine ≡ false → 6 ≡ refusal (arrowEarlyRefusals p D w row column)
+    unfolding arrowEarlyRefusals sharedRefusals
     early-run b = sym (refusal-second _ _ tt (sym whole ∙ e) ∙ refusal-here 6 _ (sym f ∙ b))
 
-    pub early-kept : fine ≡ true → w .run .kept ≡ 0 → 10 ≡ refusal (earlyRows p D w row column)
-    unfolding earlyRows sharedRows
+    pub early-kept : fine ≡ true → w .run .kept ≡ 0 → 10 ≡ refusal (arrowEarlyRefusals p D w row column)
+    unfolding arrowEarlyRefusals sharedRefusals
     early-kept b k =
         sym (refusal-second _ _ tt (sym whole ∙ e) ∙ (refusal-later 6 _ (sym f ∙ b) ∙ refusal-here 10 _ (ap not (eq-eqb _ _ k))))
 
-    pub early-none : fine ≡ true → (w .run .kept ≡ 0 → ⊥) → 0 ≡ refusal (earlyRows p D w row column)
-    unfolding earlyRows sharedRows
+    pub early-none : fine ≡ true → (w .run .kept ≡ 0 → ⊥) → 0 ≡ refusal (arrowEarlyRefusals p D w row column)
+    unfolding arrowEarlyRefusals sharedRefusals
     early-none b k =
         sym (refusal-second _ _ tt (sym whole ∙ e) ∙ passed-refusal _ (sym f ∙ b, (ap not (ne-eqb _ _ k), tt)))
 
@@ -260,15 +261,11 @@ pub record Open (p : Plan) (D : ℕ) (w : World) (row column : ℕ) : Type 0 whe
   pub side-to : D ≤ mostSide
   pub newest-in : w .run .newest < roomSlots p (w .records)
 
-newest-below : (K : ℕ) (u : Run) → runFine K u ≡ true → u .newest < K
-unfolding runFine ringFine
-newest-below K u e = ltb-true _ _ (every-each _ (every-each _ e .0) .1 .1 .0)
-
-module _ (p : Plan) (D : ℕ) (w : World) (row column : ℕ) {n : ℕ} (e : n ≡ refusal (earlyRows p D w row column)) where
+module _ (p : Plan) (D : ℕ) (w : World) (row column : ℕ) {n : ℕ} (e : n ≡ refusal (arrowEarlyRefusals p D w row column)) where
   pub opened : n ≡ 0 → Open p D w row column
-  unfolding earlyRows sharedRows askedFine
+  unfolding arrowEarlyRefusals sharedRefusals askedFine
   opened z =
-      let parts = refusal-both (sharedRows p (w .depths) (askedFine (p .shape) D row column)) _ tt (sym e ∙ z) in
+      let parts = refusal-both (sharedRefusals p (w .depths) (askedFine (p .shape) D row column)) _ tt (sym e ∙ z) in
       let l = lent p (w .depths) _ (parts .0) in
       let asked = every-each _ (l .more-fine) in
       let late = refusal-passed _ tt (parts .1) in
@@ -276,28 +273,28 @@ module _ (p : Plan) (D : ℕ) (w : World) (row column : ℕ) {n : ℕ} (e : n �
         shared = l;
         on-grid = record { fine = l .sizes .fine; row-in = ltb-true _ _ (asked .1 .1 .0); column-in = ltb-true _ _ (asked .1 .1 .1 .0) };
         side-to = leb-true _ _ (asked .1 .0);
-        newest-in = newest-below _ (w .run) (late .0);
+        newest-in = run-ring _ (w .run) (late .0) .newest-below;
       }
 
   pub seen-refused : (n ≡ 0 → ⊥) → Refused n ≡ seenAt p D w row column
-  unfolding seenAt seenBy arrowNumber arrowRows earlyRows sharedRows
+  unfolding seenAt seenBy arrowNumber arrowRefusals arrowEarlyRefusals sharedRefusals
   seen-refused h = sighted-refused _ _ _ n _ (e ∙ sym (refusal-first _ _ tt (λ z. h (e ∙ z)))) h
 
   module _ (z : n ≡ 0) {rec : List ℕ} (r : rec ≡ newestRecord p w) {fine : Bool} (f : fine ≡ timesFine rec) where
     pub seen-late : fine ≡ false → Refused 11 ≡ seenAt p D w row column
-    unfolding seenAt seenBy arrowNumber arrowRows earlyRows sharedRows
+    unfolding seenAt seenBy arrowNumber arrowRefusals arrowEarlyRefusals sharedRefusals
     seen-late b =
         sighted-refused _ _ _ 11 _
-        (sym (refusal-second (earlyRows p D w row column) _ tt (sym e ∙ z) ∙ refusal-here 11 _ (ap timesFine (sym r) ∙ (sym f ∙ b))))
+        (sym (refusal-second (arrowEarlyRefusals p D w row column) _ tt (sym e ∙ z) ∙ refusal-here 11 _ (ap timesFine (sym r) ∙ (sym f ∙ b))))
         (λ q. absurd (omega arith))
 
     pub seen-is :
         {i : ℕ} {a : Sight} → fine ≡ true → i ≡ squareAt (p .shape) row column → a ≡ seenBy 0 p D (w .depths) rec i →
         a ≡ seenAt p D w row column
-    unfolding seenAt arrowNumber arrowRows earlyRows sharedRows
+    unfolding seenAt arrowNumber arrowRefusals arrowEarlyRefusals sharedRefusals
     seen-is {i} b g q =
-        let passed : 0 ≡ refusal (arrowRows p D w row column) =
-        sym (refusal-second (earlyRows p D w row column) _ tt (sym e ∙ z) ∙ passed-refusal _ (ap timesFine (sym r) ∙ (sym f ∙ b), tt)) in
+        let passed : 0 ≡ refusal (arrowRefusals p D w row column) =
+        sym (refusal-second (arrowEarlyRefusals p D w row column) _ tt (sym e ∙ z) ∙ passed-refusal _ (ap timesFine (sym r) ∙ (sym f ∙ b), tt)) in
         q ∙ (λ k. seenBy (passed k) p D (w .depths) (r k) (g k))
 
     pub timed : fine ≡ true → D ≤ mostSide → Timed D rec
@@ -326,7 +323,7 @@ module _ {p : Plan} {D : ℕ} {w : World} {row column : ℕ} (left : Open p D w 
   record-long =
       length-take-le (at + size - at) (drop at (w .records)) (omega (arith, length-drop at (w .records), room-within)) ∙ omega arith
 
-  pub laid : Laid p (w .depths) (take (at + size - at) (drop at (w .records)))
+  pub laid : SightLent p (w .depths) (take (at + size - at) (drop at (w .records)))
   laid =
       let sizes = left .shared .sizes in
       record {
@@ -335,7 +332,7 @@ module _ {p : Plan} {D : ℕ} {w : World} {row column : ℕ} (left : Open p D w 
         depths-fine = left .shared .depths-fine;
       }
 
-pub stands : {s : Shape} {row column i : ℕ} → OnGrid s row column → i ≡ squareAt s row column → Stands s i column
+pub stands : {s : Shape} {row column i : ℕ} → OnGrid s row column → i ≡ squareAt s row column → OnSquare s i column
 stands {s} {row} {column} {i} g e =
     record {
       fine = g .fine;

@@ -3,4 +3,3 @@ pub mod ArrowLaws
 pub mod RefusalLaws
 pub mod SpeedLaws
 pub mod WetLaws
-pub mod WorkedArrows

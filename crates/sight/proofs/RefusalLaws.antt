@@ -14,8 +14,8 @@ use Rattle.grid.specs.Squares.{squares, shapeFine}
 use Rattle.grid.proofs.SquareLaws.{ranges-of-fine}
 use Rattle.ledger.specs.Runs.{Plan}
 use Rattle.ledger.specs.Flows.{shut}
-use Rattle.ledger.specs.TakeBack.{oneEach, watersFine, Watered}
-use Rattle.sight.specs.Refusals.{depthsFine, sharedRows}
+use Rattle.ledger.specs.Checks.{oneEach, watersFine, WaterLent}
+use Rattle.sight.specs.Refusals.{depthsFine, sharedRefusals}
 
 -- a last test after tests that hold decides alone
 pub every-last : (bs : List Bool) {b : Bool} → Each bs → every (bs ++ (b ∷ [])) ≡ b
@@ -42,7 +42,7 @@ module _ (p : Plan) (depths : List ℕ) where
 
   -- ---- what is of its size
 
-  pub sized : every (shapeFine (p .shape) ∷ oneEach p (p .marks) ∷ oneEach p depths ∷ []) ≡ true → Watered p depths depths
+  pub sized : every (shapeFine (p .shape) ∷ oneEach p (p .marks) ∷ oneEach p depths ∷ []) ≡ true → WaterLent p depths depths
   unfolding oneEach
   sized e =
       let each = every-each _ e in
@@ -56,12 +56,12 @@ module _ (p : Plan) (depths : List ℕ) where
 
   -- none of the shared rows applies
   pub record Lent (more : Bool) : Type 0 where
-    pub sizes : Watered p depths depths
+    pub sizes : WaterLent p depths depths
     pub more-fine : more ≡ true
     pub depths-fine : depthsFine p depths ≡ true
 
-  pub lent : (more : Bool) → refusal (sharedRows p depths more) ≡ 0 → Lent more
-  unfolding sharedRows
+  pub lent : (more : Bool) → refusal (sharedRefusals p depths more) ≡ 0 → Lent more
+  unfolding sharedRefusals
   lent more e =
-      let rows = refusal-passed (sharedRows p depths more) tt e in
+      let rows = refusal-passed (sharedRefusals p depths more) tt e in
       record { sizes = sized (rows .0); more-fine = rows .1 .0; depths-fine = rows .1 .1 .1 .0 }

@@ -15,7 +15,8 @@ use lib.Ieee.Fits.{up-pos, down-pos}
 use lib.Ieee.Scale.{round-same}
 use borrow.Author.Tests.{eq-eqb, ne-eqb, lt-ltb, le-ltb}
 use Rattle.reckon.proofs.TestLaws.{pick-true, pick-false}
-use Rattle.sight.specs.Speeds.{zero64, quotientOf, pace, speedOf, arrowOf, Ranged}
+use Rattle.sight.specs.Speeds.{zero64, quotientOf, pace, sideSpeed, arrowOf}
+use Rattle.sight.specs.inner.Arrows.{Ranged}
 use Rattle.sight.specs.declared.speeds.Through.{Through}
 
 -- ---- a quotient
@@ -76,16 +77,16 @@ module _ {D lasted : ℕ} {t : Through} (r : Ranged D lasted t) where
 -- ---- a speed: net 0, net out, net back
 
 module _ (D lasted : ℕ) (t : Through) where
-  pub speed-none : t .out ≡ t .back → speedOf D lasted t ≡ zero64
-  unfolding speedOf
+  pub speed-none : t .out ≡ t .back → sideSpeed D lasted t ≡ zero64
+  unfolding sideSpeed
   speed-none e = pick-true _ _ (eq-eqb _ _ e)
 
-  pub speed-out : (t .out ≡ t .back → ⊥) → t .back < t .out → speedOf D lasted t ≡ pace D lasted (t .out - t .back) (t .deep)
-  unfolding speedOf
+  pub speed-out : (t .out ≡ t .back → ⊥) → t .back < t .out → sideSpeed D lasted t ≡ pace D lasted (t .out - t .back) (t .deep)
+  unfolding sideSpeed
   speed-out n h = pick-false _ _ (ne-eqb _ _ n) ∙ pick-true _ _ (lt-ltb _ _ h)
 
-  pub speed-back : (t .out ≡ t .back → ⊥) → t .out ≤ t .back → speedOf D lasted t ≡ Ieee.neg (pace D lasted (t .back - t .out) (t .deep))
-  unfolding speedOf
+  pub speed-back : (t .out ≡ t .back → ⊥) → t .out ≤ t .back → sideSpeed D lasted t ≡ Ieee.neg (pace D lasted (t .back - t .out) (t .deep))
+  unfolding sideSpeed
   speed-back n h = pick-false _ _ (ne-eqb _ _ n) ∙ pick-false _ _ (le-ltb _ _ h)
 
 pub same-arrow : {a b c d x y z w : Float} → a ≡ x → b ≡ y → c ≡ z → d ≡ w → arrowOf a b c d ≡ arrowOf x y z w

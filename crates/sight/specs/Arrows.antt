@@ -3,20 +3,20 @@
 use mathlib.Core.Path.{_≡_}
 use mathlib.Core.Bool.{Bool, true, false, _&&_, not}
 use mathlib.Core.List.{List, [], _∷_, _++_}
-use Prim.Native.Nat.{ℕ, zero, suc, _+_, _≤_, _<_, _^_}
+use Prim.Native.Nat.{ℕ, zero, suc, _+_}
 use lib.Dec.{eqb, leb, ltb}
-use lib.ListN.{length, getD}
+use lib.ListN.{getD}
 use Rattle.reckon.specs.Tests.{pick, every, Row, _unless_, refusal}
-use Rattle.reckon.specs.Ranges.{mostSide, mostDepth, mostLength}
+use Rattle.reckon.specs.Ranges.{mostSide}
 use Rattle.grid.specs.declared.squares.Shape.{Shape}
-use Rattle.grid.specs.Squares.{north, east, south, west, squares, squareAt, within, beside}
+use Rattle.grid.specs.Squares.{north, east, south, west, squareAt, within, beside}
 use Rattle.ledger.specs.declared.runs.Run.{Run}
 use Rattle.ledger.specs.Runs.{Plan, World, world, runFine}
 use Rattle.ledger.specs.Flows.{shut, sent}
-use Rattle.ledger.specs.Record.{lastedIn, leavesIn, roomSlots, newestRecord, Recorded}
-use Rattle.ledger.specs.TakeBack.{timesFine}
-use Rattle.sight.specs.Refusals.{depthsFine, sharedRows}
-use Rattle.sight.specs.Speeds.{speedOf, arrowOf}
+use Rattle.ledger.specs.Record.{lastedIn, leavesIn, roomSlots, newestRecord}
+use Rattle.ledger.specs.Checks.{timesFine}
+use Rattle.sight.specs.Refusals.{sharedRefusals}
+use Rattle.sight.specs.Speeds.{sideSpeed, arrowOf}
 use Rattle.sight.specs.declared.speeds.Arrow.{Arrow}
 use Rattle.sight.specs.declared.speeds.Through.{Through}
 use Rattle.sight.specs.declared.arrows.Sight.{Sight}
@@ -33,7 +33,7 @@ unfoldable pub outThrough : Plan → List ℕ → ℕ → ℕ → ℕ
 outThrough p rec i side = pick (within (p .shape) (beside (p .shape) i side) && shut p (beside (p .shape) i side)) 0 (leavesIn rec i side)
 
 -- "Off the grid the neighbour's depth is taken as the own depth"; so is a closed one's, towards which net is 0 and no depth counts.
--- Off the grid there is no mark, and none reads closed.
+-- Off the grid there is no mark, and a mark that is missing reads as closed.
 unfoldable pub nearDepth : Plan → List ℕ → ℕ → ℕ → ℕ
 nearDepth p depths i side = pick (shut p (beside (p .shape) i side)) (getD depths i 0) (getD depths (beside (p .shape) i side) 0)
 
@@ -51,8 +51,8 @@ module _ (p : Plan) (depths rec : List ℕ) (i : ℕ) where
   -- the arrow of the four speeds
   unfoldable pub arrowBy : ℕ → Arrow
   arrowBy D =
-      arrowOf (speedOf D (lastedIn rec) (throughSide north)) (speedOf D (lastedIn rec) (throughSide east))
-      (speedOf D (lastedIn rec) (throughSide south)) (speedOf D (lastedIn rec) (throughSide west))
+      arrowOf (sideSpeed D (lastedIn rec) (throughSide north)) (sideSpeed D (lastedIn rec) (throughSide east))
+      (sideSpeed D (lastedIn rec) (throughSide south)) (sideSpeed D (lastedIn rec) (throughSide west))
 
 -- ---- the answer
 
@@ -82,17 +82,17 @@ askedFine s D row column = every (leb 1 D ∷ leb D mostSide ∷ ltb row (s .row
 
 module _ (p : Plan) (D : ℕ) (w : World) (row column : ℕ) where
   -- "K = 0, or a run value out of range"; "kept = 0"
-  unfoldable pub earlyRows : List Row
-  earlyRows =
-      sharedRows p (w .depths) (askedFine (p .shape) D row column)
+  unfoldable pub arrowEarlyRefusals : List Row
+  arrowEarlyRefusals =
+      sharedRefusals p (w .depths) (askedFine (p .shape) D row column)
       ++ (6 unless runFine (roomSlots p (w .records)) (w .run) ∷ 10 unless not (eqb (w .run .kept) 0) ∷ [])
 
   -- "newest record: length or lasted not 1 to 60,000"
-  unfoldable pub arrowRows : List Row
-  arrowRows = earlyRows ++ (11 unless timesFine (newestRecord p w) ∷ [])
+  unfoldable pub arrowRefusals : List Row
+  arrowRefusals = arrowEarlyRefusals ++ (11 unless timesFine (newestRecord p w) ∷ [])
 
   unfoldable pub arrowNumber : ℕ
-  arrowNumber = refusal arrowRows
+  arrowNumber = refusal arrowRefusals
 
   -- what is seen of the square in a row and a column
   unfoldable pub seenAt : Sight
@@ -102,25 +102,3 @@ module _ (p : Plan) (D : ℕ) (w : World) (row column : ℕ) where
 
 abbrev pub Sees : Plan → ℕ → World → ℕ → ℕ → Sight → Type 0
 Sees p D w row column a = a ≡ seenAt p D w row column
-
--- ---- inside
-
--- depths and a record, each of its size, the depths in range
-pub record Laid (p : Plan) (depths rec : List ℕ) : Type 0 where
-  pub recorded : Recorded p rec
-  pub depths-long : length depths ≡ squares (p .shape)
-  pub depths-fine : depthsFine p depths ≡ true
-
--- D and how long the record's step lasted, in range
-pub record Timed (D : ℕ) (rec : List ℕ) : Type 0 where
-  pub side-to : D ≤ mostSide
-  pub lasted-some : 1 ≤ lastedIn rec
-  pub lasted-to : lastedIn rec ≤ mostLength
-
--- what went through a side, with its ranges
-pub record Sided (p : Plan) (depths rec : List ℕ) (i side : ℕ) (t : Through) : Type 0 where
-  pub is : t ≡ throughSide p depths rec i side
-  pub out-small : t .out < 2 ^ 32
-  pub back-small : t .back < 2 ^ 32
-  pub deep-low : getD depths i 0 ≤ t .deep
-  pub deep-to : t .deep ≤ mostDepth + mostDepth

@@ -11,15 +11,15 @@ use Rattle.grid.specs.Squares.{squares, shapeFine}
 use Rattle.grid.specs.Marks.{marksFine}
 use Rattle.ledger.specs.Runs.{Plan}
 use Rattle.ledger.specs.Flows.{shut}
-use Rattle.ledger.specs.TakeBack.{oneEach}
+use Rattle.ledger.specs.Checks.{oneEach}
 
 -- 3: "depth .. of a square not closed out of range"
 unfoldable pub depthsFine : Plan → List ℕ → Bool
 depthsFine p depths = allBelow (squares (p .shape)) (λ i. shut p i || leb (getD depths i 0) mostDepth)
 
 -- 1, "shape .. out of range, a slice not one number a square", with a call's further tests of 1; 2, of marks alone; 3, of depths alone
-unfoldable pub sharedRows : Plan → List ℕ → Bool → List Row
-sharedRows p depths more =
+unfoldable pub sharedRefusals : Plan → List ℕ → Bool → List Row
+sharedRefusals p depths more =
     1 unless every (shapeFine (p .shape) ∷ oneEach p (p .marks) ∷ oneEach p depths ∷ [])
     ∷ 1 unless more
     ∷ 2 unless marksFine (p .shape) (p .marks)

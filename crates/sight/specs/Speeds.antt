@@ -1,13 +1,12 @@
 -- Document 01, "Flow arrows and wet rows": the speed through a side and the arrow of four speeds, in f64, bit for bit.
 -- Assumes nothing.
 use mathlib.Core.Bool.{false}
-use Prim.Native.Nat.{ℕ, _+_, _-_, _*_, _^_, _≤_, _<_}
+use Prim.Native.Nat.{ℕ, _-_, _*_}
 use lib.Dec.{eqb, ltb}
 use lib.IntN.{pos}
 use lib.Ieee as Ieee
 use lib.Ieee.{Float, fin, binary64}
 use Rattle.reckon.specs.Tests.{pick}
-use Rattle.reckon.specs.Ranges.{mostSide, mostDepth, mostLength}
 use Rattle.sight.specs.declared.speeds.Arrow.{Arrow}
 use Rattle.sight.specs.declared.speeds.Through.{Through}
 
@@ -25,22 +24,12 @@ abbrev pub pace : ℕ → ℕ → ℕ → ℕ → Float
 pace D lasted net deep = quotientOf (2000 * net * D) (deep * lasted)
 
 -- "0 if net is 0, else the quotient .., negated where net is negative": net is what left less what came back
-unfoldable pub speedOf : ℕ → ℕ → Through → Float
+unfoldable pub sideSpeed : ℕ → ℕ → Through → Float
 unfolding quotientOf Ieee.neg
-speedOf D lasted t =
+sideSpeed D lasted t =
     pick (eqb (t .out) (t .back)) zero64
     (pick (ltb (t .back) (t .out)) (pace D lasted (t .out - t .back) (t .deep)) (Ieee.neg (pace D lasted (t .back - t .out) (t .deep))))
 
 -- "The arrow is east speed less west speed, and north less south, each rounded once": of the speeds north, east, south, west
 abbrev pub arrowOf : Float → Float → Float → Float → Arrow
 arrowOf n e s w = record { east = Ieee.sub binary64 e w; north = Ieee.sub binary64 n s }
-
--- the ranges in which "Every whole number here is exact in f64"
-pub record Ranged (D lasted : ℕ) (t : Through) : Type 0 where
-  pub side-to : D ≤ mostSide
-  pub lasted-some : 0 < lasted
-  pub lasted-to : lasted ≤ mostLength
-  pub out-small : t .out < 2 ^ 32
-  pub back-small : t .back < 2 ^ 32
-  pub deep-some : 0 < t .deep
-  pub deep-to : t .deep ≤ mostDepth + mostDepth

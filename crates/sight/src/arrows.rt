@@ -4,10 +4,11 @@ ghost use mathlib.Core.Bool.{false};
 ghost use mathlib.Core.List.{[], _∷_};
 ghost use Prim.Native.Nat.{_<_};
 ghost use Rattle.reckon.specs.Tests.{every, refusal};
-ghost use Rattle.grid.specs.Squares.{Stands, sides};
+ghost use Rattle.grid.specs.Squares.{OnSquare, sides};
 ghost use Rattle.grid.specs.Marks.{closed};
 ghost use Rattle.ledger.specs.Runs.{plan};
-ghost use Rattle.sight.specs.Arrows.{Laid, Sees, Sided, Timed, askedFine, earlyRows, netNone, seenBy, view};
+ghost use Rattle.sight.specs.Arrows.{Sees, askedFine, arrowEarlyRefusals, netNone, seenBy, view};
+ghost use Rattle.sight.specs.inner.Arrows.{SightLent, Sided, Timed};
 use crate::refusals::shared_refusal;
 use crate::speeds::Arrow;
 use crate::speeds::Through;
@@ -21,13 +22,13 @@ use grid::squares::WEST;
 use grid::squares::beside_on;
 use grid::squares::square_at;
 use grid::squares::squares_of;
+use ledger::checks::times_fine;
 use ledger::record::lasted;
 use ledger::record::leaving;
 use ledger::record::record_size;
 use ledger::record::sent_to;
 use ledger::runs::Run;
 use ledger::runs::run_fine;
-use ledger::take_back::times_fine;
 use reckon::numbers::number;
 use reckon::ranges::MOST_SIDE;
 
@@ -66,7 +67,7 @@ fn early_refusal(
     row: usize,
     column: usize,
 ) -> u32
-    ensures { λ r. ⌜ r ≡ refusal (earlyRows (plan shape (now (marks .entry))) «square_side» (view (now (depths .entry)) (now (records .entry)) run) row column) ⌝ }
+    ensures { λ r. ⌜ r ≡ refusal (arrowEarlyRefusals (plan shape (now (marks .entry))) «square_side» (view (now (depths .entry)) (now (records .entry)) run) row column) ⌝ }
 {
     let asked = asked_fine(shape, square_side, row, column);
     let shared = shared_refusal(shape, marks, depths, asked);
@@ -92,8 +93,8 @@ fn through_side(
     column: usize,
     side: usize,
 ) -> Through
-    requires { ⌜ Laid (plan shape (now marks)) (now depths) (now rec) ⌝ }
-    requires { ⌜ (Stands shape square column) × (closed (now marks) square ≡ false) ⌝ }
+    requires { ⌜ SightLent (plan shape (now marks)) (now depths) (now rec) ⌝ }
+    requires { ⌜ (OnSquare shape square column) × (closed (now marks) square ≡ false) ⌝ }
     requires { ⌜ side < sides ⌝ }
     ensures { λ r. ⌜ Sided (plan shape (now (marks .entry))) (now (depths .entry)) (now (rec .entry)) square side r ⌝ }
 {
@@ -153,8 +154,8 @@ fn seen(
     square: usize,
     column: usize,
 ) -> Sight
-    requires { ⌜ Laid (plan shape (now marks)) (now depths) (now rec) ⌝ }
-    requires { ⌜ (Timed «square_side» (now rec)) × (Stands shape square column) ⌝ }
+    requires { ⌜ SightLent (plan shape (now marks)) (now depths) (now rec) ⌝ }
+    requires { ⌜ (Timed «square_side» (now rec)) × (OnSquare shape square column) ⌝ }
     ensures { λ r. ⌜ r ≡ seenBy 0 (plan shape (now (marks .entry))) «square_side» (now (depths .entry)) (now (rec .entry)) square ⌝ }
 {
     if is_closed(marks, square) {

@@ -2,7 +2,7 @@
 //
 //   speeds     Arrow; inside: the speed through a side, in f64, rounded once
 //   arrows     Sight; arrow
-//   wet_rows   Wet; mask_rows, ones_in, wet_rows
+//   wet_rows   Wet; ones_in, wet_rows
 //   refusals   inside: the refusals 1 to 3, which both calls share
 pub mod arrows;
 mod refusals;

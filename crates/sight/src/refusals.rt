@@ -4,13 +4,13 @@ ghost use mathlib.Core.List.{[], _∷_};
 ghost use Rattle.reckon.specs.Tests.{every, refusal};
 ghost use Rattle.grid.specs.Squares.{shapeFine};
 ghost use Rattle.ledger.specs.Runs.{plan};
-ghost use Rattle.ledger.specs.TakeBack.{Watered, oneEach};
-ghost use Rattle.sight.specs.Refusals.{depthsFine, sharedRows};
+ghost use Rattle.ledger.specs.Checks.{WaterLent, oneEach};
+ghost use Rattle.sight.specs.Refusals.{depthsFine, sharedRefusals};
 use grid::marks::marks_fine;
 use grid::squares::Shape;
 use grid::squares::shape_fine;
-use ledger::take_back::one_each;
-use ledger::take_back::waters_fine;
+use ledger::checks::one_each;
+use ledger::checks::waters_fine;
 
 // Refusal 1: the shape is in range, and marks and depths have one number a square.
 fn sizes_fine(shape: Shape, marks: &[u8], depths: &[u32]) -> bool
@@ -27,7 +27,7 @@ fn sizes_fine(shape: Shape, marks: &[u8], depths: &[u32]) -> bool
 
 // Refusal 3: the depth of every square not closed is in range. No last leaving is lent, and the depths stand for it.
 fn depths_fine(shape: Shape, marks: &[u8], depths: &[u32]) -> bool
-    requires { ⌜ Watered (plan shape (now marks)) (now depths) (now depths) ⌝ }
+    requires { ⌜ WaterLent (plan shape (now marks)) (now depths) (now depths) ⌝ }
     ensures { λ r. ⌜ r ≡ depthsFine (plan shape (now (marks .entry))) (now (depths .entry)) ⌝ }
 {
     waters_fine(shape, marks, depths, depths)
@@ -35,7 +35,7 @@ fn depths_fine(shape: Shape, marks: &[u8], depths: &[u32]) -> bool
 
 // The number of the first of the refusals 1 to 3, 0 for none. `more` says whether the caller's further tests of 1 hold.
 pub(crate) fn shared_refusal(shape: Shape, marks: &[u8], depths: &[u32], more: bool) -> u32
-    ensures { λ r. ⌜ r ≡ refusal (sharedRows (plan shape (now (marks .entry))) (now (depths .entry)) more) ⌝ }
+    ensures { λ r. ⌜ r ≡ refusal (sharedRefusals (plan shape (now (marks .entry))) (now (depths .entry)) more) ⌝ }
 {
     if !sizes_fine(shape, marks, depths) {
         return 1;

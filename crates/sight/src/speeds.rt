@@ -2,7 +2,8 @@
 // difference is rounded once.
 ghost use mathlib.Core.Path.{_≡_};
 ghost use Prim.Native.Nat.{_<_, _^_, _≤_};
-ghost use Rattle.sight.specs.Speeds.{Ranged, arrowOf, quotientOf, speedOf};
+ghost use Rattle.sight.specs.Speeds.{arrowOf, quotientOf, sideSpeed};
+ghost use Rattle.sight.specs.inner.Arrows.{Ranged};
 
 // The speed towards the east and towards the north, in m/s.
 pub struct Arrow {
@@ -28,7 +29,7 @@ fn quotient(above: u64, below: u64) -> f64
 // The speed outwards through a side of a square, in m/s: D is in m, and the step lasted some ms.
 fn side_speed(square_side: u64, lasts: u64, side: Through) -> f64
     requires { ⌜ Ranged «square_side» lasts side ⌝ }
-    ensures { λ r. ⌜ r ≡ speedOf «square_side» lasts side ⌝ }
+    ensures { λ r. ⌜ r ≡ sideSpeed «square_side» lasts side ⌝ }
 {
     let out = side.out;
     let back = side.back;
@@ -65,7 +66,7 @@ pub(crate) fn arrow_through(
     requires { ⌜ Ranged «square_side» lasts east ⌝ }
     requires { ⌜ Ranged «square_side» lasts south ⌝ }
     requires { ⌜ Ranged «square_side» lasts west ⌝ }
-    ensures { λ r. ⌜ r ≡ arrowOf (speedOf «square_side» lasts north) (speedOf «square_side» lasts east) (speedOf «square_side» lasts south) (speedOf «square_side» lasts west) ⌝ }
+    ensures { λ r. ⌜ r ≡ arrowOf (sideSpeed «square_side» lasts north) (sideSpeed «square_side» lasts east) (sideSpeed «square_side» lasts south) (sideSpeed «square_side» lasts west) ⌝ }
 {
     let to_north = side_speed(square_side, lasts, north);
     let to_east = side_speed(square_side, lasts, east);

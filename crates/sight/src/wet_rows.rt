@@ -3,12 +3,12 @@ ghost use mathlib.Core.Path.{_≡_};
 ghost use Prim.Native.Nat.{_≤_};
 ghost use lib.ListN.{length};
 ghost use Rattle.reckon.specs.Tests.{refusal};
-ghost use Rattle.grid.specs.Squares.{longest};
+ghost use Rattle.grid.specs.Squares.{mostAlong};
 ghost use Rattle.ledger.specs.Runs.{plan};
-ghost use Rattle.sight.specs.WetRows.{Masked, OnesIn, RowsLent, WetRowed, wetRefusals};
+ghost use Rattle.sight.specs.WetRows.{OnesIn, WetRowed, wetRefusals};
 use crate::refusals::shared_refusal;
+use grid::masks::mask_rows;
 use grid::masks::ones;
-use grid::masks::row_mask;
 use grid::squares::Shape;
 use reckon::ranges::MOST_DEPTH;
 
@@ -17,25 +17,9 @@ pub enum Wet {
     Refused(u32),
 }
 
-// Puts the mask of each row of the grid into a row slice: bit c is set where the square in column c is not closed and at least that deep.
-pub fn mask_rows(shape: Shape, marks: &[u8], depths: &[u32], least: u32, rows: &mut [u64])
-    requires { ⌜ RowsLent (plan shape (now marks)) (now depths) (now rows) ⌝ }
-    ensures { λ _. ⌜ Masked (plan shape (now (marks .entry))) (now (depths .entry)) least (now (rows .exit)) ⌝ }
-{
-    let count = shape.rows;
-    let columns = shape.columns;
-    let mut row = 0;
-    let mut first = 0;
-    while row < count {
-        rows[row] = row_mask(marks, depths, least, first, columns);
-        row += 1;
-        first += columns;
-    }
-}
-
 // The number of ones over all rows.
 pub fn ones_in(rows: &[u64]) -> u64
-    requires { ⌜ length (now rows) ≤ longest ⌝ }
+    requires { ⌜ length (now rows) ≤ mostAlong ⌝ }
     ensures { λ r. ⌜ OnesIn (now (rows .entry)) r ⌝ }
 {
     let count = rows.len();

@@ -4,18 +4,18 @@ use mathlib.Core.Path.{_≡_, refl, sym, ap, ap₂, _∙_}
 use mathlib.Core.Bool.{Bool, true, false, _&&_}
 use mathlib.Core.List.{List, [], _∷_, _++_, append-assoc, append-nil}
 use Prim.Native.Nat.{ℕ, suc, _+_, _-_, _*_, _≤_, _<_}
-use native.Mathlib.Nat.{sub-zero, add-zero, add-suc, suc-add}
+use native.Mathlib.Nat.{sub-zero, add-zero}
 use native.Mathlib.Numerals.{add-one}
 use native.Mathlib.Decide.{ℕ-discrete}
 use native.Mathlib.Omega.{arith}
 use lib.Dec.{eqb, ltb, leb}
-use lib.ListN.{length, getD, set, drop, length-set, length-append, length-drop, drop-of-length-le, List·getD-eq-default, List·getD-append}
+use lib.ListN.{length, getD, set, drop, length-set, length-append, drop-of-length-le, List·getD-eq-default, List·getD-append}
 use lib.Seq.{drop-cons, getD-set-same, getD-set-other, getD-append-seam}
 use borrow.Author.Tests.{lt-ltb, le-ltb, le-leb, lt-leb, eq-eqb, ne-eqb, ltb-true, ltb-false, leb-true, eqb-true}
 use Rattle.reckon.specs.Tests.{allBelow}
-use Rattle.reckon.proofs.TestLaws.{not-both, pick-true, pick-false, pick-both, and-left, and-right, and-both, and-false, all-fails}
+use Rattle.reckon.proofs.TestLaws.{not-both, pick-true, pick-false, and-left, and-right, and-both, and-false, all-fails}
 use Rattle.reckon.proofs.ListLaws.{length-tabulate, getD-tabulate, is-tabulate}
-use Rattle.text.specs.Reading.{newline, mostNumber, mostFields, isByte, sameAt, wordAt, isDigit, digitsOf, valueFrom, wellFormed, numberOf, numberAt, fieldAt, Reading, before, readFields, ended, padded, asFields, lineLength, nextLine, endsAt}
+use Rattle.text.specs.Reading.{newline, mostNumber, mostFields, isByte, sameAt, wordAt, isDigit, digitsOf, valueFrom, wellFormed, numberFrom, numberAt, fieldAt, Reading, before, readFields, lineEnded, padded, asFields}
 use Rattle.text.specs.Reading.Reading.{read, unread}
 use Rattle.text.specs.declared.reading.Number.the-variants.{Is, Not}
 use Rattle.text.specs.declared.reading.Fields.{Fields}
@@ -124,8 +124,8 @@ pub counted-none : (s : List ℕ) (at : ℕ) → Counted s at 0 at
 counted-none s at = record { small = omega arith; worth = refl; place = refl }
 
 module _ {s : List ℕ} {at value p : ℕ} (k : Counted s at value p) where
-  pub counted-end : isDigit (getD s p 0) ≡ false → numberOf (digitsOf (drop at s)) at ≡ Is value p
-  unfolding numberOf valueFrom
+  pub counted-end : isDigit (getD s p 0) ≡ false → numberFrom (digitsOf (drop at s)) at ≡ Is value p
+  unfolding numberFrom valueFrom
   counted-end e =
       let w : valueFrom 0 (digitsOf (drop at s)) ≡ value = k .worth ∙ rw (digits-end s p e) in
       let q : at + length (digitsOf (drop at s)) ≡ p = k .place ∙ (rw (digits-end s p e) (add-zero p)) in
@@ -138,8 +138,8 @@ module _ {s : List ℕ} {at value p : ℕ} (k : Counted s at value p) where
         let z : getD s p 0 - 48 ≡ d = omega arith in
         k .worth ∙ rw (digits-here s p e, z)
 
-    pub counted-over : mostNumber < value * 10 + d → numberOf (digitsOf (drop at s)) at ≡ Not
-    unfolding numberOf
+    pub counted-over : mostNumber < value * 10 + d → numberFrom (digitsOf (drop at s)) at ≡ Not
+    unfolding numberFrom
     counted-over h =
         pick-false _ _
         (lt-leb (valueFrom 0 (digitsOf (drop at s))) mostNumber
@@ -174,7 +174,7 @@ module _ (s : List ℕ) (p : ℕ) where
         pick-false _ _ (rw (digits-here s p e, digits-here s (p + 1) g, z))
 
     pub number-good :
-        (eqb (getD s p 0) 48 && isDigit (getD s (p + 1) 0)) ≡ false → numberAt s p ≡ numberOf (digitsOf (drop p s)) p
+        (eqb (getD s p 0) 48 && isDigit (getD s (p + 1) 0)) ≡ false → numberAt s p ≡ numberFrom (digitsOf (drop p s)) p
     unfolding numberAt wellFormed
     number-good f = pick-true _ _ (rw (digits-here s p e) (good (ℕ-discrete (getD s p 0) 48)))
       where
@@ -304,64 +304,24 @@ module _ {f : Fields} (p : ℕ) (r : Reading) (is : f ≡ asFields p r) where
       go (read vs n) e = refl
       go unread e = not-both e refl
 
-  pub unended : (s : List ℕ) → isByte s (f .next) newline ≡ false → ended s r ≡ unread
-  unfolding asFields ended
+  pub unended : (s : List ℕ) → isByte s (f .next) newline ≡ false → lineEnded s r ≡ unread
+  unfolding asFields lineEnded
   unended s e = go r (ap (λ (g : Fields). isByte s (g .next) newline) (sym is) ∙ e)
     where
-      go : (r : Reading) → isByte s (asFields p r .next) newline ≡ false → ended s r ≡ unread
+      go : (r : Reading) → isByte s (asFields p r .next) newline ≡ false → lineEnded s r ≡ unread
       go (read vs q) e = pick-false _ _ e
       go unread e = refl
 
   pub ended-found :
       (s : List ℕ) → f .found ≡ true → isByte s (f .next) newline ≡ true →
-      record { found = true; values = f .values; next = f .next + 1 } ≡ asFields p (ended s r)
-  unfolding asFields ended
+      record { found = true; values = f .values; next = f .next + 1 } ≡ asFields p (lineEnded s r)
+  unfolding asFields lineEnded
   ended-found s e h =
       ap (λ (g : Fields). record { found = true; values = g .values; next = g .next + 1 }) is
       ∙ go r (ap (λ (g : Fields). g .found) (sym is) ∙ e) (ap (λ (g : Fields). isByte s (g .next) newline) (sym is) ∙ h)
     where
       go :
           (r : Reading) → asFields p r .found ≡ true → isByte s (asFields p r .next) newline ≡ true →
-          record { found = true; values = asFields p r .values; next = asFields p r .next + 1 } ≡ asFields p (ended s r)
+          record { found = true; values = asFields p r .values; next = asFields p r .next + 1 } ≡ asFields p (lineEnded s r)
       go (read vs q) e h = rw (pick-true (read vs (q + 1)) unread h)
       go unread e h = not-both e refl
-
--- ---- lines
-
-module _ (s : List ℕ) (p : ℕ) where
-  pub next-past : length s ≤ p → nextLine s p ≡ p
-  unfolding nextLine lineLength
-  next-past h = rw (drop-of-length-le s h, add-zero)
-
-  pub next-here : p < length s → getD s p 0 ≡ newline → nextLine s p ≡ p + 1
-  unfolding nextLine lineLength
-  next-here h e = rw (drop-cons s p 0 h) (ap (λ (k : ℕ). p + k) (pick-true _ _ (eq-eqb _ _ e)))
-
-  pub next-later : p < length s → (getD s p 0 ≡ newline → ⊥) → nextLine s p ≡ nextLine s (p + 1)
-  unfolding nextLine lineLength
-  next-later h e =
-      rw (drop-cons s p 0 h, add-one) (ap (λ (k : ℕ). p + k) (pick-false _ _ (ne-eqb _ _ e)) ∙ rw (add-suc, suc-add))
-
-  -- the next line is further on, and not past the end
-  pub next-further : p < length s → p < nextLine s p
-  unfolding nextLine lineLength
-  next-further h =
-      rw (drop-cons s p 0 h)
-      (omega (
-        arith,
-        pick-both (λ (k : ℕ). 0 < k) (eqb (getD s p 0) newline) {x = 1} {y = suc (lineLength (drop (suc p) s))}
-            (omega arith) (omega arith),
-      ))
-
-line-length-le : (l : List ℕ) → lineLength l ≤ length l
-unfolding lineLength
-line-length-le [] = omega arith
-line-length-le (b ∷ l) =
-    pick-both (λ (k : ℕ). k ≤ suc (length l)) (eqb b newline) (omega arith) (omega (arith, line-length-le l))
-
-pub next-within : (s : List ℕ) (p : ℕ) → p ≤ length s → nextLine s p ≤ length s
-unfolding nextLine
-next-within s p h = omega (arith, line-length-le (drop p s), length-drop p s)
-
-pub ends-few : (s : List ℕ) (i : ℕ) → endsAt s i ≤ 1
-ends-few s i = pick-both (λ (k : ℕ). k ≤ 1) (eqb (getD s i 0) newline) (omega arith) (omega arith)

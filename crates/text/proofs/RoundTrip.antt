@@ -12,9 +12,10 @@ use lib.ListN.{length, getD, take, drop, length-append, length-drop}
 use lib.Seq.{drop-drop, getD-drop, getD-take, ext-getD, length-take-le}
 use borrow.Author.Tests.{le-leb, leb-true}
 use Rattle.reckon.proofs.TestLaws.{not-both, pick-true, pick-false, pick-both}
-use Rattle.text.specs.Reading.{tab, newline, mostNumber, mostFields, isByte, wordAt, isDigit, digitsOf, valueFrom, wellFormed, numberOf, numberAt, fieldAt, Reading, before, withNumber, readFields, ended, readRest, readLine, padded, asFields, FieldsAt, RestOfLine, LineOf}
+use Rattle.text.specs.Reading.{tab, newline, mostNumber, mostFields, isByte, wordAt, isDigit, digitsOf, valueFrom, wellFormed, numberFrom, numberAt, fieldAt, Reading, before, withNumber, readFields, lineEnded, readRest, readLine, padded, asFields, FieldsAt, RestOfLine, LineOf}
 use Rattle.text.specs.Reading.Reading.{read, unread}
-use Rattle.text.specs.Writing.{decimal, fieldText, fieldsText, restText, lineText, Readable, Stands, StandAlone, AsWritten, PutNumber, PutLine}
+use Rattle.text.specs.Writing.{decimal, fieldText, fieldsText, restText, lineText, PutNumber, PutLine}
+use Rattle.text.specs.inner.Standing.{Readable, Stands, StandAlone, AsWritten}
 use Rattle.text.specs.declared.reading.Number.{Number}
 use Rattle.text.specs.declared.reading.Number.the-variants.{Is, Not}
 use Rattle.text.specs.declared.reading.Fields.{Fields}
@@ -124,7 +125,7 @@ front-after s q = getD-drop q s 0 0 ∙ ap (λ (k : ℕ). getD s k 0) (add-zero 
 
 -- a number that was written, with no digit after it, reads as itself
 pub number-back : {s : List ℕ} {p q : ℕ} (n : ℕ) → StandAlone s p (decimal n) (n ∷ []) q → numberAt s p ≡ Is n q
-unfolding numberAt numberOf
+unfolding numberAt numberFrom
 number-back {s} {p} {q} n a =
     let rest : digitsOf (drop q s) ≡ [] = digits-front (drop q s) (ap isDigit (front-after s q) ∙ a .alone) in
     let ds : digitsOf (drop p s) ≡ digitsOf (decimal n) =
@@ -188,7 +189,7 @@ formed-text (b ∷ l) w =
 
 -- a number that is read is what stands there, as it would be written, and no digit follows
 pub number-only : (s : List ℕ) (p : ℕ) {n q : ℕ} → numberAt s p ≡ Is n q → StandAlone s p (decimal n) (n ∷ []) q
-unfolding numberAt numberOf
+unfolding numberAt numberFrom
 number-only s p {n} {q} e =
     by-test (wellFormed (digitsOf (drop p s)))
     (λ w.
@@ -322,7 +323,7 @@ fields-only s p (suc count) {vs} {q} e = go (fieldAt s p) refl e (λ r ws n f. f
 
 pub rest-back :
     {s : List ℕ} {p q : ℕ} (vs : List ℕ) → Stands s p (restText vs) q → Readable vs → readRest s p (length vs) ≡ read vs q
-unfolding readRest ended restText
+unfolding readRest lineEnded restText
 rest-back {s} {p} {q} vs a h =
     let end : Stands s (p + length (fieldsText vs)) (newline ∷ []) q = stands-second (fieldsText vs) (newline ∷ []) a in
     let here : readFields s p (length vs) ≡ read vs (p + length (fieldsText vs)) =
@@ -336,10 +337,10 @@ rest-back {s} {p} {q} vs a h =
 
 pub rest-only :
     (s : List ℕ) (p count : ℕ) {vs : List ℕ} {q : ℕ} → readRest s p count ≡ read vs q → AsWritten s p (restText vs) vs count q
-unfolding readRest ended restText
+unfolding readRest lineEnded restText
 rest-only s p count {vs} {q} e = go (readFields s p count) refl e
   where
-    go : (y : Reading) → readFields s p count ≡ y → ended s y ≡ read vs q → AsWritten s p (restText vs) vs count q
+    go : (y : Reading) → readFields s p count ≡ y → lineEnded s y ≡ read vs q → AsWritten s p (restText vs) vs count q
     go unread f e = not-read e
     go (read ws n) f e =
         by-test (isByte s n newline)

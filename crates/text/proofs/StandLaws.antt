@@ -12,7 +12,8 @@ use lib.Seq.{drop-cons, drop-drop, drop-append-seam, drop-at, getD-drop, getD-ta
 use borrow.Author.Tests.{eq-eqb, eqb-true}
 use Rattle.reckon.proofs.TestLaws.{all-at, all-of}
 use Rattle.text.specs.Reading.{isByte, wordAt, sameAt}
-use Rattle.text.specs.Writing.{Stands, Wrote}
+use Rattle.text.specs.Writing.{Wrote}
+use Rattle.text.specs.inner.Standing.{Stands}
 use Rattle.reckon.specs.Lists.{placed}
 use Rattle.reckon.proofs.ListLaws.{placed-after}
 use Rattle.text.proofs.ReadingLaws.{byte-here, byte-within, byte-same, word-within, word-all, word-same}

@@ -63,10 +63,6 @@ decimal-short (suc k) n h =
     by-lt n 10 (λ l. omega (arith, ap length (decimal-small n l)))
     (λ l. omega (arith, decimal-longer n l, decimal-short k (n / 10) (omega (arith, pow-suc 10 (suc k)))))
 
--- a number of 64 bits has at most 20
-pub decimal-twenty : (n : ℕ) → n < 2 ^ 64 → length (decimal n) ≤ 20
-decimal-twenty n h = decimal-short 19 n (omega arith)
-
 -- fields of numbers below 10 ^ k have at most k + 1 bytes each
 pub fields-text-short :
     (k : ℕ) (vs : List ℕ) → ((i : ℕ) → i < length vs → getD vs i 0 < 10 ^ suc k) → length (fieldsText vs) ≤ (k + 2) * length vs

@@ -1,3 +1,5 @@
+pub mod Bytes
 pub mod Reading
 pub mod Worked
 pub mod Writing
+pub mod inner

@@ -7,12 +7,12 @@ use Prim.Native.Nat.{ℕ, zero, suc, _+_, _-_, _*_}
 use lib.Dec.{eqb, ltb, leb}
 use lib.ListN.{length, getD, drop}
 use Rattle.reckon.specs.Tests.{pick, allBelow}
-use Rattle.reckon.specs.Lists.{tabulate, sumBelow}
+use Rattle.reckon.specs.Lists.{tabulate}
 use Rattle.text.specs.declared.reading.Number.{Number}
 use Rattle.text.specs.declared.reading.Number.the-variants.{Is, Not}
 use Rattle.text.specs.declared.reading.Fields.{Fields}
 
--- "fields parted by one tab, each line ended by a newline"
+-- "fields parted by one tab, each line lineEnded by a newline"
 abbrev pub tab : ℕ
 tab = 9
 
@@ -63,12 +63,12 @@ wellFormed (d ∷ []) = true
 wellFormed (d ∷ (e ∷ ds)) = leb 1 d
 
 -- what digits at p say: their number and the position after them, where it is not above the most
-unfoldable pub numberOf : List ℕ → ℕ → Number
-numberOf ds p = pick (leb (valueFrom 0 ds) mostNumber) (Is (valueFrom 0 ds) (p + length ds)) Not
+unfoldable pub numberFrom : List ℕ → ℕ → Number
+numberFrom ds p = pick (leb (valueFrom 0 ds) mostNumber) (Is (valueFrom 0 ds) (p + length ds)) Not
 
 -- the number at p
 unfoldable pub numberAt : List ℕ → ℕ → Number
-numberAt s p = pick (wellFormed (digitsOf (drop p s))) (numberOf (digitsOf (drop p s)) p) Not
+numberAt s p = pick (wellFormed (digitsOf (drop p s))) (numberFrom (digitsOf (drop p s)) p) Not
 
 -- ---- fields and lines
 
@@ -97,13 +97,13 @@ readFields s p zero = read [] p
 readFields s p (suc count) = withNumber (fieldAt s p) unread (λ v q. before (v ∷ []) (readFields s q count))
 
 -- a reading, and then the end of the line
-unfoldable pub ended : List ℕ → Reading → Reading
-ended s (read vs q) = pick (isByte s q newline) (read vs (q + 1)) unread
-ended s unread = unread
+unfoldable pub lineEnded : List ℕ → Reading → Reading
+lineEnded s (read vs q) = pick (isByte s q newline) (read vs (q + 1)) unread
+lineEnded s unread = unread
 
 -- exactly count fields, and then the end of the line
 unfoldable pub readRest : List ℕ → ℕ → ℕ → Reading
-readRest s p count = ended s (readFields s p count)
+readRest s p count = lineEnded s (readFields s p count)
 
 -- a line of a kind: its word, count fields, the end of the line
 unfoldable pub readLine : List ℕ → ℕ → List ℕ → ℕ → Reading
@@ -143,13 +143,6 @@ unfoldable pub lineFrom : List ℕ → ℕ → ℕ → ℕ
 lineFrom s p zero = p
 lineFrom s p (suc k) = nextLine s (lineFrom s p k)
 
--- how many lines end at a byte, and how many a text has: "each line ended by a newline"
-abbrev pub endsAt : List ℕ → ℕ → ℕ
-endsAt s i = pick (eqb (getD s i 0) newline) 1 0
-
-unfoldable pub lineCount : List ℕ → ℕ
-lineCount s = sumBelow (length s) (endsAt s)
-
 -- ---- what the public functions give
 
 abbrev pub ByteIs : List ℕ → ℕ → ℕ → Bool → Type 0
@@ -172,9 +165,3 @@ RestOfLine s p count r = r ≡ restOfLine s p count
 
 abbrev pub LineOf : List ℕ → ℕ → List ℕ → ℕ → Fields → Type 0
 LineOf s p word count r = r ≡ lineOf s p word count
-
-abbrev pub NextLine : List ℕ → ℕ → ℕ → Type 0
-NextLine s p r = r ≡ nextLine s p
-
-abbrev pub LineCount : List ℕ → ℕ → Type 0
-LineCount s r = r ≡ lineCount s

@@ -1,48 +1,33 @@
--- Numbers and lines worked by hand, with the definitions that they are worked by.
+-- Numbers and lines worked by hand: on the left what the definitions give, on the right what they should be.
 -- Assumes nothing.
-use mathlib.Core.List.{List, [], _∷_}
-use Prim.Native.Nat.{ℕ}
-use Rattle.reckon.specs.Worked.{Case, _should-be_}
-use Rattle.text.specs.Reading.{numberAt, readLine, nextLine, lineCount}
+use mathlib.Core.Path.{_≡_}
+use mathlib.Core.List.{[], _∷_}
+use Prim.Native.String.{String}
+use Rattle.text.specs.Bytes.{bytesOf}
+use Rattle.text.specs.Reading.{numberAt, readLine, nextLine}
 use Rattle.text.specs.Reading.Reading.{read, unread}
 use Rattle.text.specs.Writing.{decimal, lineText}
 use Rattle.text.specs.declared.reading.Number.the-variants.{Is, Not}
 
--- `0`, `07`, `4294967295`, `4294967296`, `-1`, no text at all; `0` and `4294967295` written
-abbrev pub numberCases : List Case
-numberCases =
-    numberAt (48 ∷ []) 0 should-be Is 0 1
-    ∷ numberAt (48 ∷ 55 ∷ []) 0 should-be Not
-    ∷ numberAt (52 ∷ 50 ∷ 57 ∷ 52 ∷ 57 ∷ 54 ∷ 55 ∷ 50 ∷ 57 ∷ 53 ∷ []) 0 should-be Is 4_294_967_295 10
-    ∷ numberAt (52 ∷ 50 ∷ 57 ∷ 52 ∷ 57 ∷ 54 ∷ 55 ∷ 50 ∷ 57 ∷ 54 ∷ []) 0 should-be Not
-    ∷ numberAt (45 ∷ 49 ∷ []) 0 should-be Not
-    ∷ numberAt [] 0 should-be Not
-    ∷ decimal 0 should-be (48 ∷ [])
-    ∷ decimal 4_294_967_295 should-be (52 ∷ 50 ∷ 57 ∷ 52 ∷ 57 ∷ 54 ∷ 55 ∷ 50 ∷ 57 ∷ 53 ∷ [])
-    ∷ []
+pub record NumbersWorked : Type 0 where
+  pub zero-read : numberAt (48 ∷ []) 0 ≡ Is 0 1
+  pub needless-zero : numberAt (bytesOf "07") 0 ≡ Not
+  pub greatest : numberAt (bytesOf "4294967295") 0 ≡ Is 4_294_967_295 10
+  pub too-great : numberAt (bytesOf "4294967296") 0 ≡ Not
+  pub signed : numberAt (bytesOf "-1") 0 ≡ Not
+  pub nothing : numberAt [] 0 ≡ Not
+  pub zero-written : decimal 0 ≡ 48 ∷ []
+  pub greatest-written : decimal 4_294_967_295 ≡ bytesOf "4294967295"
 
--- the words `run` and `rain`
-abbrev pub runWord : List ℕ
-runWord = 114 ∷ 117 ∷ 110 ∷ []
+-- document 01's `run` line
+abbrev runText : String
+runText = "run\t100\t1000\t1000\t1000\t1000\n"
 
-abbrev pub rainWord : List ℕ
-rainWord = 114 ∷ 97 ∷ 105 ∷ 110 ∷ []
-
--- "run 100 1000 1000 1000 1000", "tabs shown as spaces"
-abbrev pub runLine : List ℕ
-runLine =
-    114 ∷ 117 ∷ 110 ∷ 9 ∷ 49 ∷ 48 ∷ 48 ∷ 9 ∷ 49 ∷ 48 ∷ 48 ∷ 48 ∷ 9 ∷ 49 ∷ 48 ∷ 48 ∷ 48 ∷ 9 ∷ 49 ∷ 48 ∷ 48 ∷ 48 ∷ 9
-    ∷ 49 ∷ 48 ∷ 48 ∷ 48 ∷ 10 ∷ []
-
--- that line, read and written; a rain line, then with a carriage return, without its newline, with a field too many
-abbrev pub lineCases : List Case
-lineCases =
-    readLine runLine 0 runWord 5 should-be read (100 ∷ 1_000 ∷ 1_000 ∷ 1_000 ∷ 1_000 ∷ []) 28
-    ∷ lineText runWord (100 ∷ 1_000 ∷ 1_000 ∷ 1_000 ∷ 1_000 ∷ []) should-be runLine
-    ∷ nextLine runLine 0 should-be 28
-    ∷ lineCount runLine should-be 1
-    ∷ readLine (114 ∷ 97 ∷ 105 ∷ 110 ∷ 9 ∷ 48 ∷ 9 ∷ 57 ∷ 9 ∷ 51 ∷ 10 ∷ []) 0 rainWord 3 should-be read (0 ∷ 9 ∷ 3 ∷ []) 11
-    ∷ readLine (114 ∷ 97 ∷ 105 ∷ 110 ∷ 9 ∷ 48 ∷ 9 ∷ 57 ∷ 9 ∷ 51 ∷ 13 ∷ 10 ∷ []) 0 rainWord 3 should-be unread
-    ∷ readLine (114 ∷ 97 ∷ 105 ∷ 110 ∷ 9 ∷ 48 ∷ 9 ∷ 57 ∷ 9 ∷ 51 ∷ []) 0 rainWord 3 should-be unread
-    ∷ readLine (114 ∷ 97 ∷ 105 ∷ 110 ∷ 9 ∷ 48 ∷ 9 ∷ 57 ∷ 9 ∷ 51 ∷ 9 ∷ 49 ∷ 10 ∷ []) 0 rainWord 3 should-be unread
-    ∷ []
+pub record LinesWorked : Type 0 where
+  pub run-read : readLine (bytesOf runText) 0 (bytesOf "run") 5 ≡ read (100 ∷ 1_000 ∷ 1_000 ∷ 1_000 ∷ 1_000 ∷ []) 28
+  pub run-written : lineText (bytesOf "run") (100 ∷ 1_000 ∷ 1_000 ∷ 1_000 ∷ 1_000 ∷ []) ≡ bytesOf runText
+  pub run-next : nextLine (bytesOf runText) 0 ≡ 28
+  pub rain-read : readLine (bytesOf "rain\t0\t9\t3\n") 0 (bytesOf "rain") 3 ≡ read (0 ∷ 9 ∷ 3 ∷ []) 11
+  pub carriage-return : readLine (bytesOf "rain\t0\t9\t3\r\n") 0 (bytesOf "rain") 3 ≡ unread
+  pub no-newline : readLine (bytesOf "rain\t0\t9\t3") 0 (bytesOf "rain") 3 ≡ unread
+  pub a-field-too-many : readLine (bytesOf "rain\t0\t9\t3\t1\n") 0 (bytesOf "rain") 3 ≡ unread

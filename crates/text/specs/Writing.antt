@@ -1,14 +1,11 @@
 -- Document 01, "The sheet and its program": numbers, fields and lines as they are written, and a text put into a room.
 -- Assumes nothing.
 use mathlib.Core.Path.{_≡_}
-use mathlib.Core.Bool.{Bool, true, false}
 use mathlib.Core.List.{List, [], _∷_, _++_}
-use Prim.Native.Nat.{ℕ, zero, suc, _+_, _/_, _%_, _≤_}
-use lib.Dec.{eqb}
-use lib.ListN.{length, getD, drop}
-use Rattle.reckon.specs.Tests.{pick}
+use Prim.Native.Nat.{ℕ, zero, suc, _+_, _/_, _%_}
+use lib.ListN.{length}
 use Rattle.reckon.specs.Lists.{placed}
-use Rattle.text.specs.Reading.{tab, newline, mostNumber, isDigit}
+use Rattle.text.specs.Reading.{tab, newline}
 
 -- the decimal digits of a number, none for 0; enough are allowed for
 unfoldable pub digitsIn : ℕ → ℕ → List ℕ
@@ -36,34 +33,7 @@ restText vs = fieldsText vs ++ (newline ∷ [])
 unfoldable pub lineText : List ℕ → List ℕ → List ℕ
 lineText word vs = word ++ restText vs
 
--- a text with no newline in it
-unfoldable pub plain : List ℕ → Bool
-plain [] = true
-plain (b ∷ t) = pick (eqb b newline) false (plain t)
-
--- each value is "at most 4,294,967,295"
-abbrev pub Readable : List ℕ → Type 0
-Readable [] = Unit {0}
-Readable (v ∷ vs) = (v ≤ mostNumber) × Readable vs
-
--- ---- a text that stands in another, and one that is put into a room
-
--- the text t stands in s at p, and q is the position after it
-pub record Stands (s : List ℕ) (p : ℕ) (t : List ℕ) (q : ℕ) : Type 0 where
-  pub after : q ≡ p + length t
-  pub text : drop p s ≡ t ++ drop q s
-
--- the same of a number or of fields of these values: they are readable, and no digit follows
-pub record StandAlone (s : List ℕ) (p : ℕ) (t vs : List ℕ) (q : ℕ) : Type 0 where
-  pub stands : Stands s p t q
-  pub alone : isDigit (getD s q 0) ≡ false
-  pub readable : Readable vs
-
--- and of count fields that were read
-pub record AsWritten (s : List ℕ) (p : ℕ) (t vs : List ℕ) (count q : ℕ) : Type 0 where
-  pub stands : Stands s p t q
-  pub many : length vs ≡ count
-  pub readable : Readable vs
+-- ---- a text that is put into a room
 
 -- the text t is put into a room at a position: r is the position after it, and all else in the room stays
 pub record Wrote (t : List ℕ) (at : ℕ) (old new : List ℕ) (r : ℕ) : Type 0 where

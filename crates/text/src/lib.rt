@@ -1,6 +1,6 @@
 // Texts: numbers, fields and lines read at a position of a text, and the same put into a lent room. It knows nothing of sheets.
 //
-//   reading   byte_is, word_at, number_at, field_at, fields_at, rest_of_line, line_of, next_line, line_count
+//   reading   byte_is, word_at, number_at, field_at, fields_at, rest_of_line, line_of
 //   writing   put_byte, put_word, put_number, put_field, put_fields, put_line
 pub mod reading;
 pub mod writing;

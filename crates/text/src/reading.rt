@@ -1,10 +1,10 @@
 // Reading at a position of a text. A position past the end reads as nothing.
 ghost use mathlib.Core.Path.{_≡_};
 ghost use mathlib.Core.Bool.{true, _&&_};
-ghost use Prim.Native.Nat.{_+_, _<_, _≤_};
+ghost use Prim.Native.Nat.{_+_, _≤_};
 ghost use lib.Dec.{eqb};
-ghost use lib.ListN.{length, getD, drop};
-ghost use Rattle.text.specs.Reading.{endsAt, mostFields, isDigit, digitsOf, numberOf, ByteIs, WordAt, NumberAt, FieldAt, FieldsAt, RestOfLine, LineOf, NextLine, LineCount, asFields, Reading};
+ghost use lib.ListN.{getD, drop};
+ghost use Rattle.text.specs.Reading.{mostFields, isDigit, digitsOf, numberFrom, ByteIs, WordAt, NumberAt, FieldAt, FieldsAt, RestOfLine, LineOf, asFields, Reading};
 
 // What stands at a position as a number: its value and the position after it, or none.
 pub enum Number {
@@ -87,7 +87,7 @@ fn needless_zero(text: &[u8], at: usize) -> bool
 
 // The digits at a position as a number.
 fn digits(text: &[u8], at: usize) -> Number
-    ensures { λ r. ⌜ r ≡ numberOf (digitsOf (drop at (now (text .entry)))) at ⌝ }
+    ensures { λ r. ⌜ r ≡ numberFrom (digitsOf (drop at (now (text .entry)))) at ⌝ }
 {
     let mut value: u64 = 0;
     let mut p = at;
@@ -192,41 +192,4 @@ pub fn line_of(text: &[u8], at: usize, word: &[u8], count: usize) -> Fields
         return nothing(at);
     }
     rest
-}
-
-// Where the line after the one at a position starts: after the next newline, or where the text ends.
-pub fn next_line(text: &[u8], at: usize) -> usize
-    ensures { λ r. ⌜ NextLine (now (text .entry)) at r ⌝ }
-{
-    let mut p = at;
-    while p < text.len() {
-        if text[p] == NEWLINE {
-            return p + 1;
-        }
-        p += 1;
-    }
-    p
-}
-
-fn newline_at(text: &[u8], at: usize) -> usize
-    requires { ⌜ at < length (now text) ⌝ }
-    ensures { λ r. ⌜ r ≡ endsAt (now (text .entry)) at ⌝ }
-{
-    if text[at] == NEWLINE {
-        return 1;
-    }
-    0
-}
-
-// How many lines a text has: each is ended by a newline.
-pub fn line_count(text: &[u8]) -> usize
-    ensures { λ r. ⌜ LineCount (now (text .entry)) r ⌝ }
-{
-    let mut count: usize = 0;
-    let mut i: usize = 0;
-    while i < text.len() {
-        count += newline_at(text, i);
-        i += 1;
-    }
-    count
 }

@@ -9,7 +9,7 @@ use native.Mathlib.Omega.{arith}
 use lib.ListN.{length}
 use Rattle.trials.specs.Ring.{slotAfter, slotBefore, slotAgo}
 use Rattle.trials.specs.Series.{Outcome, refused, done, andThen, Engine, State, fine, stepped, step, restored, looked, takeBack, Call, stepping, takingBack, running, run, Trail, start, older, afterStep, afterBack, repeat, called, series, replay, Fresh, shown, Stands}
-use Rattle.trials.specs.Owes.{Laws}
+use Rattle.trials.specs.inner.Owes.{Laws}
 use Rattle.trials.proofs.RingLaws.{none-fails, ago-none, ago-more}
 use Rattle.trials.proofs.StepLaws.{not-done, RingOf, ring-is-fine, Made, step-made, made-step, some-slot, seen-after, newest-after, kept-after, slots-after, ring-made, before-newest, newest-record, older-record, back-made}
 use Rattle.trials.proofs.AloneLaws.{Alone, Last, alone, last, alone-ring, lookAt, same-look}

@@ -7,7 +7,7 @@ use Prim.Native.Nat.{ℕ, suc, _-_, _<_}
 use native.Mathlib.Omega.{arith}
 use Rattle.trials.specs.Ring.{slotAfter, slotBefore, slotAgo, keptAfter}
 use Rattle.trials.specs.Series.{Outcome, refused, done, andThen, Engine, State, fine, stepped, step, restored, takeBack}
-use Rattle.trials.specs.Owes.{Laws}
+use Rattle.trials.specs.inner.Owes.{Laws}
 use Rattle.trials.proofs.RingLaws.{Ring, fine-ring, ring-fine, ring-after, after-below, before-after, ago-more, ago-below, ago-other}
 
 pub not-done : {A : Type 0} {n : ℕ} {a : A} → refused n ≡ done a → ⊥
@@ -104,15 +104,3 @@ module _ (E : Engine) (L : Laws E) where
         ap (λ (R : E .Room). E .read R (slotAgo K (s .newest) j)) room-after
         ∙ L .read-other (s .room) w (slotAgo K (s .newest) j) (M .made .1) fits below
         (rw slots-are (ago-below K j (s .newest) (ring-before .newest-below))) other
-
-  -- a step that was made, from whatever state, is taken back: all is as it was but the slot that it wrote, and kept is one less than it became
-  pub taken-back : (i : E .Inputs) (s t : State E) → step E i s ≡ done t →
-      takeBack E t ≡ done (record { seen = s .seen; room = t .room; kept = t .kept - 1; newest = s .newest })
-  taken-back i s t e =
-      let K : ℕ = E .slots (s .room) in
-      let M : Made E i s t = step-made i s t e in
-      let kept-one : t .kept ≡ suc (t .kept - 1) = omega (arith, kept-after K refl M, some-slot K refl M) in
-      back-made E t (t .kept - 1) (s .seen) (ring-made K refl M) kept-one
-      (ap (E .look true) (seen-after K refl M) ∙ L .look-after (M .make-made))
-      (ap₂ (E .unmake) (newest-record K refl M) (seen-after K refl M) ∙ L .unmake-made (M .make-made))
-      ∙ rw (slots-after K refl M, before-newest K refl M)

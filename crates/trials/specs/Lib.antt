@@ -1,4 +1,4 @@
-pub mod Owes
+pub mod inner
 pub mod Ring
 pub mod Room
 pub mod Series

@@ -54,5 +54,5 @@ SlotBefore K newest r = r ≡ slotBefore K newest
 abbrev pub KeptAfter : ℕ → ℕ → ℕ → Type 0
 KeptAfter K kept r = r ≡ keptAfter K kept
 
-abbrev pub RingFine : ℕ → ℕ → ℕ → Bool → Type 0
-RingFine K kept newest r = r ≡ ringFine K kept newest
+abbrev pub RingJudged : ℕ → ℕ → ℕ → Bool → Type 0
+RingJudged K kept newest r = r ≡ ringFine K kept newest

@@ -1,5 +1,5 @@
 // Trials that can be taken back: the ring of slots that a record room is, as code over plain numbers; and, in specs/, what a series
-// of steps and take-backs means for any engine (Series.antt), what an engine owes (Owes.antt), and in proofs/ that demand 3 then holds.
+// of steps and take-backs means for any engine (Series.antt), what an engine owes (inner/Owes.antt), and in proofs/ that demand 3 then holds.
 //
 //   slots_in       how many records a room holds
 //   slot_start     where a slot begins
@@ -8,7 +8,7 @@
 //   kept_after     how many records are kept after a step
 //   ring_fine      whether K, kept and newest are in range
 ghost use Prim.Native.Nat.{_<_, _^_};
-ghost use Rattle.trials.specs.Ring.{slotStart, SlotsIn, SlotStart, SlotAfter, SlotBefore, KeptAfter, RingFine};
+ghost use Rattle.trials.specs.Ring.{slotStart, SlotsIn, SlotStart, SlotAfter, SlotBefore, KeptAfter, RingJudged};
 
 pub fn slots_in(size: usize, numbers: usize) -> usize
     requires { ⌜ 0 < size ⌝ }
@@ -46,7 +46,7 @@ pub fn kept_after(k: usize, kept: usize) -> usize
 }
 
 pub fn ring_fine(k: usize, kept: usize, newest: usize) -> bool
-    ensures { λ r. ⌜ RingFine k kept newest r ⌝ }
+    ensures { λ r. ⌜ RingJudged k kept newest r ⌝ }
 {
     if k == 0 {
         return false;

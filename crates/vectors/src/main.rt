@@ -3,8 +3,7 @@
 use rule::length::shorter;
 use rule::rules::Rules;
 use rule::weighing::weigh;
-ghost use Rattle.rule.specs.Weighing.{Weighable};
-ghost use Rattle.rule.specs.Length.{Candidacy};
+ghost use Rattle.rule.specs.inner.InRange.{Weighable, Candidacy};
 
 const ROWS: usize = 56;
 

@@ -1,4 +1,5 @@
-// Runs the cases of document 01 that are not proved as theorems, and prints what each gives; tests/worked.py works the same.
+// Runs document 01's worked cases that are not marked P, and beside them each refusal, a run refused midway and series of steps and
+// take-backs; a line for each call. tests/worked.py works the same lines.
 mod columns;
 mod meadow;
 mod printing;

@@ -29,7 +29,7 @@ pub(crate) struct Meadow {
     pub inflow: [u32; 5],
     pub depths: [u32; 4],
     pub lasts: [u32; 4],
-    pub records: [u32; 80],
+    pub records: [u32; ROOM],
     pub room: usize,
     pub refused: u32,
     pub steps: u64,

@@ -1,14 +1,24 @@
 -- `meadow::main` is safe and ends: what is read lies in the text's room, and what is printed in the room for it.
 -- Assumes nothing.
 use mathlib.Core.Path.{_≡_, _∙_, sym}
-use Prim.Native.Nat.{ℕ}
+use Prim.Native.Nat.{ℕ, _≤_}
 use native.Mathlib.Omega.{arith}
 use lib.ListN.{length, length-replicate}
 use lib.Seq.{length-take-le}
 use Rattle.text.proofs.WritingLaws.{wrote-length}
 use borrow.Author.Needs.{needs}
+use Rattle.answer.specs.Program.{mostPrinted}
 use Rattle.meadow.proofs.main.Statement.{statement}
 use Rattle.meadow.proofs.main.Tie as tie
+
+-- what is printed lies in its room
+long : (c : tie.After-meadow-of) → length (c .meadow-of .last .1 .0) ≡ mostPrinted
+long c =
+    let empty = length-replicate {A = ℕ} mostPrinted 0 in
+    wrote-length (omega (arith, c .meadow-of .ensures .fits, empty)) (c .meadow-of .ensures .wrote) ∙ empty
+
+within : (c : tie.After-meadow-of) → c .meadow-of .result ≤ length (c .meadow-of .last .1 .0)
+within c = omega (arith, c .meadow-of .ensures .fits, c .meadow-of .ensures .wrote .next, long c)
 
 slice-aggregate-read-full : tie.Need-slice-aggregate-read-full
 slice-aggregate-read-full c = search needs
@@ -26,24 +36,10 @@ meadow-of-requires : tie.Need-meadow-of-requires
 meadow-of-requires c κs = search needs
 
 array-share-prefix-out : tie.Need-array-share-prefix-out
-array-share-prefix-out c =
-    let k : length (c .meadow-of .last .1 .0) ≡ 40960 =
-    wrote-length (omega (arith, c .meadow-of .ensures .fits, length-replicate {A = ℕ} 40960 0)) (c .meadow-of .ensures .wrote) ∙ length-replicate {A = ℕ} 40960 0 in
-    omega (arith, c .meadow-of .ensures .fits, c .meadow-of .ensures .wrote .next, k)
+array-share-prefix-out c = omega (arith, within c, long c)
 
 slice-aggregate-write-all : tie.Need-slice-aggregate-write-all
-slice-aggregate-write-all c =
-    let k : length (c .before .meadow-of .last .1 .0) ≡ 40960 =
-    wrote-length (omega (arith, c .before .meadow-of .ensures .fits, length-replicate {A = ℕ} 40960 0)) (c .before .meadow-of .ensures .wrote)
-    ∙ length-replicate {A = ℕ} 40960 0 in
-    sym
-    (length-take-le _ (c .before .meadow-of .last .1 .0)
-    (omega (
-      arith,
-      c .before .meadow-of .ensures .fits,
-      c .before .meadow-of .ensures .wrote .next,
-      k,
-    )))
+slice-aggregate-write-all c = sym (length-take-le _ _ (within (c .before)))
 
 write-all-requires : tie.Need-write-all-requires
 write-all-requires c κs = search needs

@@ -2,7 +2,7 @@
 -- Assumes nothing.
 use native.Mathlib.Omega.{arith}
 use lib.ListN.{length-set}
-use Rattle.exports.proofs.AnswerLaws.{ten-stored}
+use Rattle.exports.proofs.AnswerLaws.{stored}
 use borrow.Author.Needs.{needs}
 use Rattle.exports.proofs.answers.put_heading.Statement.{statement}
 use Rattle.exports.proofs.answers.put_heading.Tie as tie
@@ -48,7 +48,7 @@ same-length c = search needs
 
 returns : tie.Need-returns
 returns c =
-    ten-stored (c .before .before .args .room .now) _ _ _ _ _ _ _ _ _ _ (c .before .before .pre)
+    stored _ (c .before .before .args .room .now) (c .before .before .pre)
 
 pub put-heading-spec : {M : Type 1} → statement M
 put-heading-spec =

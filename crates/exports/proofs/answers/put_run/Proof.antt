@@ -2,7 +2,7 @@
 -- Assumes nothing.
 use native.Mathlib.Omega.{arith}
 use lib.ListN.{length-set}
-use Rattle.exports.proofs.AnswerLaws.{five-stored}
+use Rattle.exports.proofs.AnswerLaws.{stored}
 use borrow.Author.Needs.{needs}
 use Rattle.exports.proofs.answers.put_run.Statement.{statement}
 use Rattle.exports.proofs.answers.put_run.Tie as tie
@@ -28,7 +28,7 @@ same-length c = search needs
 
 returns : tie.Need-returns
 returns c =
-    five-stored (c .args .room .now) _ _ _ _ _ (c .pre)
+    stored _ (c .args .room .now) (c .pre)
 
 pub put-run-spec : {M : Type 1} → statement M
 put-run-spec =

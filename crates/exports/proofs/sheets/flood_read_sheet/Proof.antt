@@ -1,17 +1,19 @@
 -- `exports::sheets::flood_read_sheet` meets its contract: both slices have their size, or the call is refused by 1.
 -- Assumes nothing.
-use Rattle.exports.proofs.SheetLaws.{heading-unsized, line-unsized, sheet-told}
+use borrow.Author.Tests.{ne-eqb}
+use Rattle.reckon.proofs.TestLaws.{every-fails}
+use Rattle.exports.proofs.SheetLaws.{sheet-unsized, sheet-told}
 use borrow.Author.Needs.{needs}
 use Rattle.exports.proofs.sheets.flood_read_sheet.Statement.{statement}
 use Rattle.exports.proofs.sheets.flood_read_sheet.Tie as tie
 
 returns : tie.Need-returns
 returns c =
-    heading-unsized _ _ _ _ (c .if1 .taken)
+    sheet-unsized _ _ _ _ (every-fails _ 0 (ne-eqb _ _ (c .if1 .taken)))
 
 returns-2 : tie.Need-returns-2
 returns-2 c =
-    line-unsized _ _ _ _ (c .before .if1 .left) (c .if2 .taken)
+    sheet-unsized _ _ _ _ (every-fails _ 1 (ne-eqb _ _ (c .if2 .taken)))
 
 read-requires : tie.Need-read-requires
 read-requires c κs = search needs

@@ -1,6 +1,6 @@
 -- `exports::sheets::tell_sheet` meets its contract: a sheet that was read tells its heading, and a refused one its line.
 -- Assumes nothing.
-use Rattle.exports.proofs.AnswerLaws.{one-stored}
+use Rattle.exports.proofs.AnswerLaws.{stored}
 use Rattle.exports.proofs.SheetLaws.{read-told, refused-told}
 use borrow.Author.Needs.{needs}
 use Rattle.exports.proofs.sheets.tell_sheet.Statement.{statement}
@@ -26,7 +26,8 @@ same-length c = search needs
 
 returns : tie.Need-returns
 returns c =
-    refused-told _ (c .before .sheet .given .1) (one-stored (c .before .before .before .before .before .args .line .now) _ (c .before .before .before .before .before .pre .1))
+    let start = c .before .before .before .before .before in
+    refused-told _ (c .before .sheet .given .1) (stored _ (start .args .line .now) (start .pre .1))
 
 same-length-2 : tie.Need-same-length-2
 same-length-2 c = search needs
@@ -36,7 +37,10 @@ same-length-3 c = search needs
 
 returns-2 : tie.Need-returns-2
 returns-2 c =
-    read-told _ (c .before .before .before .before .before .sheet2 .given .1) (c .before .before .put-heading .ensures) (one-stored (c .before .before .before .before .before .before .before .before .before .args .line .now) _ (c .before .before .before .before .before .before .before .before .before .pre .1))
+    let at-put-heading = c .before .before in
+    let at-sheet = at-put-heading .before .before .before in
+    let start = at-sheet .before .before .before .before in
+    read-told _ (at-sheet .sheet2 .given .1) (at-put-heading .put-heading .ensures) (stored _ (start .args .line .now) (start .pre .1))
 
 pub tell-sheet-spec : {M : Type 1} → statement M
 tell-sheet-spec =

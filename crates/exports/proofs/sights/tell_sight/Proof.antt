@@ -1,6 +1,6 @@
 -- `exports::sights::tell_sight` meets its contract, case by case; only a moving square's speeds are written.
 -- Assumes nothing.
-use Rattle.exports.proofs.AnswerLaws.{two-stored}
+use Rattle.exports.proofs.AnswerLaws.{stored}
 use Rattle.exports.proofs.SightLaws.{seen-closed, seen-dry, seen-still, seen-refused, seen-moving}
 use borrow.Author.Needs.{needs}
 use Rattle.exports.proofs.sights.tell_sight.Statement.{statement}
@@ -48,7 +48,8 @@ same-length c = search needs
 
 returns-5 : tie.Need-returns-5
 returns-5 c =
-    seen-moving _ (c .before .sight2 .given .1) (two-stored (c .before .before .before .args .speeds .now) _ _ (c .before .before .before .pre))
+    let start = c .before .before .before in
+    seen-moving _ (c .before .sight2 .given .1) (stored _ (start .args .speeds .now) (start .pre))
 
 pub tell-sight-spec : {M : Type 1} → statement M
 tell-sight-spec =

@@ -1,6 +1,6 @@
 -- `exports::sights::tell_wet` meets its contract: a refusal writes nothing, and a count is put.
 -- Assumes nothing.
-use Rattle.exports.proofs.AnswerLaws.{one-stored}
+use Rattle.exports.proofs.AnswerLaws.{stored}
 use Rattle.exports.proofs.SightLaws.{wet-refused-told, count-told}
 use borrow.Author.Needs.{needs}
 use Rattle.exports.proofs.sights.tell_wet.Statement.{statement}
@@ -24,7 +24,8 @@ same-length c = search needs
 
 returns-2 : tie.Need-returns-2
 returns-2 c =
-    count-told _ (c .before .wet2 .given .1) (one-stored (c .before .before .before .args .count .now) _ (c .before .before .before .pre))
+    let start = c .before .before .before in
+    count-told _ (c .before .wet2 .given .1) (stored _ (start .args .count .now) (start .pre))
 
 pub tell-wet-spec : {M : Type 1} → statement M
 tell-wet-spec =

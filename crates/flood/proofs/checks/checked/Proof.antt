@@ -8,11 +8,10 @@ use borrow.Author.Tests.{not-true, not-false}
 use borrow.Author.Needs.{needs}
 use Rattle.reckon.specs.Tests.{Row, refusal}
 use Rattle.reckon.proofs.TestLaws.{each-every, every-fails, refusal-here, refusal-later, passed-refusal}
-use Rattle.ledger.specs.Runs.{plan, runFine, world}
-use Rattle.ledger.specs.Record.{roomSlots}
-use Rattle.ledger.specs.Engine.{seenOf, ringOf}
-use Rattle.flood.specs.Drops.{given, ground}
-use Rattle.flood.specs.Refusals.{checkRows}
+use Rattle.ledger.specs.Runs.{plan, runFine, world, seenOf}
+use Rattle.ledger.specs.Record.{roomSlots, ringOf}
+use Rattle.moves.specs.Given.{ground, given}
+use Rattle.flood.specs.Refusals.{checkRefusals}
 use Rattle.flood.proofs.CheckLaws.{fails-by, holds-by, lent-fine, lent-marked, lent-ground, lent-water, run-fine-by}
 use Rattle.flood.proofs.checks.checked.Statement.{statement}
 use Rattle.flood.proofs.checks.checked.Tie as tie
@@ -24,61 +23,61 @@ rows s =
     let p = plan (a .shape) (a .marks .now) in
     let g = given (ground (a .rules) (a .beds .now) (a .roughness .now)) (a .rain .now) (a .inflow .now) in
     let w = world (a .depths .now) (a .lasts .now) (a .records .now) (a .run) in
-    checkRows p g (a .five) (ringOf p w) (seenOf w)
+    checkRefusals p g (a .five) (ringOf p w) (seenOf w)
 
 -- its first k rows do not apply
 abbrev Past : ℕ → tie.Start → Type 0
 Past k s = refusal (rows s) ≡ refusal (drop k (rows s))
 
 past-1 : (c : tie.Else1) → Past 1 (c .before .before .before .before .before .before .before .before .before .before)
-unfolding checkRows
+unfolding checkRefusals
 past-1 c = refusal-later 1 _ (holds-by (c .before .lent-fine .ensures) (c .if1 .left))
 
 past-2 : (c : tie.Else3) → Past 2 (c .before .before .before .before .before .before .before .before .before .before .before .before .before .before)
-unfolding checkRows
+unfolding checkRefusals
 past-2 c =
     let at-if2 = c .before .before in
     past-1 (at-if2 .before .before) ∙ refusal-later 2 _
     (each-every _ (holds-by (at-if2 .before .marks-fine .ensures) (at-if2 .if2 .left), (holds-by (c .before .grounds-fine .ensures _) (c .if3 .left), tt)))
 
 past-3 : (c : tie.Else4) → Past 3 (c .before .before .before .before .before .before .before .before .before .before .before .before .before .before .before .before)
-unfolding checkRows
+unfolding checkRefusals
 past-3 c = past-2 (c .before .before) ∙ refusal-later 3 _ (holds-by (c .before .waters-fine .ensures) (c .if4 .left))
 
 past-4 : (c : tie.Else5) → Past 4 (c .before .before .before .before .before .before .before .before .before .before .before .before .before .before .before .before .before .before)
-unfolding checkRows
+unfolding checkRefusals
 past-4 c = past-3 (c .before .before) ∙ refusal-later 4 _ (holds-by (c .before .tables-fine .ensures) (c .if5 .left))
 
 past-5 : (c : tie.Else6) → Past 5 (c .before .before .before .before .before .before .before .before .before .before .before .before .before .before .before .before .before .before .before)
-unfolding checkRows
+unfolding checkRefusals
 past-5 c = past-4 (c .before) ∙ refusal-later 5 _ (not-false _ (c .if6 .left))
 
 lent-fine-requires : tie.Need-lent-fine-requires
 lent-fine-requires c κs = search needs
 
 returns : tie.Need-returns
-unfolding checkRows
+unfolding checkRefusals
 returns c = sym (refusal-here 1 _ (fails-by (c .before .lent-fine .ensures) (c .if1 .taken)))
 
 marks-fine-requires : tie.Need-marks-fine-requires
 marks-fine-requires c κs = lent-marked _ _ _ _ _ _ _ (holds-by (c .before .lent-fine .ensures) (c .if1 .left))
 
 returns-2 : tie.Need-returns-2
-unfolding checkRows
+unfolding checkRefusals
 returns-2 c = sym (past-1 (c .before .before) ∙ refusal-here 2 _ (every-fails _ 0 (fails-by (c .before .marks-fine .ensures) (c .if2 .taken))))
 
 grounds-fine-requires : tie.Need-grounds-fine-requires
 grounds-fine-requires c κs = lent-ground _ _ _ _ _ _ _ (holds-by (c .before .before .before .lent-fine .ensures) (c .before .before .if1 .left))
 
 returns-3 : tie.Need-returns-3
-unfolding checkRows
+unfolding checkRefusals
 returns-3 c = sym (past-1 (c .before .before .before .before) ∙ refusal-here 2 _ (every-fails _ 1 (fails-by (c .before .grounds-fine .ensures _) (c .if3 .taken))))
 
 waters-fine-requires : tie.Need-waters-fine-requires
 waters-fine-requires c κs = lent-water _ _ _ _ _ _ _ (holds-by (c .before .before .before .before .before .lent-fine .ensures) (c .before .before .before .before .if1 .left))
 
 returns-4 : tie.Need-returns-4
-unfolding checkRows
+unfolding checkRefusals
 returns-4 c = sym (past-2 (c .before .before) ∙ refusal-here 3 _ (fails-by (c .before .waters-fine .ensures) (c .if4 .taken)))
 
 tables-fine-requires : tie.Need-tables-fine-requires
@@ -88,11 +87,11 @@ tables-fine-requires c κs =
     lent-marked _ _ _ _ _ _ _ (holds-by (at-lent-fine .lent-fine .ensures) (at-if1 .if1 .left))
 
 returns-5 : tie.Need-returns-5
-unfolding checkRows
+unfolding checkRefusals
 returns-5 c = sym (past-3 (c .before .before) ∙ refusal-here 4 _ (fails-by (c .before .tables-fine .ensures) (c .if5 .taken)))
 
 returns-6 : tie.Need-returns-6
-unfolding checkRows
+unfolding checkRefusals
 returns-6 c = sym (past-4 (c .before) ∙ refusal-here 5 _ (not-true _ (c .if6 .taken)))
 
 slots-of-requires : tie.Need-slots-of-requires
@@ -105,7 +104,7 @@ run-fine-requires : tie.Need-run-fine-requires
 run-fine-requires c κs = search needs
 
 returns-7 : tie.Need-returns-7
-unfolding checkRows runFine roomSlots
+unfolding checkRefusals runFine roomSlots
 returns-7 c =
     let start =
     c .before .before .before .before .before .before .before .before .before .before .before .before .before .before .before .before .before .before .before .before .before .before
@@ -114,7 +113,7 @@ returns-7 c =
     (past-5 (c .before .before .before) ∙ refusal-here 6 _ (fails-by (run-fine-by (start .args .run) (c .before .run-fine .ensures) (c .before .before .slots-of .ensures)) (c .if7 .taken)))
 
 returns-8 : tie.Need-returns-8
-unfolding checkRows runFine roomSlots
+unfolding checkRefusals runFine roomSlots
 returns-8 c =
     let start =
     c .before .before .before .before .before .before .before .before .before .before .before .before .before .before .before .before .before .before .before .before .before .before

@@ -28,12 +28,12 @@ squares-of-requires c κs = c .before .before .before .pre .0 .fine
 loop-holds : tie.Need-loop-holds Inv-loop μ-loop
 loop-holds c = (omega arith, all-none _)
 
-ground-ok-requires : tie.Need-ground-ok-requires Inv-loop μ-loop
-ground-ok-requires c κs = search needs
+ground-at-fine-requires : tie.Need-ground-at-fine-requires Inv-loop μ-loop
+ground-at-fine-requires c κs = search needs
 
 returns : tie.Need-returns Inv-loop μ-loop
 unfolding groundsFine
-returns c = λ rules. sym (all-fails _ _ (c .before .before .before .loop .square) (omega arith) (fails-by (c .before .ground-ok .ensures) (c .if1 .taken)))
+returns c = λ rules. sym (all-fails _ _ (c .before .before .before .loop .square) (omega arith) (fails-by (c .before .ground-at-fine .ensures) (c .if1 .taken)))
 
 add-square : tie.Need-add-square Inv-loop μ-loop
 add-square c = search needs
@@ -42,7 +42,7 @@ loop-less : tie.Need-loop-less Inv-loop μ-loop
 loop-less c = omega arith
 
 loop-again : tie.Need-loop-again Inv-loop μ-loop
-loop-again c = (omega arith, all-more _ _ (c .before .before .before .loop .inv .1) (holds-by (c .before .ground-ok .ensures) (c .if1 .left)))
+loop-again c = (omega arith, all-more _ _ (c .before .before .before .loop .inv .1) (holds-by (c .before .ground-at-fine .ensures) (c .if1 .left)))
 
 returns-2 : tie.Need-returns-2 Inv-loop μ-loop
 unfolding groundsFine
@@ -56,7 +56,7 @@ grounds-fine-spec =
     μ-loop
     squares-of-requires
     loop-holds
-    ground-ok-requires
+    ground-at-fine-requires
     returns
     add-square
     loop-less

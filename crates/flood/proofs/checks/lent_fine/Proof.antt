@@ -4,7 +4,7 @@ use mathlib.Core.Path.{sym, _∙_}
 use borrow.Author.Needs.{needs}
 use Rattle.reckon.proofs.TestLaws.{every-fails}
 use Rattle.grid.proofs.SquareLaws.{ranges-of-fine}
-use Rattle.ledger.specs.TakeBack.{oneEach}
+use Rattle.ledger.specs.Checks.{oneEach}
 use Rattle.flood.proofs.CheckLaws.{fails-by, holds-by, every-decided}
 use Rattle.flood.proofs.checks.lent_fine.Statement.{statement}
 use Rattle.flood.proofs.checks.lent_fine.Tie as tie

@@ -26,9 +26,9 @@ slots-of-requires c κs =
     let at-fresh-number = at-if1 .before in
     sizes-marked _ _ _ _ (fresh-sizes _ _ _ _ (sym (at-fresh-number .fresh-number .ensures) ∙ at-if1 .if1 .left)) .fine
 
-sub-t14 : tie.Need-sub-t14
+fresh-run-requires : tie.Need-fresh-run-requires
 unfolding roomSlots
-sub-t14 c =
+fresh-run-requires c κs =
     let at-if1 = c .before .before .before .before .before in
     let at-fresh-number = at-if1 .before in
     let some : (c .slots-of .result ≡ 0 → ⊥) = λ z. fresh-slots _ _ _ _
@@ -40,11 +40,12 @@ same-length-2 c = search needs
 returns-2 : tie.Need-returns-2
 unfolding roomSlots
 returns-2 c =
-    let at-clear-lasts = c .before .before .before in
+    let at-slots-of = c .before in
+    let at-clear-lasts = at-slots-of .before .before .before in
     let at-if1 = at-clear-lasts .before .before in
     let at-fresh-number = at-if1 .before in
     fresh-done _ _ _ _ (at-fresh-number .fresh-number .ensures) (at-if1 .if1 .left) (at-clear-lasts .clear-lasts .ensures)
-    (c .slots-of .ensures)
+    (at-slots-of .slots-of .ensures) (c .fresh-run .ensures)
 
 pub fresh-spec : {M : Type 1} → statement M
 fresh-spec =
@@ -55,6 +56,6 @@ fresh-spec =
     returns
     clear-lasts-requires
     slots-of-requires
-    sub-t14
+    fresh-run-requires
     same-length-2
     returns-2)

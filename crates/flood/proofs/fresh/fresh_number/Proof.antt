@@ -6,7 +6,7 @@ use borrow.Author.Tests.{eq-eqb, ne-eqb}
 use borrow.Author.Needs.{needs}
 use Rattle.reckon.proofs.TestLaws.{refusal-here, refusal-later, passed-refusal}
 use Rattle.ledger.specs.Record.{roomSlots}
-use Rattle.flood.specs.Run.{freshNumber, freshRows}
+use Rattle.flood.specs.Run.{freshNumber, freshRefusals}
 use Rattle.flood.proofs.CheckLaws.{fails-by, holds-by}
 use Rattle.flood.proofs.FreshLaws.{sizes-marked}
 use Rattle.flood.proofs.fresh.fresh_number.Statement.{statement}
@@ -16,21 +16,21 @@ sizes-fine-requires : tie.Need-sizes-fine-requires
 sizes-fine-requires c κs = search needs
 
 returns : tie.Need-returns
-unfolding freshNumber freshRows
+unfolding freshNumber freshRefusals
 returns c = sym (refusal-here 1 _ (fails-by (c .before .sizes-fine .ensures) (c .if1 .taken)))
 
 marks-fine-requires : tie.Need-marks-fine-requires
 marks-fine-requires c κs = sizes-marked _ _ _ _ (holds-by (c .before .sizes-fine .ensures) (c .if1 .left))
 
 returns-2 : tie.Need-returns-2
-unfolding freshNumber freshRows
+unfolding freshNumber freshRefusals
 returns-2 c = sym (refusal-later 1 _ (holds-by (c .before .before .before .sizes-fine .ensures) (c .before .before .if1 .left)) ∙ refusal-here 2 _ (fails-by (c .before .marks-fine .ensures) (c .if2 .taken)))
 
 rules-fine-requires : tie.Need-rules-fine-requires
 rules-fine-requires c κs = search needs
 
 returns-3 : tie.Need-returns-3
-unfolding freshNumber freshRows
+unfolding freshNumber freshRefusals
 returns-3 c =
     sym
     (refusal-later 1 _ (holds-by (c .before .before .before .before .before .sizes-fine .ensures) (c .before .before .before .before .if1 .left))
@@ -40,7 +40,7 @@ slots-of-requires : tie.Need-slots-of-requires
 slots-of-requires c κs = sizes-marked _ _ _ _ (holds-by (c .before .before .before .before .before .sizes-fine .ensures) (c .before .before .before .before .if1 .left)) .fine
 
 returns-4 : tie.Need-returns-4
-unfolding freshNumber freshRows roomSlots
+unfolding freshNumber freshRefusals roomSlots
 returns-4 c =
     sym
     (refusal-later 1 _ (holds-by (c .before .before .before .before .before .before .before .sizes-fine .ensures) (c .before .before .before .before .before .before .if1 .left))
@@ -48,7 +48,7 @@ returns-4 c =
     ∙ (refusal-later 5 _ (holds-by (c .before .before .before .rules-fine .ensures) (c .before .before .if3 .left)) ∙ refusal-here 6 _ (ap not (eq-eqb _ _ (sym (c .before .slots-of .ensures) ∙ c .if4 .taken))))))
 
 returns-5 : tie.Need-returns-5
-unfolding freshNumber freshRows roomSlots
+unfolding freshNumber freshRefusals roomSlots
 returns-5 c =
     sym
     (passed-refusal _ (

@@ -1,14 +1,14 @@
 -- `flood::run::run_on` meets its contract: where the loop has come to, the run from there is the whole run.
 -- Assumes nothing.
-use mathlib.Core.Path.{_≡_, refl, sym, _∙_}
-use Prim.Native.Nat.{ℕ, _-_}
+use mathlib.Core.Path.{_≡_, refl, _∙_}
+use Prim.Native.Nat.{_-_}
 use native.Mathlib.Omega.{arith}
 use lib.ListN.{length}
 use borrow.Author.Needs.{needs}
 use Rattle.grid.specs.Squares.{squares}
-use Rattle.ledger.specs.Runs.{plan, world}
+use Rattle.ledger.specs.Runs.{Plan, World, plan, world}
 use Rattle.ledger.specs.Record.{recordSize}
-use Rattle.flood.specs.Drops.{ground, given}
+use Rattle.moves.specs.Given.{Given, ground, given}
 use Rattle.flood.proofs.RunToLaws.{Running, running-starts, running-on, running-further, running-refused, running-ends}
 use Rattle.flood.proofs.run.run_on.Statement.{statement}
 use Rattle.flood.proofs.run.run_on.Tie as tie
@@ -27,19 +27,72 @@ Inv-loop shape rules end marks beds roughness rain inflow depths₀ lasts₀ rec
 abbrev μ-loop : tie.MeasureT-loop
 μ-loop shape rules end marks beds roughness rain inflow depths₀ lasts₀ records₀ rec₀ room₀ at₀ steps₀ depths lasts records rec room at steps = end - at .clock
 
+-- ---- the places, each by the one before it
+
+abbrev begin : tie.After-slice-known5 Inv-loop μ-loop → tie.Start Inv-loop μ-loop
+begin c = c .before .before .before .before .before .before .before .before .before .before
+
+abbrev turned : tie.Then1 Inv-loop μ-loop → tie.At-loop Inv-loop μ-loop
+turned c = c .before .before
+
+abbrev to-step : tie.After-make-step-arg5 Inv-loop μ-loop → tie.Then1 Inv-loop μ-loop
+to-step c = c .before .before .before .before .before
+
+abbrev finished : tie.After-after Inv-loop μ-loop → tie.After-make-step Inv-loop μ-loop
+finished c = c .before .before .before .before .before .before .before .before .before .before .before
+
+-- ---- what is known there
+
+abbrev p : tie.Start Inv-loop μ-loop → Plan
+p s = plan (s .args .shape) (s .args .marks .now)
+
+abbrev g : tie.Start Inv-loop μ-loop → Given
+g s = given (ground (s .args .rules) (s .args .beds .now) (s .args .roughness .now)) (s .args .rain .now) (s .args .inflow .now)
+
+abbrev w : tie.Start Inv-loop μ-loop → World
+w s = world (s .args .depths .now) (s .args .lasts .now) (s .args .records .now) (s .args .run)
+
+abbrev under : tie.After-after Inv-loop μ-loop → tie.Then1 Inv-loop μ-loop
+under c = to-step (finished c .before)
+
+abbrev start : tie.Then1 Inv-loop μ-loop → tie.Start Inv-loop μ-loop
+start c = begin (turned c .before)
+
+-- the slices are as long after a step as before it
+kept-depths : (c : tie.After-make-step Inv-loop μ-loop) → length (c .make-step .last .1 .1 .1 .1 .1 .1 .1 .1 .0) ≡ length (turned (to-step (c .before)) .loop .depths)
+kept-depths c = c .make-step .kept .1 .1 .1 .1 .1 .1 .1 .1 .0
+
+kept-lasts : (c : tie.After-make-step Inv-loop μ-loop) → length (c .make-step .last .1 .1 .1 .1 .1 .1 .1 .1 .1 .0) ≡ length (turned (to-step (c .before)) .loop .lasts)
+kept-lasts c = c .make-step .kept .1 .1 .1 .1 .1 .1 .1 .1 .1 .0
+
+kept-records : (c : tie.After-make-step Inv-loop μ-loop) → length (c .make-step .last .1 .1 .1 .1 .1 .1 .1 .1 .1 .1 .0) ≡ length (turned (to-step (c .before)) .loop .records)
+kept-records c = c .make-step .kept .1 .1 .1 .1 .1 .1 .1 .1 .1 .1 .0
+
+kept-rec : (c : tie.After-make-step Inv-loop μ-loop) → length (c .make-step .last .1 .1 .1 .1 .1 .1 .1 .1 .1 .1 .1 .0) ≡ length (turned (to-step (c .before)) .loop .rec)
+kept-rec c = c .make-step .kept .1 .1 .1 .1 .1 .1 .1 .1 .1 .1 .1 .0
+
+kept-room : (c : tie.After-make-step Inv-loop μ-loop) → length (c .make-step .last .1 .1 .1 .1 .1 .1 .1 .1 .1 .1 .1 .1 .0) ≡ length (turned (to-step (c .before)) .loop .room)
+kept-room c = c .make-step .kept .1 .1 .1 .1 .1 .1 .1 .1 .1 .1 .1 .1 .0
+
+-- ---- the answers
+
 loop-holds : tie.Need-loop-holds Inv-loop μ-loop
 loop-holds c =
-    let start = c .before .before .before .before .before .before .before .before .before .before in
-    let a = start .args in
-    let p = plan (a .shape) (a .marks .now) in
-    let g = given (ground (a .rules) (a .beds .now) (a .roughness .now)) (a .rain .now) (a .inflow .now) in
-    let w = world (a .depths .now) (a .lasts .now) (a .records .now) (a .run) in
-    (start .pre .1 .0, start .pre .1 .1, running-starts p g (a .end) w (start .pre .0 .checked), refl, refl, refl, refl, refl)
+    let s = begin c in (
+      s .pre .1 .0,
+      s .pre .1 .1,
+      running-starts (p s) (g s) (s .args .end) (w s) (s .pre .0 .checked),
+      refl,
+      refl,
+      refl,
+      refl,
+      refl,
+    )
 
 make-step-requires : tie.Need-make-step-requires Inv-loop μ-loop
 make-step-requires c κs =
-    let at-loop = c .before .before .before .before .before .before .before in
-    (record { checked = at-loop .loop .inv .2 .valid }, (at-loop .loop .inv .0, at-loop .loop .inv .1))
+    let inv = turned (to-step c) .loop .inv in
+    (record { checked = inv .2 .valid }, (inv .0, inv .1))
 
 same-length : tie.Need-same-length Inv-loop μ-loop
 same-length c = search needs
@@ -58,50 +111,45 @@ same-length-5 c = search needs
 
 returns : tie.Need-returns Inv-loop μ-loop
 returns c =
-    let at-make-step = c .before .before .before .before .before .before .before .before .before .before .before .before in
-    let at-if1 = at-make-step .before .before .before .before .before .before in
-    let at-loop = at-if1 .before .before in
-    let start = at-loop .before .before .before .before .before .before .before .before .before .before .before in
-    let a = start .args in
-    let l = (at-loop .loop) in
-    let p = plan (a .shape) (a .marks .now) in
-    let g = given (ground (a .rules) (a .beds .now) (a .roughness .now)) (a .rain .now) (a .inflow .now) in
-    let w = world (a .depths .now) (a .lasts .now) (a .records .now) (a .run) in
-    record
-    { ends = running-refused p g (a .end) (l .inv .2) (at-if1 .if1 .taken) (at-make-step .make-step .ensures) (c .if2 .taken) }
+    let at-if1 = under (c .before) in
+    let s = start at-if1 in
+    record {
+      ends =
+          running-refused (p s) (g s) (s .args .end) (turned at-if1 .loop .inv .2) (at-if1 .if1 .taken) (finished (c .before) .make-step .ensures)
+          (c .if2 .taken);
+    }
 
 add-steps : tie.Need-add-steps Inv-loop μ-loop
 add-steps c =
-    let at-if1 = c .before .before .before .before .before .before .before .before .before .before .before .before .before .before .before .before .before .before in
-    let at-loop = at-if1 .before .before in
-    let start = at-loop .before .before .before .before .before .before .before .before .before .before .before in
-    omega (arith, at-loop .loop .inv .2 .few, start .pre .1 .2, at-if1 .if1 .taken)
+    let at-if1 = under (c .before) in
+    omega (arith, turned at-if1 .loop .inv .2 .few, start at-if1 .pre .1 .2, at-if1 .if1 .taken)
 
 loop-less : tie.Need-loop-less Inv-loop μ-loop
 loop-less c =
-    let at-make-step = c .before .before .before .before .before .before .before .before .before .before .before .before in
-    let at-if1 = at-make-step .before .before .before .before .before .before in
-    let at-loop = at-if1 .before .before in
-    let start = at-loop .before .before .before .before .before .before .before .before .before .before .before in
-    let a = start .args in
-    let l = (at-loop .loop) in
-    let p = plan (a .shape) (a .marks .now) in
-    let g = given (ground (a .rules) (a .beds .now) (a .roughness .now)) (a .rain .now) (a .inflow .now) in
-    let w = world (a .depths .now) (a .lasts .now) (a .records .now) (a .run) in
-    omega
-    (arith, running-further p g (a .end) (l .inv .2) (at-if1 .if1 .taken) (at-make-step .make-step .ensures) (c .if2 .left), at-if1 .if1 .taken)
+    let at-if1 = under (c .before) in
+    let s = start at-if1 in
+    omega (
+      arith,
+      running-further (p s) (g s) (s .args .end) (turned at-if1 .loop .inv .2) (at-if1 .if1 .taken) (finished (c .before) .make-step .ensures)
+          (c .if2 .left),
+      at-if1 .if1 .taken,
+    )
 
 loop-again : tie.Need-loop-again Inv-loop μ-loop
 loop-again c =
-    let at-make-step = c .before .before .before .before .before .before .before .before .before .before .before .before in
-    let at-if1 = at-make-step .before .before .before .before .before .before in
-    let at-loop = at-if1 .before .before in
-    let start = at-loop .before .before .before .before .before .before .before .before .before .before .before in
-    let a = start .args in
-    let l = (at-loop .loop) in
-    let p = plan (a .shape) (a .marks .now) in
-    let g = given (ground (a .rules) (a .beds .now) (a .roughness .now)) (a .rain .now) (a .inflow .now) in
-    (at-make-step .make-step .kept .1 .1 .1 .1 .1 .1 .1 .1 .1 .1 .1 .0 ∙ l .inv .0, at-make-step .make-step .kept .1 .1 .1 .1 .1 .1 .1 .1 .1 .1 .1 .1 .0 ∙ l .inv .1, running-on p g (a .end) (l .inv .2) (at-if1 .if1 .taken) (at-make-step .make-step .ensures) (c .if2 .left), at-make-step .make-step .kept .1 .1 .1 .1 .1 .1 .1 .1 .0 ∙ l .inv .3, at-make-step .make-step .kept .1 .1 .1 .1 .1 .1 .1 .1 .1 .0 ∙ l .inv .4, at-make-step .make-step .kept .1 .1 .1 .1 .1 .1 .1 .1 .1 .1 .0 ∙ l .inv .5, at-make-step .make-step .kept .1 .1 .1 .1 .1 .1 .1 .1 .1 .1 .1 .0 ∙ l .inv .6, at-make-step .make-step .kept .1 .1 .1 .1 .1 .1 .1 .1 .1 .1 .1 .1 .0 ∙ l .inv .7)
+    let at-make-step = finished (c .before) in
+    let at-if1 = under (c .before) in
+    let s = start at-if1 in
+    let inv = turned at-if1 .loop .inv in (
+      kept-rec at-make-step ∙ inv .0,
+      kept-room at-make-step ∙ inv .1,
+      running-on (p s) (g s) (s .args .end) (inv .2) (at-if1 .if1 .taken) (at-make-step .make-step .ensures) (c .if2 .left),
+      kept-depths at-make-step ∙ inv .3,
+      kept-lasts at-make-step ∙ inv .4,
+      kept-records at-make-step ∙ inv .5,
+      kept-rec at-make-step ∙ inv .6,
+      kept-room at-make-step ∙ inv .7,
+    )
 
 same-length-6 : tie.Need-same-length-6 Inv-loop μ-loop
 same-length-6 c = c .before .before .loop .inv .3
@@ -121,13 +169,8 @@ same-length-10 c = c .before .before .loop .inv .7
 returns-2 : tie.Need-returns-2 Inv-loop μ-loop
 returns-2 c =
     let at-loop = c .before .before in
-    let start = at-loop .before .before .before .before .before .before .before .before .before .before .before in
-    let a = start .args in
-    let l = (at-loop .loop) in
-    let p = plan (a .shape) (a .marks .now) in
-    let g = given (ground (a .rules) (a .beds .now) (a .roughness .now)) (a .rain .now) (a .inflow .now) in
-    let w = world (a .depths .now) (a .lasts .now) (a .records .now) (a .run) in
-    record { ends = running-ends p g (a .end) (l .inv .2) (c .if1 .left) }
+    let s = begin (at-loop .before) in
+    record { ends = running-ends (p s) (g s) (s .args .end) (at-loop .loop .inv .2) (c .if1 .left) }
 
 pub run-on-spec : {M : Type 1} → statement M
 run-on-spec =

@@ -1,76 +1,140 @@
 -- `flood::step::make_step` meets its contract: 7 by the clock, 8 where a square could not hold what is added, else as the ledger settles it.
 -- Assumes nothing.
-use mathlib.Core.Path.{_≡_, refl, sym, _∙_, ap, subst}
-use Prim.Native.Nat.{ℕ, _+_, _≤_, _<_}
+use mathlib.Core.Path.{_≡_, refl, sym, _∙_, ap}
+use mathlib.Core.List.{List}
+use Prim.Native.Nat.{ℕ, _+_, _≤_}
 use native.Mathlib.Omega.{arith}
+use lib.ListN.{length}
 use borrow.Author.Tests.{not-true, not-false}
 use borrow.Author.Needs.{needs}
-use Rattle.reckon.specs.Ranges.{mostLength, lastClock}
-use Rattle.ledger.specs.Runs.{plan, world}
-use Rattle.ledger.specs.Engine.{seenOf}
-use Rattle.flood.specs.Drops.{ground, given}
-use Rattle.flood.specs.Added.{addedFits}
-use Rattle.flood.proofs.RuleLaws.{step-lasts-to}
-use Rattle.flood.proofs.FillLaws.{length-made, lasts-made, same-fits, record-made}
+use Rattle.reckon.specs.Ranges.{lastClock}
+use Rattle.ledger.specs.Runs.{plan, world, seenOf, Plan, World, Seen}
+use Rattle.moves.specs.Given.{ground, Given, given}
+use Rattle.moves.specs.inner.Added.{addedFits}
+use Rattle.moves.proofs.MoveLaws.{step-lasts-to}
+use Rattle.moves.proofs.FillLaws.{length-made, lasts-made, same-fits, record-made}
+use Rattle.grid.specs.Squares.{squares}
+use Rattle.ledger.specs.After.{stepRecord}
+use Rattle.moves.specs.Moves.{stepLength, stepDuration, stepMoves}
+use Rattle.moves.specs.inner.Ready.{Ready}
 use Rattle.flood.proofs.StepLaws.{is-ready, step-seven, step-eight, settles, step-settled}
 use Rattle.flood.proofs.step.make_step.Statement.{statement}
 use Rattle.flood.proofs.step.make_step.Tie as tie
 
-step-length-requires : tie.Need-step-length-requires
-step-length-requires c κs =
-    let start = c .before .before .before .before .before .before .before .before .before .before .before in
-    let a = start .args in
-    let p = plan (a .shape) (a .marks .now) in
-    let g = given (ground (a .rules) (a .beds .now) (a .roughness .now)) (a .rain .now) (a .inflow .now) in
-    let w = world (a .depths .now) (a .lasts .now) (a .records .now) (a .run) in
-    is-ready p g w (start .pre .0 .checked) .flows .lies
+-- ---- the places, each by the one before it
 
-lasts-for-requires : tie.Need-lasts-for-requires
-lasts-for-requires c κs =
-    let start = c .before .before .before .before .before .before .before .before .before .before .before .before in
-    let a = start .args in
-    let p = plan (a .shape) (a .marks .now) in
-    let g = given (ground (a .rules) (a .beds .now) (a .roughness .now)) (a .rain .now) (a .inflow .now) in
-    let w = world (a .depths .now) (a .lasts .now) (a .records .now) (a .run) in
-    is-ready p g w (start .pre .0 .checked) .waters .rules .update-from
+abbrev begin : tie.After-step-length-arg → tie.Start
+begin c = c .before .before .before .before .before .before .before .before .before .before .before
+
+abbrev timed : tie.Else1 → tie.After-duration-for
+timed c = c .before .before
+
+abbrev watered : tie.After-slice-known6 → tie.After-add-water
+watered c = c .before .before
+
+abbrev to-fill : tie.After-fill-arg4 → tie.Else2
+to-fill c = c .before .before .before .before
+
+abbrev to-settle : tie.After-settle-arg5 → tie.After-fill
+to-settle c = c .before .before .before .before .before .before .before
+
+abbrev finished : tie.After-slice-known11 → tie.After-settle
+finished c = c .before .before .before .before .before .before .before .before
+
+-- ---- what is known there
+
+abbrev p : tie.Start → Plan
+p s = plan (s .args .shape) (s .args .marks .now)
+
+abbrev g : tie.Start → Given
+g s = given (ground (s .args .rules) (s .args .beds .now) (s .args .roughness .now)) (s .args .rain .now) (s .args .inflow .now)
+
+abbrev w : tie.Start → World
+w s = world (s .args .depths .now) (s .args .lasts .now) (s .args .records .now) (s .args .run)
+
+abbrev v : tie.Start → Seen
+v s = seenOf (w s)
+
+abbrev start : tie.After-duration-for → tie.Start
+start c = begin (c .before .before)
+
+abbrev in-water : tie.After-add-water → tie.After-duration-for
+in-water c = timed (c .before .before)
+
+-- the room and the record, as the calls leave them
+abbrev room : tie.After-add-water → List ℕ
+room c = c .add-water .last .1 .1 .1 .1 .1 .1 .1 .0
+
+abbrev rec : tie.After-fill → List ℕ
+rec c = c .fill .last .1 .1 .1 .1 .1 .1 .1 .1 .1 .1 .0
+
+able : (s : tie.Start) → Ready (p s) (g s) (v s)
+able s = is-ready (p s) (g s) (w s) (s .pre .0 .checked)
+
+length-is : (c : tie.After-duration-for) → c .before .step-length .result ≡ stepLength (p (start c)) (g (start c)) (v (start c))
+length-is c = let s = start c in length-made (p s) (g s) (w s) (c .before .step-length .ensures)
+
+lasts-is : (c : tie.After-duration-for) → c .duration-for .result ≡ stepDuration (p (start c)) (g (start c)) (v (start c))
+lasts-is c = let s = start c in lasts-made (p s) (g s) (w s) (c .before .step-length .ensures) (c .duration-for .ensures)
+
+in-time : (c : tie.Else1) → start (timed c) .args .run .clock + stepDuration (p (start (timed c))) (g (start (timed c))) (v (start (timed c))) ≤ lastClock
+in-time c = omega (arith, lasts-is (timed c), c .if1 .left)
+
+room-long : (c : tie.After-add-water) → length (room c) ≡ squares (start (in-water c) .args .shape)
+room-long c = c .add-water .ensures .long ∙ start (in-water c) .pre .1 .1
+
+record-is :
+    (c : tie.After-fill) →
+    let s = start (in-water (watered (to-fill (c .before) .before))) in
+    rec c ≡ stepRecord (p s) (stepMoves (p s) (g s) (v s)) (w s)
+record-is c =
+    let at-if2 = to-fill (c .before) in
+    let at-add-water = watered (at-if2 .before) in
+    let s = start (in-water at-add-water) in
+    record-made (p s) (g s) (w s) (lasts-is (in-water at-add-water)) refl (s .pre .1 .1) (at-add-water .add-water .ensures)
+    (not-false _ (at-if2 .if2 .left)) (c .fill .ensures)
+
+-- ---- the answers
+
+step-length-requires : tie.Need-step-length-requires
+step-length-requires c κs = able (begin c) .flows .lies
+
+duration-for-requires : tie.Need-duration-for-requires
+duration-for-requires c κs = able (begin (c .before)) .waters .rules .update-from
 
 add-end : tie.Need-add-end
 add-end c =
-    let at-step-length = c .before .before in
-    let start = at-step-length .before .before .before .before .before .before .before .before .before .before .before .before in
-    let a = start .args in
-    let p = plan (a .shape) (a .marks .now) in
-    let g = given (ground (a .rules) (a .beds .now) (a .roughness .now)) (a .rain .now) (a .inflow .now) in
-    let w = world (a .depths .now) (a .lasts .now) (a .records .now) (a .run) in
-    let r = is-ready p g w (start .pre .0 .checked) in
-    omega
-    (arith, lasts-made p g w (at-step-length .step-length .ensures) (c .before .lasts-for .ensures), step-lasts-to p g (seenOf w) r, r .clock-to)
+    let s = start (c .before) in
+    omega (arith, lasts-is (c .before), step-lasts-to (p s) (g s) (v s) (able s), able s .clock-to)
 
 same-length : tie.Need-same-length
 same-length c = search needs
 
 returns : tie.Need-returns
 returns c =
-    let at-lasts-for = c .before .before in
-    let at-step-length = at-lasts-for .before in
-    let start = at-step-length .before .before .before .before .before .before .before .before .before .before .before .before in
-    let a = start .args in
-    let p = plan (a .shape) (a .marks .now) in
-    let g = given (ground (a .rules) (a .beds .now) (a .roughness .now)) (a .rain .now) (a .inflow .now) in
-    let w = world (a .depths .now) (a .lasts .now) (a .records .now) (a .run) in
-    step-seven p g w (start .pre .0 .checked)
-    (omega (arith, lasts-made p g w (at-step-length .step-length .ensures) (at-lasts-for .lasts-for .ensures), c .if1 .taken))
+    let at-duration-for = c .before .before in
+    let s = start at-duration-for in
+    step-seven (p s) (g s) (w s) (s .pre .0 .checked) (omega (arith, lasts-is at-duration-for, c .if1 .taken))
 
 add-water-requires : tie.Need-add-water-requires
 add-water-requires c κs =
-    let start =
-    c .before .before .before .before .before .before .before .before .before .before .before .before .before .before .before .before in
-    let a = start .args in
-    let p = plan (a .shape) (a .marks .now) in
-    let g = given (ground (a .rules) (a .beds .now) (a .roughness .now)) (a .rain .now) (a .inflow .now) in
-    let w = world (a .depths .now) (a .lasts .now) (a .records .now) (a .run) in
-    let r = is-ready p g w (start .pre .0 .checked) in
-    (record { waters = record { fine = r .waters .fine; marks-long = r .waters .marks-long; rules = r .waters .rules; rain = r .waters .rain; inflow = r .waters .inflow; inflow-squares = r .waters .inflow-squares }; ordered = omega arith; end-to = c .before .if1 .left }, start .pre .1 .1)
+    let s = start (timed (c .before)) in
+    let r = able s .waters in (
+      record {
+        waters =
+            record {
+              fine = r .fine;
+              marks-long = r .marks-long;
+              rules = r .rules;
+              rain = r .rain;
+              inflow = r .inflow;
+              inflow-squares = r .inflow-squares;
+            };
+        ordered = omega arith;
+        end-to = omega (arith, c .before .if1 .left);
+      },
+      s .pre .1 .1,
+    )
 
 same-length-2 : tie.Need-same-length-2
 same-length-2 c = search needs
@@ -80,47 +144,36 @@ same-length-3 c = search needs
 
 returns-2 : tie.Need-returns-2
 returns-2 c =
-    let at-add-water = c .before .before .before in
-    let at-if1 = at-add-water .before .before in
-    let at-lasts-for = at-if1 .before .before in
-    let at-step-length = at-lasts-for .before in
-    let start = at-step-length .before .before .before .before .before .before .before .before .before .before .before .before in
-    let a = start .args in
-    let p = plan (a .shape) (a .marks .now) in
-    let g = given (ground (a .rules) (a .beds .now) (a .roughness .now)) (a .rain .now) (a .inflow .now) in
-    let w = world (a .depths .now) (a .lasts .now) (a .records .now) (a .run) in
-    let n = lasts-made p g w (at-step-length .step-length .ensures) (at-lasts-for .lasts-for .ensures) in
-    step-eight p g w (start .pre .0 .checked) (omega (arith, n, at-if1 .if1 .left))
-    (ap (λ (x : ℕ). addedFits p g (a .run .clock) (a .run .clock + x)) (sym n) ∙ (sym (same-fits p g w (a .run .clock) (a .run .clock + at-lasts-for .lasts-for .result)) ∙ (sym (at-add-water .add-water .ensures .fits-is) ∙ not-true _ (c .if2 .taken))))
+    let at-add-water = watered (c .before) in
+    let at-duration-for = in-water at-add-water in
+    let s = start at-duration-for in
+    let clock = s .args .run .clock in
+    step-eight (p s) (g s) (w s) (s .pre .0 .checked) (in-time (at-add-water .before .before))
+    (ap (λ (x : ℕ). addedFits (p s) (g s) clock (clock + x)) (sym (lasts-is at-duration-for))
+    ∙ (sym (same-fits (p s) (g s) (w s) clock (clock + at-duration-for .duration-for .result))
+    ∙ (sym (at-add-water .add-water .ensures .fits-is) ∙ not-true _ (c .if2 .taken))))
 
 fill-requires : tie.Need-fill-requires
 fill-requires c κs =
-    let at-add-water = c .before .before .before .before .before .before .before in
-    let at-lasts-for = at-add-water .before .before .before .before in
-    let at-step-length = at-lasts-for .before in
-    let start = at-step-length .before .before .before .before .before .before .before .before .before .before .before .before in
-    let a = start .args in
-    let p = plan (a .shape) (a .marks .now) in
-    let g = given (ground (a .rules) (a .beds .now) (a .roughness .now)) (a .rain .now) (a .inflow .now) in
-    let w = world (a .depths .now) (a .lasts .now) (a .records .now) (a .run) in
-    let r = is-ready p g w (start .pre .0 .checked) in
-    (record { flows = r .flows; added-long = at-add-water .add-water .ensures .long ∙ start .pre .1 .1; lasts-for = omega (arith, lasts-made p g w (at-step-length .step-length .ensures) (at-lasts-for .lasts-for .ensures), step-lasts-to p g (seenOf w) r); record-long = start .pre .1 .0 }, r .length-to)
+    let at-add-water = watered (to-fill c .before) in
+    let s = start (in-water at-add-water) in (
+      record {
+        flows = able s .flows;
+        added-long = room-long at-add-water;
+        duration-for = omega (arith, lasts-is (in-water at-add-water), step-lasts-to (p s) (g s) (v s) (able s));
+        record-long = s .pre .1 .0;
+      },
+      able s .length-to,
+    )
 
 settle-requires : tie.Need-settle-requires
 settle-requires c κs =
-    let at-fill = c .before .before .before .before .before .before .before in
-    let at-if2 = at-fill .before .before .before .before .before in
-    let at-add-water = at-if2 .before .before .before in
-    let at-if1 = at-add-water .before .before in
-    let at-lasts-for = at-if1 .before .before in
-    let at-step-length = at-lasts-for .before in
-    let start = at-step-length .before .before .before .before .before .before .before .before .before .before .before .before in
-    let a = start .args in
-    let p = plan (a .shape) (a .marks .now) in
-    let g = given (ground (a .rules) (a .beds .now) (a .roughness .now)) (a .rain .now) (a .inflow .now) in
-    let w = world (a .depths .now) (a .lasts .now) (a .records .now) (a .run) in
-    let n = lasts-made p g w (at-step-length .step-length .ensures) (at-lasts-for .lasts-for .ensures) in
-    (settles p g w (start .pre .0 .checked) (omega (arith, n, at-if1 .if1 .left)) (record-made p g w n refl (start .pre .1 .1) (at-add-water .add-water .ensures) (not-false _ (at-if2 .if2 .left)) (at-fill .fill .ensures)) (length-made p g w (at-step-length .step-length .ensures)), at-add-water .add-water .ensures .long ∙ start .pre .1 .1)
+    let at-fill = to-settle c in
+    let at-add-water = watered (to-fill (at-fill .before) .before) in
+    let s = start (in-water at-add-water) in (
+      settles (p s) (g s) (w s) (s .pre .0 .checked) (in-time (at-add-water .before .before)) (record-is at-fill) (length-is (in-water at-add-water)),
+      room-long at-add-water,
+    )
 
 same-length-4 : tie.Need-same-length-4
 same-length-4 c = search needs
@@ -139,29 +192,19 @@ same-length-8 c = search needs
 
 returns-3 : tie.Need-returns-3
 returns-3 c =
-    let at-settle = c .before .before .before .before .before .before .before .before in
-    let at-fill = at-settle .before .before .before .before .before .before .before .before in
-    let at-if2 = at-fill .before .before .before .before .before in
-    let at-add-water = at-if2 .before .before .before in
-    let at-if1 = at-add-water .before .before in
-    let at-lasts-for = at-if1 .before .before in
-    let at-step-length = at-lasts-for .before in
-    let start = at-step-length .before .before .before .before .before .before .before .before .before .before .before .before in
-    let a = start .args in
-    let p = plan (a .shape) (a .marks .now) in
-    let g = given (ground (a .rules) (a .beds .now) (a .roughness .now)) (a .rain .now) (a .inflow .now) in
-    let w = world (a .depths .now) (a .lasts .now) (a .records .now) (a .run) in
-    let n = lasts-made p g w (at-step-length .step-length .ensures) (at-lasts-for .lasts-for .ensures) in
-    step-settled p g w (start .pre .0 .checked) (omega (arith, n, at-if1 .if1 .left))
-    (record-made p g w n refl (start .pre .1 .1) (at-add-water .add-water .ensures) (not-false _ (at-if2 .if2 .left)) (at-fill .fill .ensures))
-    (length-made p g w (at-step-length .step-length .ensures)) (at-settle .settle .ensures)
+    let at-settle = finished c in
+    let at-fill = to-settle (at-settle .before) in
+    let at-add-water = watered (to-fill (at-fill .before) .before) in
+    let s = start (in-water at-add-water) in
+    step-settled (p s) (g s) (w s) (s .pre .0 .checked) (in-time (at-add-water .before .before)) (record-is at-fill) (length-is (in-water at-add-water))
+    (at-settle .settle .ensures)
 
 pub make-step-spec : {M : Type 1} → statement M
 make-step-spec =
     tie.close
     (tie.spec
     step-length-requires
-    lasts-for-requires
+    duration-for-requires
     add-end
     same-length
     returns

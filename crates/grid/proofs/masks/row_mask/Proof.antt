@@ -2,16 +2,16 @@
 -- Assumes nothing.
 use native.Mathlib.Omega.{arith}
 use borrow.Author.Needs.{needs}
-use Rattle.grid.specs.Masks.{saysYes}
+use Rattle.grid.specs.Masks.{isWet}
 use Rattle.grid.proofs.MaskLaws.{Built, row-none, row-small, row-room, row-more, row-whole}
 use Rattle.grid.proofs.masks.row_mask.Statement.{statement}
 use Rattle.grid.proofs.masks.row_mask.Tie as tie
 
 abbrev Inv-loop : tie.InvT-loop
-Inv-loop marks numbers least first columns mask₀ left₀ mask left = Built (saysYes marks numbers least) first columns left mask
+Inv-loop marks depths least first columns mask₀ left₀ mask left = Built (isWet marks depths least) first columns left mask
 
 abbrev μ-loop : tie.MeasureT-loop
-μ-loop marks numbers least first columns mask₀ left₀ mask left = left
+μ-loop marks depths least first columns mask₀ left₀ mask left = left
 
 loop-holds : tie.Need-loop-holds Inv-loop μ-loop
 loop-holds c = row-none _ _ _
@@ -23,23 +23,23 @@ mul-mask : tie.Need-mul-mask Inv-loop μ-loop
 mul-mask c =
     omega (arith, row-small _ _ _ (c .before .loop .inv) (c .loop-test .taken) (c .before .before .before .before .pre .columns-high))
 
-add-yes-digit : tie.Need-add-yes-digit Inv-loop μ-loop
-add-yes-digit c = search needs
+add-wet-digit : tie.Need-add-wet-digit Inv-loop μ-loop
+add-wet-digit c = search needs
 
-yes-digit-requires : tie.Need-yes-digit-requires Inv-loop μ-loop
-yes-digit-requires c κs = search needs
+wet-digit-requires : tie.Need-wet-digit-requires Inv-loop μ-loop
+wet-digit-requires c κs = search needs
 
 add-mask : tie.Need-add-mask Inv-loop μ-loop
 add-mask c =
     let l = c .before .before .loop in
     let start = c .before .before .before .before .before in
-    omega (arith, row-room _ _ _ (l .inv) _ (c .before .loop-test .taken) (start .pre .columns-high) (c .yes-digit .ensures))
+    omega (arith, row-room _ _ _ (l .inv) _ (c .before .loop-test .taken) (start .pre .columns-high) (c .wet-digit .ensures))
 
 loop-less : tie.Need-loop-less Inv-loop μ-loop
 loop-less c = search needs
 
 loop-again : tie.Need-loop-again Inv-loop μ-loop
-loop-again c = row-more _ _ _ (c .before .before .loop .inv) (c .before .loop-test .taken) (c .yes-digit .ensures)
+loop-again c = row-more _ _ _ (c .before .before .loop .inv) (c .before .loop-test .taken) (c .wet-digit .ensures)
 
 returns : tie.Need-returns Inv-loop μ-loop
 returns c = row-whole _ _ _ (c .before .loop .inv) (c .loop-test .left)
@@ -53,8 +53,8 @@ row-mask-spec =
     loop-holds
     sub-left
     mul-mask
-    add-yes-digit
-    yes-digit-requires
+    add-wet-digit
+    wet-digit-requires
     add-mask
     loop-less
     loop-again

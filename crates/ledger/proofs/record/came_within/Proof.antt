@@ -1,16 +1,40 @@
 -- `ledger::record::came_within` meets its contract: a square that is not on the rim has its four neighbours, each at its place.
 -- Assumes nothing.
-use Prim.Native.Nat.{_+_, _-_}
+use mathlib.Core.Path.{_≡_}
+use Prim.Native.Nat.{_+_, _≤_}
 use native.Mathlib.Omega.{arith}
-use Rattle.grid.specs.Squares.{north, east, south, west}
 use Rattle.grid.proofs.SquareLaws.{north-within, east-within, south-within, west-within, east-in, west-in}
-use Rattle.ledger.specs.Runs.{plan}
-use Rattle.ledger.specs.Flows.{sent}
+use Rattle.ledger.specs.Runs.{Plan, plan}
+use Rattle.ledger.specs.Flows.{came}
 use Rattle.ledger.specs.Record.{leavesIn}
-use Rattle.ledger.proofs.FlowLaws.{came-four, from-small}
+use Rattle.ledger.proofs.FlowLaws.{fourWords, came-four, came-small}
 use borrow.Author.Needs.{needs}
 use Rattle.ledger.proofs.record.came_within.Statement.{statement}
 use Rattle.ledger.proofs.record.came_within.Tie as tie
+
+-- ---- where the four are known
+
+module _ (c : tie.After-sent-from4) where
+  abbrev known : tie.After-shared-slice-known2
+  known = c .before .before .before .before
+
+  abbrev start : tie.Start
+  start = known .before .before
+
+  abbrev p : Plan
+  p = plan (start .args .shape) (start .args .marks .now)
+
+  sum-is :
+      c .before .before .before .sent-from .result + c .before .before .sent-from2 .result + c .before .sent-from3 .result + c .sent-from4 .result ≡
+      came p (leavesIn (start .args .rec .now)) (start .args .square)
+  sum-is =
+      came-four p (leavesIn (start .args .rec .now)) (start .args .square) (start .pre .1 .1) (c .before .before .before .sent-from .ensures)
+      (c .before .before .sent-from2 .ensures) (c .before .sent-from3 .ensures) (c .sent-from4 .ensures)
+
+  sum-small : came p (leavesIn (start .args .rec .now)) (start .args .square) ≤ fourWords
+  sum-small = came-small (start .args .rec .now) (λ k. known .shared-slice-known2 .given k .fits) p (start .args .square)
+
+-- ---- the needs
 
 sub-sent-from : tie.Need-sub-sent-from
 sub-sent-from c =
@@ -41,29 +65,16 @@ sent-from-requires-4 : tie.Need-sent-from-requires-4
 sent-from-requires-4 c κs = search needs
 
 add-result : tie.Need-add-result
-add-result c =
-    let small = from-small (c .before .before .before .before .before .before .args .rec .now) (λ k. c .before .before .before .before .shared-slice-known2 .given k .fits) (c .before .before .before .before .before .before .args .marks .now) in
-    let square = c .before .before .before .before .before .before .args .square in
-    let columns = c .before .before .before .before .before .before .args .shape .columns in
-    omega (arith, c .before .before .before .sent-from .ensures, c .before .before .sent-from2 .ensures, c .before .sent-from3 .ensures, c .sent-from4 .ensures, small (square - columns) south, small (square + 1) west, small (square + columns) north, small (square - 1) east)
+add-result c = omega (arith, sum-is c, sum-small c)
 
 add-result-2 : tie.Need-add-result-2
-add-result-2 c =
-    let small = from-small (c .before .before .before .before .before .before .args .rec .now) (λ k. c .before .before .before .before .shared-slice-known2 .given k .fits) (c .before .before .before .before .before .before .args .marks .now) in
-    let square = c .before .before .before .before .before .before .args .square in
-    let columns = c .before .before .before .before .before .before .args .shape .columns in
-    omega (arith, c .before .before .before .sent-from .ensures, c .before .before .sent-from2 .ensures, c .before .sent-from3 .ensures, c .sent-from4 .ensures, small (square - columns) south, small (square + 1) west, small (square + columns) north, small (square - 1) east)
+add-result-2 c = omega (arith, sum-is c, sum-small c)
 
 add-result-3 : tie.Need-add-result-3
-add-result-3 c =
-    let small = from-small (c .before .before .before .before .before .before .args .rec .now) (λ k. c .before .before .before .before .shared-slice-known2 .given k .fits) (c .before .before .before .before .before .before .args .marks .now) in
-    let square = c .before .before .before .before .before .before .args .square in
-    let columns = c .before .before .before .before .before .before .args .shape .columns in
-    omega (arith, c .before .before .before .sent-from .ensures, c .before .before .sent-from2 .ensures, c .before .sent-from3 .ensures, c .sent-from4 .ensures, small (square - columns) south, small (square + 1) west, small (square + columns) north, small (square - 1) east)
+add-result-3 c = omega (arith, sum-is c, sum-small c)
 
 returns : tie.Need-returns
-returns c =
-    let start = c .before .before .before .before .before .before in came-four (plan (start .args .shape) (start .args .marks .now)) (leavesIn (start .args .rec .now)) (start .args .square) (start .pre .1 .1) (c .before .before .before .sent-from .ensures) (c .before .before .sent-from2 .ensures) (c .before .sent-from3 .ensures) (c .sent-from4 .ensures)
+returns c = sum-is c
 
 pub came-within-spec : {M : Type 1} → statement M
 came-within-spec =

@@ -1,7 +1,7 @@
 -- `ledger::record::put_head` meets its contract: two stores in a row are two words placed.
 -- Assumes nothing.
 use mathlib.Core.List.{[], _∷_}
-use Rattle.ledger.proofs.RecordLaws.{stored-placed}
+use Rattle.reckon.proofs.CopyLaws.{stored-placed}
 use borrow.Author.Needs.{needs}
 use Rattle.ledger.proofs.record.put_head.Statement.{statement}
 use Rattle.ledger.proofs.record.put_head.Tie as tie

@@ -1,4 +1,4 @@
--- `ledger::record::put_square` meets its contract: its six words are placed.
+-- `ledger::record::put_square` meets its contract: its words are placed.
 -- Assumes nothing.
 use mathlib.Core.Path.{_∙_}
 use Rattle.ledger.proofs.RecordLaws.{placed-at}
@@ -30,18 +30,22 @@ array-read-t22 c = search needs
 cast-t23 : tie.Need-cast-t23
 cast-t23 c = search needs
 
+slice-aggregate-copy-into : tie.Need-slice-aggregate-copy-into
+slice-aggregate-copy-into c = search needs
+
 word-place-requires : tie.Need-word-place-requires
 word-place-requires c κs = search needs
 
-put-six-requires : tie.Need-put-six-requires
-put-six-requires c κs = search needs
+copy-into-requires : tie.Need-copy-into-requires
+copy-into-requires c κs = search needs
 
 same-length : tie.Need-same-length
 same-length c = search needs
 
 returns : tie.Need-returns
 returns c =
-    c .before .before .put-six .ensures ∙ placed-at _ _ (c .before .before .before .word-place .ensures)
+    let put = c .before .before in
+    put .copy-into .ensures ∙ placed-at _ _ (put .before .word-place .ensures)
 
 pub put-square-spec : {M : Type 1} → statement M
 put-square-spec =
@@ -55,7 +59,8 @@ put-square-spec =
     cast-t19
     array-read-t22
     cast-t23
+    slice-aggregate-copy-into
     word-place-requires
-    put-six-requires
+    copy-into-requires
     same-length
     returns)

@@ -3,7 +3,7 @@
 use mathlib.Core.Path.{sym, _∙_}
 use borrow.Author.Tests.{lt-leb, not-true, not-false}
 use Rattle.reckon.proofs.TestLaws.{every-fails}
-use Rattle.ledger.specs.Runs.{runFine}
+use Rattle.ledger.specs.Runs.{runValuesFine, runFine}
 use Rattle.ledger.proofs.RunLaws.{outflow-decides}
 use borrow.Author.Needs.{needs}
 use Rattle.ledger.proofs.runs.run_fine.Statement.{statement}
@@ -13,22 +13,22 @@ ring-fine-requires : tie.Need-ring-fine-requires
 ring-fine-requires c κs = search needs
 
 returns : tie.Need-returns
-unfolding runFine
+unfolding runFine runValuesFine
 returns c =
     sym (every-fails _ 0 (sym (c .before .ring-fine .ensures) ∙ not-true _ (c .if1 .taken)))
 
 returns-2 : tie.Need-returns-2
-unfolding runFine
+unfolding runFine runValuesFine
 returns-2 c =
     sym (every-fails _ 1 (lt-leb _ _ (c .if2 .taken)))
 
 returns-3 : tie.Need-returns-3
-unfolding runFine
+unfolding runFine runValuesFine
 returns-3 c =
     sym (every-fails _ 2 (lt-leb 1 _ (c .if3 .taken)))
 
 returns-4 : tie.Need-returns-4
-unfolding runFine
+unfolding runFine runValuesFine
 returns-4 c =
     sym (every-fails _ 3 (lt-leb _ _ (c .if4 .taken)))
 

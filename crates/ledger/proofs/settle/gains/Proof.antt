@@ -3,7 +3,6 @@
 use mathlib.Core.Path.{sym, ap₂, _∙_}
 use Prim.Native.Nat.{ℕ, _+_}
 use native.Mathlib.Omega.{arith}
-use borrow.Author.Tests.{not-false}
 use Rattle.ledger.specs.Runs.{plan}
 use Rattle.ledger.proofs.FlowLaws.{came-small, added-small}
 use borrow.Author.Needs.{needs}

@@ -14,23 +14,23 @@ is-closed-requires c κs =
     let start = c .before .before .before .before in
     omega (arith, start .pre .0 .recorded .marks-long, start .pre .1 .0 .inside)
 
-mul-fresh : tie.Need-mul-fresh
-mul-fresh c =
+mul-working : tie.Need-mul-working
+mul-working c =
     let start = c .before .before .before .before .before .before in
     omega (arith, start .pre .0 .depths-long, start .pre .1 .0 .inside, start .pre .1 .1)
 
-shared-slice-read-fresh : tie.Need-shared-slice-read-fresh
-shared-slice-read-fresh c =
+shared-slice-read-working : tie.Need-shared-slice-read-working
+shared-slice-read-working c =
     let start = c .before .before .before .before .before .before .before in
     omega (arith, start .pre .0 .depths-long, start .pre .1 .0 .inside, start .pre .1 .1)
 
-mul-fresh-2 : tie.Need-mul-fresh-2
-mul-fresh-2 c =
+mul-working-2 : tie.Need-mul-working-2
+mul-working-2 c =
     let start = c .before .before .before .before .before .before .before in
     omega (arith, start .pre .0 .depths-long, start .pre .1 .0 .inside, start .pre .1 .1)
 
-slice-write-fresh : tie.Need-slice-write-fresh
-slice-write-fresh c =
+slice-write-working : tie.Need-slice-write-working
+slice-write-working c =
     let start = c .before .before .before .before .before .before .before in
     omega (arith, start .pre .0 .depths-long, start .pre .1 .0 .inside, start .pre .1 .1)
 
@@ -42,7 +42,7 @@ returns : tie.Need-returns
 returns c =
     let start = c .before .before .before .before .before .before .before in
     gathered-closed (plan (start .args .shape) (start .args .marks .now)) (start .args .rec .now) (start .args .depths .now)
-    (start .args .square) (start .args .fresh .now) (sym (c .before .before .is-closed .ensures) ∙ c .before .if1 .taken)
+    (start .args .square) (start .args .working .now) (sym (c .before .before .is-closed .ensures) ∙ c .before .if1 .taken)
 
 new-depth-requires : tie.Need-new-depth-requires
 new-depth-requires c κs =
@@ -56,19 +56,19 @@ returns-2 : tie.Need-returns-2
 returns-2 c =
     let start = c .before .before .before .before .before .before .before .before in
     gathered-deep (plan (start .args .shape) (start .args .marks .now)) (start .args .rec .now) (start .args .depths .now)
-    (start .args .square) (start .args .fresh .now) (sym (c .before .before .before .is-closed .ensures) ∙ c .before .before .if1 .left)
+    (start .args .square) (start .args .working .now) (sym (c .before .before .before .is-closed .ensures) ∙ c .before .before .if1 .left)
     (c .before .new-depth .ensures) (c .if2 .taken)
 
-cast-fresh : tie.Need-cast-fresh
-cast-fresh c = search needs
+cast-working : tie.Need-cast-working
+cast-working c = search needs
 
-mul-fresh-3 : tie.Need-mul-fresh-3
-mul-fresh-3 c =
+mul-working-3 : tie.Need-mul-working-3
+mul-working-3 c =
     let start = c .before .before .before .before .before .before .before .before in
     omega (arith, start .pre .0 .depths-long, start .pre .1 .0 .inside, start .pre .1 .1)
 
-slice-write-fresh-2 : tie.Need-slice-write-fresh-2
-slice-write-fresh-2 c =
+slice-write-working-2 : tie.Need-slice-write-working-2
+slice-write-working-2 c =
     let start = c .before .before .before .before .before .before .before .before in
     omega (arith, start .pre .0 .depths-long, start .pre .1 .0 .inside, start .pre .1 .1)
 
@@ -80,7 +80,7 @@ returns-3 : tie.Need-returns-3
 returns-3 c =
     let start = c .before .before .before .before .before .before .before .before in
     gathered-open (plan (start .args .shape) (start .args .marks .now)) (start .args .rec .now) (start .args .depths .now)
-    (start .args .square) (start .args .fresh .now) (sym (c .before .before .before .is-closed .ensures) ∙ c .before .before .if1 .left)
+    (start .args .square) (start .args .working .now) (sym (c .before .before .before .is-closed .ensures) ∙ c .before .before .if1 .left)
     (c .before .new-depth .ensures) (c .if2 .left)
 
 pub gather-square-spec : {M : Type 1} → statement M
@@ -88,17 +88,17 @@ gather-square-spec =
     tie.close
     (tie.spec
     is-closed-requires
-    mul-fresh
-    shared-slice-read-fresh
-    mul-fresh-2
-    slice-write-fresh
+    mul-working
+    shared-slice-read-working
+    mul-working-2
+    slice-write-working
     same-length
     returns
     new-depth-requires
     cast-if2
     returns-2
-    cast-fresh
-    mul-fresh-3
-    slice-write-fresh-2
+    cast-working
+    mul-working-3
+    slice-write-working-2
     same-length-2
     returns-3)

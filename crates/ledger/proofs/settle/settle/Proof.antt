@@ -1,19 +1,80 @@
 -- `ledger::settle::settle` meets its contract: 8 where a square is too deep, then 9 where the outflow is too much, else all is written.
 -- Assumes nothing.
-use mathlib.Core.Path.{sym, _∙_}
+use mathlib.Core.Path.{_≡_, sym, _∙_}
+use mathlib.Core.Bool.{true}
+use Prim.Native.Nat.{_+_}
 use native.Mathlib.Omega.{arith}
 use borrow.Author.Tests.{not-true, not-false}
-use Rattle.ledger.specs.Runs.{plan, world}
+use Rattle.ledger.specs.Runs.{Plan, World, plan, world, ofDepths}
+use Rattle.ledger.specs.After.{depthsFit, newOutflow}
+use Rattle.ledger.specs.inner.Settle.{movesIn}
 use Rattle.ledger.proofs.FlowLaws.{off-grid-small}
 use Rattle.ledger.proofs.SettleLaws.{settles-gathers, settles-deep, settles-over, settles-written, outflow-by}
 use borrow.Author.Needs.{needs}
 use Rattle.ledger.proofs.settle.settle.Statement.{statement}
 use Rattle.ledger.proofs.settle.settle.Tie as tie
 
+-- ---- the places, each from the one after it
+
+abbrev known2 : tie.After-gather-arg2 → tie.After-shared-slice-known2
+known2 c = c .before .before .before .before .before .before
+
+abbrev start : tie.After-gather-arg2 → tie.Start
+start c = known2 c .before .before
+
+abbrev asked : tie.After-gather → tie.After-gather-arg2
+asked c = c .before
+
+abbrev gathered : tie.After-struct-known → tie.After-gather
+gathered c = c .before .before .before
+
+abbrev fitting : tie.Else1 → tie.After-struct-known
+fitting c = c .before
+
+abbrev summed : tie.After-struct-known3 → tie.Else1
+summed c = c .before .before
+
+abbrev within : tie.Else2 → tie.After-struct-known3
+within c = c .before
+
+abbrev writing : tie.After-write-arg4 → tie.Else2
+writing c = c .before .before .before .before
+
+abbrev written : tie.After-write → tie.After-write-arg4
+written c = c .before
+
+abbrev end : tie.After-slice-known8 → tie.After-write
+end c = c .before .before .before .before .before .before
+
+-- ---- what is known there
+
+module _ (c : tie.After-gather) where
+  abbrev begun : tie.Start
+  begun = start (asked c)
+
+  abbrev p : Plan
+  p = plan (begun .args .shape) (begun .args .marks .now)
+
+  abbrev w : World
+  w = world (begun .args .depths .now) (begun .args .lasts .now) (begun .args .records .now) (begun .args .run)
+
+module _ (c : tie.Else1) where
+  abbrev at : tie.After-gather
+  at = gathered (fitting c)
+
+  fit : at .gather .result .fits ≡ true
+  fit = not-false _ (c .if1 .left)
+
+  all-fit : depthsFit (p at) (movesIn (begun at .args .rec .now) 0) (ofDepths (w at .depths)) ≡ true
+  all-fit = sym (at .gather .ensures .found .fits-is) ∙ fit
+
+  outflow-is : w at .run .outflow + at .gather .result .off ≡ newOutflow (p at) (movesIn (begun at .args .rec .now) (begun at .args .held)) (w at)
+  outflow-is = outflow-by (p at) (begun at .args .rec .now) (begun at .args .held) (w at) (at .gather .ensures .found .off-is fit)
+
+-- ---- the needs
+
 gather-requires : tie.Need-gather-requires
-gather-requires c κs =
-    let start = c .before .before .before .before .before .before .before .before in
-    (settles-gathers (start .pre .0), start .pre .1)
+gather-requires c κs = (settles-gathers (start c .pre .0), start c .pre .1)
 
 same-length : tie.Need-same-length
 same-length c = search needs
@@ -23,22 +84,17 @@ same-length-2 c = search needs
 
 returns : tie.Need-returns
 returns c =
-    let start = c .before .before .before .before .before .before .before .before .before .before .before .before .before in
-    settles-deep (plan (start .args .shape) (start .args .marks .now)) (start .args .rec .now) (start .args .held)
-    (world (start .args .depths .now) (start .args .lasts .now) (start .args .records .now) (start .args .run))
-    (sym (c .before .before .before .before .gather .ensures .found .fits-is) ∙ not-true _ (c .if1 .taken))
+    let g = gathered (c .before) in
+    settles-deep (p g) (begun g .args .rec .now) (begun g .args .held) (w g) (sym (g .gather .ensures .found .fits-is) ∙ not-true _ (c .if1 .taken))
 
 add-outflow : tie.Need-add-outflow
 add-outflow c =
-    let start = c .before .before .before .before .before .before .before .before .before .before .before .before .before .before .before in
-    let at-shared-slice-known2 =
-    c .before .before .before .before .before .before .before .before .before .before .before .before .before in
+    let g = at (summed c) in
     omega (
       arith,
-      c .before .before .before .before .before .before .gather .ensures .found .off-is (not-false _ (c .before .before .if1 .left)),
-      off-grid-small (start .args .rec .now) (λ k. at-shared-slice-known2 .shared-slice-known2 .given k .fits)
-          (plan (start .args .shape) (start .args .marks .now)) (start .pre .0 .fine),
-      start .pre .0 .outflow-to,
+      g .gather .ensures .found .off-is (fit (summed c)),
+      off-grid-small (begun g .args .rec .now) (λ k. known2 (asked g) .shared-slice-known2 .given k .fits) (p g) (begun g .pre .0 .fine),
+      begun g .pre .0 .outflow-to,
     )
 
 same-length-3 : tie.Need-same-length-3
@@ -49,31 +105,14 @@ same-length-4 c = search needs
 
 returns-2 : tie.Need-returns-2
 returns-2 c =
-    let start =
-    c .before .before .before .before .before .before .before .before .before .before .before .before .before .before .before
-    .before in
-    let at-gather = c .before .before .before .before .before .before .before in
-    let p = plan (start .args .shape) (start .args .marks .now) in
-    let w = world (start .args .depths .now) (start .args .lasts .now) (start .args .records .now) (start .args .run) in
-    let fit = not-false _ (c .before .before .before .if1 .left) in
-    settles-over p (start .args .rec .now) (start .args .held) w (sym (at-gather .gather .ensures .found .fits-is) ∙ fit)
-    (outflow-by p (start .args .rec .now) (start .args .held) w (at-gather .gather .ensures .found .off-is fit)) (c .if2 .taken)
+    let g = at (summed (c .before)) in
+    settles-over (p g) (begun g .args .rec .now) (begun g .args .held) (w g) (all-fit (summed (c .before))) (outflow-is (summed (c .before)))
+    (c .if2 .taken)
 
 write-requires : tie.Need-write-requires
 write-requires c κs =
-    let start =
-    c .before .before .before .before .before .before .before .before .before .before .before .before .before .before .before
-    .before .before .before .before .before in
-    let at-gather = c .before .before .before .before .before .before .before .before .before .before .before in
-    let p = plan (start .args .shape) (start .args .marks .now) in
-    let w = world (start .args .depths .now) (start .args .lasts .now) (start .args .records .now) (start .args .run) in
-    let fit = not-false _ (c .before .before .before .before .before .before .before .if1 .left) in (
-      start .pre .0,
-      (
-        at-gather .gather .ensures .stored fit,
-        outflow-by p (start .args .rec .now) (start .args .held) w (at-gather .gather .ensures .found .off-is fit),
-      ),
-    )
+    let whole = summed (within (writing c)) in
+    (begun (at whole) .pre .0, (at whole .gather .ensures .stored (fit whole), outflow-is whole))
 
 same-length-5 : tie.Need-same-length-5
 same-length-5 c = search needs
@@ -89,20 +128,11 @@ same-length-8 c = search needs
 
 returns-3 : tie.Need-returns-3
 returns-3 c =
-    let start =
-    c .before .before .before .before .before .before .before .before .before .before .before .before .before .before .before
-    .before .before .before .before .before .before .before .before .before .before .before .before in
-    let at-if1 = c .before .before .before .before .before .before .before .before .before .before .before .before .before .before in
-    let at-gather =
-    c .before .before .before .before .before .before .before .before .before .before .before .before .before .before .before
-    .before .before .before in
-    let at-if2 = c .before .before .before .before .before .before .before .before .before .before .before in
-    let p = plan (start .args .shape) (start .args .marks .now) in
-    let w = world (start .args .depths .now) (start .args .lasts .now) (start .args .records .now) (start .args .run) in
-    let fit = not-false _ (at-if1 .if1 .left) in
-    settles-written p (start .args .rec .now) (start .args .held) w (sym (at-gather .gather .ensures .found .fits-is) ∙ fit)
-    (outflow-by p (start .args .rec .now) (start .args .held) w (at-gather .gather .ensures .found .off-is fit)) (at-if2 .if2 .left)
-    (c .before .before .before .before .before .before .write .ensures)
+    let last = writing (written (end c)) in
+    let whole = summed (within last) in
+    let g = at whole in
+    settles-written (p g) (begun g .args .rec .now) (begun g .args .held) (w g) (all-fit whole) (outflow-is whole) (last .if2 .left)
+    (end c .write .ensures)
 
 pub settle-spec : {M : Type 1} → statement M
 settle-spec =

@@ -7,7 +7,7 @@ use Rattle.reckon.proofs.TestLaws.{every-fails}
 use Rattle.grid.specs.Squares.{shapeFine}
 use Rattle.grid.proofs.SquareLaws.{ranges-of-fine}
 use Rattle.ledger.specs.Runs.{plan}
-use Rattle.ledger.specs.TakeBack.{oneEach}
+use Rattle.ledger.specs.Checks.{oneEach}
 use Rattle.ledger.proofs.RunLaws.{every-decides}
 use borrow.Author.Needs.{needs}
 use Rattle.ledger.proofs.take_back.sizes_fine.Statement.{statement}

@@ -2,14 +2,16 @@
 -- Assumes nothing.
 use mathlib.Core.Path.{_≡_, sym, ap₂, _∙_}
 use mathlib.Core.Bool.{true}
-use Prim.Native.Nat.{_-_, _+_}
+use mathlib.Core.List.{List}
+use Prim.Native.Nat.{ℕ, _-_, _+_, _<_}
 use native.Mathlib.Omega.{arith}
 use borrow.Author.Tests.{not-true, not-false}
 use Rattle.reckon.specs.Tests.{allBelow}
 use Rattle.reckon.specs.Lists.{sumBelow}
 use Rattle.reckon.proofs.TestLaws.{all-none, all-more, all-fails, all-whole}
 use Rattle.reckon.proofs.ListLaws.{sum-none, sum-more}
-use Rattle.ledger.specs.Runs.{ofDepths, plan}
+use Rattle.grid.specs.Squares.{squares, OnSquare}
+use Rattle.ledger.specs.Runs.{Plan, ofDepths, plan}
 use Rattle.ledger.specs.Flows.{offSquare}
 use Rattle.ledger.specs.Record.{leavesIn}
 use Rattle.ledger.specs.TakeBack.{squareRestorable}
@@ -28,86 +30,123 @@ abbrev μ-loop : tie.MeasureT-loop
 μ-loop shape marks rec depths squares off₀ square₀ column₀ off square column =
     squares - square
 
+-- ---- the places, each from the one after it
+
+abbrev known2 : tie.After-squares-of Inv-loop μ-loop → tie.After-shared-slice-known2 Inv-loop μ-loop
+known2 c = c .before .before
+
+abbrev start : tie.After-squares-of Inv-loop μ-loop → tie.Start Inv-loop μ-loop
+start c = known2 c .before .before
+
+abbrev counted : tie.At-loop Inv-loop μ-loop → tie.After-squares-of Inv-loop μ-loop
+counted c = c .before
+
+abbrev turn : tie.In-loop Inv-loop μ-loop → tie.At-loop Inv-loop μ-loop
+turn c = c .before
+
+abbrev asked : tie.After-square-restorable Inv-loop μ-loop → tie.In-loop Inv-loop μ-loop
+asked c = c .before
+
+abbrev fitting : tie.Else1 Inv-loop μ-loop → tie.After-square-restorable Inv-loop μ-loop
+fitting c = c .before
+
+abbrev summed : tie.After-off-from Inv-loop μ-loop → tie.Else1 Inv-loop μ-loop
+summed c = c .before
+
+abbrev end : tie.After-next-column Inv-loop μ-loop → tie.After-off-from Inv-loop μ-loop
+end c = c .before
+
+-- ---- what is known there
+
+module _ (c : tie.After-squares-of Inv-loop μ-loop) where
+  abbrev p : Plan
+  p = plan (start c .args .shape) (start c .args .marks .now)
+
+  abbrev rec : List ℕ
+  rec = start c .args .rec .now
+
+-- in a turn: the square is one of the grid
+module _ (c : tie.In-loop Inv-loop μ-loop) where
+  abbrev at : tie.After-squares-of Inv-loop μ-loop
+  at = counted (turn c)
+
+  abbrev i : ℕ
+  i = turn c .loop .square
+
+  inside : i < squares (p at .shape)
+  inside = omega (arith, at .squares-of .ensures, c .loop-test .taken)
+
+  stands : OnSquare (p at .shape) i (turn c .loop .column)
+  stands = walk-stands _ (turn c .loop .inv .0) (start at .pre .recorded .fine) (c .loop-test .taken)
+
+-- ---- the needs
+
 squares-of-requires : tie.Need-squares-of-requires Inv-loop μ-loop
-squares-of-requires c κs =
-    c .before .before .before .pre .recorded .fine
+squares-of-requires c κs = c .before .before .before .pre .recorded .fine
 
 loop-holds : tie.Need-loop-holds Inv-loop μ-loop
-loop-holds c =
-    (walk-none _ (c .squares-of .ensures), all-none _, sym (sum-none _))
+loop-holds c = (walk-none _ (c .squares-of .ensures), all-none _, sym (sum-none _))
 
 square-restorable-requires : tie.Need-square-restorable-requires Inv-loop μ-loop
-square-restorable-requires c κs =
-    let start = c .before .before .before .before .before .before in
-    (start .pre, walk-stands _ (c .before .loop .inv .0) (start .pre .recorded .fine) (c .loop-test .taken))
+square-restorable-requires c κs = (start (at c) .pre, stands c)
 
 returns : tie.Need-returns Inv-loop μ-loop
 returns c =
-    let start = c .before .before .before .before .before .before .before .before in
-    walked-unfit (plan (start .args .shape) (start .args .marks .now)) (start .args .rec .now)
-    (all-fails _ _ (c .before .before .before .loop .square) (omega (arith, c .before .before .before .before .squares-of .ensures, c .before .before .loop-test .taken)) (sym (c .before .square-restorable .ensures) ∙ not-true _ (c .if1 .taken)))
+    let here = asked (c .before) in
+    walked-unfit (p (at here)) (rec (at here))
+    (all-fails _ _ (i here) (inside here) (sym (c .before .square-restorable .ensures) ∙ not-true _ (c .if1 .taken)))
 
 off-from-requires : tie.Need-off-from-requires Inv-loop μ-loop
 off-from-requires c κs =
-    let start = c .before .before .before .before .before .before .before .before in (
-      start .pre .recorded,
-      walk-stands _ (c .before .before .before .loop .inv .0) (start .pre .recorded .fine) (c .before .before .loop-test .taken),
-    )
+    let here = asked (fitting c) in
+    (start (at here) .pre .recorded, stands here)
 
 add-off : tie.Need-add-off Inv-loop μ-loop
 add-off c =
-    let start = c .before .before .before .before .before .before .before .before .before in
-    let turn = c .before .before .before .before in
-    let at-shared-slice-known2 = c .before .before .before .before .before .before .before in
-    let p = plan (start .args .shape) (start .args .marks .now) in
+    let here = asked (fitting (summed c)) in
+    let z = at here in
     omega (
       arith,
-      turn .loop .inv .2,
-      off-sum-small (start .args .rec .now) (λ k. at-shared-slice-known2 .shared-slice-known2 .given k .fits) p (turn .loop .square),
+      turn here .loop .inv .2,
+      off-sum-small (rec z) (λ k. known2 z .shared-slice-known2 .given k .fits) (p z) (i here),
       c .off-from .ensures,
-      off-small (start .args .rec .now) (λ k. at-shared-slice-known2 .shared-slice-known2 .given k .fits) p (turn .loop .square),
-      c .before .before .before .loop-test .taken,
-      c .before .before .before .before .before .squares-of .ensures,
-      start .pre .recorded .fine .few,
+      off-small (rec z) (λ k. known2 z .shared-slice-known2 .given k .fits) (p z) (i here),
+      inside here,
+      start z .pre .recorded .fine .few,
     )
 
 add-square : tie.Need-add-square Inv-loop μ-loop
 add-square c =
-    let at-pre = c .before .before .before .before .before .before .before .before .before in
-    omega (
-      arith,
-      c .before .before .before .loop-test .taken,
-      c .before .before .before .before .before .squares-of .ensures,
-      at-pre .pre .recorded .fine .few,
-    )
+    let here = asked (fitting (summed c)) in
+    omega (arith, inside here, start (at here) .pre .recorded .fine .few)
 
 next-column-requires : tie.Need-next-column-requires Inv-loop μ-loop
 next-column-requires c κs =
-    let start = c .before .before .before .before .before .before .before .before .before in
-    (start .pre .recorded .fine, walk-column _ (c .before .before .before .before .loop .inv .0) (start .pre .recorded .fine))
+    let here = asked (fitting (summed c)) in
+    let fine = start (at here) .pre .recorded .fine in
+    (fine, walk-column _ (turn here .loop .inv .0) fine)
 
 loop-less : tie.Need-loop-less Inv-loop μ-loop
 loop-less c =
-    omega (arith, c .before .before .before .before .loop-test .taken)
+    let here = asked (fitting (summed (end c))) in
+    omega (arith, here .loop-test .taken)
 
 loop-again : tie.Need-loop-again Inv-loop μ-loop
 loop-again c =
-    let start = c .before .before .before .before .before .before .before .before .before .before in
-    let turn = c .before .before .before .before .before in
-    let p = plan (start .args .shape) (start .args .marks .now) in (
-      walk-next _ (turn .loop .inv .0) (c .before .before .before .before .loop-test .taken) (c .next-column .ensures),
-      all-more _ _ (turn .loop .inv .1)
-          (sym (c .before .before .before .square-restorable .ensures) ∙ not-false _ (c .before .before .if1 .left)),
-      ap₂ _+_ (turn .loop .inv .2) (c .before .off-from .ensures) ∙ sym
-          (sum-more (turn .loop .square) (offSquare p (leavesIn (start .args .rec .now)))),
+    let passed = summed (end c) in
+    let here = asked (fitting passed) in
+    let inv = turn here .loop .inv in (
+      walk-next _ (inv .0) (here .loop-test .taken) (c .next-column .ensures),
+      all-more _ _ (inv .1) (sym (fitting passed .square-restorable .ensures) ∙ not-false _ (passed .if1 .left)),
+      ap₂ _+_ (inv .2) (end c .off-from .ensures) ∙ sym (sum-more (i here) (offSquare (p (at here)) (leavesIn (rec (at here))))),
     )
 
 returns-2 : tie.Need-returns-2 Inv-loop μ-loop
 returns-2 c =
-    let start = c .before .before .before .before .before .before in
-    let end = walk-end _ (c .before .loop .inv .0) (c .loop-test .left) in
-    walked-fit (plan (start .args .shape) (start .args .marks .now)) (start .args .rec .now) (all-whole _ (c .before .loop .inv .1) end)
-    (c .before .loop .inv .2) end
+    let inv = c .before .loop .inv in
+    let z = counted (c .before) in
+    let whole = walk-end _ (inv .0) (c .loop-test .left) in
+    walked-fit (p z) (rec z) (all-whole _ (inv .1) whole) (inv .2) whole
 
 pub try-squares-spec : {M : Type 1} → statement M
 try-squares-spec =

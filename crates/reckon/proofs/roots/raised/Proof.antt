@@ -1,6 +1,6 @@
 -- `reckon::roots::raised` meets its contract: the two powers are the products.
 -- Assumes nothing.
-use mathlib.Core.Path.{_≡_, sym, _∙_, ap}
+use mathlib.Core.Path.{sym, _∙_, ap}
 use Prim.Native.Nat.{ℕ, _^_}
 use native.Mathlib.Omega.{arith}
 use Rattle.reckon.proofs.RootLaws.{square, square-le, is-cube}

@@ -1,12 +1,12 @@
 -- `reckon::tables::inflow_by` meets its contract: the sum so far is that of the rows passed.
 -- Assumes nothing.
 use mathlib.Core.Path.{_≡_, sym, _∙_, ap, ap₂}
-use Prim.Native.Nat.{ℕ, _+_, _-_, _*_, _/_, _≤_, _<_}
+use Prim.Native.Nat.{ℕ, _+_, _-_, _*_, _/_, _≤_}
 use native.Mathlib.Nat.{mul-le-mul, mul-pos}
 use native.Mathlib.Omega.{arith}
 use lib.ListN.{length}
 use Rattle.reckon.specs.Lists.{sumBelow}
-use Rattle.reckon.specs.Tables.{inflowKind, given, onSquare, inflowBy}
+use Rattle.reckon.specs.Tables.{inflowKind, tableGives, onSquare, inflowBy}
 use Rattle.reckon.proofs.ListLaws.{sum-none, sum-more, sum-whole}
 use Rattle.reckon.proofs.TableLaws.{term, term-le, terms-le}
 use Rattle.reckon.proofs.tables.inflow_by.Statement.{statement}
@@ -14,7 +14,7 @@ use Rattle.reckon.proofs.tables.inflow_by.Tie as tie
 
 abbrev Inv-loop : tie.InvT-loop
 Inv-loop rows r c side t n sum₀ j₀ sum j =
-    (j ≤ n) × (n ≡ length rows / 5) × (sum ≡ sumBelow j (term inflowKind (onSquare rows r c) rows t))
+    (j ≤ n) × (n ≡ length rows / inflowKind .width) × (sum ≡ sumBelow j (term inflowKind (onSquare rows r c) rows t))
 
 abbrev μ-loop : tie.MeasureT-loop
 μ-loop rows r c side t n sum₀ j₀ sum j = n - j
@@ -57,7 +57,7 @@ div-result : tie.Need-div-result Inv-loop μ-loop
 div-result c = mul-pos (c .before .before .before .pre .1 .0) (c .before .before .before .pre .1 .0)
 
 returns : tie.Need-returns Inv-loop μ-loop
-unfolding inflowBy given
+unfolding inflowBy tableGives
 returns c =
     let side = c .before .before .before .args .side in
     ap (λ (s : ℕ). s / (side * side)) (sum-whole _ (c .before .loop .inv .2) (omega arith))

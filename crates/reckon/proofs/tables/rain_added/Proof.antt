@@ -1,4 +1,4 @@
--- `reckon::tables::rain_added` meets its contract: what a table has given never falls.
+-- `reckon::tables::rain_added` meets its contract: what a table has tableGives never falls.
 -- Assumes nothing.
 use native.Mathlib.Omega.{arith}
 use borrow.Author.Needs.{needs}

@@ -2,18 +2,18 @@
 -- Assumes nothing.
 use mathlib.Core.Path.{_≡_, sym, _∙_, ap, ap₂, subst}
 use mathlib.Core.Bool.{true}
-use Prim.Native.Nat.{ℕ, _+_, _-_, _*_, _/_, _≤_, _<_}
+use Prim.Native.Nat.{ℕ, _+_, _-_, _/_, _≤_}
 use native.Mathlib.Omega.{arith}
 use lib.ListN.{length, getD}
 use Rattle.reckon.specs.Lists.{sumBelow}
-use Rattle.reckon.specs.Tables.{rainKind, given, rainBy}
+use Rattle.reckon.specs.Tables.{rainKind, tableGives, rainBy}
 use Rattle.reckon.proofs.ListLaws.{sum-none, sum-more, sum-whole}
 use Rattle.reckon.proofs.TableLaws.{term, term-le, terms-le, rain-term}
 use Rattle.reckon.proofs.tables.rain_by.Statement.{statement}
 use Rattle.reckon.proofs.tables.rain_by.Tie as tie
 
 abbrev Inv-loop : tie.InvT-loop
-Inv-loop rows t n sum₀ j₀ sum j = (j ≤ n) × (n ≡ length rows / 3) × (sum ≡ sumBelow j (term rainKind (λ i. true) rows t))
+Inv-loop rows t n sum₀ j₀ sum j = (j ≤ n) × (n ≡ length rows / rainKind .width) × (sum ≡ sumBelow j (term rainKind (λ i. true) rows t))
 
 abbrev μ-loop : tie.MeasureT-loop
 μ-loop rows t n sum₀ j₀ sum j = n - j
@@ -56,7 +56,7 @@ loop-again c = (
 )
 
 returns : tie.Need-returns Inv-loop μ-loop
-unfolding rainBy given
+unfolding rainBy tableGives
 returns c = ap (λ (s : ℕ). s / 3600000) (sum-whole _ (c .before .loop .inv .2) (omega arith))
 
 pub rain-by-spec : {M : Type 1} → statement M

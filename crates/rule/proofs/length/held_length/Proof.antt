@@ -1,6 +1,6 @@
 -- `rule::length::held_length` meets its contract.
 -- Assumes nothing.
-use mathlib.Core.Path.{_≡_, _∙_, ap}
+use mathlib.Core.Path.{_∙_, ap}
 use Prim.Native.Nat.{ℕ, max}
 use borrow.Author.Needs.{needs}
 use Rattle.rule.specs.Length.{heldBetween}

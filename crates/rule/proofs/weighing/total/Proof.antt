@@ -1,12 +1,10 @@
 -- `rule::weighing::total` meets its contract: holding m to d first gives the same total.
 -- Assumes nothing.
-use mathlib.Core.Path.{_≡_, sym, _∙_, ap}
-use Prim.Native.Nat.{ℕ, _+_, _*_, _/_, _≤_, min}
+use Prim.Native.Nat.{_≤_}
 use native.Mathlib.Nat.{mul-le-mul}
 use native.Mathlib.Omega.{arith}
 use borrow.Author.Needs.{needs}
-use Rattle.rule.specs.Weighing.{totalOf}
-use Rattle.rule.proofs.WeighingLaws.{least-le, greatest-le, sum-le, greatest-sum, total-made}
+use Rattle.rule.proofs.WeighingLaws.{least-le, greatest-le, sum-le, total-made}
 use Rattle.rule.proofs.weighing.total.Statement.{statement}
 use Rattle.rule.proofs.weighing.total.Tie as tie
 

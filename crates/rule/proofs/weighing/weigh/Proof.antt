@@ -1,9 +1,9 @@
 -- `rule::weighing::weigh` meets its contract: a case each for no water, no drop, and both.
 -- Assumes nothing.
-use mathlib.Core.Path.{_≡_, sym, _∙_, ap}
+use mathlib.Core.Path.{sym, _∙_}
 use native.Mathlib.Omega.{arith}
 use borrow.Author.Needs.{needs}
-use Rattle.rule.proofs.WeighingLaws.{weighed-dry, weighed-flat, weighed-wet, greatest-sum, total-le, weighed-made}
+use Rattle.rule.proofs.WeighingLaws.{weighed-dry, weighed-flat, greatest-sum, total-le, weighed-made}
 use Rattle.rule.proofs.weighing.weigh.Statement.{statement}
 use Rattle.rule.proofs.weighing.weigh.Tie as tie
 

@@ -1,15 +1,44 @@
 -- `sheet::lines::cell_line` meets its contract: the word, the place and the mark decide.
 -- Assumes nothing.
-use mathlib.Core.Path.{sym, _∙_}
+use mathlib.Core.Bool.{true}
+use mathlib.Core.Path.{_≡_, sym, _∙_}
+use Prim.Native.Nat.{_+_}
 use native.Mathlib.Omega.{arith}
+use lib.ListN.{length}
 use borrow.Author.Tests.{not-true, not-false}
 use borrow.Author.Needs.{needs}
 use Rattle.reckon.proofs.TestLaws.{pick-true, pick-false}
+use Rattle.text.specs.Reading.{wordAt, fieldsAt}
 use Rattle.text.proofs.ReadingLaws.{word-within}
-use Rattle.sheet.specs.Lines.{cellLine, cellWord}
+use Rattle.sheet.specs.Lines.{placeFields, placedCell, cellLine, cellWord}
 use Rattle.sheet.proofs.KindLaws.{place-unfound, place-row, place-column, place-right}
 use Rattle.sheet.proofs.lines.cell_line.Statement.{statement}
 use Rattle.sheet.proofs.lines.cell_line.Tie as tie
+
+-- the places, each by one after it
+abbrev start : tie.After-word-at → tie.Start
+start c = c .before .before .before
+
+abbrev word : tie.After-fields-at → tie.Else1
+word c = c .before
+
+abbrev place : tie.Else2 → tie.After-fields-at
+place c = c .before .before
+
+abbrev values : tie.Else3 → tie.Else2
+values c = c .before .before
+
+-- past the word: it stands there, so that the fields of the place decide
+word-there : (c : tie.Else1) → wordAt (start (c .before) .args .text .now) (start (c .before) .args .at) cellWord ≡ true
+word-there c = sym (c .before .word-at .ensures) ∙ not-false _ (c .if1 .left)
+
+by-place :
+    (c : tie.Else1) →
+    cellLine (start (c .before) .args .text .now) (start (c .before) .args .at) (start (c .before) .args .row) (start (c .before) .args .column) ≡
+    placedCell (start (c .before) .args .text .now) (start (c .before) .args .row) (start (c .before) .args .column)
+    (fieldsAt (start (c .before) .args .text .now) (start (c .before) .args .at + length cellWord) placeFields)
+unfolding cellLine
+by-place c = pick-true _ _ (word-there c)
 
 slice-aggregate-word-at : tie.Need-slice-aggregate-word-at
 slice-aggregate-word-at c = search needs
@@ -26,9 +55,8 @@ returns c = c .no-cell .ensures ∙ sym (pick-false _ _ (sym (c .before .before 
 
 add-fields-at : tie.Need-add-fields-at
 add-fields-at c =
-    let start = c .before .before .before .before in
-    omega
-    (arith, word-within (start .args .text .now) (start .args .at) cellWord (sym (c .before .word-at .ensures) ∙ not-false _ (c .if1 .left)))
+    let s = start (c .before) in
+    omega (arith, word-within (s .args .text .now) (s .args .at) cellWord (word-there c))
 
 fields-at-requires : tie.Need-fields-at-requires
 fields-at-requires c κs = search needs
@@ -37,71 +65,55 @@ no-cell-requires-2 : tie.Need-no-cell-requires-2
 no-cell-requires-2 c κs = search needs
 
 returns-2 : tie.Need-returns-2
-unfolding cellLine
 returns-2 c =
-    let at-fields-at = c .before .before .before in
-    let at-if1 = at-fields-at .before in
-    let at-word-at = at-if1 .before in
-    c .no-cell2 .ensures ∙ sym
-    (pick-true _ _ (sym (at-word-at .word-at .ensures) ∙ not-false _ (at-if1 .if1 .left)) ∙ place-unfound _ _ _ (at-fields-at .fields-at .ensures) (not-true _ (c .before .if2 .taken)))
+    let f = c .before .before .before in
+    c .no-cell2 .ensures ∙ sym (by-place (word f) ∙ place-unfound _ _ _ (f .fields-at .ensures) (not-true _ (c .before .if2 .taken)))
 
-slice-aggregate-number : tie.Need-slice-aggregate-number
-slice-aggregate-number c = search needs
+array-read-if3 : tie.Need-array-read-if3
+array-read-if3 c = search needs
 
-number-requires : tie.Need-number-requires
-number-requires c κs = search needs
+cast-if3 : tie.Need-cast-if3
+cast-if3 c = search needs
 
 no-cell-requires-3 : tie.Need-no-cell-requires-3
 no-cell-requires-3 c κs = search needs
 
 returns-3 : tie.Need-returns-3
-unfolding cellLine
 returns-3 c =
-    let at-number = c .before .before in
-    let at-if2 = at-number .before .before .before in
-    let at-fields-at = at-if2 .before .before in
-    let at-if1 = at-fields-at .before in
-    let at-word-at = at-if1 .before in
-    c .no-cell3 .ensures ∙ sym
-    (pick-true _ _ (sym (at-word-at .word-at .ensures) ∙ not-false _ (at-if1 .if1 .left)) ∙ place-row _ _ _ (at-fields-at .fields-at .ensures) (not-false _ (at-if2 .if2 .left)) (at-number .number .ensures) (c .before .if3 .taken))
+    let found = c .before .before .before in
+    let f = place found in
+    c .no-cell3 .ensures
+    ∙ sym (by-place (word f) ∙ place-row _ _ _ (f .fields-at .ensures) (not-false _ (found .if2 .left)) (c .before .if3 .taken))
 
-slice-aggregate-number-2 : tie.Need-slice-aggregate-number-2
-slice-aggregate-number-2 c = search needs
+array-read-if4 : tie.Need-array-read-if4
+array-read-if4 c = search needs
 
-number-requires-2 : tie.Need-number-requires-2
-number-requires-2 c κs = search needs
+cast-if4 : tie.Need-cast-if4
+cast-if4 c = search needs
 
 no-cell-requires-4 : tie.Need-no-cell-requires-4
 no-cell-requires-4 c κs = search needs
 
 returns-4 : tie.Need-returns-4
-unfolding cellLine
 returns-4 c =
-    let at-number2 = c .before .before in
-    let at-if3 = at-number2 .before .before in
-    let at-number = at-if3 .before in
-    let at-if2 = at-number .before .before .before in
-    let at-fields-at = at-if2 .before .before in
-    let at-if1 = at-fields-at .before in
-    let at-word-at = at-if1 .before in
-    c .no-cell4 .ensures ∙ sym
-    (pick-true _ _ (sym (at-word-at .word-at .ensures) ∙ not-false _ (at-if1 .if1 .left)) ∙ place-column _ _ _ (at-fields-at .fields-at .ensures) (not-false _ (at-if2 .if2 .left)) (at-number .number .ensures) (at-if3 .if3 .left) (at-number2 .number2 .ensures) (c .before .if4 .taken))
+    let row = c .before .before in
+    let found = values row in
+    let f = place found in
+    c .no-cell4 .ensures
+    ∙ sym
+    (by-place (word f) ∙ place-column _ _ _ (f .fields-at .ensures) (not-false _ (found .if2 .left)) (row .if3 .left) (c .before .if4 .taken))
 
 marked-cell-requires : tie.Need-marked-cell-requires
 marked-cell-requires c κs = search needs
 
 returns-5 : tie.Need-returns-5
-unfolding cellLine
 returns-5 c =
-    let at-number2 = c .before .before in
-    let at-if3 = at-number2 .before .before in
-    let at-number = at-if3 .before in
-    let at-if2 = at-number .before .before .before in
-    let at-fields-at = at-if2 .before .before in
-    let at-if1 = at-fields-at .before in
-    let at-word-at = at-if1 .before in
-    c .marked-cell .ensures ∙ sym
-    (pick-true _ _ (sym (at-word-at .word-at .ensures) ∙ not-false _ (at-if1 .if1 .left)) ∙ place-right _ _ _ (at-fields-at .fields-at .ensures) (not-false _ (at-if2 .if2 .left)) (at-number .number .ensures) (at-if3 .if3 .left) (at-number2 .number2 .ensures) (c .before .if4 .left))
+    let row = c .before .before in
+    let found = values row in
+    let f = place found in
+    c .marked-cell .ensures
+    ∙ sym
+    (by-place (word f) ∙ place-right _ _ _ (f .fields-at .ensures) (not-false _ (found .if2 .left)) (row .if3 .left) (c .before .if4 .left))
 
 pub cell-line-spec : {M : Type 1} → statement M
 cell-line-spec =
@@ -115,12 +127,12 @@ cell-line-spec =
     fields-at-requires
     no-cell-requires-2
     returns-2
-    slice-aggregate-number
-    number-requires
+    array-read-if3
+    cast-if3
     no-cell-requires-3
     returns-3
-    slice-aggregate-number-2
-    number-requires-2
+    array-read-if4
+    cast-if4
     no-cell-requires-4
     returns-4
     marked-cell-requires

@@ -1,7 +1,8 @@
 -- `sheet::lines::grid_line` meets its contract: the fields read are handed on.
 -- Assumes nothing.
+use mathlib.Core.Path.{ap}
 use borrow.Author.Needs.{needs}
-use Rattle.sheet.proofs.KindLaws.{grid-is}
+use Rattle.sheet.specs.Lines.{asGrid, gridLine}
 use Rattle.sheet.proofs.lines.grid_line.Statement.{statement}
 use Rattle.sheet.proofs.lines.grid_line.Tie as tie
 
@@ -11,26 +12,27 @@ slice-aggregate-line-of c = search needs
 line-of-requires : tie.Need-line-of-requires
 line-of-requires c κs = search needs
 
-slice-aggregate-number : tie.Need-slice-aggregate-number
-slice-aggregate-number c = search needs
+array-read-t9 : tie.Need-array-read-t9
+array-read-t9 c = search needs
 
-number-requires : tie.Need-number-requires
-number-requires c κs = search needs
+cast-t10 : tie.Need-cast-t10
+cast-t10 c = search needs
 
-slice-aggregate-number-2 : tie.Need-slice-aggregate-number-2
-slice-aggregate-number-2 c = search needs
+array-read-t13 : tie.Need-array-read-t13
+array-read-t13 c = search needs
 
-number-requires-2 : tie.Need-number-requires-2
-number-requires-2 c κs = search needs
+cast-t14 : tie.Need-cast-t14
+cast-t14 c = search needs
 
-slice-aggregate-number-3 : tie.Need-slice-aggregate-number-3
-slice-aggregate-number-3 c = search needs
+array-read-t18 : tie.Need-array-read-t18
+array-read-t18 c = search needs
 
-number-requires-3 : tie.Need-number-requires-3
-number-requires-3 c κs = search needs
+cast-t19 : tie.Need-cast-t19
+cast-t19 c = search needs
 
 returns : tie.Need-returns
-returns c = grid-is _ (c .before .before .before .before .before .before .before .line-of .ensures) (c .before .before .before .before .number .ensures) (c .before .before .number2 .ensures) (c .number3 .ensures)
+unfolding asGrid gridLine
+returns c = ap asGrid (c .before .line-of .ensures)
 
 pub grid-line-spec : {M : Type 1} → statement M
 grid-line-spec =
@@ -38,10 +40,10 @@ grid-line-spec =
     (tie.spec
     slice-aggregate-line-of
     line-of-requires
-    slice-aggregate-number
-    number-requires
-    slice-aggregate-number-2
-    number-requires-2
-    slice-aggregate-number-3
-    number-requires-3
+    array-read-t9
+    cast-t10
+    array-read-t13
+    cast-t14
+    array-read-t18
+    cast-t19
     returns)

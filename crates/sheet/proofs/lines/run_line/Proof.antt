@@ -1,7 +1,8 @@
 -- `sheet::lines::run_line` meets its contract: the fields read are handed on.
 -- Assumes nothing.
+use mathlib.Core.Path.{ap}
 use borrow.Author.Needs.{needs}
-use Rattle.sheet.proofs.KindLaws.{run-is}
+use Rattle.sheet.specs.Lines.{asRun, runLine}
 use Rattle.sheet.proofs.lines.run_line.Statement.{statement}
 use Rattle.sheet.proofs.lines.run_line.Tie as tie
 
@@ -11,45 +12,39 @@ slice-aggregate-line-of c = search needs
 line-of-requires : tie.Need-line-of-requires
 line-of-requires c κs = search needs
 
-slice-aggregate-number : tie.Need-slice-aggregate-number
-slice-aggregate-number c = search needs
+array-read-t11 : tie.Need-array-read-t11
+array-read-t11 c = search needs
 
-number-requires : tie.Need-number-requires
-number-requires c κs = search needs
+cast-t12 : tie.Need-cast-t12
+cast-t12 c = search needs
 
-slice-aggregate-number-2 : tie.Need-slice-aggregate-number-2
-slice-aggregate-number-2 c = search needs
+array-read-t15 : tie.Need-array-read-t15
+array-read-t15 c = search needs
 
-number-requires-2 : tie.Need-number-requires-2
-number-requires-2 c κs = search needs
+cast-t16 : tie.Need-cast-t16
+cast-t16 c = search needs
 
-slice-aggregate-number-3 : tie.Need-slice-aggregate-number-3
-slice-aggregate-number-3 c = search needs
+array-read-t19 : tie.Need-array-read-t19
+array-read-t19 c = search needs
 
-number-requires-3 : tie.Need-number-requires-3
-number-requires-3 c κs = search needs
+cast-t20 : tie.Need-cast-t20
+cast-t20 c = search needs
 
-slice-aggregate-number-4 : tie.Need-slice-aggregate-number-4
-slice-aggregate-number-4 c = search needs
+array-read-t23 : tie.Need-array-read-t23
+array-read-t23 c = search needs
 
-number-requires-4 : tie.Need-number-requires-4
-number-requires-4 c κs = search needs
+cast-t24 : tie.Need-cast-t24
+cast-t24 c = search needs
 
-slice-aggregate-number-5 : tie.Need-slice-aggregate-number-5
-slice-aggregate-number-5 c = search needs
+array-read-t28 : tie.Need-array-read-t28
+array-read-t28 c = search needs
 
-number-requires-5 : tie.Need-number-requires-5
-number-requires-5 c κs = search needs
+cast-t29 : tie.Need-cast-t29
+cast-t29 c = search needs
 
 returns : tie.Need-returns
-returns c =
-    let at-number4 = c .before .before in
-    let at-number3 = at-number4 .before .before in
-    let at-number2 = at-number3 .before .before in
-    let at-number = at-number2 .before .before in
-    let at-line-of = at-number .before .before .before in
-    run-is _ _ _ (at-line-of .line-of .ensures) (at-number .number .ensures) (at-number2 .number2 .ensures)
-    (at-number3 .number3 .ensures) (at-number4 .number4 .ensures) (c .number5 .ensures)
+unfolding asRun runLine
+returns c = ap (asRun (c .before .before .before .before .args .side)) (c .before .line-of .ensures)
 
 pub run-line-spec : {M : Type 1} → statement M
 run-line-spec =
@@ -57,14 +52,14 @@ run-line-spec =
     (tie.spec
     slice-aggregate-line-of
     line-of-requires
-    slice-aggregate-number
-    number-requires
-    slice-aggregate-number-2
-    number-requires-2
-    slice-aggregate-number-3
-    number-requires-3
-    slice-aggregate-number-4
-    number-requires-4
-    slice-aggregate-number-5
-    number-requires-5
+    array-read-t11
+    cast-t12
+    array-read-t15
+    cast-t16
+    array-read-t19
+    cast-t20
+    array-read-t23
+    cast-t24
+    array-read-t28
+    cast-t29
     returns)

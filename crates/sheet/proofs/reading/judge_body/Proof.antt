@@ -1,15 +1,43 @@
 -- `sheet::reading::judge_body` meets its contract: one row too many shows as well as all of them.
 -- Assumes nothing.
-use mathlib.Core.Path.{sym}
-use Prim.Native.Nat.{ℕ}
+use Prim.Native.Nat.{_*_, _≤_}
 use native.Mathlib.Omega.{arith}
-use lib.ListN.{length-replicate}
-use lib.Seq.{length-take-le}
 use borrow.Author.Needs.{needs}
+use Rattle.reckon.specs.Tables.{rainKind, inflowKind}
+use Rattle.sheet.specs.inner.Reading.{lookedRows}
 use Rattle.sheet.proofs.ReadLaws.{plain-rain, plain-inflow}
-use Rattle.sheet.proofs.JudgeLaws.{rain-rows-at, inflow-rows-at, table-taken, body-judged}
+use Rattle.sheet.proofs.JudgeLaws.{taken-long, rain-rows-at, inflow-rows-at, table-taken, body-judged}
 use Rattle.sheet.proofs.reading.judge_body.Statement.{statement}
 use Rattle.sheet.proofs.reading.judge_body.Tie as tie
+
+-- the places, each by one after it
+abbrev start : tie.After-looked-at → tie.Start
+start c = c .before .before .before .before .before .before
+
+abbrev looked : tie.After-looked-at2 → tie.After-looked-at
+looked c = c .before
+
+abbrev both : tie.After-rain → tie.After-looked-at2
+both c = c .before .before
+
+abbrev rain : tie.After-inflow → tie.After-fill-rows
+rain c = c .before .before .before
+
+abbrev inflow : tie.After-inflow2 → tie.After-fill-rows2
+inflow c = c .before
+
+abbrev filled : tie.After-inflow3 → tie.After-inflow2
+filled c = c .before .before
+
+-- the rows looked at, from the last of them
+abbrev rows : tie.After-inflow2 → tie.After-looked-at2
+rows c = both (rain (inflow c .before) .before)
+
+rain-few : (c : tie.After-inflow2) → rainKind .width * looked (rows c) .looked-at .result ≤ rainKind .width * lookedRows
+rain-few c = omega (arith, looked (rows c) .looked-at .ensures)
+
+inflow-few : (c : tie.After-inflow2) → inflowKind .width * rows c .looked-at2 .result ≤ inflowKind .width * lookedRows
+inflow-few c = omega (arith, rows c .looked-at2 .ensures)
 
 looked-at-requires : tie.Need-looked-at-requires
 looked-at-requires c κs = search needs
@@ -25,9 +53,8 @@ slice-aggregate-fill-rows-2 c = search needs
 
 fill-rows-requires : tie.Need-fill-rows-requires
 fill-rows-requires c κs =
-    let at-looked-at = c .before .before .before in
-    let start = at-looked-at .before .before .before .before .before .before in
-    ((omega arith, plain-rain), (omega (arith, at-looked-at .looked-at .ensures, rain-rows-at (start .pre .0 .2)), omega (arith, at-looked-at .looked-at .ensures)))
+    let l = looked (both c) in
+    ((omega arith, plain-rain), (omega (arith, l .looked-at .ensures, rain-rows-at (start l .pre .0 .2)), omega (arith, l .looked-at .ensures)))
 
 slice-aggregate-fill-rows-3 : tie.Need-slice-aggregate-fill-rows-3
 slice-aggregate-fill-rows-3 c = search needs
@@ -37,9 +64,8 @@ slice-aggregate-fill-rows-4 c = search needs
 
 fill-rows-requires-2 : tie.Need-fill-rows-requires-2
 fill-rows-requires-2 c κs =
-    let at-looked-at2 = c .before .before .before .before .before .before in
-    let start = at-looked-at2 .before .before .before .before .before .before .before in
-    ((omega arith, plain-inflow), (omega (arith, at-looked-at2 .looked-at2 .ensures, inflow-rows-at (start .pre .0 .2)), omega (arith, at-looked-at2 .looked-at2 .ensures)))
+    let l = both (rain c .before) in
+    ((omega arith, plain-inflow), (omega (arith, l .looked-at2 .ensures, inflow-rows-at (start (looked l) .pre .0 .2)), omega (arith, l .looked-at2 .ensures)))
 
 mul-rain-end : tie.Need-mul-rain-end
 mul-rain-end c = search needs
@@ -52,34 +78,26 @@ array-share-prefix-rain c = search needs
 
 slice-aggregate-judge : tie.Need-slice-aggregate-judge
 slice-aggregate-judge c =
-    let at-fill-rows = c .before .before .before .before .before .before in
-    let at-looked-at = at-fill-rows .before .before .before .before in
-    sym
-    (length-take-le _ _ (omega (arith, at-looked-at .looked-at .ensures, at-fill-rows .fill-rows .kept .1 .1 .1 .1 .1 .0, length-replicate {A = ℕ} 195 0)))
+    let f = c .before in
+    taken-long _ (rain-few f) (rain (inflow f .before) .fill-rows .kept .1 .1 .1 .1 .1 .0)
 
 array-share-prefix-inflow : tie.Need-array-share-prefix-inflow
 array-share-prefix-inflow c = search needs
 
 slice-aggregate-judge-2 : tie.Need-slice-aggregate-judge-2
-slice-aggregate-judge-2 c =
-    let at-fill-rows2 = c .before .before .before in
-    let at-looked-at2 = at-fill-rows2 .before .before .before .before .before .before .before in
-    sym
-    (length-take-le _ _ (omega (arith, at-looked-at2 .looked-at2 .ensures, at-fill-rows2 .fill-rows2 .kept .1 .1 .1 .1 .1 .0, length-replicate {A = ℕ} 325 0)))
+slice-aggregate-judge-2 c = taken-long _ (inflow-few (filled c)) (inflow (filled c) .fill-rows2 .kept .1 .1 .1 .1 .1 .0)
 
 judge-requires : tie.Need-judge-requires
-judge-requires c κs = c .before .before .before .before .before .before .before .before .before .before .before .before .before .before .before .before .before .pre .0 .0
+judge-requires c κs = start (looked (rows (filled c))) .pre .0 .0
 
 returns : tie.Need-returns
 returns c =
-    let at-fill-rows2 = c .before .before .before .before in
-    let at-fill-rows = at-fill-rows2 .before .before .before .before in
-    let at-looked-at2 = at-fill-rows .before .before .before in
-    let at-looked-at = at-looked-at2 .before in
-    let start = at-looked-at .before .before .before .before .before .before in
-    body-judged _ (start .pre .0 .1) (start .pre .0 .2) (start .pre .1) (at-looked-at .looked-at .ensures)
-    (at-looked-at2 .looked-at2 .ensures) (table-taken _ _ _ 3 (omega arith) _ _ (at-fill-rows .fill-rows .ensures))
-    (table-taken _ _ _ 5 (omega arith) _ _ (at-fill-rows2 .fill-rows2 .ensures)) (c .judge .ensures)
+    let f = filled (c .before) in
+    let l = rows f in
+    let s = start (looked l) in
+    body-judged _ (s .pre .0 .1) (s .pre .0 .2) (s .pre .1) (looked l .looked-at .ensures) (l .looked-at2 .ensures)
+    (table-taken _ _ _ (rainKind .width) (omega arith) _ _ (rain (inflow f .before) .fill-rows .ensures))
+    (table-taken _ _ _ (inflowKind .width) (omega arith) _ _ (inflow f .fill-rows2 .ensures)) (c .judge .ensures)
 
 pub judge-body-spec : {M : Type 1} → statement M
 judge-body-spec =

@@ -1,17 +1,77 @@
 -- `sheet::reading::read` meets its contract: each refusal in its order, and then the rooms are filled.
 -- Assumes nothing.
 use mathlib.Core.Bool.{true}
-use mathlib.Core.Path.{_≡_, refl}
+use mathlib.Core.Path.{_≡_}
 use native.Mathlib.Omega.{arith}
 use borrow.Author.Tests.{not-true, not-false}
 use borrow.Author.Needs.{needs}
 use Rattle.flood.proofs.CheckLaws.{fails-by, holds-by}
-use Rattle.sheet.specs.Sheet.{rooms, roomsFine}
+use Rattle.sheet.specs.Sheet.{Rooms, rooms, roomsFine, checksOf}
+use Rattle.sheet.specs.inner.Reading.{BodyIs}
 use Rattle.sheet.proofs.ReadLaws.{plain-rain, plain-inflow}
 use Rattle.sheet.proofs.JudgeLaws.{rain-rows-at, inflow-rows-at}
 use Rattle.sheet.proofs.SheetLaws.{rooms-shape, rooms-cells, rooms-tables, rain-few, inflow-few, no-check, refused-first, refused-rooms, refused-verdict, read-well}
 use Rattle.sheet.proofs.reading.read.Statement.{statement}
 use Rattle.sheet.proofs.reading.read.Tie as tie
+
+-- the places, each by one after it
+abbrev start : tie.After-grid-line → tie.Start
+start c = c .before .before .before .before .before .before .before .before
+
+abbrev grid : tie.Else1 → tie.After-grid-line
+grid c = c .before .before
+
+abbrev found : tie.After-rooms-fine → tie.Else1
+found c = c .before .before
+
+abbrev decided : tie.Else3 → tie.After-decide
+decided c = c .before .before
+
+abbrev good : tie.After-fill-cells-arg4 → tie.Else3
+good c = c .before .before .before .before .before .before
+
+abbrev cells : tie.After-fill-rows-arg → tie.After-fill-cells
+cells c = c .before .before .before .before .before .before .before .before .before
+
+abbrev rain : tie.After-fill-rows-arg4 → tie.After-fill-rows
+rain c = c .before .before .before .before
+
+-- the same for the places where most is asked
+abbrev top : tie.Else2 → tie.After-grid-line
+top c = grid (found (c .before))
+
+abbrev fits : tie.Else3 → tie.Else2
+fits c = decided c .before
+
+abbrev filled : tie.After-fill-rows → tie.After-fill-cells
+filled c = cells (c .before .before)
+
+abbrev done : tie.After-slice-known12 → tie.After-fill-rows2
+done c = c .before .before
+
+abbrev rained : tie.After-slice-known12 → tie.After-fill-rows
+rained c = rain (done c .before)
+
+-- what is known there
+abbrev lent : tie.After-grid-line → Rooms
+lent c =
+    let a = start c .args in
+    rooms (a .marks .now) (a .beds .now) (a .roughness .now) (a .depths .now) (a .rain .now) (a .inflow .now)
+
+top-found : (c : tie.Else1) → grid c .grid-line .result .found ≡ true
+top-found c = not-false _ (c .if1 .left)
+
+fine : (c : tie.Else2) → roomsFine (top c .grid-line .result .shape) (top c .grid-line .result .side) (lent (top c)) ≡ true
+unfolding roomsFine
+fine c = holds-by (c .before .rooms-fine .ensures) (c .if2 .left)
+
+body : (c : tie.Else3) → BodyIs (start (top (fits c)) .args .text .now) (decided c .decide .result .body)
+body c = decided c .decide .ensures .body-is (c .if3 .left)
+
+checked : (c : tie.Else3) → checksOf (start (top (fits c)) .args .text .now) ≡ 0
+checked c =
+    no-check _ (top (fits c) .grid-line .ensures) (lent (top (fits c))) (top-found (found (fits c .before))) (fine (fits c))
+    (decided c .decide .ensures) (c .if3 .left)
 
 grid-line-requires : tie.Need-grid-line-requires
 grid-line-requires c κs = search needs
@@ -25,139 +85,74 @@ rooms-fine-requires c κs = search needs
 returns-2 : tie.Need-returns-2
 unfolding roomsFine
 returns-2 c =
-    let at-if1 = c .before .before .before in
-    let at-grid-line = at-if1 .before .before in
-    refused-rooms _ (at-grid-line .grid-line .ensures) _ (not-false _ (at-if1 .if1 .left))
-    (fails-by (c .before .rooms-fine .ensures) (c .if2 .taken))
+    let e = found (c .before) in
+    refused-rooms _ (grid e .grid-line .ensures) _ (top-found e) (fails-by (c .before .rooms-fine .ensures) (c .if2 .taken))
 
 decide-requires : tie.Need-decide-requires
-unfolding roomsFine
 decide-requires c κs =
-    let at-if1 = c .before .before .before in
-    let at-grid-line = at-if1 .before .before in
-    let start = at-grid-line .before .before .before .before .before .before .before .before in
-    let held = rooms (start .args .marks .now) (start .args .beds .now) (start .args .roughness .now) (start .args .depths .now) (start .args .rain .now) (start .args .inflow .now) in
-    let f : roomsFine (at-grid-line .grid-line .result .shape) (at-grid-line .grid-line .result .rules) held ≡ true =
-    (holds-by (c .before .rooms-fine .ensures) (c .if2 .left)) in
-    ((at-grid-line .grid-line .ensures), (not-false _ (at-if1 .if1 .left)), rooms-shape (at-grid-line .grid-line .result .shape) (at-grid-line .grid-line .result .rules) held f)
+    let g = top c .grid-line in
+    (g .ensures, top-found (found (c .before)), rooms-shape (g .result .shape) (g .result .side) (lent (top c)) (fine c))
 
 returns-3 : tie.Need-returns-3
-unfolding roomsFine
 returns-3 c =
-    let at-decide = c .before .before in
-    let at-if2 = at-decide .before in
-    let at-rooms-fine = at-if2 .before in
-    let at-if1 = at-rooms-fine .before .before in
-    let at-grid-line = at-if1 .before .before in
-    let start = at-grid-line .before .before .before .before .before .before .before .before in
-    let held = rooms (start .args .marks .now) (start .args .beds .now) (start .args .roughness .now) (start .args .depths .now) (start .args .rain .now) (start .args .inflow .now) in
-    let f : roomsFine (at-grid-line .grid-line .result .shape) (at-grid-line .grid-line .result .rules) held ≡ true =
-    (holds-by (at-rooms-fine .rooms-fine .ensures) (at-if2 .if2 .left)) in refused-verdict _ (at-grid-line .grid-line .ensures) held
-    (not-false _ (at-if1 .if1 .left)) f (at-decide .decide .ensures) (c .if3 .taken)
+    let d = c .before .before in
+    let f = d .before in
+    refused-verdict _ (top f .grid-line .ensures) (lent (top f)) (top-found (found (f .before))) (fine f) (d .decide .ensures) (c .if3 .taken)
 
 fill-cells-requires : tie.Need-fill-cells-requires
-unfolding roomsFine
 fill-cells-requires c κs =
-    let at-if2 = c .before .before .before .before .before .before .before .before .before in
-    let at-rooms-fine = at-if2 .before in
-    let at-grid-line = at-rooms-fine .before .before .before .before in
-    let start = at-grid-line .before .before .before .before .before .before .before .before in
-    let held = rooms (start .args .marks .now) (start .args .beds .now) (start .args .roughness .now) (start .args .depths .now) (start .args .rain .now) (start .args .inflow .now) in
-    let f : roomsFine (at-grid-line .grid-line .result .shape) (at-grid-line .grid-line .result .rules) held ≡ true =
-    (holds-by (at-rooms-fine .rooms-fine .ensures) (at-if2 .if2 .left)) in
-    (rooms-shape (at-grid-line .grid-line .result .shape) (at-grid-line .grid-line .result .rules) held f, rooms-cells (at-grid-line .grid-line .result .shape) (at-grid-line .grid-line .result .rules) held f)
+    let f = fits (good c) in
+    let g = top f .grid-line .result in
+    (rooms-shape (g .shape) (g .side) (lent (top f)) (fine f), rooms-cells (g .shape) (g .side) (lent (top f)) (fine f))
 
 slice-aggregate-fill-rows : tie.Need-slice-aggregate-fill-rows
 slice-aggregate-fill-rows c = search needs
 
 fill-rows-requires : tie.Need-fill-rows-requires
-unfolding roomsFine
 fill-rows-requires c κs =
-    let at-if3 =
-    c .before .before .before .before .before .before .before .before .before .before .before .before .before .before .before .before .before in
-    let at-decide = at-if3 .before .before in
-    let at-if2 = at-decide .before in
-    let at-rooms-fine = at-if2 .before in
-    let at-if1 = at-rooms-fine .before .before in
-    let at-grid-line = at-if1 .before .before in
-    let start = at-grid-line .before .before .before .before .before .before .before .before in
-    let held = rooms (start .args .marks .now) (start .args .beds .now) (start .args .roughness .now) (start .args .depths .now)
-    (start .args .rain .now) (start .args .inflow .now) in
-    let f : roomsFine (at-grid-line .grid-line .result .shape) (at-grid-line .grid-line .result .rules) held ≡ true =
-    (holds-by (at-rooms-fine .rooms-fine .ensures) (at-if2 .if2 .left)) in
-    let few = rain-few (start .args .text .now)
-    (no-check _ (at-grid-line .grid-line .ensures) held (not-false _ (at-if1 .if1 .left)) f (at-decide .decide .ensures) (at-if3 .if3 .left)) in
-    let rows = rain-rows-at (at-decide .decide .ensures .body-is (at-if3 .if3 .left)) in
-    ((omega arith, plain-rain), (omega (arith, rows), omega (arith, few, rooms-tables (at-grid-line .grid-line .result .shape) (at-grid-line .grid-line .result .rules) held f .0, (at-decide .decide .ensures .body-is (at-if3 .if3 .left)) .rain-rows-are)))
+    let e = good (cells (c .before) .before) in
+    let f = fits e in
+    let g = top f .grid-line .result in
+    let few = rain-few (start (top f) .args .text .now) (checked e) in
+    let rows = rain-rows-at (body e) in
+    ((omega arith, plain-rain), (omega (arith, rows), omega (arith, few, rooms-tables (g .shape) (g .side) (lent (top f)) (fine f) .0, body e .rain-rows-are)))
 
 slice-aggregate-fill-rows-2 : tie.Need-slice-aggregate-fill-rows-2
 slice-aggregate-fill-rows-2 c = search needs
 
 fill-rows-requires-2 : tie.Need-fill-rows-requires-2
-unfolding roomsFine
 fill-rows-requires-2 c κs =
-    let at-if3 =
-    c .before .before .before .before .before .before .before .before .before .before .before .before .before .before .before .before .before .before .before .before .before .before
-    in
-    let at-decide = at-if3 .before .before in
-    let at-if2 = at-decide .before in
-    let at-rooms-fine = at-if2 .before in
-    let at-if1 = at-rooms-fine .before .before in
-    let at-grid-line = at-if1 .before .before in
-    let start = at-grid-line .before .before .before .before .before .before .before .before in
-    let held = rooms (start .args .marks .now) (start .args .beds .now) (start .args .roughness .now) (start .args .depths .now)
-    (start .args .rain .now) (start .args .inflow .now) in
-    let f : roomsFine (at-grid-line .grid-line .result .shape) (at-grid-line .grid-line .result .rules) held ≡ true =
-    (holds-by (at-rooms-fine .rooms-fine .ensures) (at-if2 .if2 .left)) in
-    let few = inflow-few (start .args .text .now)
-    (no-check _ (at-grid-line .grid-line .ensures) held (not-false _ (at-if1 .if1 .left)) f (at-decide .decide .ensures) (at-if3 .if3 .left)) in
-    let rows = inflow-rows-at (at-decide .decide .ensures .body-is (at-if3 .if3 .left)) in
-    ((omega arith, plain-inflow), (omega (arith, rows), omega (arith, few, rooms-tables (at-grid-line .grid-line .result .shape) (at-grid-line .grid-line .result .rules) held f .1, (at-decide .decide .ensures .body-is (at-if3 .if3 .left)) .inflow-rows-are)))
+    let e = good (filled (rain c) .before) in
+    let f = fits e in
+    let g = top f .grid-line .result in
+    let few = inflow-few (start (top f) .args .text .now) (checked e) in
+    let rows = inflow-rows-at (body e) in
+    ((omega arith, plain-inflow), (omega (arith, rows), omega (arith, few, rooms-tables (g .shape) (g .side) (lent (top f)) (fine f) .1, body e .inflow-rows-are)))
 
 same-length : tie.Need-same-length
-same-length c =
-    let at-fill-cells = c .before .before .before .before .before .before .before .before .before .before .before .before .before .before .before .before .before .before in
-    at-fill-cells .fill-cells .kept .1 .1 .1 .0
+same-length c = filled (rained c) .fill-cells .kept .1 .1 .1 .0
 
 same-length-2 : tie.Need-same-length-2
-same-length-2 c =
-    let at-fill-cells = c .before .before .before .before .before .before .before .before .before .before .before .before .before .before .before .before .before .before in
-    at-fill-cells .fill-cells .kept .1 .1 .1 .1 .0
+same-length-2 c = filled (rained c) .fill-cells .kept .1 .1 .1 .1 .0
 
 same-length-3 : tie.Need-same-length-3
-same-length-3 c =
-    let at-fill-cells = c .before .before .before .before .before .before .before .before .before .before .before .before .before .before .before .before .before .before in
-    at-fill-cells .fill-cells .kept .1 .1 .1 .1 .1 .0
+same-length-3 c = filled (rained c) .fill-cells .kept .1 .1 .1 .1 .1 .0
 
 same-length-4 : tie.Need-same-length-4
-same-length-4 c =
-    let at-fill-cells = c .before .before .before .before .before .before .before .before .before .before .before .before .before .before .before .before .before .before in
-    at-fill-cells .fill-cells .kept .1 .1 .1 .1 .1 .1 .0
+same-length-4 c = filled (rained c) .fill-cells .kept .1 .1 .1 .1 .1 .1 .0
 
 same-length-5 : tie.Need-same-length-5
-same-length-5 c = c .before .before .before .before .before .before .before .fill-rows .kept .1 .1 .1 .1 .1 .0
+same-length-5 c = rained c .fill-rows .kept .1 .1 .1 .1 .1 .0
 
 same-length-6 : tie.Need-same-length-6
-same-length-6 c = c .before .before .fill-rows2 .kept .1 .1 .1 .1 .1 .0
+same-length-6 c = done c .fill-rows2 .kept .1 .1 .1 .1 .1 .0
 
 returns-4 : tie.Need-returns-4
-unfolding roomsFine
 returns-4 c =
-    let at-fill-rows2 = c .before .before in
-    let at-fill-rows = at-fill-rows2 .before .before .before .before .before in
-    let at-fill-cells = at-fill-rows .before .before .before .before .before .before .before .before .before .before .before in
-    let at-if3 = at-fill-cells .before .before .before .before .before .before .before in
-    let at-decide = at-if3 .before .before in
-    let at-if2 = at-decide .before in
-    let at-rooms-fine = at-if2 .before in
-    let at-if1 = at-rooms-fine .before .before in
-    let at-grid-line = at-if1 .before .before in
-    let start = at-grid-line .before .before .before .before .before .before .before .before in
-    let held = rooms (start .args .marks .now) (start .args .beds .now) (start .args .roughness .now) (start .args .depths .now) (start .args .rain .now) (start .args .inflow .now) in
-    let f : roomsFine (at-grid-line .grid-line .result .shape) (at-grid-line .grid-line .result .rules) held ≡ true =
-    (holds-by (at-rooms-fine .rooms-fine .ensures) (at-if2 .if2 .left)) in read-well _ (at-grid-line .grid-line .ensures) held
-    (not-false _ (at-if1 .if1 .left)) f (at-decide .decide .ensures) (at-if3 .if3 .left) refl (at-fill-cells .fill-cells .ensures)
-    (at-fill-rows .fill-rows .ensures) (at-fill-rows2 .fill-rows2 .ensures)
+    let e = good (filled (rained c) .before) in
+    let f = fits e in
+    read-well _ (top f .grid-line .ensures) (lent (top f)) (top-found (found (f .before))) (fine f) (decided e .decide .ensures)
+    (e .if3 .left) (filled (rained c) .fill-cells .ensures) (rained c .fill-rows .ensures) (done c .fill-rows2 .ensures)
 
 pub read-spec : {M : Type 1} → statement M
 read-spec =

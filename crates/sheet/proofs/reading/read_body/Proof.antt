@@ -1,13 +1,67 @@
 -- `sheet::reading::read_body` meets its contract: reading stops at the first bad line.
 -- Assumes nothing.
-use mathlib.Core.Path.{ap, _∙_}
-use Prim.Native.Nat.{ℕ, _+_}
+use mathlib.Core.Bool.{true}
+use mathlib.Core.Path.{_≡_, ap, _∙_}
+use Prim.Native.Nat.{ℕ, _+_, _≤_}
 use native.Mathlib.Omega.{arith}
 use borrow.Author.Tests.{not-true, not-false}
 use borrow.Author.Needs.{needs}
-use Rattle.sheet.proofs.ReadLaws.{body-run, body-cells, body-rest, body-good, body-room, plain-rain, plain-inflow}
+use Rattle.grid.specs.Squares.{squares}
+use Rattle.sheet.specs.Sheet.{firstCell}
+use Rattle.sheet.proofs.ReadLaws.{HeadRead, body-run, body-cells, body-rest, body-good, body-room, plain-rain, plain-inflow}
 use Rattle.sheet.proofs.reading.read_body.Statement.{statement}
 use Rattle.sheet.proofs.reading.read_body.Tie as tie
+
+-- the places, each by one after it
+abbrev start : tie.After-run-line → tie.Start
+start c = c .before .before .before .before .before .before
+
+abbrev run : tie.Else1 → tie.After-run-line
+run c = c .before .before .before
+
+abbrev found : tie.After-squares-of → tie.Else1
+found c = c .before .before
+
+abbrev counted : tie.After-fill-cells → tie.After-squares-of
+counted c = c .before .before .before .before .before
+
+abbrev cells : tie.After-struct-known2 → tie.After-fill-cells
+cells c = c .before .before .before .before .before .before .before .before .before
+
+abbrev all-there : tie.After-count-rows → tie.Else2
+all-there c = c .before .before
+
+abbrev rain : tie.After-count-rows2 → tie.After-count-rows
+rain c = c .before .before
+
+abbrev more : tie.After-struct-known6 → tie.After-count-rows2
+more c = c .before .before .before .before
+
+-- the same for the places where most is asked
+abbrev filled : tie.After-count-rows2 → tie.After-fill-cells
+filled c = cells (all-there (rain c) .before)
+
+abbrev begun : tie.After-fill-cells → tie.Start
+begun c = start (run (found (counted c)))
+
+-- what is known there
+head : (c : tie.After-run-line) → HeadRead (start c .args .text .now) (start c .args .top) (c .run-line .result)
+head c = record { grid-is = start c .pre .0 .0; grid-found = start c .pre .0 .1; run-is = c .run-line .ensures }
+
+run-found : (c : tie.Else1) → run c .run-line .result .found ≡ true
+run-found c = not-false _ (c .if1 .left)
+
+enough : (c : tie.After-count-rows2) → squares (begun (filled c) .args .top .shape) ≤ filled c .fill-cells .result .count
+enough c = omega (arith, counted (filled c) .squares-of .ensures, all-there (rain c) .if2 .left)
+
+room :
+    (c : tie.After-count-rows2) →
+    squares (begun (filled c) .args .top .shape) + rain c .count-rows .result .count + c .count-rows2 .result .count + 2 ≤
+    c .count-rows2 .result .next
+room c =
+    let f = filled c in
+    let e = found (counted f) in
+    body-room (head (run e)) (run-found e) (f .fill-cells .ensures) (enough c) (rain c .count-rows .ensures) (c .count-rows2 .ensures)
 
 run-line-requires : tie.Need-run-line-requires
 run-line-requires c κs = search needs
@@ -17,10 +71,8 @@ bad-body-requires c κs = search needs
 
 returns : tie.Need-returns
 returns c =
-    let at-run-line = c .before .before .before .before in
-    let start = at-run-line .before .before .before .before .before .before in
-    body-run _ (start .pre .0 .0) (start .pre .0 .1) (at-run-line .run-line .ensures) (not-true _ (c .before .if1 .taken))
-    (c .bad-body .ensures)
+    let r = c .before .before .before .before in
+    body-run (head r) (not-true _ (c .before .if1 .taken)) (c .bad-body .ensures)
 
 squares-of-requires : tie.Need-squares-of-requires
 squares-of-requires c κs = search needs
@@ -30,9 +82,8 @@ fill-cells-requires c κs = search needs
 
 add-bad-body : tie.Need-add-bad-body
 add-bad-body c =
-    let at-squares-of = c .before .before .before .before .before .before .before .before .before .before .before .before .before .before .before .before in
-    let start = at-squares-of .before .before .before .before .before .before .before .before .before .before .before in
-    omega (arith, c .before .if2 .taken, at-squares-of .squares-of .ensures, start .pre .0 .2 .few)
+    let f = cells (c .before .before) in
+    omega (arith, c .before .if2 .taken, counted f .squares-of .ensures, begun f .pre .0 .2 .few)
 
 bad-body-requires-2 : tie.Need-bad-body-requires-2
 bad-body-requires-2 c κs = search needs
@@ -51,15 +102,10 @@ same-length-4 c = search needs
 
 returns-2 : tie.Need-returns-2
 returns-2 c =
-    let at-if2 = c .before .before in
-    let at-fill-cells = at-if2 .before .before .before .before .before .before .before .before .before .before in
-    let at-squares-of = at-fill-cells .before .before .before .before .before in
-    let at-if1 = at-squares-of .before .before in
-    let at-run-line = at-if1 .before .before .before in
-    let start = at-run-line .before .before .before .before .before .before in
-    body-cells _ (start .pre .0 .0) (start .pre .0 .1) (at-run-line .run-line .ensures) (not-false _ (at-if1 .if1 .left))
-    (at-fill-cells .fill-cells .ensures) (omega (arith, at-squares-of .squares-of .ensures, at-if2 .if2 .taken))
-    (c .bad-body2 .ensures)
+    let f = cells (c .before .before .before) in
+    let e = found (counted f) in
+    body-cells (head (run e)) (run-found e) (f .fill-cells .ensures)
+    (omega (arith, counted f .squares-of .ensures, c .before .before .if2 .taken)) (c .bad-body2 .ensures)
 
 slice-aggregate-count-rows : tie.Need-slice-aggregate-count-rows
 slice-aggregate-count-rows c = search needs
@@ -75,117 +121,63 @@ count-rows-requires-2 c κs = (omega arith, plain-inflow)
 
 add-bad-body-2 : tie.Need-add-bad-body-2
 add-bad-body-2 c =
-    let at-count-rows2 = c .before .before .before in
-    let at-count-rows = at-count-rows2 .before .before in
-    let at-if2 = at-count-rows .before .before in
-    let at-fill-cells = at-if2 .before .before .before .before .before .before .before .before .before .before in
-    let at-squares-of = at-fill-cells .before .before .before .before .before in
-    let at-if1 = at-squares-of .before .before in
-    let at-run-line = at-if1 .before .before .before in
-    let start = at-run-line .before .before .before .before .before .before in
-    let g = (start .good) in omega
-    (arith, at-squares-of .squares-of .ensures, c .before .if3 .taken, body-room _ (start .pre .0 .0) (start .pre .0 .1) (at-run-line .run-line .ensures) (not-false _ (at-if1 .if1 .left)) (at-fill-cells .fill-cells .ensures) (omega (arith, at-squares-of .squares-of .ensures, at-if2 .if2 .left)) (at-count-rows .count-rows .ensures) (at-count-rows2 .count-rows2 .ensures))
+    let rows = c .before .before .before in
+    let g = begun (filled rows) .good in
+    omega (arith, counted (filled rows) .squares-of .ensures, c .before .if3 .taken, room rows)
 
 add-bad-body-3 : tie.Need-add-bad-body-3
 add-bad-body-3 c =
-    let at-if3 = c .before .before in
-    let at-count-rows2 = at-if3 .before .before in
-    let at-count-rows = at-count-rows2 .before .before in
-    let at-if2 = at-count-rows .before .before in
-    let at-fill-cells = at-if2 .before .before .before .before .before .before .before .before .before .before in
-    let at-squares-of = at-fill-cells .before .before .before .before .before in
-    let at-if1 = at-squares-of .before .before in
-    let at-run-line = at-if1 .before .before .before in
-    let start = at-run-line .before .before .before .before .before .before in
-    let g = (start .good) in omega
-    (arith, at-squares-of .squares-of .ensures, at-if3 .if3 .taken, body-room _ (start .pre .0 .0) (start .pre .0 .1) (at-run-line .run-line .ensures) (not-false _ (at-if1 .if1 .left)) (at-fill-cells .fill-cells .ensures) (omega (arith, at-squares-of .squares-of .ensures, at-if2 .if2 .left)) (at-count-rows .count-rows .ensures) (at-count-rows2 .count-rows2 .ensures))
+    let g = begun (filled (more c)) .good in
+    omega (arith, counted (filled (more c)) .squares-of .ensures, c .before .before .if3 .taken, room (more c))
 
 add-bad-body-4 : tie.Need-add-bad-body-4
 add-bad-body-4 c =
-    let at-if3 = c .before .before in
-    let at-count-rows2 = at-if3 .before .before in
-    let at-count-rows = at-count-rows2 .before .before in
-    let at-if2 = at-count-rows .before .before in
-    let at-fill-cells = at-if2 .before .before .before .before .before .before .before .before .before .before in
-    let at-squares-of = at-fill-cells .before .before .before .before .before in
-    let at-if1 = at-squares-of .before .before in
-    let at-run-line = at-if1 .before .before .before in
-    let start = at-run-line .before .before .before .before .before .before in
-    let g = (start .good) in omega
-    (arith, at-squares-of .squares-of .ensures, at-if3 .if3 .taken, body-room _ (start .pre .0 .0) (start .pre .0 .1) (at-run-line .run-line .ensures) (not-false _ (at-if1 .if1 .left)) (at-fill-cells .fill-cells .ensures) (omega (arith, at-squares-of .squares-of .ensures, at-if2 .if2 .left)) (at-count-rows .count-rows .ensures) (at-count-rows2 .count-rows2 .ensures))
+    let g = begun (filled (more c)) .good in
+    omega (arith, counted (filled (more c)) .squares-of .ensures, c .before .before .if3 .taken, room (more c))
 
 bad-body-requires-3 : tie.Need-bad-body-requires-3
 bad-body-requires-3 c κs = search needs
 
 same-length-5 : tie.Need-same-length-5
-same-length-5 c =
-    let at-fill-cells = c .before .before .before .before .before .before .before .before .before .before .before .before .before .before .before .before .before .before .before in
-    at-fill-cells .fill-cells .kept .1 .1 .1 .0
+same-length-5 c = filled (more (c .before)) .fill-cells .kept .1 .1 .1 .0
 
 same-length-6 : tie.Need-same-length-6
-same-length-6 c =
-    let at-fill-cells = c .before .before .before .before .before .before .before .before .before .before .before .before .before .before .before .before .before .before .before in
-    at-fill-cells .fill-cells .kept .1 .1 .1 .1 .0
+same-length-6 c = filled (more (c .before)) .fill-cells .kept .1 .1 .1 .1 .0
 
 same-length-7 : tie.Need-same-length-7
-same-length-7 c =
-    let at-fill-cells = c .before .before .before .before .before .before .before .before .before .before .before .before .before .before .before .before .before .before .before in
-    at-fill-cells .fill-cells .kept .1 .1 .1 .1 .1 .0
+same-length-7 c = filled (more (c .before)) .fill-cells .kept .1 .1 .1 .1 .1 .0
 
 same-length-8 : tie.Need-same-length-8
-same-length-8 c =
-    let at-fill-cells = c .before .before .before .before .before .before .before .before .before .before .before .before .before .before .before .before .before .before .before in
-    at-fill-cells .fill-cells .kept .1 .1 .1 .1 .1 .1 .0
+same-length-8 c = filled (more (c .before)) .fill-cells .kept .1 .1 .1 .1 .1 .1 .0
 
 returns-3 : tie.Need-returns-3
 returns-3 c =
-    let at-if3 = c .before .before .before in
-    let at-count-rows2 = at-if3 .before .before in
-    let at-count-rows = at-count-rows2 .before .before in
-    let at-if2 = at-count-rows .before .before in
-    let at-fill-cells = at-if2 .before .before .before .before .before .before .before .before .before .before in
-    let at-squares-of = at-fill-cells .before .before .before .before .before in
-    let at-if1 = at-squares-of .before .before in
-    let at-run-line = at-if1 .before .before .before in
-    let start = at-run-line .before .before .before .before .before .before in
-    body-rest _ (start .pre .0 .0) (start .pre .0 .1) (at-run-line .run-line .ensures) (not-false _ (at-if1 .if1 .left))
-    (at-fill-cells .fill-cells .ensures) (omega (arith, at-squares-of .squares-of .ensures, at-if2 .if2 .left))
-    (at-count-rows .count-rows .ensures) (at-count-rows2 .count-rows2 .ensures) (at-if3 .if3 .taken)
-    (c .bad-body3 .ensures ∙ ap (λ (k : ℕ). k + at-count-rows .count-rows .result .count + at-count-rows2 .count-rows2 .result .count + 3) (at-squares-of .squares-of .ensures))
+    let rows = more (c .before) in
+    let f = filled rows in
+    let e = found (counted f) in
+    body-rest (head (run e)) (run-found e) (f .fill-cells .ensures) (enough rows) (rain rows .count-rows .ensures)
+    (rows .count-rows2 .ensures) (c .before .before .before .if3 .taken)
+    (c .bad-body3 .ensures ∙ ap (λ (k : ℕ). k + rain rows .count-rows .result .count + rows .count-rows2 .result .count + firstCell) (counted f .squares-of .ensures))
 
 same-length-9 : tie.Need-same-length-9
-same-length-9 c =
-    let at-fill-cells = c .before .before .before .before .before .before .before .before .before .before .before .before .before .before .before .before in
-    at-fill-cells .fill-cells .kept .1 .1 .1 .0
+same-length-9 c = filled (c .before .before) .fill-cells .kept .1 .1 .1 .0
 
 same-length-10 : tie.Need-same-length-10
-same-length-10 c =
-    let at-fill-cells = c .before .before .before .before .before .before .before .before .before .before .before .before .before .before .before .before in
-    at-fill-cells .fill-cells .kept .1 .1 .1 .1 .0
+same-length-10 c = filled (c .before .before) .fill-cells .kept .1 .1 .1 .1 .0
 
 same-length-11 : tie.Need-same-length-11
-same-length-11 c =
-    let at-fill-cells = c .before .before .before .before .before .before .before .before .before .before .before .before .before .before .before .before in
-    at-fill-cells .fill-cells .kept .1 .1 .1 .1 .1 .0
+same-length-11 c = filled (c .before .before) .fill-cells .kept .1 .1 .1 .1 .1 .0
 
 same-length-12 : tie.Need-same-length-12
-same-length-12 c =
-    let at-fill-cells = c .before .before .before .before .before .before .before .before .before .before .before .before .before .before .before .before in
-    at-fill-cells .fill-cells .kept .1 .1 .1 .1 .1 .1 .0
+same-length-12 c = filled (c .before .before) .fill-cells .kept .1 .1 .1 .1 .1 .1 .0
 
 returns-4 : tie.Need-returns-4
 returns-4 c =
-    let at-count-rows2 = c .before .before in
-    let at-count-rows = at-count-rows2 .before .before in
-    let at-if2 = at-count-rows .before .before in
-    let at-fill-cells = at-if2 .before .before .before .before .before .before .before .before .before .before in
-    let at-squares-of = at-fill-cells .before .before .before .before .before in
-    let at-if1 = at-squares-of .before .before in
-    let at-run-line = at-if1 .before .before .before in
-    let start = at-run-line .before .before .before .before .before .before in
-    body-good _ (start .pre .0 .0) (start .pre .0 .1) (at-run-line .run-line .ensures) (not-false _ (at-if1 .if1 .left))
-    (at-fill-cells .fill-cells .ensures) (omega (arith, at-squares-of .squares-of .ensures, at-if2 .if2 .left))
-    (at-count-rows .count-rows .ensures) (at-count-rows2 .count-rows2 .ensures) (omega arith)
+    let rows = c .before .before in
+    let f = filled rows in
+    let e = found (counted f) in
+    body-good (head (run e)) (run-found e) (f .fill-cells .ensures) (enough rows) (rain rows .count-rows .ensures)
+    (rows .count-rows2 .ensures) (omega arith)
 
 pub read-body-spec : {M : Type 1} → statement M
 read-body-spec =

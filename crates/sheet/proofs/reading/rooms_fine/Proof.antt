@@ -1,7 +1,10 @@
 -- `sheet::reading::rooms_fine` meets its contract: each test decides where those before it hold.
 -- Assumes nothing.
-use mathlib.Core.Path.{refl, sym}
+use mathlib.Core.Bool.{true, false}
+use mathlib.Core.Path.{_≡_, refl, sym}
+use Prim.Native.Nat.{ℕ, _≤_, _<_}
 use native.Mathlib.Omega.{arith}
+use lib.Dec.{leb}
 use borrow.Author.Tests.{le-leb, lt-leb}
 use borrow.Author.Needs.{needs}
 use Rattle.reckon.proofs.TestLaws.{every-fails}
@@ -10,6 +13,42 @@ use Rattle.grid.proofs.SquareLaws.{ranges-of-fine}
 use Rattle.flood.proofs.CheckLaws.{fails-by, holds-by, every-decided}
 use Rattle.sheet.proofs.reading.rooms_fine.Statement.{statement}
 use Rattle.sheet.proofs.reading.rooms_fine.Tie as tie
+
+-- the places, each by one after it
+abbrev side : tie.After-squares-of → tie.Else2
+side c = c .before
+
+abbrev shape : tie.Else2 → tie.Else1
+shape c = c .before .before
+
+abbrev start : tie.Else1 → tie.Start
+start c = c .before .before
+
+abbrev marks : tie.Else3 → tie.After-squares-of
+marks c = c .before .before
+
+abbrev beds : tie.Else4 → tie.Else3
+beds c = c .before .before
+
+abbrev roughness : tie.Else5 → tie.Else4
+roughness c = c .before .before
+
+abbrev depths : tie.Else6 → tie.Else5
+depths c = c .before .before
+
+abbrev rain : tie.Else7 → tie.Else6
+rain c = c .before .before
+
+-- the squares that are counted, of which grid
+abbrev S : tie.After-squares-of → ℕ
+S c = squares (start (shape (side c)) .args .shape)
+
+-- a room that is too small, and one that is not
+small : (c : tie.After-squares-of) (room : ℕ) → room < c .squares-of .result → leb (S c) room ≡ false
+small c room l = lt-leb (S c) room (omega (arith, l, c .squares-of .ensures))
+
+enough : (c : tie.After-squares-of) (room : ℕ) → c .squares-of .result ≤ room → leb (S c) room ≡ true
+enough c room l = le-leb (S c) room (omega (arith, l, c .squares-of .ensures))
 
 shape-fine-requires : tie.Need-shape-fine-requires
 shape-fine-requires c κs = search needs
@@ -24,53 +63,35 @@ returns-2 : tie.Need-returns-2
 returns-2 c = sym (every-fails _ 1 (fails-by (c .before .side-fine .ensures) (c .if2 .taken)))
 
 squares-of-requires : tie.Need-squares-of-requires
-squares-of-requires c κs = ranges-of-fine _ (holds-by (c .before .before .before .shape-fine .ensures) (c .before .before .if1 .left))
+squares-of-requires c κs = ranges-of-fine _ (holds-by (shape c .before .shape-fine .ensures) (shape c .if1 .left))
 
 returns-3 : tie.Need-returns-3
-returns-3 c =
-    let at-squares-of = c .before .before in
-    let start = at-squares-of .before .before .before .before .before in
-    sym
-    (every-fails _ 2 (lt-leb (squares (start .args .shape)) (start .args .lent .marks) (omega (arith, c .if3 .taken, at-squares-of .squares-of .ensures))))
+returns-3 c = sym (every-fails _ 2 (small (c .before .before) _ (c .if3 .taken)))
 
 returns-4 : tie.Need-returns-4
-returns-4 c =
-    let at-squares-of = c .before .before .before .before in
-    let start = at-squares-of .before .before .before .before .before in
-    sym
-    (every-fails _ 3 (lt-leb (squares (start .args .shape)) (start .args .lent .beds) (omega (arith, c .if4 .taken, at-squares-of .squares-of .ensures))))
+returns-4 c = sym (every-fails _ 3 (small (marks (c .before .before)) _ (c .if4 .taken)))
 
 returns-5 : tie.Need-returns-5
-returns-5 c =
-    let at-squares-of = c .before .before .before .before .before .before in
-    let start = at-squares-of .before .before .before .before .before in
-    sym
-    (every-fails _ 4 (lt-leb (squares (start .args .shape)) (start .args .lent .roughness) (omega (arith, c .if5 .taken, at-squares-of .squares-of .ensures))))
+returns-5 c = sym (every-fails _ 4 (small (marks (beds (c .before .before))) _ (c .if5 .taken)))
 
 returns-6 : tie.Need-returns-6
-returns-6 c =
-    let at-squares-of = c .before .before .before .before .before .before .before .before in
-    let start = at-squares-of .before .before .before .before .before in
-    sym
-    (every-fails _ 5 (lt-leb (squares (start .args .shape)) (start .args .lent .depths) (omega (arith, c .if6 .taken, at-squares-of .squares-of .ensures))))
+returns-6 c = sym (every-fails _ 5 (small (marks (beds (roughness (c .before .before)))) _ (c .if6 .taken)))
 
 returns-7 : tie.Need-returns-7
 returns-7 c = sym (every-fails _ 6 (lt-leb _ _ (c .if7 .taken)))
 
 returns-8 : tie.Need-returns-8
 returns-8 c =
-    let at-if6 = c .before .before .before in
-    let at-if5 = at-if6 .before .before in
-    let at-if4 = at-if5 .before .before in
-    let at-if3 = at-if4 .before .before in
-    let at-squares-of = at-if3 .before .before in
-    let at-if2 = at-squares-of .before in
-    let at-side-fine = at-if2 .before in
-    let at-if1 = at-side-fine .before in
-    let at-shape-fine = at-if1 .before in
-    let start = at-shape-fine .before in
+    let e7 = c .before in
+    let e6 = rain e7 in
+    let e5 = depths e6 in
+    let e4 = roughness e5 in
+    let e3 = beds e4 in
+    let n = marks e3 in
+    let e2 = side n in
+    let e1 = shape e2 in
     every-decided _ 7 _ refl
-    (λ t. ((holds-by (at-shape-fine .shape-fine .ensures) (at-if1 .if1 .left)), ((holds-by (at-side-fine .side-fine .ensures) (at-if2 .if2 .left)), (le-leb (squares (start .args .shape)) (start .args .lent .marks) (omega (arith, at-if3 .if3 .left, at-squares-of .squares-of .ensures)), (le-leb (squares (start .args .shape)) (start .args .lent .beds) (omega (arith, at-if4 .if4 .left, at-squares-of .squares-of .ensures)), (le-leb (squares (start .args .shape)) (start .args .lent .roughness) (omega (arith, at-if5 .if5 .left, at-squares-of .squares-of .ensures)), (le-leb (squares (start .args .shape)) (start .args .lent .depths) (omega (arith, at-if6 .if6 .left, at-squares-of .squares-of .ensures)), (le-leb _ _ (c .before .if7 .left), (t, tt)))))))))
+    (λ t. ((holds-by (e1 .before .shape-fine .ensures) (e1 .if1 .left)), ((holds-by (e2 .before .side-fine .ensures) (e2 .if2 .left)), (enough n _ (e3 .if3 .left), (enough n _ (e4 .if4 .left), (enough n _ (e5 .if5 .left), (enough n _ (e6 .if6 .left), (le-leb _ _ (e7 .if7 .left), (t, tt)))))))))
 
 pub rooms-fine-spec : {M : Type 1} → statement M
 rooms-fine-spec =

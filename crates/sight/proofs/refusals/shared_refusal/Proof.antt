@@ -4,7 +4,7 @@ use mathlib.Core.Path.{sym, _∙_}
 use borrow.Author.Tests.{not-true, not-false}
 use borrow.Author.Needs.{needs}
 use Rattle.reckon.proofs.TestLaws.{refusal-here, refusal-later, passed-refusal}
-use Rattle.sight.specs.Refusals.{sharedRows}
+use Rattle.sight.specs.Refusals.{sharedRefusals}
 use Rattle.sight.proofs.RefusalLaws.{sized}
 use Rattle.sight.proofs.refusals.shared_refusal.Statement.{statement}
 use Rattle.sight.proofs.refusals.shared_refusal.Tie as tie
@@ -13,11 +13,11 @@ sizes-fine-requires : tie.Need-sizes-fine-requires
 sizes-fine-requires c κs = search needs
 
 returns : tie.Need-returns
-unfolding sharedRows
+unfolding sharedRefusals
 returns c = sym (refusal-here 1 _ (sym (c .before .sizes-fine .ensures) ∙ not-true _ (c .if1 .taken)))
 
 returns-2 : tie.Need-returns-2
-unfolding sharedRows
+unfolding sharedRefusals
 returns-2 c =
     let at-sizes-fine = c .before .before in
     sym (refusal-later 1 _ (sym (at-sizes-fine .sizes-fine .ensures) ∙ not-false _ (c .before .if1 .left)) ∙ refusal-here 1 _
@@ -29,7 +29,7 @@ marks-fine-requires c κs =
     record { fine = sizes .fine; whole = sizes .marks-long }
 
 returns-3 : tie.Need-returns-3
-unfolding sharedRows
+unfolding sharedRefusals
 returns-3 c =
     let at-if2 = c .before .before in
     let at-if1 = at-if2 .before in
@@ -46,7 +46,7 @@ depths-fine-requires c κs =
     sized _ _ (sym (at-sizes-fine .sizes-fine .ensures) ∙ not-false _ (at-if1 .if1 .left))
 
 returns-4 : tie.Need-returns-4
-unfolding sharedRows
+unfolding sharedRefusals
 returns-4 c =
     let at-if3 = c .before .before in
     let at-marks-fine = at-if3 .before in
@@ -60,7 +60,7 @@ returns-4 c =
     (sym (c .before .depths-fine .ensures) ∙ not-true _ (c .if4 .taken)))))
 
 returns-5 : tie.Need-returns-5
-unfolding sharedRows
+unfolding sharedRefusals
 returns-5 c =
     let at-if3 = c .before .before in
     let at-marks-fine = at-if3 .before in

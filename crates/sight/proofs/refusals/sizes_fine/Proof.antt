@@ -6,7 +6,7 @@ use borrow.Author.Tests.{not-true, not-false}
 use borrow.Author.Needs.{needs}
 use Rattle.reckon.proofs.TestLaws.{every-fails}
 use Rattle.grid.proofs.SquareLaws.{ranges-of-fine}
-use Rattle.ledger.specs.TakeBack.{oneEach}
+use Rattle.ledger.specs.Checks.{oneEach}
 use Rattle.sight.proofs.RefusalLaws.{every-last}
 use Rattle.sight.proofs.refusals.sizes_fine.Statement.{statement}
 use Rattle.sight.proofs.refusals.sizes_fine.Tie as tie

@@ -8,13 +8,14 @@ use lib.ListN.{length, getD}
 use borrow.Author.Needs.{needs}
 use Rattle.reckon.specs.Lists.{sumBelow}
 use Rattle.reckon.proofs.ListLaws.{sum-none, sum-more, sum-whole}
+use Rattle.grid.specs.Masks.{bits}
 use Rattle.sight.specs.WetRows.{onesOver}
 use denote.Ref.{now}
 use Rattle.sight.proofs.wet_rows.ones_in.Statement.{statement}
 use Rattle.sight.proofs.wet_rows.ones_in.Tie as tie
 
 abbrev Inv-loop : tie.InvT-loop
-Inv-loop rows count total₀ row₀ total row = (row ≤ length rows) × (total ≤ 64 * row) × (total ≡ sumBelow row (λ k. ones (getD rows k 0)))
+Inv-loop rows count total₀ row₀ total row = (row ≤ length rows) × (total ≤ bits * row) × (total ≡ sumBelow row (λ k. ones (getD rows k 0)))
 
 abbrev μ-loop : tie.MeasureT-loop
 μ-loop rows count total₀ row₀ total row = length rows - row
@@ -35,7 +36,7 @@ add-total : tie.Need-add-total Inv-loop μ-loop
 add-total c =
     let at-loop = c .before .before .before in
     let start = at-loop .before .before in
-    let few = ones-le 64 (getD (now (start .args .rows)) (at-loop .loop .row) 0)
+    let few = ones-le bits (getD (now (start .args .rows)) (at-loop .loop .row) 0)
     (omega (arith, c .before .shared-slice-known2 .given (at-loop .loop .row))) in
     omega (arith, c .ones .ensures)
 
@@ -49,7 +50,7 @@ loop-again : tie.Need-loop-again Inv-loop μ-loop
 loop-again c =
     let at-loop = c .before .before .before in
     let start = at-loop .before .before in
-    let few = ones-le 64 (getD (now (start .args .rows)) (at-loop .loop .row) 0)
+    let few = ones-le bits (getD (now (start .args .rows)) (at-loop .loop .row) 0)
     (omega (arith, c .before .shared-slice-known2 .given (at-loop .loop .row))) in
     (omega arith, omega (arith, c .ones .ensures), ap₂ _+_ (at-loop .loop .inv .2) (c .ones .ensures) ∙ sym (sum-more _ _))
 

@@ -4,7 +4,8 @@ use mathlib.Core.Path.{sym, _∙_}
 use native.Mathlib.Omega.{arith}
 use borrow.Author.Needs.{needs}
 use denote.Ref.{now}
-use Rattle.sight.proofs.WetLaws.{masks-long, wet-refused, wet-counted, wet-lent}
+use Rattle.grid.proofs.MaskLaws.{masks-long}
+use Rattle.sight.proofs.WetLaws.{wet-refused, wet-counted, wet-lent}
 use Rattle.sight.proofs.wet_rows.wet_rows.Statement.{statement}
 use Rattle.sight.proofs.wet_rows.wet_rows.Tie as tie
 
@@ -25,7 +26,7 @@ ones-in-requires c κs =
     let start = at-wet-refusal .before .before .before .before in
     omega (
       arith,
-      masks-long _ _ _ (at-mask-rows .mask-rows .ensures),
+      masks-long _ _ _ _ (at-mask-rows .mask-rows .ensures),
       wet-lent _ _ _ (now (start .args .rows))
           (at-wet-refusal .wet-refusal .ensures) (at-if1 .if1 .left) .fine .rows-high,
     )
@@ -36,7 +37,7 @@ same-length c =
     let at-if1 = at-mask-rows .before .before in
     let at-wet-refusal = at-if1 .before in
     let start = at-wet-refusal .before .before .before .before in
-    masks-long _ _ _ (at-mask-rows .mask-rows .ensures) ∙ sym
+    masks-long _ _ _ _ (at-mask-rows .mask-rows .ensures) ∙ sym
     (wet-lent _ _ _ (now (start .args .rows)) (at-wet-refusal .wet-refusal .ensures) (at-if1 .if1 .left) .rows-long)
 
 returns-2 : tie.Need-returns-2

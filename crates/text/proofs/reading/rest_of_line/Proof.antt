@@ -4,7 +4,7 @@ use mathlib.Core.Path.{sym, ap, _∙_}
 use native.Mathlib.Omega.{arith}
 use borrow.Author.Needs.{needs}
 use borrow.Author.Tests.{not-true, not-false}
-use Rattle.text.specs.Reading.{newline, ended, readRest, asFields}
+use Rattle.text.specs.Reading.{newline, lineEnded, readRest, asFields}
 use Rattle.text.proofs.ReadingLaws.{unfound, unended, ended-found, byte-within}
 use Rattle.text.proofs.reading.rest_of_line.Statement.{statement}
 use Rattle.text.proofs.reading.rest_of_line.Tie as tie
@@ -16,11 +16,11 @@ nothing-requires : tie.Need-nothing-requires
 nothing-requires c κs = search needs
 
 returns : tie.Need-returns
-unfolding readRest ended
+unfolding readRest lineEnded
 returns c =
     let a = c .before .before .before .before .before .args in
     c .nothing .ensures
-    ∙ ap (λ r. asFields (a .at) (ended (a .text .now) r))
+    ∙ ap (λ r. asFields (a .at) (lineEnded (a .text .now) r))
     (sym (unfound _ _ (c .before .before .before .fields-at .ensures) (not-true _ (c .before .if1 .taken))))
 
 byte-is-requires : tie.Need-byte-is-requires

@@ -1,0 +1,3 @@
+pub mod MeadowLaws
+pub mod PrintLaws
+pub mod RunLaws

@@ -1,0 +1,243 @@
+-- Laws of what is printed: how long it can get, and one piece after another.
+-- Assumes nothing.
+use mathlib.Core.Path.{_≡_, sym, ap, subst, _∙_}
+use mathlib.Core.Bool.{true, false}
+use mathlib.Core.List.{List, [], _∷_, _++_}
+use Prim.Native.Nat.{ℕ, zero, suc, _+_, _*_, _/_, _%_, _^_, _≤_, _<_}
+use native.Mathlib.Nat.{le-refl, not-suc-le-zero, le-of-suc-le-suc, div-le-self, mod-le, mul-suc}
+use native.Mathlib.Omega.{arith}
+use lib.ListN.{length, getD, length-append}
+use borrow.Author.Tests.{eq-eqb, ne-eqb}
+use Rattle.reckon.specs.Lists.{joined, placed}
+use Rattle.reckon.proofs.TestLaws.{pick-true, pick-false, pick-both}
+use Rattle.reckon.proofs.ListLaws.{joined-none, joined-more}
+use Rattle.grid.specs.Squares.{squares, mostSquares}
+use Rattle.ledger.specs.Runs.{Plan, World, world}
+use Rattle.ledger.specs.Flows.{shut}
+use Rattle.ledger.specs.declared.runs.Run.{Run}
+use Rattle.flood.specs.Run.{ended}
+use Rattle.text.specs.Writing.{lineText, Wrote}
+use Rattle.text.proofs.ReadingLaws.{by-lt}
+use Rattle.text.proofs.WritingLaws.{fields-text-short, line-text-long, placed-none, wrote-both, wrote-length}
+use Rattle.sheet.specs.Lines.{cellWord}
+use Rattle.answer.specs.Printed.{mostRefused, refusedWord, outWord, stepsWord, clockWord, refusedText, cellText, cellsText, madeText}
+use Rattle.answer.specs.Program.{mostPrinted, programSquares, endedText, Prints}
+
+-- ---- how long a line can get
+
+one-below : (n a : ℕ) → a < n → (i : ℕ) → i < 1 → getD (a ∷ []) i 0 < n
+one-below n a h zero l = h
+one-below n a h (suc i) l = absurd (not-suc-le-zero (le-of-suc-le-suc l))
+
+two-below : (n a b : ℕ) → a < n → b < n → (i : ℕ) → i < 2 → getD (a ∷ b ∷ []) i 0 < n
+two-below n a b h g zero l = h
+two-below n a b h g (suc i) l = one-below n b g i (le-of-suc-le-suc l)
+
+three-below : (n a b c : ℕ) → a < n → b < n → c < n → (i : ℕ) → i < 3 → getD (a ∷ b ∷ c ∷ []) i 0 < n
+three-below n a b c h g k zero l = h
+three-below n a b c h g k (suc i) l = two-below n b c g k i (le-of-suc-le-suc l)
+
+pub refused-short : (number line : ℕ) → number < 2 ^ 64 → line < 2 ^ 64 → length (refusedText number line) ≤ mostRefused
+unfolding refusedText
+refused-short number line h g =
+    omega (
+      arith,
+      line-text-long refusedWord (number ∷ line ∷ []),
+      fields-text-short 19 (number ∷ line ∷ []) (two-below (10 ^ 20) number line (omega arith) (omega arith)),
+    )
+
+total-short : (word : List ℕ) (total : ℕ) → total < 2 ^ 64 → length (lineText word (total ∷ [])) ≤ length word + 22
+total-short word total h =
+    omega (arith, line-text-long word (total ∷ []), fields-text-short 19 (total ∷ []) (one-below (10 ^ 20) total (omega arith)))
+
+-- the most bytes of a square's line
+abbrev cellMost : ℕ
+cellMost = 38
+
+cell-short :
+    (p : Plan) (depths : List ℕ) (i : ℕ) → i < mostSquares → getD depths i 0 < 2 ^ 32 → length (cellText p depths i) ≤ cellMost
+unfolding cellText
+cell-short p depths i h g =
+    pick-both (λ (t : List ℕ). length t ≤ cellMost) (shut p i) (omega arith)
+    (omega (
+      arith,
+      line-text-long cellWord (i / p .shape .columns ∷ i % p .shape .columns ∷ getD depths i 0 ∷ []),
+      fields-text-short 9 (i / p .shape .columns ∷ i % p .shape .columns ∷ getD depths i 0 ∷ [])
+          (three-below (10 ^ 10) _ _ _ (omega (arith, div-le-self i (p .shape .columns))) (omega (arith, mod-le i (p .shape .columns))) (omega arith)),
+    ))
+
+joined-short : (n k : ℕ) (f : ℕ → List ℕ) → ((i : ℕ) → i < n → length (f i) ≤ k) → length (joined n f) ≤ k * n
+unfolding joined
+joined-short zero k f h = omega arith
+joined-short (suc n) k f h =
+    omega (
+      arith,
+      length-append (joined n f) (f n),
+      joined-short n k f (λ i l. h i (omega arith)),
+      h n (omega arith),
+      mul-suc k n,
+    )
+
+-- ---- squares one after the other
+
+joined-within : (f : ℕ → List ℕ) (n i : ℕ) → i ≤ n → length (joined i f) ≤ length (joined n f)
+unfolding joined
+joined-within f zero i h = subst (λ (k : ℕ). length (joined k f) ≤ length (joined zero f)) (let e : 0 ≡ i = omega arith in e) (le-refl _)
+joined-within f (suc n) i h =
+    by-lt i (suc n) (λ l. omega (arith, length-append (joined n f) (f n), joined-within f n i (omega arith)))
+    (λ l. subst (λ (k : ℕ). length (joined k f) ≤ length (joined (suc n) f)) (let e : suc n ≡ i = omega arith in e) (le-refl _))
+
+module _ (p : Plan) (depths : List ℕ) (at : ℕ) (old : List ℕ) (fits : at + length (cellsText p depths) ≤ length old) where
+  so-far-fits : (i : ℕ) → i ≤ squares (p .shape) → at + length (joined i (cellText p depths)) ≤ length old
+  unfolding cellsText
+  so-far-fits i l = omega (arith, fits, joined-within (cellText p depths) (squares (p .shape)) i l)
+
+  next-fits :
+      (i : ℕ) → i < squares (p .shape) → at + length (joined i (cellText p depths)) + length (cellText p depths i) ≤ length old
+  next-fits i l =
+      omega (
+        arith,
+        so-far-fits (i + 1) (omega arith),
+        ap length (joined-more i (cellText p depths)),
+        length-append (joined i (cellText p depths)) (cellText p depths i),
+      )
+
+  module _ (i : ℕ) {room : List ℕ} {next : ℕ} (w : Wrote (joined i (cellText p depths)) at old room next) where
+    pub squares-length : i ≤ squares (p .shape) → length room ≡ length old
+    squares-length l = wrote-length (so-far-fits i l) w
+
+    pub square-fits : i < squares (p .shape) → next + length (cellText p depths i) ≤ length room
+    square-fits l = omega (arith, w .next, next-fits i l, squares-length (omega arith))
+
+    pub square-written :
+        {new : List ℕ} {r : ℕ} → i < squares (p .shape) → Wrote (cellText p depths i) next room new r →
+        Wrote (joined (i + 1) (cellText p depths)) at old new r
+    square-written {new} {r} l v =
+        subst (λ (t : List ℕ). Wrote t at old new r) (sym (joined-more i (cellText p depths)))
+        (wrote-both (next-fits i l) w v)
+
+module _ (p : Plan) (depths : List ℕ) where
+  pub none-written : (at : ℕ) (room : List ℕ) → Wrote (joined 0 (cellText p depths)) at room room at
+  none-written at room =
+      record {
+        next = omega (arith, ap length (joined-none (cellText p depths)));
+        room = sym (ap (placed room at) (joined-none (cellText p depths)) ∙ placed-none room at);
+      }
+
+  pub closed-written : (i : ℕ) {at : ℕ} {room : List ℕ} → shut p i ≡ true → Wrote (cellText p depths i) at room room at
+  unfolding cellText
+  closed-written i {at} {room} e =
+      subst (λ (t : List ℕ). Wrote t at room room at) (sym (pick-true _ _ e))
+      (record { next = omega arith; room = sym (placed-none room at) })
+
+  pub open-text :
+      (i : ℕ) → shut p i ≡ false →
+      cellText p depths i ≡ lineText cellWord (i / p .shape .columns ∷ i % p .shape .columns ∷ getD depths i 0 ∷ [])
+  unfolding cellText
+  open-text i e = pick-false _ _ e
+
+-- a text that is written under another name
+pub written-as : {t u : List ℕ} {at r : ℕ} {old new : List ℕ} → t ≡ u → Wrote u at old new r → Wrote t at old new r
+written-as {at = at} {r} {old} {new} e w = subst (λ (k : List ℕ). Wrote k at old new r) (sym e) w
+
+pub line-as :
+    {t : List ℕ} (word : List ℕ) (a b : ℕ) {d depth : ℕ} → d ≡ depth → t ≡ lineText word (a ∷ b ∷ depth ∷ []) → t ≡ lineText word (a ∷ b ∷ d ∷ [])
+line-as word a b e f = f ∙ ap (λ (k : ℕ). lineText word (a ∷ b ∷ k ∷ [])) (sym e)
+
+-- ---- a world
+
+module _ (p : Plan) (depths : List ℕ) (u : Run) (steps : ℕ) where
+  abbrev outText : List ℕ
+  outText = lineText outWord (u .outflow ∷ [])
+
+  abbrev stepsText : List ℕ
+  stepsText = lineText stepsWord (steps ∷ [])
+
+  abbrev clockText : List ℕ
+  clockText = lineText clockWord (u .clock ∷ [])
+
+  made-length :
+      length (madeText p depths u steps) ≡ length (cellsText p depths) + (length outText + (length stepsText + length clockText))
+  unfolding madeText
+  made-length =
+      omega (
+        arith,
+        length-append (cellsText p depths) (outText ++ (stepsText ++ clockText)),
+        length-append outText (stepsText ++ clockText),
+        length-append stepsText clockText,
+      )
+
+  -- the most bytes of so many squares and the totals
+  pub made-short :
+      squares (p .shape) ≤ mostSquares → ((i : ℕ) → getD depths i 0 < 2 ^ 32) → u .outflow < 2 ^ 64 → steps < 2 ^ 64 → u .clock < 2 ^ 64 →
+      length (madeText p depths u steps) ≤ cellMost * squares (p .shape) + 79
+  unfolding cellsText
+  made-short few words hu hs hc =
+      omega (
+        arith,
+        made-length,
+        joined-short (squares (p .shape)) cellMost (cellText p depths) (λ i l. cell-short p depths i (omega (arith, l, few)) (words i)),
+        total-short outWord (u .outflow) hu,
+        total-short stepsWord steps hs,
+        total-short clockWord (u .clock) hc,
+      )
+
+  module _ (at : ℕ) (old : List ℕ) (fits : at + length (madeText p depths u steps) ≤ length old) where
+    pub cells-fit : at + length (cellsText p depths) ≤ length old
+    cells-fit = omega (arith, fits, made-length)
+
+    module _ {a : List ℕ} {i : ℕ} (w : Wrote (cellsText p depths) at old a i) where
+      long-a : length a ≡ length old
+      long-a = wrote-length cells-fit w
+
+      pub out-fits : i + length outText ≤ length a
+      out-fits = omega (arith, w .next, long-a, fits, made-length)
+
+      module _ {b : List ℕ} {j : ℕ} (x : Wrote outText i a b j) where
+        long-b : length b ≡ length old
+        long-b = wrote-length out-fits x ∙ long-a
+
+        pub steps-fit : j + length stepsText ≤ length b
+        steps-fit = omega (arith, w .next, x .next, long-b, fits, made-length)
+
+        module _ {c : List ℕ} {k : ℕ} (y : Wrote stepsText j b c k) where
+          long-c : length c ≡ length old
+          long-c = wrote-length steps-fit y ∙ long-b
+
+          pub clock-fits : k + length clockText ≤ length c
+          clock-fits = omega (arith, w .next, x .next, y .next, long-c, fits, made-length)
+
+          pub made-written : {d : List ℕ} {r : ℕ} → Wrote clockText k c d r → Wrote (madeText p depths u steps) at old d r
+          unfolding madeText
+          made-written v =
+              wrote-both (omega (arith, fits, made-length, length-append outText (stepsText ++ clockText), length-append stepsText clockText)) w
+              (wrote-both (omega (arith, w .next, long-a, fits, made-length, length-append stepsText clockText)) x
+              (wrote-both (omega (arith, w .next, x .next, long-b, fits, made-length)) y v))
+
+-- ---- what the program prints
+
+pub refused-printed :
+    {number line : ℕ} {old new : List ℕ} {r : ℕ} → number < 2 ^ 64 → line < 2 ^ 64 → Wrote (refusedText number line) 0 old new r →
+    Prints (refusedText number line) old new r
+refused-printed {number} {line} h g w = record { wrote = w; fits = omega (arith, refused-short number line h g) }
+
+pub ended-refused :
+    {number : ℕ} (p : Plan) (steps : ℕ) (w : World) {old new : List ℕ} {r : ℕ} → (number ≡ 0 → ⊥) → Prints (refusedText number 0) old new r →
+    Prints (endedText p (ended number steps w)) old new r
+unfolding endedText
+ended-refused p steps w {old} {new} {r} d k =
+    subst (λ (t : List ℕ). Prints t old new r) (sym (pick-false _ _ (ne-eqb _ _ d))) k
+
+-- the room of the program holds a world of its squares
+module _
+    (p : Plan) (depths : List ℕ) (u : Run) (steps : ℕ) (few : squares (p .shape) ≤ programSquares)
+    (words : (i : ℕ) → getD depths i 0 < 2 ^ 32) (hu : u .outflow < 2 ^ 64) (hs : steps < 2 ^ 64) (hc : u .clock < 2 ^ 64) where
+  pub made-fits : length (madeText p depths u steps) ≤ mostPrinted
+  made-fits = omega (arith, made-short p depths u steps (omega (arith, few)) words hu hs hc, few)
+
+  pub made-printed :
+      {number : ℕ} {old new : List ℕ} {r : ℕ} (lasts records : List ℕ) → number ≡ 0 → Wrote (madeText p depths u steps) 0 old new r →
+      Prints (endedText p (ended number steps (world depths lasts records u))) old new r
+  unfolding endedText
+  made-printed {old = old} {new} {r} lasts records z w =
+      subst (λ (t : List ℕ). Prints t old new r) (sym (pick-true _ _ (eq-eqb _ _ z))) (record { wrote = w; fits = made-fits })

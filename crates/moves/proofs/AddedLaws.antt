@@ -1,0 +1,354 @@
+-- Laws of the added water: rain reaches every square not closed, an inflow row its own square; a square that no row is for gets no
+-- inflow, and no row is for a closed square.
+-- Assumes nothing.
+use mathlib.Core.Path.{_≡_, refl, sym, ap, ap₂, _∙_, subst}
+use mathlib.Core.Bool.{Bool, true, false, _||_, not, or-false}
+use mathlib.Core.List.{List}
+use Prim.Native.Nat.{ℕ, _+_, _-_, _*_, _/_, _%_, _≤_, _<_}
+use native.Mathlib.Nat.{add-zero}
+use native.Mathlib.Decide.{ℕ-discrete}
+use native.Mathlib.Omega.{arith}
+use lib.Dec.{leb, eqb}
+use lib.ListN.{length, getD, set, length-set}
+use lib.Seq.{ext-getD, getD-set-same, getD-set-other, set-getD}
+use borrow.Author.Tests.{eqb-true, eq-eqb, leb-true, le-leb, lt-leb, not-true, not-false, ltb-true}
+use Rattle.reckon.specs.Tests.{pick, allBelow}
+use Rattle.reckon.specs.Lists.{filled}
+use Rattle.reckon.specs.Ranges.{mostDepth}
+use Rattle.reckon.specs.Tables.{rainKind, inflowKind, onSquare, rainAdded, inflowAdded, inflowBy}
+use Rattle.reckon.specs.inner.Fits.{Fits}
+use Rattle.reckon.proofs.TestLaws.{not-both, pick-true, pick-false, no-more, and-left, and-right, and-both, or-right, or-of, every-each, all-none, all-at, all-of, all-fails, all-beside, all-some}
+use Rattle.reckon.proofs.ListLaws.{length-filled, filled-in, filled-skipped, is-filled, filled-store, filled-keep}
+use Rattle.reckon.proofs.TableLaws.{inflow-none, rain-le, fine-fits}
+use Rattle.grid.specs.Squares.{squares, squareAt}
+use Rattle.grid.specs.Marks.{closed, inflowWords, inflowRow, inflowColumn, inflowSquareFine, inflowSquaresFine}
+use Rattle.grid.specs.declared.squares.Shape.{Shape}
+use Rattle.grid.proofs.SquareLaws.{square-in, square-within, row-of, column-of}
+use Rattle.rule.specs.declared.rules.Rules.{Rules}
+use Rattle.ledger.specs.Runs.{Plan}
+use Rattle.ledger.specs.Flows.{shut}
+use Rattle.moves.specs.inner.Added.{amountAt, unreached, rowSquare, tables, addedFits, Rained, RainedAll, PouredRow, PouredAll, Pours, Between, WaterAdded}
+use Rattle.moves.specs.Given.{Given}
+use Rattle.moves.specs.Moves.{addedFor}
+
+-- ---- the rain of one square
+
+-- a closed square's own number stored again is no change
+stored-unless : (b : Bool) (l : List ℕ) (i x : ℕ) → set l i (pick b (getD l i 0) x) ≡ pick b l (set l i x)
+unfolding pick
+stored-unless true l i x = set-getD l i 0
+stored-unless false l i x = refl
+
+module _ {marks : List ℕ} {rain i : ℕ} (old : List ℕ) (shut-is : Bool) where
+  pub rain-too-deep : mostDepth < rain → shut-is ≡ closed marks i → Rained marks rain i old shut-is old
+  rain-too-deep h e =
+      record {
+        fits-is = e ∙ (sym (or-false (closed marks i)) ∙ ap (λ (b : Bool). closed marks i || b) (sym (lt-leb rain mostDepth h)));
+        stored = λ t. sym (pick-true old (set old i rain) (sym e ∙ t));
+        long = refl;
+      }
+
+  pub rain-stored :
+      {x : ℕ} → rain ≤ mostDepth → shut-is ≡ closed marks i → x ≡ pick shut-is (getD old i 0) rain → Rained marks rain i old true (set old i x)
+  rain-stored {x} h e v =
+      record {
+        fits-is = sym (or-of (closed marks i) (leb rain mostDepth) (λ z. le-leb rain mostDepth h));
+        stored =
+            λ t.
+            ap (set old i) v
+            ∙ (stored-unless shut-is old i rain ∙ ap (λ (b : Bool). pick b old (set old i rain)) e);
+        long = length-set old i x;
+      }
+
+-- ---- rain, square by square
+
+module _ (marks old : List ℕ) (rain i : ℕ) where
+  abbrev after : ℕ → List ℕ
+  after n = filled n (closed marks) (λ k. rain) old
+
+  pub rained-turn :
+      {room new : List ℕ} {done : Bool} → i < length old → room ≡ after i → Rained marks rain i room done new → done ≡ true → new ≡ after (i + 1)
+  rained-turn {room} {new} h e d t = go (closed marks i) refl
+    where
+      go : (b : Bool) → closed marks i ≡ b → new ≡ after (i + 1)
+      go true c =
+          d .stored t ∙ (pick-true _ _ c ∙ (e ∙ filled-keep (closed marks) (λ k. rain) old i h (λ f. not-both c f)))
+      go false c =
+          d .stored t ∙ (pick-false _ _ c ∙ (ap (λ (l : List ℕ). set l i rain) e ∙ filled-store (closed marks) (λ k. rain) old i h c refl))
+
+-- ---- a row and its square
+
+module _ (s : Shape) (inflow : List ℕ) (j : ℕ) where
+  -- a row that counts for a square is the row of that square
+  pub row-for : (i : ℕ) → onSquare inflow (i / s .columns) (i % s .columns) j ≡ true → squareAt s (inflowRow inflow j) (inflowColumn inflow j) ≡ i
+  unfolding onSquare
+  row-for i e =
+      let a = eqb-true _ _ (and-left _ _ e) in
+      let b = eqb-true _ _ (and-right (eqb (getD inflow (inflowWords * j) 0) (i / s .columns)) _ e) in
+      ap₂ (squareAt s) a b ∙ square-in s i
+
+  -- and counts for it
+  pub row-counts :
+      {i : ℕ} → inflowColumn inflow j < s .columns → i ≡ squareAt s (inflowRow inflow j) (inflowColumn inflow j) →
+      onSquare inflow (i / s .columns) (i % s .columns) j ≡ true
+  unfolding onSquare
+  row-counts h e =
+      and-both _ _
+      (eq-eqb _ _ (sym (ap (λ (x : ℕ). x / s .columns) e ∙ row-of s (inflowRow inflow j) h)))
+      (eq-eqb _ _ (sym (ap (λ (x : ℕ). x % s .columns) e ∙ column-of s (inflowRow inflow j) h)))
+
+-- ---- the rows worked so far
+
+module _ (s : Shape) (r : Rules) (inflow : List ℕ) (start end rain : ℕ) where
+  abbrev left : ℕ → ℕ → Bool
+  left = unreached s r inflow start end rain
+
+  abbrev amount : ℕ → ℕ
+  amount = amountAt s r inflow start end rain
+
+  left-none : (i : ℕ) → left 0 i ≡ true
+  unfolding unreached
+  left-none i = all-none _
+
+  left-at : (n i : ℕ) → left n i ≡ true → (k : ℕ) → k < n → onSquare inflow (i / s .columns) (i % s .columns) k ≡ false
+  unfolding unreached
+  left-at n i e k h = not-true _ (all-at n _ e k h)
+
+  -- row j is for this square
+  left-here : (j i : ℕ) → onSquare inflow (i / s .columns) (i % s .columns) j ≡ true → left (j + 1) i ≡ false
+  unfolding unreached
+  left-here j i e = all-fails (j + 1) _ j (omega arith) (ap not e)
+
+  -- row j is for another
+  left-other : (j i : ℕ) → onSquare inflow (i / s .columns) (i % s .columns) j ≡ false → left (j + 1) i ≡ left j i
+  unfolding unreached
+  left-other j i e = all-beside j (λ k. not (onSquare inflow (i / s .columns) (i % s .columns) k)) (ap not e)
+
+  -- nothing is worked yet
+  pub pour-none : (old : List ℕ) → old ≡ filled (squares s) (left 0) amount old
+  pour-none old =
+      ext-getD 0 old (filled (squares s) (left 0) amount old) (sym (length-filled (squares s) (left 0) amount old))
+      (λ i l. sym (filled-skipped (squares s) (left 0) amount old i l (left-none i)))
+
+  -- one row more
+  pub pour-more :
+      (old : List ℕ) (j : ℕ) {v at : ℕ} → length old ≡ squares s → inflowRow inflow j < s .rows → inflowColumn inflow j < s .columns →
+      at ≡ rowSquare s r inflow start end rain j → v ≡ amount at →
+      set (filled (squares s) (left j) amount old) at v ≡ filled (squares s) (left (j + 1)) amount old
+  pour-more old j {v} {at} e hr hc q w =
+      ext-getD 0 _ _
+      (length-set (filled (squares s) (left j) amount old) at v ∙ (length-filled (squares s) (left j) amount old ∙ sym (length-filled (squares s) (left (j + 1)) amount old)))
+      (λ i l.
+      let h : i < length old = omega (arith, length-set (filled (squares s) (left j) amount old) at v, length-filled (squares s) (left j) amount old, l) in
+      go i h (ℕ-discrete i at))
+    where
+      inside : at < squares s
+      inside = subst (λ (x : ℕ). x < squares s) (sym q) (square-within s hr hc)
+
+      same :
+          (i : ℕ) → i < length old → (b : Bool) → left j i ≡ b → left (j + 1) i ≡ left j i →
+          getD (filled (squares s) (left j) amount old) i 0 ≡ getD (filled (squares s) (left (j + 1)) amount old) i 0
+      same i h true b z = filled-skipped (squares s) (left j) amount old i h b ∙ sym (filled-skipped (squares s) (left (j + 1)) amount old i h (z ∙ b))
+      same i h false b z =
+          let l : i < squares s = omega arith in
+          filled-in (squares s) (left j) amount old i h l b ∙ sym (filled-in (squares s) (left (j + 1)) amount old i h l (z ∙ b))
+
+      other : (i : ℕ) → (i ≡ at → ⊥) → onSquare inflow (i / s .columns) (i % s .columns) j ≡ false
+      other i d = no-more (onSquare inflow (i / s .columns) (i % s .columns) j) (λ t. d (sym (q ∙ row-for s inflow j i t)))
+
+      go : (i : ℕ) → i < length old → Dec (i ≡ at) → getD (set (filled (squares s) (left j) amount old) at v) i 0 ≡ getD (filled (squares s) (left (j + 1)) amount old) i 0
+      go i h (yes z) =
+          rw z
+          (getD-set-same (filled (squares s) (left j) amount old) at v 0 (omega (arith, length-filled (squares s) (left j) amount old))
+          ∙ (w ∙ sym (filled-in (squares s) (left (j + 1)) amount old at (omega arith) inside (left-here j at (row-counts s inflow j hc q)))))
+      go i h (no d) = getD-set-other (filled (squares s) (left j) amount old) at i v 0 d ∙ same i h (left j i) refl (left-other j i (other i d))
+
+  pub poured-turn :
+      (old : List ℕ) {room new : List ℕ} (j : ℕ) {done : Bool} → length old ≡ squares s → inflowRow inflow j < s .rows → inflowColumn inflow j < s .columns →
+      room ≡ filled (squares s) (left j) amount old → PouredRow s r inflow start end rain j room done new → done ≡ true →
+      new ≡ filled (squares s) (left (j + 1)) amount old
+  poured-turn old j e hr hc q d t =
+      d .stored t
+      ∙ (ap (λ (l : List ℕ). set l (rowSquare s r inflow start end rain j) (amount (rowSquare s r inflow start end rain j))) q
+      ∙ pour-more old j e hr hc refl refl)
+
+  -- the amount as the code finds it
+  pub amount-made :
+      {row column inflowed : ℕ} (j : ℕ) → inflowColumn inflow j < s .columns → row ≡ inflowRow inflow j → column ≡ inflowColumn inflow j →
+      inflowed ≡ inflowAdded inflow row column (r .«square_side») start end → rain + inflowed ≡ amount (rowSquare s r inflow start end rain j)
+  unfolding amountAt
+  amount-made j hc a b e = rw (e, a, b, row-of s (inflowRow inflow j) hc, column-of s (inflowRow inflow j) hc)
+
+  -- a square that no row is for gets the rain alone
+  pub dry-of-rows : (i : ℕ) → left (length inflow / inflowWords) i ≡ true → amount i ≡ rain
+  unfolding amountAt
+  dry-of-rows i e =
+      let n : (t : ℕ) → inflowBy inflow (i / s .columns) (i % s .columns) (r .«square_side») t ≡ 0
+      = λ t. inflow-none inflow (i / s .columns) (i % s .columns) (r .«square_side») t (left-at (length inflow / inflowWords) i e) in
+      rw (n end, n start) (add-zero rain)
+
+-- ---- rain and inflow together
+
+module _ (p : Plan) (r : Rules) (rain inflow : List ℕ) (start end : ℕ) (b : Between p (tables r rain inflow) start end) where
+  abbrev g : Given
+  g = tables r rain inflow
+
+  abbrev fallen : ℕ
+  fallen = rainAdded rain start end
+
+  abbrev s : Shape
+  s = p .shape
+
+  abbrev rows : ℕ
+  rows = length inflow / inflowWords
+
+  abbrev added : ℕ → ℕ
+  added = addedFor p g start end
+
+  is-amount : (i : ℕ) → amountAt s r inflow start end fallen i ≡ added i
+  unfolding amountAt addedFor
+  is-amount i = refl
+
+  row-fine :
+      (j : ℕ) → j < rows →
+      (inflowRow inflow j < s .rows) × (inflowColumn inflow j < s .columns) × (shut p (squareAt s (inflowRow inflow j) (inflowColumn inflow j)) ≡ false)
+  unfolding inflowSquaresFine inflowSquareFine
+  row-fine j h =
+      let e = every-each _ (all-at rows _ (b .waters .inflow-squares) j h) in
+      (ltb-true _ _ (e .0), ltb-true _ _ (e .1 .0), not-true _ (e .1 .1 .0))
+
+  rain-fits : Fits rainKind rain end
+  rain-fits = fine-fits rainKind rain end (b .waters .rain) (b .end-to)
+
+  pub rain-asked : Fits rainKind rain end × (start ≤ end)
+  rain-asked = (rain-fits, b .ordered)
+
+  pub pours : {fell : ℕ} → fell ≡ fallen → Pours s r inflow start end fell
+  pours e =
+      record {
+        fine = b .waters .fine;
+        side-from = b .waters .rules .side-from;
+        side-to = b .waters .rules .side-to;
+        table = fine-fits inflowKind inflow end (b .waters .inflow) (b .end-to);
+        ordered = b .ordered;
+        rain-to = omega (arith, rain-le rain rain-fits);
+        row-in = λ j h. row-fine j h .0;
+        column-in = λ j h. row-fine j h .1;
+      }
+
+  -- what is added to a square not closed fits where all does
+  fits-at : addedFits p g start end ≡ true → (i : ℕ) → i < squares s → shut p i ≡ false → added i ≤ mostDepth
+  unfolding addedFits
+  fits-at e i h c = leb-true _ _ (or-right (shut p i) _ (all-at (squares s) _ e i h) c)
+
+  rain-under : (i : ℕ) → fallen ≤ added i
+  unfolding addedFor
+  rain-under i = omega arith
+
+  -- too much rain is too much for a square
+  pub rain-too-much :
+      {fell : ℕ} {old new : List ℕ} {t : Bool} → fell ≡ fallen → t ≡ false → RainedAll (p .marks) fell old t new → WaterAdded p g start end old false new
+  rain-too-much {fell} e f a =
+      let n : addedFits p g start end ≡ true → ⊥ = λ t. not-both {A = ⊥} (fits t) (sym (a .fits-is) ∙ f) in
+      record { fits-is = sym (no-more _ n); stored = λ t. not-both t refl; long = a .long }
+    where
+      fits : addedFits p g start end ≡ true → allBelow (length (p .marks)) (λ i. closed (p .marks) i || leb fell mostDepth) ≡ true
+      fits t =
+          all-of _ _
+          (λ i l. or-of (closed (p .marks) i) _
+          (λ c. le-leb fell mostDepth (omega (arith, fits-at t i (omega (arith, b .waters .marks-long)) c, rain-under i))))
+
+  module _ {fell : ℕ} {old mid new : List ℕ} {fits done : Bool} (e : fell ≡ fallen) (o : length old ≡ squares s) (all-fit : fits ≡ true)
+      (a : RainedAll (p .marks) fell old fits mid) (q : PouredAll s r inflow start end fell mid done new) where
+    rain-ok : (i : ℕ) → i < squares s → shut p i ≡ false → fell ≤ mostDepth
+    rain-ok i h c =
+        leb-true _ _ (or-right (closed (p .marks) i) _ (all-at (length (p .marks)) _ (sym (a .fits-is) ∙ all-fit) i (omega (arith, b .waters .marks-long))) c)
+
+    amount-is : (i : ℕ) → amountAt s r inflow start end fell i ≡ added i
+    amount-is i = ap (λ (x : ℕ). amountAt s r inflow start end x i) e ∙ is-amount i
+
+    -- no row is for a closed square
+    closed-unreached : (i : ℕ) → shut p i ≡ true → unreached s r inflow start end fell rows i ≡ true
+    unfolding unreached
+    closed-unreached i c =
+        all-of rows _
+        (λ j h.
+        ap not
+        (no-more (onSquare inflow (i / s .columns) (i % s .columns) j)
+        (λ t. not-both {A = ⊥} (ap (shut p) (row-for s inflow j i t) ∙ c) (row-fine j h .2))))
+
+    -- a square is reached by a row, or by none
+    reached-by :
+        (i : ℕ) → unreached s r inflow start end fell rows i ≡ false → (j : ℕ) × ((j < rows) × (squareAt s (inflowRow inflow j) (inflowColumn inflow j) ≡ i))
+    unfolding unreached
+    reached-by i c =
+        let f : ℕ → Bool = λ k. not (onSquare inflow (i / s .columns) (i % s .columns) k) in
+        let h = all-some rows f c in
+        (h .0, (h .1 .0, row-for s inflow (h .0) i (not-false _ (h .1 .1))))
+
+    row-ok : done ≡ true → (j : ℕ) → j < rows → added (squareAt s (inflowRow inflow j) (inflowColumn inflow j)) ≤ mostDepth
+    row-ok t j h =
+        let k = leb-true _ _ (all-at rows _ (sym (q .fits-is) ∙ t) j h) in
+        subst (λ (x : ℕ). x ≤ mostDepth) (amount-is (rowSquare s r inflow start end fell j)) k
+
+    all-ok : done ≡ true → (i : ℕ) → i < squares s → shut p i ≡ false → added i ≤ mostDepth
+    all-ok t i h c = go (unreached s r inflow start end fell rows i) refl
+      where
+        go : (u : Bool) → unreached s r inflow start end fell rows i ≡ u → added i ≤ mostDepth
+        go true u = subst (λ (x : ℕ). x ≤ mostDepth) (sym (dry-of-rows s r inflow start end fell i u) ∙ amount-is i) (rain-ok i h c)
+        go false u =
+            let w = reached-by i u in
+            subst (λ (x : ℕ). added x ≤ mostDepth) (w .1 .1) (row-ok t (w .0) (w .1 .0))
+
+    fits-both : (d : Bool) → done ≡ d → d ≡ addedFits p g start end
+    unfolding addedFits
+    fits-both true t = sym (all-of (squares s) _ (λ i h. or-of (shut p i) _ (λ c. le-leb _ _ (all-ok t i h c))))
+    fits-both false t =
+        sym (no-more _ (λ u.
+        not-both {A = ⊥}
+        (all-of rows _
+        (λ j h.
+        let f = row-fine j h in
+        le-leb _ _
+        (subst (λ (x : ℕ). x ≤ mostDepth) (sym (amount-is (rowSquare s r inflow start end fell j)))
+        (fits-at u (rowSquare s r inflow start end fell j) (square-within s (f .0) (f .1)) (f .2)))))
+        (sym (q .fits-is) ∙ t)))
+
+    stands : done ≡ true → new ≡ filled (squares s) (shut p) added old
+    stands t =
+        q .stored t
+        ∙ is-filled (squares s) (shut p) added old _
+        (length-filled (squares s) (unreached s r inflow start end fell rows) (amountAt s r inflow start end fell) mid ∙ a .long)
+        (λ i h. at i h (omega arith) (shut p i) refl)
+      where
+        marks-all : length (p .marks) ≡ squares s
+        marks-all = b .waters .marks-long
+
+        mid-is : mid ≡ filled (length (p .marks)) (closed (p .marks)) (λ k. fell) old
+        mid-is = a .stored all-fit
+
+        at :
+            (i : ℕ) → i < length old → i < squares s → (c : Bool) → shut p i ≡ c →
+            getD (filled (squares s) (unreached s r inflow start end fell rows) (amountAt s r inflow start end fell) mid) i 0
+            ≡ pick (leb (squares s) i || shut p i) (getD old i 0) (added i)
+        at i h k true c =
+            filled-skipped (squares s) (unreached s r inflow start end fell rows) (amountAt s r inflow start end fell) mid i (omega (arith, a .long)) (closed-unreached i c)
+            ∙ (ap (λ (l : List ℕ). getD l i 0) mid-is
+            ∙ (filled-skipped (length (p .marks)) (closed (p .marks)) (λ k. fell) old i h c ∙ sym (pick-true _ _ (rw (lt-leb (squares s) i k, c)))))
+        at i h k false c = go (unreached s r inflow start end fell rows i) refl
+          where
+            go :
+                (u : Bool) → unreached s r inflow start end fell rows i ≡ u →
+                getD (filled (squares s) (unreached s r inflow start end fell rows) (amountAt s r inflow start end fell) mid) i 0
+                ≡ pick (leb (squares s) i || shut p i) (getD old i 0) (added i)
+            go true u =
+                filled-skipped (squares s) (unreached s r inflow start end fell rows) (amountAt s r inflow start end fell) mid i (omega (arith, a .long)) u
+                ∙ (ap (λ (l : List ℕ). getD l i 0) mid-is
+                ∙ (filled-in (length (p .marks)) (closed (p .marks)) (λ k. fell) old i h (omega arith) c
+                ∙ (sym (dry-of-rows s r inflow start end fell i u) ∙ (amount-is i ∙ sym (pick-false _ _ (rw (lt-leb (squares s) i k, c)))))))
+            go false u =
+                filled-in (squares s) (unreached s r inflow start end fell rows) (amountAt s r inflow start end fell) mid i (omega (arith, a .long)) k u
+                ∙ (amount-is i ∙ sym (pick-false _ _ (rw (lt-leb (squares s) i k, c))))
+
+    pub wetted : WaterAdded p g start end old done new
+    wetted = record { fits-is = fits-both done refl; stored = stands; long = q .long ∙ a .long }

@@ -1,0 +1,122 @@
+-- Laws of the record that a step works out: it is the step's record, since the rooms hold what is added and lasts is the step's.
+-- Assumes nothing.
+use mathlib.Core.Path.{_≡_, refl, sym, ap, _∙_}
+use mathlib.Core.Bool.{Bool, true, false}
+use mathlib.Core.List.{List, [], _∷_}
+use Prim.Native.Nat.{ℕ, _+_, _^_, _≤_, _<_}
+use native.Mathlib.Omega.{arith}
+use lib.ListN.{length, getD}
+use Rattle.reckon.specs.Ranges.{mostDepth}
+use Rattle.reckon.proofs.ListLaws.{filled-in, joined-ext}
+use Rattle.grid.specs.Squares.{north, east, south, west, squares}
+use Rattle.grid.proofs.MarkLaws.{unless-closed}
+use Rattle.rule.specs.Weighing.{weighed}
+use Rattle.rule.specs.Length.{lengthAt, durationFor}
+use Rattle.rule.specs.declared.rules.Rules.{Rules}
+use Rattle.rule.proofs.WeighingLaws.{weighed-dry, weighed-le}
+use Rattle.ledger.specs.Runs.{Plan, World, seenOf}
+use Rattle.ledger.specs.Flows.{Leaves, shut}
+use Rattle.ledger.specs.Record.{squareRecord, recordOf, SquarePut}
+use Rattle.ledger.specs.After.{stepRecord}
+use Rattle.ledger.proofs.RecordLaws.{Begun, begun-open, begun-closed}
+use Rattle.moves.specs.Given.{Ground, Given}
+use Rattle.moves.specs.Drops.{dropsOf}
+use Rattle.moves.specs.Moves.{candidates, leavesFor, addedFor, stepLength, stepDuration, stepMoves}
+use Rattle.moves.specs.inner.Added.{tables, addedFits, WaterAdded}
+use Rattle.moves.specs.inner.Fill.{FilledOne}
+use Rattle.moves.proofs.MoveLaws.{leaves-open}
+
+-- a record goes by what is added to squares not closed alone
+pub record-same :
+    (p : Plan) (held lasts : ℕ) (out : Leaves) (last a b : ℕ → ℕ) → ((i : ℕ) → i < squares (p .shape) → shut p i ≡ false → a i ≡ b i) →
+    recordOf p held lasts out last a ≡ recordOf p held lasts out last b
+unfolding recordOf squareRecord
+record-same p held lasts out last a b h =
+    ap (λ (l : List ℕ). held ∷ lasts ∷ l)
+    (joined-ext (squares (p .shape)) (squareRecord p out last a) (squareRecord p out last b)
+    (λ i l. unless-closed (p .marks) i _ (λ e. ap (λ (x : ℕ). out i north ∷ out i east ∷ out i south ∷ out i west ∷ last i ∷ x ∷ []) (h i l e))))
+
+-- ---- one square
+
+module _ (r : Rules) (q k ms : ℕ) (v : List ℕ) where
+  -- a dry square sends nothing
+  pub put-dry :
+      {d : ℕ} (old : List ℕ) (i last added : ℕ) {new : List ℕ} → d ≡ 0 → SquarePut old i (0 ∷ 0 ∷ 0 ∷ 0 ∷ []) last added new →
+      SquarePut old i (weighed r d q k ms v) last added new
+  put-dry {d} old i last added e h = rw (weighed-dry r d q k ms v e) h
+
+  -- the weighing as the code names its parts
+  pub put-wet :
+      {d d′ q′ k′ : ℕ} {v′ leaves : List ℕ} (old : List ℕ) (i last added : ℕ) {new : List ℕ} →
+      d′ ≡ d → q′ ≡ q → k′ ≡ k → v′ ≡ v → leaves ≡ weighed r d′ q′ k′ ms v′ → SquarePut old i leaves last added new →
+      SquarePut old i (weighed r d q k ms v) last added new
+  put-wet {d} {leaves = leaves} old i last added a b c e l h =
+      let same : leaves ≡ weighed r d q k ms v = l ∙ ap₄ a b c e in
+      rw (sym same) h
+    where
+      ap₄ : {d d′ q′ k′ : ℕ} {v′ : List ℕ} → d′ ≡ d → q′ ≡ q → k′ ≡ k → v′ ≡ v → weighed r d′ q′ k′ ms v′ ≡ weighed r d q k ms v
+      ap₄ a b c e = rw (a, b, c, e)
+
+  -- each of the four fits a word
+  pub words-fit :
+      {d : ℕ} {leaves : List ℕ} → d ≤ mostDepth → leaves ≡ weighed r d q k ms v →
+      (getD leaves 0 0 < 2 ^ 32) × (getD leaves 1 0 < 2 ^ 32) × (getD leaves 2 0 < 2 ^ 32) × (getD leaves 3 0 < 2 ^ 32)
+  words-fit {d} h e = rw e (let l = weighed-le r d q k ms v in omega arith)
+
+-- a turn of the loop over squares
+pub fill-turn :
+    (p : Plan) (o : Ground) (depths lasts added : List ℕ) (held ms i : ℕ) {old new : List ℕ} → i < squares (p .shape) →
+    Begun p held ms (leavesFor p o depths lasts ms) (λ k. getD lasts k 0) (λ k. getD added k 0) i old →
+    FilledOne p o depths lasts added ms i old new →
+    Begun p held ms (leavesFor p o depths lasts ms) (λ k. getD lasts k 0) (λ k. getD added k 0) (i + 1) new
+fill-turn p o depths lasts added held ms i {old} {new} h b f = go (shut p i) refl
+  where
+    go : (c : Bool) → shut p i ≡ c → Begun p held ms (leavesFor p o depths lasts ms) (λ k. getD lasts k 0) (λ k. getD added k 0) (i + 1) new
+    go true c = begun-closed h b c (f .closed-put c)
+    go false c =
+        begun-open h b c
+        (weighed (o .rules) (getD depths i 0) (getD lasts i 0) (getD (o .roughness) i 0) ms (dropsOf p (o .rules) (o .beds) depths i))
+        (λ side l. sym (leaves-open p o depths lasts ms i side c)) refl refl (f .open-put c)
+
+-- ---- the step's own times and record, from what the code finds
+
+module _ (p : Plan) (g : Given) (w : World) where
+  pub length-made :
+      {len : ℕ} → len ≡ lengthAt (g .lie .rules) (w .run .clock) (w .run .length) (candidates p (g .lie) (w .depths)) → len ≡ stepLength p g (seenOf w)
+  unfolding stepLength
+  length-made e = e
+
+  pub lasts-made :
+      {len ms : ℕ} → len ≡ lengthAt (g .lie .rules) (w .run .clock) (w .run .length) (candidates p (g .lie) (w .depths)) →
+      ms ≡ durationFor (g .lie .rules) (w .run .clock) len → ms ≡ stepDuration p g (seenOf w)
+  unfolding stepDuration
+  lasts-made l e = e ∙ ap (durationFor (g .lie .rules) (w .run .clock)) (length-made l)
+
+  -- what is added goes by rules and tables alone
+  pub same-fits : (start end : ℕ) → addedFits p (tables (g .lie .rules) (g .rain) (g .inflow)) start end ≡ addedFits p g start end
+  unfolding addedFits addedFor
+  same-fits start end = refl
+
+  same-added : (start end i : ℕ) → addedFor p (tables (g .lie .rules) (g .rain) (g .inflow)) start end i ≡ addedFor p g start end i
+  unfolding addedFor
+  same-added start end i = refl
+
+  pub record-made :
+      {ms end : ℕ} {old room rec : List ℕ} {fits : Bool} → ms ≡ stepDuration p g (seenOf w) → end ≡ w .run .clock + ms → length old ≡ squares (p .shape) →
+      WaterAdded p (tables (g .lie .rules) (g .rain) (g .inflow)) (w .run .clock) end old fits room → fits ≡ true →
+      rec ≡ recordOf p (w .run .length) ms (leavesFor p (g .lie) (w .depths) (w .lasts) ms) (λ i. getD (w .lasts) i 0) (λ i. getD room i 0) →
+      rec ≡ stepRecord p (stepMoves p g (seenOf w)) w
+  unfolding stepRecord
+  record-made {ms} {end} {old} {room} e n o t f q =
+      q
+      ∙ (record-same p (w .run .length) ms (leavesFor p (g .lie) (w .depths) (w .lasts) ms) (λ i. getD (w .lasts) i 0) (λ i. getD room i 0) (addedFor p g (w .run .clock) (w .run .clock + ms)) at
+      ∙ ap
+      (λ (x : ℕ).
+      recordOf p (w .run .length) x (leavesFor p (g .lie) (w .depths) (w .lasts) x) (λ i. getD (w .lasts) i 0) (addedFor p g (w .run .clock) (w .run .clock + x)))
+      e)
+    where
+      at : (i : ℕ) → i < squares (p .shape) → shut p i ≡ false → getD room i 0 ≡ addedFor p g (w .run .clock) (w .run .clock + ms) i
+      at i h c =
+          ap (λ (l : List ℕ). getD l i 0) (t .stored f)
+          ∙ (filled-in (squares (p .shape)) (shut p) (addedFor p (tables (g .lie .rules) (g .rain) (g .inflow)) (w .run .clock) end) old i (omega arith) h c
+          ∙ (same-added (w .run .clock) end i ∙ ap (λ (x : ℕ). addedFor p g (w .run .clock) x i) n))

@@ -1,0 +1,5 @@
+pub mod AddedLaws
+pub mod DropLaws
+pub mod FillLaws
+pub mod LengthLaws
+pub mod MoveLaws

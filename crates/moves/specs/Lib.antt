@@ -1,0 +1,4 @@
+pub mod Drops
+pub mod Given
+pub mod Moves
+pub mod inner

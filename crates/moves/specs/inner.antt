@@ -1,0 +1,3 @@
+pub mod Added
+pub mod Fill
+pub mod Ready

@@ -1,0 +1,38 @@
+"""The built programs, and scripts that end as a reader of their output would have it."""
+import os
+import subprocess
+import sys
+from pathlib import Path
+
+from .lines import Answer, Unreadable
+from .refusals import Refused
+
+TOP = Path(__file__).resolve().parent.parent.parent
+
+
+def printed(name, given=b""):
+    """What a program prints of these bytes at its standard input."""
+    return subprocess.run([TOP / "bin" / "run", name], input=given, stdout=subprocess.PIPE, check=True).stdout
+
+
+def meadow(text):
+    """What `meadow` answers to a sheet; a refusal is an error."""
+    return Answer(printed("meadow", text.encode()).decode())
+
+
+def ended(main, name):
+    """Ends a script with the status that `main` gives. A text that cannot be read is said in one line, and where nobody reads the
+    output any more the script ends and says nothing."""
+    try:
+        status = main()
+        sys.stdout.flush()
+    except BrokenPipeError:
+        os.dup2(os.open(os.devnull, os.O_WRONLY), sys.stdout.fileno())
+        status = 1
+    except Refused as refused:
+        print(f"{name}: this is no sheet: number {refused.number}, line {refused.line}", file=sys.stderr)
+        status = 1
+    except (OSError, UnicodeDecodeError, Unreadable) as fault:
+        print(f"{name}: {fault}", file=sys.stderr)
+        status = 1
+    sys.exit(status)

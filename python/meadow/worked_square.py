@@ -1,0 +1,35 @@
+"""The square that docs/METHOD.md works by hand: 25 cm of water, two neighbours lower, one higher, one closed."""
+from .step_length import candidates
+from .weighing import height, slope, speed, weigh
+
+SIDE, ROUGHNESS, DEPTH, LAST, LASTS, TOLERANCE = 10, 300, 250_000, 15_000, 1_000, 10
+# north, east, south, west
+DROPS = (40_000, 10_000, 0, 0)
+
+
+def worked():
+    """Each quantity by its name on the page, in the page's order."""
+    least, greatest = min(drop for drop in DROPS if drop), max(DROPS)
+    weights = sum(DROPS) + least
+    v = speed(SIDE, DEPTH, ROUGHNESS, greatest)
+    m = v * LASTS * DEPTH // (SIDE * 1_000_000)
+    leaves = weigh(SIDE, DEPTH, LAST, ROUGHNESS, LASTS, DROPS)
+    (candidate,) = candidates(SIDE, TOLERANCE, DEPTH, ROUGHNESS, DROPS)
+    return {
+        "Vmin": least,
+        "VM": greatest,
+        "T": weights,
+        "h": height(DEPTH),
+        "s": slope(SIDE, greatest),
+        "v": v,
+        "m": m,
+        "m·T / VM": m * weights // greatest,
+        "Vmin + P": least + LAST,
+        "north": leaves[0],
+        "east": leaves[1],
+        "P after": sum(leaves),
+        "candidate": candidate,
+    }
+
+
+AMOUNTS = worked()

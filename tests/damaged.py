@@ -1,0 +1,270 @@
+#!/usr/bin/env python3
+"""Damaged sheets: a base sheet, an edit in words and as an edit, and the answer. The built `meadow` and document 01 in Python give it.
+
+damaged.py --write FOLDER writes each sheet and its answer there, for other tests to read.
+"""
+import sys
+from pathlib import Path
+
+sys.path.insert(0, str(Path(__file__).resolve().parent.parent / "python"))
+
+from meadow.counted import Checks  # noqa: E402
+from meadow.lines import INFLOW, RAIN, SECOND, SQUARE, Sheet, answer_text, line_of, place_of, refused_text  # noqa: E402
+from meadow.programs import TOP, printed  # noqa: E402
+from meadow.sheets import MOST_BYTES, answered  # noqa: E402
+
+# ---- base sheets
+
+
+def square_grid(size, depth):
+    """A level grid of one-metre squares for a step of one second."""
+    sheet = Sheet(size, size, 1, tolerance=100, shortest=SECOND, longest=SECOND, update=SECOND)
+    for place in sheet.squares:
+        sheet.put(place, 0, 100, depth)
+    return sheet.text(SECOND)
+
+
+BASES = {
+    # lines: 1 grid, 2 run, 3 the west square with 1 mm of water, 4 the east square
+    "document 01": (TOP / "samples" / "document-01.sheet").read_text(encoding="ascii"),
+    "full square": square_grid(1, 100_000_000),
+    "three by three": square_grid(3, 0),
+    "nothing": "",
+}
+A_HATCH = line_of(INFLOW, {"row": 0, "column": 0, "from": 0, "to": SECOND, "litres": 1})
+A_SHOWER = line_of(RAIN, {"from": 0, "to": SECOND, "rate": 1})
+A_WEEK = 604_800_000
+SOUTH_OF_THE_GRID = line_of(SQUARE, {"row": 1, "column": 0, "bed": 0, "roughness": 100})
+
+# ---- edits: each makes a text of a text; a line is said by its number from 1, a field by its name
+
+
+def on_line(number, change):
+    """An edit of one line's fields, the first being its word."""
+
+    def edit(text):
+        lines = text.splitlines()
+        lines[number - 1] = "\t".join(change(lines[number - 1].split("\t")))
+        return "".join(line + "\n" for line in lines)
+
+    return edit
+
+
+def field(number, name, value):
+    """Another value of a field."""
+
+    def change(fields):
+        at = place_of(fields[0], name)
+        return [*fields[:at], str(value), *fields[at + 1 :]]
+
+    return on_line(number, change)
+
+
+def word(number, value):
+    """Another word at the line's beginning."""
+    return on_line(number, lambda fields: [value, *fields[1:]])
+
+
+def last_gone(number):
+    """The line's last field gone."""
+    return on_line(number, lambda fields: fields[:-1])
+
+
+def one_more(number, value="1"):
+    """A field more at the line's end."""
+    return on_line(number, lambda fields: [*fields, value])
+
+
+def only(number, fields):
+    """So many fields of the line and no more."""
+    return on_line(number, lambda all_fields: all_fields[: fields + 1])
+
+
+def closed(number):
+    """A square closed, its line ended after the mark."""
+    return on_line(number, lambda fields: [*fields[: place_of(fields[0], "mark")], "x"])
+
+
+def spaces(number):
+    """Spaces for the line's tabs."""
+    return on_line(number, lambda fields: [" ".join(fields)])
+
+
+def cut(number):
+    """The line and all after it gone."""
+    return lambda text: "".join(text.splitlines(True)[: number - 1])
+
+
+def swapped(first, second):
+    """Two lines in each other's places."""
+
+    def edit(text):
+        lines = text.splitlines(True)
+        lines[first - 1], lines[second - 1] = lines[second - 1], lines[first - 1]
+        return "".join(lines)
+
+    return edit
+
+
+def before(line):
+    """A line before the first."""
+    return lambda text: line + "\n" + text
+
+
+def after(line, times=1):
+    """A line after the last, once or more often."""
+    return lambda text: text + (line + "\n") * times
+
+
+def unended(text):
+    """The last newline gone."""
+    return text[:-1]
+
+
+def long_text(size):
+    """A text of so many noughts."""
+    return lambda _text: "0" * size
+
+
+# ---- the table: name, base sheet, the edit in words, the edit, the answer (a refusal's number and line, or the text)
+
+ALL_CLOSED = answer_text({}, {"outflow": 0, "steps": 1, "clock": SECOND})
+CASES = [
+    ("all-closed", "document 01", "both squares closed", [closed(3), closed(4)], ALL_CLOSED),
+    # the text: 12 with its line
+    ("empty", "nothing", "nothing at all", [], (12, 1)),
+    ("blank-first-line", "document 01", "a blank line before the first", [before("")], (12, 1)),
+    ("blank-last-line", "document 01", "a blank line after the last", [after("")], (12, 5)),
+    ("carriage-return", "document 01", "a carriage return before a newline", [field(3, "depth", "1000\r")], (12, 3)),
+    ("missing-last-newline", "document 01", "the last newline gone", [unended], (12, 4)),
+    ("grid-field-missing", "document 01", "the grid line without D", [last_gone(1)], (12, 1)),
+    ("grid-field-too-many", "document 01", "a field more on the grid line", [one_more(1)], (12, 1)),
+    ("grid-spaces", "document 01", "spaces for tabs", [spaces(1)], (12, 1)),
+    ("grid-word-upper-case", "document 01", "the first word in upper case", [word(1, "Grid")], (12, 1)),
+    ("run-missing", "document 01", "the grid line alone", [cut(2)], (12, 2)),
+    ("run-field-missing", "document 01", "the run line without its last field", [last_gone(2)], (12, 2)),
+    ("run-field-too-many", "document 01", "a field more on the run line", [one_more(2)], (12, 2)),
+    ("run-needless-zero", "document 01", "a needless zero", [field(2, "tolerance", "0100")], (12, 2)),
+    ("run-sign", "document 01", "a sign", [field(2, "tolerance", "-1")], (12, 2)),
+    ("cells-missing", "document 01", "no square", [cut(3)], (12, 3)),
+    ("cell-missing", "document 01", "one square too few", [cut(4)], (12, 4)),
+    ("cell-too-many", "document 01", "one square too many", [after(SOUTH_OF_THE_GRID)], (12, 5)),
+    ("cell-out-of-order", "document 01", "the squares in each other's places", [swapped(3, 4)], (12, 3)),
+    ("cell-off-the-grid", "document 01", "a square east of the last column", [field(4, "column", 2)], (12, 4)),
+    ("cell-mark-unknown", "document 01", "a mark that there is not", [field(4, "mark", "q")], (12, 4)),
+    ("cell-mark-upper-case", "document 01", "a mark in upper case", [field(4, "mark", "O")], (12, 4)),
+    ("cell-closed-with-fields", "document 01", "a closed square with a bed", [field(4, "mark", "x")], (12, 4)),
+    ("cell-open-without-depth", "document 01", "an open square without its last field", [last_gone(4)], (12, 4)),
+    ("cell-double-tab", "document 01", "two tabs before a bed", [field(4, "bed", "\t0")], (12, 4)),
+    ("cell-question-mark", "document 01", "a bed that the survey could not see", [field(4, "bed", "?")], (12, 4)),
+    ("cell-number-too-large", "document 01", "a bed of 2^32", [field(4, "bed", 4_294_967_296)], (12, 4)),
+    ("rain-field-missing", "document 01", "rain without its rate", [after(A_SHOWER), last_gone(5)], (12, 5)),
+    ("rain-after-inflow", "document 01", "rain after inflow", [after(A_HATCH), after(A_SHOWER)], (12, 6)),
+    ("inflow-field-too-many", "document 01", "a field more on an inflow line", [after(A_HATCH), one_more(5)], (12, 5)),
+    ("inflow-without-newline", "document 01", "an inflow line without its newline", [after(A_HATCH), unended], (12, 5)),
+    # shape and D: 1
+    ("no-rows", "document 01", "no row", [field(1, "rows", 0), cut(3)], (1, 0)),
+    ("columns-65", "document 01", "65 columns", [field(1, "columns", 65), cut(3)], (1, 0)),
+    ("side-0", "document 01", "D of 0", [field(1, "side", 0)], (1, 0)),
+    ("side-101", "document 01", "D of 101", [field(1, "side", 101)], (1, 0)),
+    ("squares-over-1024", "document 01", "33 by 32 squares", [field(1, "rows", 33), field(1, "columns", 32), cut(3)], (1, 0)),
+    # marks and ground: 2
+    ("exit-off-the-rim", "three by three", "the middle square an exit", [field(7, "mark", "e")], (2, 0)),
+    ("bed-too-high", "document 01", "a bed above 1,000 m", [field(4, "bed", 1_000_000_001)], (2, 0)),
+    ("roughness-0", "document 01", "a roughness of 0", [field(4, "roughness", 0)], (2, 0)),
+    ("cell-number-largest", "document 01", "a bed of 2^32 - 1, read and then judged", [field(4, "bed", 4_294_967_295)], (2, 0)),
+    # water: 3
+    ("depth-too-deep", "document 01", "a depth above 100 m", [field(4, "depth", 100_000_001)], (3, 0)),
+    # tables: 4
+    ("rain-65-lines", "document 01", "65 rows of rain", [after(A_SHOWER, 65)], (4, 0)),
+    ("rain-from-after-to", "document 01", "rain that ends before it begins", [after(A_SHOWER), field(5, "from", 2), field(5, "to", 1)], (4, 0)),
+    ("rain-too-heavy", "document 01", "rain above 1 m an hour", [after(A_SHOWER), field(5, "rate", 1_000_001)], (4, 0)),
+    ("inflow-65-lines", "document 01", "65 rows of inflow", [after(A_HATCH, 65)], (4, 0)),
+    ("inflow-off-the-grid", "document 01", "inflow east of the last column", [after(A_HATCH), field(5, "column", 2)], (4, 0)),
+    ("inflow-on-closed", "document 01", "inflow on a closed square", [closed(4), after(A_HATCH), field(5, "column", 1)], (4, 0)),
+    # rules and end: 5
+    ("tolerance-too-large", "document 01", "a tolerance of 10,001", [field(2, "tolerance", 10_001)], (5, 0)),
+    ("shortest-0", "document 01", "a shortest step of 0", [field(2, "shortest", 0)], (5, 0)),
+    ("longest-under-shortest", "document 01", "a longest step under the shortest", [field(2, "longest", 999)], (5, 0)),
+    ("update-0", "document 01", "an update time of 0", [field(2, "update", 0)], (5, 0)),
+    ("end-no-multiple", "document 01", "an end that is no multiple of the update time", [field(2, "end", 1_500)], (5, 0)),
+    ("end-too-late", "document 01", "an end after a week", [field(2, "end", 604_801_000)], (5, 0)),
+    # the run itself
+    (
+        "run-refused-too-deep",
+        "full square",
+        "a square as deep as may be, under rain and a hatch",
+        [after(A_SHOWER), field(4, "to", A_WEEK), field(4, "rate", 1_000_000), after(A_HATCH), field(5, "to", A_WEEK), field(5, "litres", 100_000)],
+        (8, 0),
+    ),
+    # two faults: the first of the order is given
+    ("two-text-before-shape", "document 01", "no row, and no D", [field(1, "rows", 0), last_gone(1), cut(3)], (12, 1)),
+    ("two-shape-before-text", "document 01", "no row, and a second line that is none", [field(1, "rows", 0), cut(2), after("nothing")], (1, 0)),
+    ("two-first-bad-line", "document 01", "two lines cut short", [field(2, "tolerance", 1), only(2, 1), only(4, 0)], (12, 2)),
+    (
+        "two-text-before-bed",
+        "document 01",
+        "a bed too high, and a later line cut short",
+        [field(3, "bed", 1_000_000_001), field(3, "depth", 0), last_gone(4)],
+        (12, 4),
+    ),
+    (
+        "two-bed-before-depth",
+        "document 01",
+        "a depth too deep, and a later bed too high",
+        [field(3, "depth", 100_000_001), field(4, "bed", 1_000_000_001)],
+        (2, 0),
+    ),
+    ("two-bed-before-65-lines", "document 01", "a roughness of 0, and 65 rows of rain", [field(4, "roughness", 0), after(A_SHOWER, 65)], (2, 0)),
+    (
+        "two-depth-before-rain",
+        "document 01",
+        "a depth too deep, and rain that ends before it begins",
+        [field(3, "depth", 100_000_001), after(A_SHOWER), field(5, "from", 2), field(5, "to", 1)],
+        (3, 0),
+    ),
+    (
+        "two-rain-before-rules",
+        "document 01",
+        "a tolerance of 10,001, and rain that ends before it begins",
+        [field(2, "tolerance", 10_001), after(A_SHOWER), field(5, "from", 2), field(5, "to", 1)],
+        (4, 0),
+    ),
+    # the program's own limit
+    ("bytes-65536", "nothing", "as many bytes as are read, and no line", [long_text(MOST_BYTES)], (12, 1)),
+    ("bytes-65537", "nothing", "one byte more", [long_text(MOST_BYTES + 1)], (12, 0)),
+]
+
+
+def sheet_of(base, edits):
+    """A base sheet with its edits made."""
+    text = BASES[base]
+    for edit in edits:
+        text = edit(text)
+    return text
+
+
+def answer_of(answer):
+    """The answer's text."""
+    return answer if isinstance(answer, str) else refused_text(*answer)
+
+
+def main():
+    if sys.argv[1:2] == ["--write"]:
+        folder = Path(sys.argv[2])
+        for name, base, _, edits, answer in CASES:
+            (folder / f"{name}.sheet").write_bytes(sheet_of(base, edits).encode("ascii"))
+            (folder / f"{name}.out").write_bytes(answer_of(answer).encode("ascii"))
+        return
+    checks = Checks("damaged")
+    checks.hold(len({name for name, *_ in CASES}) == len(CASES), "two cases have one name")
+    for name, base, words, edits, answer in CASES:
+        sheet = sheet_of(base, edits).encode("ascii")
+        told = printed("meadow", sheet).decode("ascii")
+        checks.hold(told == answer_of(answer), f"{name}, {words}: meadow prints {told!r}, not {answer_of(answer)!r}")
+        checks.hold(answered(sheet) == answer_of(answer), f"{name}, {words}: by document 01 it is {answered(sheet)!r}")
+    checks.end()
+
+
+if __name__ == "__main__":
+    main()

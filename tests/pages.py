@@ -1,0 +1,212 @@
+#!/usr/bin/env python3
+"""The pages are true of the sources: every public function stands in docs/CONTRACTS.md and in the determinacy records, every file and
+name that docs/METHOD.md cites is there, its ranges and its worked square are those of document 01 in Python, the pictures are as made,
+no table has a cell too long to read, every path that a page names exists, and README's first sheet gives README's answer."""
+import re
+import sys
+from pathlib import Path
+
+TOP = Path(__file__).resolve().parent.parent
+sys.path[:0] = [str(TOP / "python"), str(TOP / "tools")]
+
+import pictures  # noqa: E402
+from meadow.counted import Checks  # noqa: E402
+from meadow.programs import printed  # noqa: E402
+from meadow.ranges import RANGES  # noqa: E402
+from meadow.worked_square import AMOUNTS  # noqa: E402
+
+CRATES = TOP / "crates"
+METHOD = TOP / "docs" / "METHOD.md"
+CONTRACTS = TOP / "docs" / "CONTRACTS.md"
+PUBLIC = re.compile(r'^pub (?:extern "C" )?fn (\w+)', re.M)
+# the exported functions have this before the name of the call
+EXPORTED = "flood_"
+# "some 30 words"
+MOST_WORDS = 35
+SHORT_CELLS = ("CONTRACTS.md", "DEMANDS.md")
+CITATIONS = ["part", "definition", "function", "law", "test"]
+# a thing of METHOD's first table, and the range of document 01 in Python
+UNITS = {
+    "rows, and columns": "rows",
+    "side of a square": "side",
+    "bed": "bed",
+    "depth": "depth",
+    "last leaving": "last",
+    "roughness": "roughness",
+    "mark": "mark",
+    "slope tolerance": "tolerance",
+    "shortest step": "shortest",
+    "longest step": "longest",
+    "update time": "update",
+    "clock, and times in tables": "clock",
+    "rain": "rate",
+    "inflow": "litres",
+    "outflow total": "outflow",
+}
+PATH = re.compile(r"`((?:\.ci|bin|crates|docs|python|samples|tests|tools|validation)/[\w./-]+?)/?`")
+LINK = re.compile(r"\]\((?!http|#)([^)#]+)\)")
+
+
+def cells(line):
+    """The cells of a table's row."""
+    return [cell.strip() for cell in re.split(r"(?<!\\)\|", line.strip().strip("|"))]
+
+
+def tables(text):
+    """Each table of a page: its heads, and its rows."""
+    lines = text.splitlines()
+    for at, line in enumerate(lines):
+        if re.fullmatch(r"\|(-+\|)+", line):
+            rows = []
+            for row in lines[at + 1 :]:
+                if not row.startswith("|"):
+                    break
+                rows.append(cells(row))
+            yield cells(lines[at - 1]), rows
+
+
+def ticked(text):
+    """What stands between backticks."""
+    return re.findall(r"`([^`]+)`", text)
+
+
+def library_functions():
+    """(crate, module::function) of each public function of a library crate; those of a crate's root have no module."""
+    for source in sorted(CRATES.glob("*/src/*.rt")):
+        if not (source.parent / "main.rt").exists():
+            for name in PUBLIC.findall(source.read_text(encoding="utf-8")):
+                yield source.parent.parent.name, name if source.stem == "lib" else f"{source.stem}::{name}"
+
+
+def hold_contracts(checks, functions):
+    """A row for each public function, in its crate's section, and none besides."""
+    sections = re.split(r"^## ", CONTRACTS.read_text(encoding="utf-8"), flags=re.M)
+    told = set()
+    for section in sections:
+        crate = section.split("\n", 1)[0].strip()
+        for heads, rows in tables(section):
+            if heads[0] == "function":
+                told |= {(crate, name) for row in rows for name in ticked(row[0])}
+    for crate, name in sorted(functions | told):
+        checks.hold((crate, name) in told, f"docs/CONTRACTS.md has no row for {crate}::{name}")
+        checks.hold((crate, name) in functions, f"docs/CONTRACTS.md has a row for {crate}::{name}, which is no public function")
+
+
+def determined():
+    """(crate, field) of each field of a determinacy record, by the crate's name in lower case and without underscores."""
+    for path in sorted((CRATES / "demands" / "specs").glob("*.antt")):
+        records = re.split(r"^(?:pub )?record (\w+?)Determined\b", path.read_text(encoding="utf-8"), flags=re.M)
+        for crate, body in zip(records[1::2], records[2::2]):
+            body = re.split(r"^\S", body.split("\n", 1)[1], maxsplit=1, flags=re.M)[0]
+            yield from ((crate.lower(), field) for field in re.findall(r"^  pub ([\w-]+) :", body, re.M))
+
+
+def hold_determined(checks, functions):
+    """A field for each public function, and none besides."""
+    fields = set(determined())
+    wanted = {(crate.replace("_", ""), name.split("::")[-1].removeprefix(EXPORTED).replace("_", "-")) for crate, name in functions}
+    for crate, name in sorted(fields | wanted):
+        checks.hold((crate, name) in fields, f"no determinacy record has a field {name} for {crate}")
+        checks.hold((crate, name) in wanted, f"the determinacy record of {crate} has a field {name}, which is no public function")
+
+
+def defined(path, name):
+    """Whether a file of definitions or laws has a name at the beginning of a line."""
+    words = r"(?:(?:pub|abbrev|unfoldable|record|data|private) )*"
+    return re.search(rf"^ *{words}{re.escape(name)}(?=[\s(:{{]|$)", path.read_text(encoding="utf-8"), re.M) is not None
+
+
+def hold_names(checks, cell):
+    """Each file of a cell is there and has the names that follow it."""
+    path = None
+    for word in ticked(cell):
+        if word.endswith(".antt"):
+            path = CRATES / word
+            checks.hold(path.exists(), f"docs/METHOD.md cites crates/{word}, which is not there")
+        elif path is None or not path.exists():
+            checks.hold(False, f"docs/METHOD.md cites {word} of no file that is there")
+        else:
+            checks.hold(defined(path, word), f"docs/METHOD.md cites {word} of {path.relative_to(TOP)}, which has no such name")
+
+
+def hold_function(checks, cell):
+    """A function as crate::module::name, or crate::name for one in the crate's root."""
+    (word,) = ticked(cell)
+    crate, *module, name = word.split("::")
+    source = CRATES / crate / "src" / f"{module[0] if module else 'lib'}.rt"
+    there = source.exists() and re.search(rf"\bfn {name}\(", source.read_text(encoding="utf-8"))
+    checks.hold(there, f"docs/METHOD.md cites the function {word}, which is not there")
+
+
+def hold_method(checks):
+    """The citations, the ranges and the worked square of docs/METHOD.md."""
+    found = list(tables(METHOD.read_text(encoding="utf-8")))
+    cited = [row for heads, rows in found if heads == CITATIONS for row in rows]
+    checks.hold(cited != [], "docs/METHOD.md cites nothing")
+    for _, definition, function, law, test in cited:
+        hold_names(checks, definition)
+        hold_function(checks, function)
+        hold_names(checks, law)
+        for word in ticked(test):
+            checks.hold((TOP / word).exists(), f"docs/METHOD.md cites {word}, which is not there")
+    units = {row[0].split(":")[0]: row[3:] for heads, rows in found if heads[0] == "thing" for row in rows}
+    for thing, name in UNITS.items():
+        ends = [int(end.replace(",", "")) if end[:1].isdigit() else bound for end, bound in zip(units.get(thing, ()), RANGES[name])]
+        checks.hold(ends == list(RANGES[name]), f"docs/METHOD.md has not the range of {thing}: {RANGES[name]}")
+    square = {row[0]: row[-1] for heads, rows in found if heads[0] == "quantity" and heads[-1] == "is" for row in rows}
+    checks.hold(square == {name: f"{value:,}" for name, value in AMOUNTS.items()}, "the square worked in docs/METHOD.md is worked wrongly")
+
+
+def hold_pictures(checks):
+    """The pictures of README and METHOD are what tools/pictures.py makes."""
+    for name, made in pictures.PICTURES.items():
+        stored = pictures.FOLDER / name
+        checks.hold(stored.exists() and stored.read_text(encoding="utf-8") == made(), f"docs/pictures/{name} is not what tools/pictures.py makes")
+    checks.hold(pictures.page() == METHOD.read_text(encoding="utf-8"), "the crates of docs/METHOD.md are not those of crates.txt: tools/pictures.py")
+
+
+def hold_cells(checks):
+    """No cell of the long tables has more words than a reader takes in."""
+    for name in SHORT_CELLS:
+        for _, rows in tables((TOP / "docs" / name).read_text(encoding="utf-8")):
+            for row in rows:
+                long = [cell for cell in row if len(cell.split()) > MOST_WORDS]
+                checks.hold(not long, f"docs/{name} has a cell of over {MOST_WORDS} words: {long}")
+
+
+def hold_paths(checks):
+    """What a page names is there; NAME in a path stands for any name."""
+    pages = [TOP / "README.md", *sorted((TOP / "docs").glob("*.md"))]
+    for page in pages:
+        text = page.read_text(encoding="utf-8")
+        named = [TOP / path for path in PATH.findall(text) if "NAME" not in path]
+        for path in named + [page.parent / link for link in LINK.findall(text)]:
+            checks.hold(path.exists(), f"{page.relative_to(TOP)} names {path.relative_to(TOP)}, which is not there")
+
+
+def hold_first_sheet(checks):
+    """README's first sheet gives the answer that README shows, tabs being shown as spaces."""
+    text = (TOP / "README.md").read_text(encoding="utf-8")
+    sheet = re.search(r"<<'END'\n(.*?)^END$", text, re.S | re.M)
+    answer = re.search(r"^The answer, tabs shown as spaces.*?^```\n(.*?)^```", text, re.S | re.M)
+    if checks.hold(sheet and answer, "README.md has no first sheet with its answer"):
+        told = printed("meadow", sheet[1].replace(" ", "\t").encode("ascii")).decode("ascii")
+        checks.hold(told == answer[1].replace(" ", "\t"), f"README.md's first sheet gives {told!r}")
+
+
+def main():
+    checks = Checks("pages")
+    functions = set(library_functions())
+    checks.hold(functions != set(), "there is no public function")
+    hold_contracts(checks, functions)
+    hold_determined(checks, functions)
+    hold_method(checks)
+    hold_pictures(checks)
+    hold_cells(checks)
+    hold_paths(checks)
+    hold_first_sheet(checks)
+    checks.end()
+
+
+if __name__ == "__main__":
+    main()

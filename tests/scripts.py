@@ -1,0 +1,65 @@
+#!/usr/bin/env python3
+"""The project's own scripts: each Python file says what it is for, the fields of a sheet's lines are listed in one of them alone, nothing
+but bin/setup installs, and a tool whose output nobody reads any more ends quietly."""
+import ast
+import re
+import subprocess
+import sys
+from pathlib import Path
+
+TOP = Path(__file__).resolve().parent.parent
+sys.path.insert(0, str(TOP / "python"))
+
+from meadow.counted import Checks  # noqa: E402
+from meadow.lines import SQUARE  # noqa: E402
+
+FOLDERS = ("python", "samples", "tests", "tools", "validation")
+SAMPLE = [TOP / "samples" / f"walled-meadow.{kind}" for kind in ("sheet", "out")]
+# a tool, and words with which it prints
+TOOLS = {"tools/map.py": SAMPLE, "tools/standing.py": SAMPLE, "tools/header.py": []}
+INSTALLS = re.compile(r"\b(apt|apt-get|pip|dpkg)\b.*(install|--add-architecture)")
+
+
+def hold_docstrings(checks, files):
+    for path in files:
+        checks.hold(ast.get_docstring(ast.parse(path.read_text(encoding="utf-8"))), f"{path.relative_to(TOP)} does not say what it is for")
+
+
+def hold_one_table(checks, files):
+    """The word of a square's line stands as a text in the table of fields only."""
+    word = re.compile(rf"""["']{SQUARE}["']|{SQUARE}\\t""")
+    places = [path.relative_to(TOP).as_posix() for path in files if word.search(path.read_text(encoding="utf-8"))]
+    checks.hold(places == ["python/meadow/lines.py"], f"the fields of a square's line are listed in {places}")
+
+
+def hold_installers(checks):
+    found = [path for folder in (".ci", "bin", "tests") for path in sorted((TOP / folder).rglob("*"))]
+    scripts = [path for path in found if path.is_file() and path.suffix in ("", ".sh")]
+    checks.hold(TOP / "bin" / "setup" in scripts, "there is no bin/setup")
+    for path in scripts:
+        lines = [line for line in path.read_text(encoding="utf-8").splitlines() if not line.lstrip().startswith("#")]
+        installs = any(INSTALLS.search(line) for line in lines)
+        checks.hold(installs == (path.name == "setup"), f"{path.relative_to(TOP)} installs, or bin/setup does not")
+
+
+def hold_quiet(checks):
+    for name, words in TOOLS.items():
+        tool = subprocess.Popen([sys.executable, TOP / name, *words], stdout=subprocess.PIPE, stderr=subprocess.PIPE)
+        tool.stdout.close()
+        checks.hold(tool.stderr.read() == b"", f"{name} complains of a broken pipe")
+        tool.wait()
+
+
+def main():
+    checks = Checks("scripts")
+    files = [path for folder in FOLDERS for path in sorted((TOP / folder).rglob("*.py"))]
+    checks.hold(files != [], "there is no Python file")
+    hold_docstrings(checks, files)
+    hold_one_table(checks, files)
+    hold_installers(checks)
+    hold_quiet(checks)
+    checks.end()
+
+
+if __name__ == "__main__":
+    main()

@@ -1,0 +1,137 @@
+#!/usr/bin/env python3
+"""pictures.py: makes the pictures of README and docs/METHOD.md in docs/pictures/, and the picture of the crates in that page itself.
+
+The map is that of the sample `walled-meadow`, the crates are those of crates.txt, the square is the one worked in docs/METHOD.md.
+"""
+import re
+import sys
+from pathlib import Path
+
+sys.path.insert(0, str(Path(__file__).resolve().parent.parent / "python"))
+
+from meadow.drawing import svg  # noqa: E402
+from meadow.lines import Answer  # noqa: E402
+from meadow.programs import TOP, ended  # noqa: E402
+from meadow.sheets import read  # noqa: E402
+from meadow.worked_square import AMOUNTS, DROPS  # noqa: E402
+
+WATER, WALL, GROUND, INK, PALE = "#9ecae1", "#4a4a4a", "#e9ddb8", "#222222", "#777777"
+
+
+class Drawing:
+    """An SVG picture, put together shape by shape."""
+
+    def __init__(self, width, height):
+        self.parts = [
+            f'<svg xmlns="http://www.w3.org/2000/svg" width="{width}" height="{height}" font-family="sans-serif" font-size="13">',
+            '<defs><marker id="tip" markerUnits="userSpaceOnUse" markerWidth="14" markerHeight="12" refX="12" refY="6" orient="auto">'
+            f'<path d="M0 0L14 6L0 12z" fill="{INK}"/></marker></defs>',
+            f'<rect width="{width}" height="{height}" fill="#ffffff"/>',
+        ]
+
+    def box(self, x, y, width, height, fill, edge=INK):
+        self.parts.append(f'<rect x="{x}" y="{y}" width="{width}" height="{height}" fill="{fill}" stroke="{edge}"/>')
+
+    def write(self, x, y, text, anchor="middle", fill=INK, size=13):
+        self.parts.append(f'<text x="{x}" y="{y}" text-anchor="{anchor}" fill="{fill}" font-size="{size}">{text}</text>')
+
+    def line(self, path, tip=True, colour=INK, width=1.5):
+        end = ' marker-end="url(#tip)"' if tip else ""
+        self.parts.append(f'<path d="{path}" fill="none" stroke="{colour}" stroke-width="{width}"{end}/>')
+
+    def text(self):
+        return "\n".join([*self.parts, "</svg>"]) + "\n"
+
+
+def one_square():
+    """The square that docs/METHOD.md works, with its neighbours: two lower, one higher, one closed."""
+    size, middle = 120, 250
+    north, east, south, west = DROPS
+    picture = Drawing(620, 500)
+    places = {"north": (0, -1), "east": (1, 0), "south": (0, 1), "west": (-1, 0)}
+    fills = {"north": WATER, "east": WATER, "south": GROUND, "west": WALL}
+    for name, (across, down) in places.items():
+        picture.box(middle + across * size - size / 2, middle + down * size - size / 2, size, size, fills[name])
+    picture.box(middle - size / 2, middle - size / 2, size, size, "#6baed6")
+    picture.write(middle, middle - 6, "the square")
+    picture.write(middle, middle + 12, "d = 250,000 µm")
+    picture.write(middle, middle - size - 20, "lower")
+    picture.write(middle + size, middle - 30, "a little lower")
+    picture.write(middle, middle + size + 6, "higher")
+    picture.write(middle - size, middle + 4, "closed", fill="#ffffff")
+    picture.line(f"M{middle} {middle - 34}V{middle - 84}", width=4)
+    picture.line(f"M{middle + 40} {middle + 32}H{middle + 84}", width=2)
+    notes = [
+        (middle + 76, 66, f"north: V = {north:,}, leaves {AMOUNTS['north']:,}"),
+        (middle + size + 76, middle + 4, f"east: V = {east:,},"),
+        (middle + size + 76, middle + 22, f"leaves {AMOUNTS['east']:,}"),
+        (middle + 76, 446, f"south: it is higher, so V = {south}"),
+        (16, middle + 84, f"west: closed, so V = {west}"),
+    ]
+    for x, y, text in notes:
+        picture.write(x, y, text, "start")
+    picture.write(16, 484, "Beyond the rim an exit has a drop of its own depth; every other square has none.", "start", PALE)
+    return picture.text()
+
+
+def ring():
+    """A record room of four slots after six steps and one take-back."""
+    picture = Drawing(660, 250)
+    slots = [("slot 0, the newest", "step 5"), ("slot 1", "step 6, taken back"), ("slot 2", "step 3"), ("slot 3", "step 4")]
+    width, left, top = 150, 20, 80
+    for place, (name, step) in enumerate(slots):
+        x = left + place * (width + 4)
+        kept = "taken back" not in step
+        picture.box(x, top, width, 60, WATER if kept else "#f2f2f2")
+        picture.write(x + width / 2, top - 10, name, fill=PALE)
+        picture.write(x + width / 2, top + 35, step, fill=INK if kept else PALE)
+    picture.line("M557 144C557 225 80 225 80 146")
+    picture.write(330, 234, "after the last slot comes slot 0")
+    picture.write(left, 24, "K = 4, six steps made, the sixth taken back: kept is 3 (steps 3, 4 and 5).", "start")
+    picture.write(left, 44, "Steps 1 and 2 lost their places to 5 and 6. The next step is written to slot 1.", "start")
+    return picture.text()
+
+
+def crates():
+    """Each listed crate and program with those that it may look at, as Mermaid; what follows from another arrow is left out."""
+    sees = {}
+    for line in (TOP / "crates.txt").read_text().splitlines():
+        if line and not line.startswith("#"):
+            name, others = line.split(":")
+            sees[name] = [other for other in others.split() if other in sees]
+    lines = ["graph TD"]
+    for name, others in sees.items():
+        program = (TOP / "crates" / name / "src" / "main.rt").exists()
+        lines.append(f"  {name}([{name}])" if program else f"  {name}[{name}]")
+        direct = [other for other in others if not any(other in sees[via] for via in others)]
+        lines += [f"  {name} --> {other}" for other in direct]
+    return "".join(line + "\n" for line in lines)
+
+
+def walled_meadow():
+    """The map of the sample with its answer."""
+    sheet, answer = ((TOP / "samples" / f"walled-meadow.{kind}").read_text() for kind in ("sheet", "out"))
+    return svg(read(sheet)[0], Answer(answer))
+
+
+PICTURES = {"walled-meadow.svg": walled_meadow, "square.svg": one_square, "ring.svg": ring}
+FOLDER = TOP / "docs" / "pictures"
+PAGE = TOP / "docs" / "METHOD.md"
+
+
+def page():
+    """docs/METHOD.md with the picture of the crates as they are."""
+    return re.sub(r"(?<=```mermaid\n).*?(?=```\n)", lambda _: crates(), PAGE.read_text(encoding="utf-8"), flags=re.S)
+
+
+def main():
+    for name, made in PICTURES.items():
+        (FOLDER / name).write_text(made(), encoding="utf-8")
+        print(f"docs/pictures/{name}")
+    PAGE.write_text(page(), encoding="utf-8")
+    print("docs/METHOD.md")
+    return 0
+
+
+if __name__ == "__main__":
+    ended(main, "pictures")
