@@ -3,14 +3,14 @@
 -- Assumes nothing.
 use mathlib.Core.Path.{_≡_, refl, sym, _∙_, ap, subst}
 use mathlib.Core.Bool.{Bool, true, false}
-use Prim.Native.Nat.{ℕ, zero, suc, _+_, _-_, _*_, _/_, _^_, _≤_, _<_}
-use native.Mathlib.Nat.{le-trans, lt-of-le-of-lt, lt-of-lt-of-le, lt-of-not-le, not-le-of-lt, lt-irrefl, le-refl, pow-le-pow-left, pow-le-pow-right, pow-suc, pow-zero, one-mul, mul-zero, one-le-pow, mul-le-mul, zero-lt-suc, mul-div-cancel, add-assoc, two-pow-succ}
+use Prim.Native.Nat.{ℕ, zero, suc, _+_, _*_, _^_, _≤_, _<_}
+use native.Mathlib.Nat.{le-trans, lt-of-le-of-lt, lt-of-lt-of-le, lt-of-not-le, not-le-of-lt, le-refl, pow-le-pow-left, pow-le-pow-right, pow-suc, pow-zero, one-mul, mul-zero, one-le-pow, mul-le-mul, zero-lt-suc, add-assoc, two-pow-succ}
 use native.Mathlib.Omega.{arith}
 use lib.Dec.{leb}
 use borrow.Author.Tests.{leb-true, leb-false}
 use Rattle.reckon.specs.Tests.{pick}
 use Rattle.reckon.specs.Roots.{Root, rootFrom, rootOf}
-use Rattle.reckon.specs.RootSearch.{SmallPower, PowerOf}
+use Rattle.reckon.specs.RootSearch.{SmallPower}
 
 -- ---- powers
 
@@ -43,33 +43,6 @@ pub is-cube : {p : ℕ} (x : ℕ) → SmallPower p → (p ≡ 2 → ⊥) → x ^
 is-cube {p} x s h =
     let e : p ≡ 3 = omega (arith, s .two, s .three) in
     ap (λ (q : ℕ). x ^ q) e ∙ cube x
-
-pub small-two : SmallPower 2
-small-two = omega arith
-
-pub small-three : SmallPower 3
-small-three = omega arith
-
--- ---- the powers of a base
-
-pub power-pos : (base : ℕ) {place : ℕ} → 0 < base → PowerOf base place → 0 < place
-power-pos base h t = subst (λ (x : ℕ). 0 < x) (sym (t .1)) (one-le-pow (t .0) base h)
-
--- one place down
-pub power-down : (base : ℕ) {place : ℕ} → 0 < base → PowerOf base place → 1 < place → PowerOf base (place / base)
-power-down base {place} b t h = go (t .0) (t .1)
-  where
-    go : (k : ℕ) → place ≡ base ^ k → PowerOf base (place / base)
-    go zero e = absurd (lt-irrefl 1 (subst (λ (x : ℕ). 1 < x) (e ∙ pow-zero base) h))
-    go (suc k) e = (k, ap (λ (x : ℕ). x / base) (e ∙ pow-suc base k) ∙ mul-div-cancel (base ^ k) b)
-
--- a power of two above 1 is twice its half
-pub power-halves : {place : ℕ} → PowerOf 2 place → 1 < place → place / 2 + place / 2 ≡ place
-power-halves {place} t h = go (t .0) (t .1)
-  where
-    go : (k : ℕ) → place ≡ 2 ^ k → place / 2 + place / 2 ≡ place
-    go zero e = absurd (lt-irrefl 1 (subst (λ (x : ℕ). 1 < x) (e ∙ pow-zero 2) h))
-    go (suc k) e = omega (arith, e ∙ two-pow-succ k)
 
 -- ---- roots
 

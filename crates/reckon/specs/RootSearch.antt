@@ -1,4 +1,4 @@
--- What the search for a root asks of its inner functions. No public promise names these.
+-- What the search for a root asks of its inner functions. The promises of the two roots do not name these.
 -- Assumes nothing.
 use mathlib.Core.Path.{_≡_}
 use Prim.Native.Nat.{ℕ, _+_, _^_, _≤_, _<_}
@@ -8,12 +8,20 @@ pub record SmallPower (p : ℕ) : Type 0 where
   pub two : 2 ≤ p
   pub three : p ≤ 3
 
-abbrev pub PowerOf : ℕ → ℕ → Type 0
-PowerOf base place = (k : ℕ) × (place ≡ base ^ k)
-
--- the root lies below top, a power of two, and what the search forms fits
-pub record Search (p n top : ℕ) : Type 0 where
+-- the p-th root of n can be asked for
+pub record Asked (p n : ℕ) : Type 0 where
   pub power : SmallPower p
-  pub binary : PowerOf 2 top
-  pub over : n < top ^ p
-  pub fits : (top + top) ^ p < 2 ^ 64
+  pub small : n < 10 ^ 18
+
+abbrev pub PowerOfTen : ℕ → Type 0
+PowerOfTen place = (k : ℕ) × (place ≡ 10 ^ k)
+
+-- a place of the root: ones, tens, hundreds, as far up as a root can have digits
+pub record Place (p place : ℕ) : Type 0 where
+  pub tens : PowerOfTen place
+  pub most : place ^ p ≤ 10 ^ 18
+
+-- the digit at `place` is raised as far as it goes: the power of r still fits into n, that of one more does not
+pub record Raised (p n place r : ℕ) : Type 0 where
+  pub fits : r ^ p ≤ n
+  pub full : n < (r + place) ^ p
