@@ -6,7 +6,7 @@ use native.Mathlib.Nat.{le-trans, lt-of-le-of-lt, lt-of-not-le, not-le-of-lt, lt
 use native.Mathlib.Decide.{ℕ-discrete}
 use native.Mathlib.Omega.{arith}
 use lib.Pow.{pow-add}
-use Rattle.reckon.specs.RootSearch.{SmallPower, PowerOfTen, Place}
+use Rattle.reckon.specs.RootSearch.{SmallPower, Asked, PowerOfTen, Place}
 use Rattle.reckon.proofs.RootLaws.{pow-cancel}
 
 -- what holds of squares and of cubes holds of every small power
@@ -74,9 +74,13 @@ top-of s =
     (10 ^ 9, record { over = omega arith; twice = omega arith })
     (10 ^ 6, record { over = omega arith; twice = omega arith })
 
-pub sum-fits : {p : ℕ} (a b : ℕ) → SmallPower p → a ^ p ≤ 10 ^ 18 → b ^ p ≤ 10 ^ 18 → (a + b) ^ p < 2 ^ 64
+sum-fits : {p : ℕ} (a b : ℕ) → SmallPower p → a ^ p ≤ 10 ^ 18 → b ^ p ≤ 10 ^ 18 → (a + b) ^ p < 2 ^ 64
 sum-fits {p} a b s h g =
     let t = top-of s in
     let x : a < t .0 + 1 = pow-cancel p (lt-of-le-of-lt h (t .1 .over)) in
     let y : b < t .0 + 1 = pow-cancel p (lt-of-le-of-lt g (t .1 .over)) in
     lt-of-le-of-lt (pow-le-pow-left (omega arith) p) (t .1 .twice)
+
+-- what is tried: the root so far raised by a place
+pub trial-fits : {p n : ℕ} (place root : ℕ) → Asked p n → Place p place → root ^ p ≤ n → (root + place) ^ p < 2 ^ 64
+trial-fits place root a t h = sum-fits root place (a .power) (omega (arith, a .small)) (t .most)

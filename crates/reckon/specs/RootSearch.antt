@@ -1,4 +1,4 @@
--- What the search for a root asks of its inner functions. The promises of the two roots do not name these.
+-- What the search for a root asks of its inner functions. No public promise names these.
 -- Assumes nothing.
 use mathlib.Core.Path.{_≡_}
 use Prim.Native.Nat.{ℕ, _+_, _^_, _≤_, _<_}

@@ -6,7 +6,7 @@ ghost use Rattle.reckon.specs.Roots.{Root};
 ghost use Rattle.reckon.specs.RootSearch.{SmallPower, Asked, Place, Raised};
 
 // x to the power p.
-pub fn raised(p: u64, x: u64) -> u64
+fn raised(p: u64, x: u64) -> u64
     requires { ⌜ (SmallPower p) × (x ^ p < 2 ^ 64) ⌝ }
     ensures { λ r. ⌜ r ≡ x ^ p ⌝ }
 {
@@ -14,7 +14,7 @@ pub fn raised(p: u64, x: u64) -> u64
 }
 
 // The first place above the root, found from the size of n.
-pub fn place_above(p: u64, n: u64) -> u64
+fn place_above(p: u64, n: u64) -> u64
     requires { ⌜ Asked p n ⌝ }
     ensures { λ r. ⌜ (Place p r) × (n < r ^ p) ⌝ }
 {
@@ -26,7 +26,7 @@ pub fn place_above(p: u64, n: u64) -> u64
 }
 
 // The root so far with the digit of one place: raised while its power still fits.
-pub fn raise_digit(p: u64, n: u64, place: u64, from: u64) -> u64
+fn raise_digit(p: u64, n: u64, place: u64, from: u64) -> u64
     requires { ⌜ (Asked p n) × (Place p place) × (from ^ p ≤ n) ⌝ }
     ensures { λ r. ⌜ Raised p n place r ⌝ }
 {

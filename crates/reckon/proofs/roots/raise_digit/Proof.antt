@@ -1,11 +1,10 @@
 -- `reckon::roots::raise_digit` meets its contract: the power of the root always fits, and the loop ends where one more does not.
 -- Assumes nothing.
-use Prim.Native.Nat.{ℕ, _+_, _-_, _^_, _≤_, _<_}
+use Prim.Native.Nat.{_+_, _-_, _^_, _≤_}
 use native.Mathlib.Nat.{le-trans, lt-of-le-of-lt}
 use native.Mathlib.Omega.{arith}
-use Rattle.reckon.specs.RootSearch.{Asked, Place}
 use Rattle.reckon.proofs.RootLaws.{le-pow}
-use Rattle.reckon.proofs.PlaceLaws.{ten-pos, sum-fits}
+use Rattle.reckon.proofs.PlaceLaws.{ten-pos, trial-fits}
 use Rattle.reckon.proofs.roots.raise_digit.Statement.{statement}
 use Rattle.reckon.proofs.roots.raise_digit.Tie as tie
 
@@ -17,9 +16,6 @@ abbrev μ-loop : tie.MeasureT-loop
 
 loop-holds : tie.Need-loop-holds Inv-loop μ-loop
 loop-holds c = c .pre .2
-
-trial-fits : {p n : ℕ} (place root : ℕ) → Asked p n → Place p place → root ^ p ≤ n → (root + place) ^ p < 2 ^ 64
-trial-fits place root a t h = sum-fits root place (a .power) (omega (arith, a .small)) (t .most)
 
 add-raised : tie.Need-add-raised Inv-loop μ-loop
 add-raised c =
