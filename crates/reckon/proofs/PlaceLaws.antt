@@ -48,17 +48,18 @@ place-down {p} {place} t h =
 parts-evenly : {p : ℕ} (k : ℕ) → SmallPower p → k * p < 18 → suc k * p ≤ 18
 parts-evenly k s = each-power (λ (q : ℕ). k * q < 18 → suc k * q ≤ 18) s (λ h. omega arith) (λ h. omega arith)
 
-pub place-up : {p place : ℕ} → SmallPower p → PowerOfTen place → place ^ p < 10 ^ 18 → Place p (place * 10)
-place-up {p} {place} s t h =
-    let k : ℕ = t .0 in
-    let up : place * 10 ≡ 10 ^ suc k = ap (λ (x : ℕ). x * 10) (t .1) ∙ sym (pow-suc 10 k) in
-    let below : 10 ^ (k * p) < 10 ^ 18 = subst (λ (x : ℕ). x < 10 ^ 18) (ap (λ (x : ℕ). x ^ p) (t .1) ∙ power-of-ten k p) h in
+-- a place whose power is at most n has a place above it
+pub place-up : {p n place : ℕ} → Asked p n → Place p place → place ^ p ≤ n → Place p (place * 10)
+place-up {p} {n} {place} a t h =
+    let k : ℕ = t .tens .0 in
+    let up : place * 10 ≡ 10 ^ suc k = ap (λ (x : ℕ). x * 10) (t .tens .1) ∙ sym (pow-suc 10 k) in
+    let below : 10 ^ (k * p) < 10 ^ 18 = subst (λ (x : ℕ). x < 10 ^ 18) (ap (λ (x : ℕ). x ^ p) (t .tens .1) ∙ power-of-ten k p) (omega (arith, a .small)) in
     let few : k * p < 18 = lt-of-not-le (λ m. not-le-of-lt below (pow-le-pow-right {n = 10} (omega arith) m)) in
     record {
       tens = (suc k, up);
       most =
           subst (λ (x : ℕ). x ≤ 10 ^ 18) (sym (ap (λ (x : ℕ). x ^ p) up ∙ power-of-ten (suc k) p))
-          (pow-le-pow-right {n = 10} (omega arith) (parts-evenly k s few));
+          (pow-le-pow-right {n = 10} (omega arith) (parts-evenly k (a .power) few));
     }
 
 -- ---- what the search forms fits

@@ -20,11 +20,15 @@ square x = rw (pow-suc x 1, pow-suc x 0, pow-zero, one-mul)
 pub cube : (x : ℕ) → x ^ 3 ≡ x * x * x
 cube x = rw (pow-suc x 2, pow-suc x 1, pow-suc x 0, pow-zero, one-mul)
 
-pub le-pow : (x p : ℕ) → 0 < p → x ≤ x ^ p
+le-pow : (x p : ℕ) → 0 < p → x ≤ x ^ p
 le-pow zero p h = omega arith
 le-pow (suc x) (suc p) h =
     rw (pow-suc (suc x) p) (le-trans (omega (arith, one-mul (suc x))) (mul-le-mul (one-le-pow p (suc x) (zero-lt-suc x)) (le-refl (suc x))))
 le-pow (suc x) zero h = omega arith
+
+-- a number is at most n where its power is
+pub le-of-pow : {p n : ℕ} (x : ℕ) → SmallPower p → x ^ p ≤ n → x ≤ n
+le-of-pow {p} x s h = le-trans (le-pow x p (omega (arith, s .two))) h
 
 pub pow-cancel : (p : ℕ) {x y : ℕ} → x ^ p < y ^ p → x < y
 pow-cancel p h = lt-of-not-le (λ g. not-le-of-lt h (pow-le-pow-left g p))

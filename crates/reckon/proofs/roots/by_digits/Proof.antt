@@ -31,13 +31,13 @@ loop-holds c = (
 raise-digit-requires : tie.Need-raise-digit-requires Inv-loop μ-loop
 raise-digit-requires c κs =
     let l = c .before .loop in
-    (c .before .before .before .pre, place-down (l .inv .0) (c .loop-test .taken), l .inv .1 .fits)
+    (c .before .before .before .pre, place-down (l .inv .0) (omega arith), l .inv .1 .fits)
 
 loop-less : tie.Need-loop-less Inv-loop μ-loop
 loop-less c = omega arith
 
 loop-again : tie.Need-loop-again Inv-loop μ-loop
-loop-again c = (place-down (c .before .before .loop .inv .0) (c .before .loop-test .taken), c .raise-digit .ensures)
+loop-again c = (place-down (c .before .before .loop .inv .0) (omega arith), c .raise-digit .ensures)
 
 returns : tie.Need-returns Inv-loop μ-loop
 returns c =

@@ -1,10 +1,9 @@
 -- `reckon::roots::place_above` meets its contract: a place whose power is at most n has a place above it.
 -- Assumes nothing.
 use Prim.Native.Nat.{_-_, _*_, _^_, _≤_}
-use native.Mathlib.Nat.{le-trans}
 use native.Mathlib.Omega.{arith}
 use Rattle.reckon.specs.RootSearch.{Place}
-use Rattle.reckon.proofs.RootLaws.{le-pow}
+use Rattle.reckon.proofs.RootLaws.{le-of-pow}
 use Rattle.reckon.proofs.PlaceLaws.{ten-pos, ones, place-up}
 use Rattle.reckon.proofs.roots.place_above.Statement.{statement}
 use Rattle.reckon.proofs.roots.place_above.Tie as tie
@@ -23,11 +22,10 @@ raised-requires c κs = (c .before .pre .power, omega (arith, c .loop .inv .most
 
 -- the place above
 up : (c : tie.Then1 Inv-loop μ-loop) → Place (c .before .before .before .args .p) (c .before .before .loop .place * 10)
-up c = place-up (c .before .before .before .pre .power) (c .before .before .loop .inv .tens) (omega (arith, c .before .before .before .pre .small))
+up c = place-up (c .before .before .before .pre) (c .before .before .loop .inv) (omega arith)
 
--- it is at most its power
 up-le : (c : tie.Then1 Inv-loop μ-loop) → c .before .before .loop .place * 10 ≤ 10 ^ 18
-up-le c = le-trans (le-pow _ (c .before .before .before .args .p) (omega (arith, c .before .before .before .pre .power .two))) (up c .most)
+up-le c = le-of-pow _ (c .before .before .before .pre .power) (up c .most)
 
 mul-place : tie.Need-mul-place Inv-loop μ-loop
 mul-place c = omega (arith, up-le c)

@@ -1,9 +1,9 @@
 -- `reckon::roots::raise_digit` meets its contract: the power of the root always fits, and the loop ends where one more does not.
 -- Assumes nothing.
-use Prim.Native.Nat.{_+_, _-_, _^_, _≤_}
-use native.Mathlib.Nat.{le-trans, lt-of-le-of-lt}
+use Prim.Native.Nat.{_+_, _-_, _^_, _≤_, _<_}
+use native.Mathlib.Nat.{le-refl}
 use native.Mathlib.Omega.{arith}
-use Rattle.reckon.proofs.RootLaws.{le-pow}
+use Rattle.reckon.proofs.RootLaws.{le-of-pow}
 use Rattle.reckon.proofs.PlaceLaws.{ten-pos, trial-fits}
 use Rattle.reckon.proofs.roots.raise_digit.Statement.{statement}
 use Rattle.reckon.proofs.roots.raise_digit.Tie as tie
@@ -17,25 +17,19 @@ abbrev μ-loop : tie.MeasureT-loop
 loop-holds : tie.Need-loop-holds Inv-loop μ-loop
 loop-holds c = c .pre .2
 
+-- what is tried fits, and so does its power
+trial : (c : tie.At-loop Inv-loop μ-loop) → (c .loop .root + c .before .args .place) ^ c .before .args .p < 2 ^ 64
+trial c = trial-fits (c .before .args .place) (c .loop .root) (c .before .pre .0) (c .before .pre .1) (c .loop .inv)
+
 add-raised : tie.Need-add-raised Inv-loop μ-loop
-add-raised c =
-    let pre = c .before .pre in
-    record {
-      fits =
-          lt-of-le-of-lt (le-pow (c .loop .root + c .before .args .place) (c .before .args .p) (omega (arith, pre .0 .power .two)))
-          (trial-fits (c .before .args .place) (c .loop .root) (pre .0) (pre .1) (c .loop .inv));
-    }
+add-raised c = omega (arith, le-of-pow (c .loop .root + c .before .args .place) (c .before .pre .0 .power) (le-refl _), trial c)
 
 raised-requires : tie.Need-raised-requires Inv-loop μ-loop
-raised-requires c κs = (
-  c .before .pre .0 .power,
-  trial-fits (c .before .args .place) (c .loop .root) (c .before .pre .0) (c .before .pre .1) (c .loop .inv),
-)
+raised-requires c κs = (c .before .pre .0 .power, trial c)
 
 -- the raised root is at most n
 below : (c : tie.Then1 Inv-loop μ-loop) → c .before .before .loop .root + c .before .before .before .args .place ≤ c .before .before .before .args .n
-below c =
-    le-trans (le-pow _ (c .before .before .before .args .p) (omega (arith, c .before .before .before .pre .0 .power .two))) (omega arith)
+below c = le-of-pow _ (c .before .before .before .pre .0 .power) (omega arith)
 
 add-root : tie.Need-add-root Inv-loop μ-loop
 add-root c = omega (arith, below c)
