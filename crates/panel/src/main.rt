@@ -66,7 +66,7 @@ fn raised(p: u64, x: u64) -> u64
 }
 
 // One trial: whether the power of what is tried still fits into n.
-fn fits(p: u64, n: u64, tried: u64) -> bool
+fn still_fits(p: u64, n: u64, tried: u64) -> bool
     requires { ⌜ (SmallPower p) × (tried ^ p < 2 ^ 64) ⌝ }
     ensures { λ r. ⌜ r ≡ leb (tried ^ p) n ⌝ }
 {
@@ -81,7 +81,7 @@ fn place_above(p: u64, n: u64) -> u64
     ensures { λ r. ⌜ (Place p r) × (n < r ^ p) ⌝ }
 {
     let mut place: u64 = 1;
-    while fits(p, n, place) {
+    while still_fits(p, n, place) {
         place = place * 10;
     }
     place
@@ -93,7 +93,7 @@ fn raise_digit(p: u64, n: u64, place: u64, from: u64) -> u64
     ensures { λ r. ⌜ Raised p n place r ⌝ }
 {
     let mut root = from;
-    while fits(p, n, root + place) {
+    while still_fits(p, n, root + place) {
         root = root + place;
     }
     root

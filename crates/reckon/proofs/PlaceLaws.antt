@@ -1,13 +1,14 @@
--- Laws of a root's places, the powers of ten: one place up and one down, and that what the search forms with them fits.
+-- Laws of a root's places, the powers of ten: one place up and one down, that what the search forms with them fits, and where it begins and ends.
 -- Assumes nothing.
 use mathlib.Core.Path.{_≡_, refl, sym, _∙_, ap, subst}
 use Prim.Native.Nat.{ℕ, zero, suc, _+_, _*_, _/_, _^_, _≤_, _<_}
-use native.Mathlib.Nat.{le-trans, lt-of-le-of-lt, lt-of-not-le, not-le-of-lt, lt-irrefl, pow-le-pow-left, pow-le-pow-right, pow-suc, pow-zero, one-le-pow, mul-suc, mul-zero, mul-div-cancel, div-le-self}
+use native.Mathlib.Nat.{le-trans, lt-of-le-of-lt, lt-of-not-le, not-le-of-lt, lt-irrefl, pow-le-pow-left, pow-le-pow-right, pow-suc, pow-zero, one-le-pow, mul-suc, mul-zero, mul-div-cancel, div-le-self, zero-add}
 use native.Mathlib.Decide.{ℕ-discrete}
 use native.Mathlib.Omega.{arith}
 use lib.Pow.{pow-add}
-use Rattle.reckon.specs.RootSearch.{SmallPower, Asked, PowerOfTen, Place}
-use Rattle.reckon.proofs.RootLaws.{pow-cancel}
+use Rattle.reckon.specs.Roots.{Root}
+use Rattle.reckon.specs.RootSearch.{SmallPower, Asked, PowerOfTen, Place, Raised}
+use Rattle.reckon.proofs.RootLaws.{pow-cancel, zero-pow}
 
 -- what holds of squares and of cubes holds of every small power
 each-power : {p : ℕ} (P : ℕ → Type 0) → SmallPower p → P 2 → P 3 → P p
@@ -85,3 +86,15 @@ sum-fits {p} a b s h g =
 -- what is tried: the root so far raised by a place
 pub trial-fits : {p n : ℕ} (place root : ℕ) → Asked p n → Place p place → root ^ p ≤ n → (root + place) ^ p < 2 ^ 64
 trial-fits place root a t h = sum-fits root place (a .power) (omega (arith, a .small)) (t .most)
+
+-- ---- the search from its first place to its last
+
+-- above the highest digit nothing is raised yet
+pub none-raised : {p n place : ℕ} → Asked p n → n < place ^ p → Raised p n place 0
+none-raised {p} {n} a h = record { fits = zero-pow n (a .power); full = rw zero-add h }
+
+-- with the digit of the ones raised, the root is found
+pub all-raised : {p n place root : ℕ} → Place p place → place ≤ 1 → Raised p n place root → Root p n root
+all-raised {p} {n} {place} {root} t h r =
+    let one : place ≡ 1 = omega (arith, ten-pos (t .tens)) in
+    record { low = r .fits; high = subst (λ (x : ℕ). n < (root + x) ^ p) one (r .full) }

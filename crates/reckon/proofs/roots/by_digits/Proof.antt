@@ -1,12 +1,8 @@
 -- `reckon::roots::by_digits` meets its contract: from the place above the root down to the ones, every digit is raised as far as it goes.
 -- Assumes nothing.
-use mathlib.Core.Path.{subst}
-use Prim.Native.Nat.{ℕ, _+_, _^_, _<_}
-use native.Mathlib.Nat.{zero-add}
 use native.Mathlib.Omega.{arith}
 use Rattle.reckon.specs.RootSearch.{Place, Raised}
-use Rattle.reckon.proofs.RootLaws.{zero-pow}
-use Rattle.reckon.proofs.PlaceLaws.{ten-pos, place-down}
+use Rattle.reckon.proofs.PlaceLaws.{place-down, none-raised, all-raised}
 use Rattle.reckon.proofs.roots.by_digits.Statement.{statement}
 use Rattle.reckon.proofs.roots.by_digits.Tie as tie
 
@@ -20,13 +16,7 @@ place-above-requires : tie.Need-place-above-requires Inv-loop μ-loop
 place-above-requires c κs = c .pre
 
 loop-holds : tie.Need-loop-holds Inv-loop μ-loop
-loop-holds c = (
-  c .place-above .ensures .0,
-  record {
-    fits = zero-pow (c .before .args .n) (c .before .pre .power);
-    full = rw zero-add (c .place-above .ensures .1);
-  },
-)
+loop-holds c = (c .place-above .ensures .0, none-raised (c .before .pre) (c .place-above .ensures .1))
 
 raise-digit-requires : tie.Need-raise-digit-requires Inv-loop μ-loop
 raise-digit-requires c κs =
@@ -40,13 +30,7 @@ loop-again : tie.Need-loop-again Inv-loop μ-loop
 loop-again c = (place-down (c .before .before .loop .inv .0) (omega arith), c .raise-digit .ensures)
 
 returns : tie.Need-returns Inv-loop μ-loop
-returns c =
-    let a = c .before .before .before .args in
-    let l = c .before .loop in
-    record {
-      low = l .inv .1 .fits;
-      high = subst (λ (x : ℕ). a .n < (l .root + x) ^ a .p) (omega (arith, ten-pos (l .inv .0 .tens))) (l .inv .1 .full);
-    }
+returns c = all-raised (c .before .loop .inv .0) (omega arith) (c .before .loop .inv .1)
 
 pub by-digits-spec : {M : Type 1} → statement M
 by-digits-spec =
