@@ -22,7 +22,7 @@ fn number(n: u64) {
     io::print_decimal(1, n);
 }
 
-// The power's name and a word after it.
+// The power's name, and a space.
 fn power_name(p: u64) {
     if p == 2 {
         return words(b"square ");
