@@ -20,40 +20,31 @@ pub trait Roots {
     fn cube(of: u64) -> u64;
 }
 
-/// Roots binary digit by binary digit from the top: the library's way.
+/// Roots as on the display panel, the library's way: decimal, place by place from the top, each digit raised while its power still fits.
 pub struct Digits;
 
-/// The top digit that a root of this power can have.
-fn top_digit(of: u64, power: u32) -> u64 {
-    let digits = 64 - of.leading_zeros();
-    (1 << ((digits + power - 1) / power)) >> 1
+fn by_digits(of: u64, power: impl Fn(u64) -> u64) -> u64 {
+    let mut place = 1;
+    while power(place) <= of {
+        place *= 10;
+    }
+    let mut root = 0;
+    while place > 1 {
+        place /= 10;
+        while power(root + place) <= of {
+            root += place;
+        }
+    }
+    root
 }
 
 impl Roots for Digits {
     fn square(of: u64) -> u64 {
-        let mut root = 0;
-        let mut digit = top_digit(of, 2);
-        while digit > 0 {
-            let tried = root + digit;
-            if tried * tried <= of {
-                root = tried;
-            }
-            digit /= 2;
-        }
-        root
+        by_digits(of, |x| x * x)
     }
 
     fn cube(of: u64) -> u64 {
-        let mut root = 0;
-        let mut digit = top_digit(of, 3);
-        while digit > 0 {
-            let tried = root + digit;
-            if tried * tried * tried <= of {
-                root = tried;
-            }
-            digit /= 2;
-        }
-        root
+        by_digits(of, |x| x * x * x)
     }
 }
 

@@ -1,7 +1,7 @@
 pub mod CopyLaws
 pub mod ListLaws
+pub mod PlaceLaws
 pub mod QuotientLaws
 pub mod RootLaws
-pub mod SizeLaws
 pub mod TableLaws
 pub mod TestLaws

@@ -2,7 +2,6 @@ pub mod Copying
 pub mod Lists
 pub mod Numbers
 pub mod Ranges
-pub mod RootSearch
 pub mod Roots
 pub mod Tables
 pub mod Tests

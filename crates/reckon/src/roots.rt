@@ -1,8 +1,9 @@
-// Whole-number roots: the largest r whose square, or whose cube, is at most n.
+// Whole-number roots: the largest r whose square, or whose cube, is at most n. They are found as the display panel shows it, in decimal:
+// place by place from the top, each digit raised while its power still fits (docs/ROOTS.md).
 ghost use mathlib.Core.Path.{_≡_};
 ghost use Prim.Native.Nat.{_+_, _*_, _^_, _≤_, _<_};
 ghost use Rattle.reckon.specs.Roots.{Root};
-ghost use Rattle.reckon.specs.RootSearch.{SmallPower, Search};
+ghost use Rattle.reckon.specs.inner.RootSearch.{SmallPower, Asked, Place, Raised};
 
 // x to the power p.
 fn raised(p: u64, x: u64) -> u64
@@ -12,34 +13,40 @@ fn raised(p: u64, x: u64) -> u64
     if p == 2 { x * x } else { x * x * x }
 }
 
-// How many binary digits n has.
-fn size(n: u64) -> u64
-    ensures { λ r. ⌜ (n < 2 ^ r) × (2 ^ r ≤ 2 * n + 1) × (r ≤ 64) ⌝ }
-{
-    64 - (u64::leading_zeros(n) as u64)
-}
-
-// A power of two above the root, found from the size of n.
+// The first place above the root, found from the size of n.
 fn place_above(p: u64, n: u64) -> u64
-    requires { ⌜ (SmallPower p) × (n < 10 ^ 18) ⌝ }
-    ensures { λ r. ⌜ Search p n r ⌝ }
+    requires { ⌜ Asked p n ⌝ }
+    ensures { λ r. ⌜ (Place p r) × (n < r ^ p) ⌝ }
 {
-    let digits = (size(n) + p - 1) / p;
-    1 << digits
+    let mut place: u64 = 1;
+    while raised(p, place) <= n {
+        place = place * 10;
+    }
+    place
 }
 
-// The root below top, digit by binary digit from the top.
-fn by_digits(p: u64, n: u64, top: u64) -> u64
-    requires { ⌜ Search p n top ⌝ }
+// The root so far with the digit of one place: raised while its power still fits.
+fn raise_digit(p: u64, n: u64, place: u64, from: u64) -> u64
+    requires { ⌜ (Asked p n) × (Place p place) × (from ^ p ≤ n) ⌝ }
+    ensures { λ r. ⌜ Raised p n place r ⌝ }
+{
+    let mut root = from;
+    while raised(p, root + place) <= n {
+        root = root + place;
+    }
+    root
+}
+
+// The root, place by place from the top.
+fn by_digits(p: u64, n: u64) -> u64
+    requires { ⌜ Asked p n ⌝ }
     ensures { λ r. ⌜ Root p n r ⌝ }
 {
     let mut root: u64 = 0;
-    let mut place = top;
+    let mut place = place_above(p, n);
     while 1 < place {
-        place = place / 2;
-        if raised(p, root + place) <= n {
-            root = root + place;
-        }
+        place = place / 10;
+        root = raise_digit(p, n, place, root);
     }
     root
 }
@@ -48,12 +55,12 @@ pub fn square_root(n: u64) -> u64
     requires { ⌜ n < 10 ^ 18 ⌝ }
     ensures { λ r. ⌜ Root 2 n r ⌝ }
 {
-    by_digits(2, n, place_above(2, n))
+    by_digits(2, n)
 }
 
 pub fn cube_root(n: u64) -> u64
     requires { ⌜ n < 10 ^ 18 ⌝ }
     ensures { λ r. ⌜ Root 3 n r ⌝ }
 {
-    by_digits(3, n, place_above(3, n))
+    by_digits(3, n)
 }

@@ -1,79 +1,36 @@
--- `reckon::roots::by_digits` meets its contract: the root lies from `root` on and below `root + place`, and each turn halves the place.
+-- `reckon::roots::by_digits` meets its contract: from the place above the root down to the ones, every digit is raised as far as it goes.
 -- Assumes nothing.
-use mathlib.Core.Path.{_≡_, sym, _∙_, ap, subst}
-use Prim.Native.Nat.{ℕ, _+_, _-_, _*_, _/_, _^_, _≤_, _<_}
-use native.Mathlib.Nat.{lt-of-le-of-lt, pow-le-pow-left, zero-add}
 use native.Mathlib.Omega.{arith}
-use Rattle.reckon.specs.RootSearch.{PowerOf, Search}
-use Rattle.reckon.proofs.RootLaws.{le-pow, pow-cancel, zero-pow, power-pos, power-down, power-halves}
+use Rattle.reckon.specs.inner.RootSearch.{Place, Raised}
+use Rattle.reckon.proofs.PlaceLaws.{place-down, none-raised, all-raised}
 use Rattle.reckon.proofs.roots.by_digits.Statement.{statement}
 use Rattle.reckon.proofs.roots.by_digits.Tie as tie
 
 abbrev Inv-loop : tie.InvT-loop
-Inv-loop p n top root₀ place₀ root place = (root ^ p ≤ n) × (n < (root + place) ^ p) × PowerOf 2 place × (place ≤ top)
+Inv-loop p n root₀ place₀ root place = Place p place × Raised p n place root
 
 abbrev μ-loop : tie.MeasureT-loop
-μ-loop p n top root₀ place₀ root place = place
+μ-loop p n root₀ place₀ root place = place
+
+place-above-requires : tie.Need-place-above-requires Inv-loop μ-loop
+place-above-requires c κs = c .pre
 
 loop-holds : tie.Need-loop-holds Inv-loop μ-loop
-loop-holds c = (zero-pow (c .args .n) (c .pre .power), rw zero-add (c .pre .over), c .pre .binary, omega arith)
+loop-holds c = (c .place-above .ensures .0, none-raised (c .before .pre) (c .place-above .ensures .1))
 
--- what the search forms fits
-power-fits : {p n top : ℕ} (root place : ℕ) → Search p n top → root ^ p ≤ n → place ≤ top → (root + place) ^ p < 2 ^ 64
-power-fits {p} root place s l h =
-    let b = pow-cancel p (lt-of-le-of-lt l (s .over)) in
-    lt-of-le-of-lt (pow-le-pow-left (omega arith) p) (s .fits)
-
-sum-fits : {p n top : ℕ} (root place : ℕ) → Search p n top → root ^ p ≤ n → place ≤ top → root + place < 2 ^ 64
-sum-fits {p} root place s l h =
-    lt-of-le-of-lt (le-pow (root + place) p (omega (arith, s .power .two))) (power-fits root place s l h)
-
-add-raised : tie.Need-add-raised Inv-loop μ-loop
-add-raised c =
-    record { fits = sum-fits (c .before .loop .root) (c .before .loop .place / 2) (c .before .before .pre) (c .before .loop .inv .0) (omega arith) }
-
-raised-requires : tie.Need-raised-requires Inv-loop μ-loop
-raised-requires c κs = (
-  c .before .before .pre .power,
-  power-fits (c .before .loop .root) (c .before .loop .place / 2) (c .before .before .pre) (c .before .loop .inv .0) (omega arith),
-)
-
-add-root : tie.Need-add-root Inv-loop μ-loop
-add-root c =
-    let l = c .before .before .before .loop in
-    record { fits = sum-fits (l .root) (l .place / 2) (c .before .before .before .before .pre) (l .inv .0) (omega arith) }
+raise-digit-requires : tie.Need-raise-digit-requires Inv-loop μ-loop
+raise-digit-requires c κs =
+    let l = c .before .loop in
+    (c .before .before .before .pre, place-down (l .inv .0) (omega arith), l .inv .1 .fits)
 
 loop-less : tie.Need-loop-less Inv-loop μ-loop
 loop-less c = omega arith
 
 loop-again : tie.Need-loop-again Inv-loop μ-loop
-loop-again c =
-    let a = c .before .before .before .before .args in
-    let l = c .before .before .before .loop in
-    let down : PowerOf 2 (l .place / 2) = power-down 2 (omega arith) (l .inv .2) (c .before .before .loop-test .taken) in
-    let twice = power-halves (l .inv .2) (c .before .before .loop-test .taken) in (
-      omega arith,
-      subst (λ (x : ℕ). a .n < x ^ a .p) (omega arith) (l .inv .1),
-      down,
-      omega arith,
-    )
-
-loop-less-2 : tie.Need-loop-less-2 Inv-loop μ-loop
-loop-less-2 c = omega arith
-
-loop-again-2 : tie.Need-loop-again-2 Inv-loop μ-loop
-loop-again-2 c =
-    let l = c .before .before .before .loop in
-    (l .inv .0, omega arith, power-down 2 (omega arith) (l .inv .2) (c .before .before .loop-test .taken), omega arith)
+loop-again c = (place-down (c .before .before .loop .inv .0) (omega arith), c .raise-digit .ensures)
 
 returns : tie.Need-returns Inv-loop μ-loop
-returns c =
-    let a = c .before .before .args in
-    let l = c .before .loop in
-    record {
-      low = l .inv .0;
-      high = subst (λ (x : ℕ). a .n < (l .root + x) ^ a .p) (omega (arith, power-pos 2 (omega arith) (l .inv .2))) (l .inv .1);
-    }
+returns c = all-raised (c .before .loop .inv .0) (omega arith) (c .before .loop .inv .1)
 
 pub by-digits-spec : {M : Type 1} → statement M
 by-digits-spec =
@@ -81,12 +38,9 @@ by-digits-spec =
     (tie.spec
     Inv-loop
     μ-loop
+    place-above-requires
     loop-holds
-    add-raised
-    raised-requires
-    add-root
+    raise-digit-requires
     loop-less
     loop-again
-    loop-less-2
-    loop-again-2
     returns)
