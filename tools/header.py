@@ -136,6 +136,11 @@ def constant(crate, name):
     return kind, number.replace("_", "")
 
 
+def record_words():
+    """How many numbers of a record stand before its squares, and how many each square has."""
+    return constant("ledger", "HEAD_WORDS")[1], constant("ledger", "SQUARE_WORDS")[1]
+
+
 def heading_rules():
     """Where the rules stand in a heading, so that they go into a call from there."""
     return re.search(r"room\[(\d+)\] = rules\.square_side;", (SOURCES / "answers.rt").read_text()).group(1)
@@ -193,7 +198,7 @@ def header():
     for name, crate, source in CONSTANTS:
         text += named(name, constant(crate, source)[1])
     text += named("HEADING_RULES", heading_rules())
-    head, square = constant("ledger", "HEAD_WORDS")[1], constant("ledger", "SQUARE_WORDS")[1]
+    head, square = record_words()
     text += named("RECORD_NUMBERS(rows, columns)", f"({head} + {square} * (size_t)(rows) * (size_t)(columns))", "of one record")
     text += named("STACK_BYTES", f"({max(STACK.values())} * 1024)", "suffice for every call") + "\n"
     for function in functions():
@@ -236,6 +241,10 @@ def declared():
         text += f"pub const {name}: {kind} = {number};\n"
     for number, (name, words) in enumerate(REFUSALS, 1):
         text += f"pub const REFUSED_{name}: u32 = {number};\n"
+    text += "\n"
+    head, square = record_words()
+    text += "/// The numbers of one record.\npub const fn record_numbers(rows: usize, columns: usize) -> usize {\n"
+    text += f"    {head} + {square} * rows * columns\n}}\n\n"
     text += f"/// KiB of stack that suffice for each call.\npub const STACK: [(&str, usize); {len(STACK)}] = [\n"
     text += "".join(f'    ("{name}", {size}),\n' for name, size in STACK.items()) + "];\n\n"
     text += 'mod linked {\n    #[link(name = "exports", kind = "static")]\n    extern "C" {\n'

@@ -27,6 +27,12 @@ pub const REFUSED_OUTFLOW: u32 = 9;
 pub const REFUSED_NONE_KEPT: u32 = 10;
 pub const REFUSED_RECORD: u32 = 11;
 pub const REFUSED_TEXT: u32 = 12;
+
+/// The numbers of one record.
+pub const fn record_numbers(rows: usize, columns: usize) -> usize {
+    2 + 6 * rows * columns
+}
+
 /// KiB of stack that suffice for each call.
 pub const STACK: [(&str, usize); 8] = [
     ("flood_fresh", 16),

@@ -46,20 +46,19 @@ fn meadow() {
     assert!(out[..length].starts_with(b"cell"), "meadow prints {}", String::from_utf8_lossy(&out[..length]));
 }
 
-/// Each call on a wet grid, after a step where it wants one.
+/// A call on a wet grid, after a step.
 fn on_grid(call: &str) {
     let squares = ALONG * ALONG;
     let (marks, roughness) = (vec![1; squares], vec![350; squares]);
     let beds: Vec<u32> = (0..squares as u32).map(|square| square % 7 * 1000).collect();
     let mut depths: Vec<u32> = (0..squares as u32).map(|square| 500_000 + square).collect();
-    let (mut lasts, mut records) = (vec![0; squares], vec![0; 2 * (2 + 6 * squares)]);
+    let (mut lasts, mut records) = (vec![0; squares], vec![0; record_numbers(ALONG, ALONG)]);
     let (rain, inflow) = ([0, 1000, 100_000], [0, 0, 0, 1000, 100]);
-    let (mut run, mut steps) = ([0, 100, 0, 1, 0], [0; STEPS_NUMBERS]);
-    let (mut speeds, mut wet, mut count) = ([0.0; SPEED_NUMBERS], vec![0; ALONG], [0; COUNT_NUMBERS]);
-    // the record of a step that moved nothing
+    // the record of a step of 100 ms that moved nothing, and the run that it left
     records[0] = 100;
     records[1] = 100;
-    run[0] = 100;
+    let (mut run, mut steps) = ([100, 100, 0, 1, 0], [0; STEPS_NUMBERS]);
+    let (mut speeds, mut wet, mut count) = ([0.0; SPEED_NUMBERS], vec![0; ALONG], [0; COUNT_NUMBERS]);
     let number = match call {
         "flood_fresh" => flood_fresh(ALONG, ALONG, &RULES, &marks, &mut lasts, &records, &mut run),
         "flood_step" => flood_step(
