@@ -127,13 +127,17 @@ RUST_TOP = """\
 
 
 def constant(crate, name):
+    """The type and the number of a constant of a crate's sources, which may be a product or a sum of others of that crate."""
     found = []
-    for source in sorted((CRATES / crate / "src").glob("*.rt")):
-        found += re.findall(rf"const {name}: (\w+) = ([\d_]+);", source.read_text())
+    for source in sorted((CRATES / crate / "src").rglob("*.rt")):
+        found += re.findall(rf"const {name}: (\w+) = ([^;]+);", source.read_text())
     if len(found) != 1:
         sys.exit(f"header: {len(found)} constants {name} in the crate {crate}, where one is wanted")
-    kind, number = found[0]
-    return kind, number.replace("_", "")
+    kind, worth = found[0]
+    numbers = re.sub(r"[A-Z]\w*", lambda named: constant(crate, named.group(0))[1], worth).replace("_", "")
+    if not re.fullmatch(r"\d+( [*+] \d+)*", numbers):
+        sys.exit(f"header: {name} of the crate {crate} is {worth!r}, which is no number")
+    return kind, str(eval(numbers))
 
 
 def record_words():
