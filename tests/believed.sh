@@ -3,8 +3,8 @@
 set -u
 cd "$(dirname "$0")/.." || exit 1
 if ! command -v python3 >/dev/null; then
-    echo "believed: no python3 here, so no lines are counted"
-    echo "0 checks, 1 skipped"
+    echo "believed: skipped: the lines to believe: no python3 here; bin/setup installs it"
+    echo "believed: 0 checks, 1 skipped, 0 failed"
     exit 0
 fi
 room=$(mktemp -d) || exit 1
@@ -47,5 +47,5 @@ expect 1 'no definitions found' "$room/none"
 expect 0 '^total ' .
 python3 tools/believed.py .
 
-echo "$checks checks, 0 skipped"
+echo "believed: $checks checks, 0 skipped, $failed failed"
 [ "$failed" -eq 0 ]

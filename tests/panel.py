@@ -2,14 +2,17 @@
 """The two roots that crates/panel works aloud, in plain Python: decimal, place by place from the top, each digit raised while its power
 still fits. docs/ROOTS.md must hold the program's output as it is.
 
-panel.py writes crates/panel/stdout; panel.py --check compares it and fails on a difference.
+panel.py --write writes crates/panel/stdout.
 """
-import os
 import sys
+from pathlib import Path
 
-from stored import CRATES, hold
+TOP = Path(__file__).resolve().parent.parent
+sys.path[:0] = [str(TOP / "python"), str(TOP / "tests")]
 
-PAGE = os.path.join(CRATES, "..", "docs", "ROOTS.md")
+from stored import hold  # noqa: E402
+
+PAGE = TOP / "docs" / "ROOTS.md"
 NAMES = {2: "square", 3: "cube"}
 
 
@@ -33,16 +36,17 @@ def worked(p, n):
     return lines + [f"the root is {root}, and the library gives {root}"]
 
 
-def hold_page(lines):
-    """The page shows each root's lines, and nothing else, as a block of its own."""
-    with open(PAGE, encoding="utf-8") as page:
-        blocks = page.read().split("```\n")[1::2]
-    if "\n".join(blocks) != "".join(line + "\n" for line in lines):
-        sys.exit("panel: docs/ROOTS.md does not hold what the program prints")
-    print("panel: docs/ROOTS.md holds what the program prints")
+def shown(text):
+    """That the page shows each root's lines, and nothing else, as a block of its own."""
+
+    def hold_page(checks):
+        blocks = PAGE.read_text(encoding="utf-8").split("```\n")[1::2]
+        checks.hold("\n".join(blocks) == text, "docs/ROOTS.md does not hold what the program prints")
+
+    return hold_page
 
 
 if __name__ == "__main__":
-    lines = worked(2, 100 * 1_000 // 1) + [""] + worked(3, 10_000**2)
-    hold("panel", lines)
-    hold_page(lines)
+    LINES = worked(2, 100 * 1_000 // 1) + [""] + worked(3, 10_000**2)
+    TEXT = "".join(line + "\n" for line in LINES)
+    hold("panel", TEXT, shown(TEXT))
