@@ -19,7 +19,7 @@ pub record NumbersWorked : Type 0 where
   pub zero-written : decimal 0 ≡ 48 ∷ []
   pub greatest-written : decimal 4_294_967_295 ≡ bytesOf "4294967295"
 
--- document 01's `run` line
+-- document 01's `run` line, with the edge slope at its end
 abbrev runText : String
 runText = "run\t100\t1000\t1000\t1000\t1000\t10000\n"
 
