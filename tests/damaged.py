@@ -1,5 +1,6 @@
 #!/usr/bin/env python3
-"""Damaged sheets: a base sheet, an edit in words and as an edit, and the answer. The built `meadow` and document 01 in Python give it.
+"""Damaged sheets, and some that are whole: a base sheet, an edit in words and as an edit, and the answer. The built `meadow` and document
+01 in Python give it.
 
 damaged.py --write FOLDER writes each sheet and its answer there, for other tests to read.
 """
@@ -16,11 +17,11 @@ from meadow.sheets import MOST_BYTES, answered  # noqa: E402
 # ---- base sheets
 
 
-def square_grid(size, depth):
+def square_grid(size, depth, mark="o"):
     """A level grid of one-metre squares for a step of one second."""
     sheet = Sheet(size, size, 1, tolerance=100, shortest=SECOND, longest=SECOND, update=SECOND)
     for place in sheet.squares:
-        sheet.put(place, 0, 100, depth)
+        sheet.put(place, 0, 100, depth, mark)
     return sheet.text(SECOND)
 
 
@@ -29,6 +30,8 @@ BASES = {
     "document 01": (TOP / "samples" / "document-01.sheet").read_text(encoding="ascii"),
     "full square": square_grid(1, 100_000_000),
     "three by three": square_grid(3, 0),
+    # the exit that document 01 works by hand: line 3 has 1 cm of water, and every side lies off the grid
+    "exit": square_grid(1, 10_000, "e"),
     "nothing": "",
 }
 A_HATCH = line_of(INFLOW, {"row": 0, "column": 0, "from": 0, "to": SECOND, "litres": 1})
@@ -126,11 +129,49 @@ def long_text(size):
     return lambda _text: "0" * size
 
 
+def left(depths, outflow, steps=1):
+    """The answer of a run of one second that leaves the first row so deep."""
+    return answer_text({(0, column): depth for column, depth in enumerate(depths)}, {"outflow": outflow, "steps": steps, "clock": SECOND})
+
+
 # ---- the table: name, base sheet, the edit in words, the edit, the answer (a refusal's number and line, or the text)
 
-ALL_CLOSED = answer_text({}, {"outflow": 0, "steps": 1, "clock": SECOND})
 CASES = [
-    ("all-closed", "document 01", "both squares closed", [closed(3), closed(4)], ALL_CLOSED),
+    ("all-closed", "document 01", "both squares closed", [closed(3), closed(4)], left([], 0)),
+    # the edge slope, each worked by hand: on D = 1 the drop off the grid is the smaller of the depth and 100·e
+    ("edge-10000", "exit", "the steepest slope, document 01's own case", [], left([2_000], 8_000)),
+    ("edge-0", "exit", "a slope of 0, and nothing leaves", [field(2, "edge", 0)], left([10_000], 0)),
+    # Vmin = VM = 5,000 and T = 25,000: the total 5,000 gives 1,000 to each side
+    ("edge-under-depth", "exit", "a slope whose drop is half the depth", [field(2, "edge", 50)], left([6_000], 4_000)),
+    # Vmin = VM = 9,900 and T = 49,500: 1,980 to each side
+    ("edge-just-under-depth", "exit", "a slope whose drop is just under the depth", [field(2, "edge", 99)], left([2_080], 7_920)),
+    ("edge-at-depth", "exit", "a slope whose drop is the depth", [field(2, "edge", 100)], left([2_000], 8_000)),
+    ("edge-over-depth", "exit", "a slope whose drop is above the depth", [field(2, "edge", 101)], left([2_000], 8_000)),
+    # the drop is 1,000,000 and not 2,000,000: 200,000 to each side
+    ("edge-deeper-than-side", "exit", "an exit twice as deep as it is wide", [field(3, "depth", 2_000_000)], left([1_200_000], 800_000)),
+    # drops of 5,000 off the grid and 10,000 to the east, T = 30,000: the total 5,000 gives 833 to each rim side and 1,666 to the east
+    (
+        "edge-beside-lower-square",
+        "document 01",
+        "the west square an exit with 1 cm of water, and a slope whose drop is half of it",
+        [field(2, "edge", 50), field(3, "mark", "e"), field(3, "depth", 10_000)],
+        left([5_835, 1_666], 2_499),
+    ),
+    # at q = e the exit has no candidate: one step of the longest; above it, with s = 1,004, a candidate of 0: two of the shortest
+    (
+        "edge-at-tolerance",
+        "exit",
+        "water of 1 m, and a slope that is the tolerance",
+        [field(2, "shortest", 500), field(2, "edge", 100), field(3, "depth", 1_000_000)],
+        left([992_000], 8_000),
+    ),
+    (
+        "edge-over-tolerance",
+        "exit",
+        "water of 1 m, and a slope above the tolerance",
+        [field(2, "shortest", 500), field(2, "edge", 101), field(3, "depth", 1_000_000)],
+        left([977_376], 22_624, steps=2),
+    ),
     # the text: 12 with its line
     ("empty", "nothing", "nothing at all", [], (12, 1)),
     ("blank-first-line", "document 01", "a blank line before the first", [before("")], (12, 1)),
@@ -142,10 +183,12 @@ CASES = [
     ("grid-spaces", "document 01", "spaces for tabs", [spaces(1)], (12, 1)),
     ("grid-word-upper-case", "document 01", "the first word in upper case", [word(1, "Grid")], (12, 1)),
     ("run-missing", "document 01", "the grid line alone", [cut(2)], (12, 2)),
-    ("run-field-missing", "document 01", "the run line without its last field", [last_gone(2)], (12, 2)),
-    ("run-field-too-many", "document 01", "a field more on the run line", [one_more(2)], (12, 2)),
+    ("run-without-edge", "document 01", "the run line without its edge slope, as it once was", [last_gone(2)], (12, 2)),
+    ("run-field-missing", "document 01", "the run line without its two last fields", [last_gone(2), last_gone(2)], (12, 2)),
+    ("run-field-too-many", "document 01", "a seventh field on the run line", [one_more(2)], (12, 2)),
     ("run-needless-zero", "document 01", "a needless zero", [field(2, "tolerance", "0100")], (12, 2)),
     ("run-sign", "document 01", "a sign", [field(2, "tolerance", "-1")], (12, 2)),
+    ("run-edge-empty", "document 01", "a tab at the run line's end, and no edge slope", [field(2, "edge", "")], (12, 2)),
     ("cells-missing", "document 01", "no square", [cut(3)], (12, 3)),
     ("cell-missing", "document 01", "one square too few", [cut(4)], (12, 4)),
     ("cell-too-many", "document 01", "one square too many", [after(SOUTH_OF_THE_GRID)], (12, 5)),
@@ -187,6 +230,8 @@ CASES = [
     ("shortest-0", "document 01", "a shortest step of 0", [field(2, "shortest", 0)], (5, 0)),
     ("longest-under-shortest", "document 01", "a longest step under the shortest", [field(2, "longest", 999)], (5, 0)),
     ("update-0", "document 01", "an update time of 0", [field(2, "update", 0)], (5, 0)),
+    ("edge-too-large", "document 01", "an edge slope of 10,001", [field(2, "edge", 10_001)], (5, 0)),
+    ("edge-number-largest", "document 01", "an edge slope of 2^32 - 1, read and then judged", [field(2, "edge", 4_294_967_295)], (5, 0)),
     ("end-no-multiple", "document 01", "an end that is no multiple of the update time", [field(2, "end", 1_500)], (5, 0)),
     ("end-too-late", "document 01", "an end after a week", [field(2, "end", 604_801_000)], (5, 0)),
     # the run itself

@@ -1,6 +1,6 @@
 #!/usr/bin/env bash
 # Links the static library into a C program, which calls each function by flood.h, and into a Rust program, which compares every call with
-# document 01 as tests/outside/reference.rs has it. Words go to the Rust program: --long for a long run, --seed N, --rounds N.
+# document 01 as tests/outside/reference.rs has it. Words go to the Rust program: --long for a long run, --seed N, --rounds N, --endless.
 set -u
 cd "$(dirname "$0")/.." || exit 1
 . tests/outside/build.sh

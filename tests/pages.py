@@ -38,6 +38,7 @@ UNITS = {
     "shortest step": "shortest",
     "longest step": "longest",
     "update time": "update",
+    "edge slope": "edge",
     "clock, and times in tables": "clock",
     "rain": "rate",
     "inflow": "litres",

@@ -12,18 +12,22 @@ from meadow.lines import SECOND, Sheet, answer_text  # noqa: E402
 from meadow.programs import TOP  # noqa: E402
 
 TOOL = TOP / "tools" / "standing.py"
-# Beds and depths of three squares in a row, D 10, roughness 300, steps of 1000 ms; then the squares that stand, each with its least and
-# greatest drop.
+# Beds and depths of three squares in a row, D 10, roughness 300, steps of 1000 ms; the edge slope where the middle square is an exit; then
+# the squares that stand, each with its least and greatest drop.
 ROWS = [
     # Vmin 1, T 300,002: the total 1 gives 1·300,000/300,002 = 0 to the steep side
-    ("1 µm down one way, 30 cm the other", (0, 0, 0), (999_999, 1_000_000, 700_000), [(1, 1, 300_000)]),
+    ("1 µm down one way, 30 cm the other", (0, 0, 0), (999_999, 1_000_000, 700_000), None, [(1, 1, 300_000)]),
     # Vmin 2, T 300,004: the total 2 gives 2·300,000/300,004 = 1
-    ("2 µm down one way, 30 cm the other", (0, 0, 0), (999_998, 1_000_000, 700_000), []),
+    ("2 µm down one way, 30 cm the other", (0, 0, 0), (999_998, 1_000_000, 700_000), None, []),
     # one drop of 1: T 2, the total 1 gives 1·1/2 = 0
-    ("1 µm down", (0, 0, 0), (1_000_000, 1_000_000, 999_999), [(1, 1, 1)]),
-    ("level", (0, 1_000, 5_000), (9_000, 8_000, 4_000), []),
+    ("1 µm down", (0, 0, 0), (1_000_000, 1_000_000, 999_999), None, [(1, 1, 1)]),
+    ("level", (0, 1_000, 5_000), (9_000, 8_000, 4_000), None, []),
     # h 21, s 4: 21·4/3000 = 0 mm/s, so it is the speed that keeps it
-    ("thin water", (1, 1, 0), (100, 101, 100), []),
+    ("thin water", (1, 1, 0), (100, 101, 100), None, []),
+    # north and south lie off the grid, with drops of 300,000 and not of 1,000,000
+    ("an exit, 1 µm down one way", (0, 0, 0), (1_000_000, 1_000_000, 999_999), 300, [(1, 1, 300_000)]),
+    ("an exit that lets nothing out, 1 µm down one way", (0, 0, 0), (1_000_000, 1_000_000, 999_999), 0, [(1, 1, 1)]),
+    ("an exit in level water", (0, 0, 0), (1_000_000, 1_000_000, 1_000_000), 300, []),
 ]
 
 
@@ -31,11 +35,11 @@ def told(sheet, answer):
     return subprocess.run([sys.executable, TOOL, sheet, answer], capture_output=True, text=True)
 
 
-def pond(beds, depths):
+def pond(beds, depths, edge):
     """Three squares in a row, before any step."""
-    sheet = Sheet(1, 3, 10, tolerance=0, shortest=SECOND, longest=SECOND, update=SECOND)
+    sheet = Sheet(1, 3, 10, tolerance=0, shortest=SECOND, longest=SECOND, update=SECOND, edge=edge or 0)
     for column, (bed, depth) in enumerate(zip(beds, depths)):
-        sheet.put((0, column), bed, 300, depth)
+        sheet.put((0, column), bed, 300, depth, "e" if column == 1 and edge is not None else "o")
     return sheet.text(0)
 
 
@@ -51,9 +55,9 @@ def expected(depths, standing):
 
 
 def hold_ponds(checks, room):
-    for name, beds, depths, standing in ROWS:
+    for name, beds, depths, edge, standing in ROWS:
         sheet, answer = Path(room) / "sheet", Path(room) / "out"
-        sheet.write_text(pond(beds, depths))
+        sheet.write_text(pond(beds, depths, edge))
         answer.write_text(answered(depths))
         checks.hold(told(sheet, answer).stdout == expected(depths, standing), f"{name}: not as worked by hand")
 

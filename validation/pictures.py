@@ -6,7 +6,7 @@ from pathlib import Path
 sys.path.insert(0, str(Path(__file__).resolve().parent.parent / "python"))
 
 from analytical_wave import compare, wave_depth, wave_sheet  # noqa: E402
-from ditch_mouth import FLOW, SQUARES, normal_depth, profiles  # noqa: E402
+from ditch_mouth import BED_EDGE, BELOW_EDGE, FLOW, SQUARES, normal_depth, profile  # noqa: E402
 from long_step import RUNS, level_meadow  # noqa: E402
 from meadow.drawing import svg  # noqa: E402
 from meadow.grounds import HELD_MOUTH, opened_pond  # noqa: E402
@@ -17,7 +17,7 @@ from pond import settled  # noqa: E402
 FOLDER = TOP / "docs" / "pictures"
 WIDTH, HEIGHT = 640, 300
 LEFT, RIGHT, ABOVE, BELOW = 48, 24, 28, 44
-BLUE, RED, GREY = "#08519c", "#d7301f", "#777777"
+BLUE, RED, GREY, GREEN = "#08519c", "#d7301f", "#777777", "#238b45"
 
 
 class Chart:
@@ -75,16 +75,19 @@ def wave():
 
 def ditch_mouth():
     side = 10
-    cliff, goes_on = profiles(side)
     centres = [(column + 0.5) * side for column in range(SQUARES)]
+    points = lambda depths: [(x, depth / 1e6) for x, depth in zip(centres, depths)]
     names = "distance along the ditch, m; its exit is at 320 m", f"depth, m, at {FLOW} l/s for each metre of width"
-    chart = Chart(range(0, 321, 40), [0, 0.02, 0.04, 0.06, 0.08, 0.1, 0.12], *names)
+    chart = Chart(range(0, 321, 40), [0, 0.02, 0.04, 0.06, 0.08, 0.1, 0.12, 0.14], *names)
     chart.line([(0, normal_depth() / 1e6), (320, normal_depth() / 1e6)], GREY, "4 3")
-    chart.dots([(x, depth / 1e6) for x, depth in zip(centres, goes_on)], RED)
-    chart.dots([(x, depth / 1e6) for x, depth in zip(centres, cliff)], BLUE)
+    chart.dots(points(profile(side, further=SQUARES)), RED)
+    chart.dots(points(profile(side)), BLUE)
+    for edge in (2 * BED_EDGE, BED_EDGE, BED_EDGE // 2):
+        chart.line(points(profile(side, {**BELOW_EDGE, "edge": edge})), GREEN)
     chart.name(10, 0.06, "dashes: normal depth", GREY)
     chart.name(10, 0.05, "red: the ditch goes on beyond 320 m", RED)
-    chart.name(10, 0.04, "blue: an exit at 320 m", BLUE)
+    chart.name(10, 0.04, "blue: an exit at 320 m, edge slope 10,000", BLUE)
+    chart.name(10, 0.03, f"green: edge slopes {BED_EDGE // 2} (deepest), {BED_EDGE}, {2 * BED_EDGE}", GREEN)
     return chart.text()
 
 

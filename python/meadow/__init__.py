@@ -1,6 +1,6 @@
 """What the project's own scripts share, in plain Python and apart from the proved library.
 
-Document 01, a module for each of its rules, written from the document alone:
+Document 01, and what requests of document 02 change in it, a module for each of its rules, written from the documents alone:
     ranges       units' ranges
     refusals     the table of refusals, and what a refusal is
     world        all that the calls are lent, and which square lies beside which

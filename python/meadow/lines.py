@@ -17,7 +17,14 @@ class Field(NamedTuple):
 # kind of line: its fields, in their order after the kind's own word
 SHEET_LINES = {
     "grid": [Field("rows"), Field("columns"), Field("side")],
-    "run": [Field("tolerance", 10), Field("shortest", 500), Field("longest", 10_000), Field("update", 60_000), Field("end")],
+    "run": [
+        Field("tolerance", 10),
+        Field("shortest", 500),
+        Field("longest", 10_000),
+        Field("update", 60_000),
+        Field("end"),
+        Field("edge", 10_000),
+    ],
     "cell": [Field("row"), Field("column"), Field("mark", "o"), Field("bed"), Field("roughness"), Field("depth", 0)],
     "rain": [Field("from"), Field("to"), Field("rate")],
     "inflow": [Field("row"), Field("column"), Field("from"), Field("to"), Field("litres")],

@@ -1,4 +1,4 @@
-"""Document 01, "The step": the drops of one square, and what leaves it through its four sides."""
+"""Document 01, "The step", with request #102's edge slope: the drops of one square, and what leaves it through its four sides."""
 import math
 
 from .world import CLOSED, EXIT
@@ -10,8 +10,8 @@ def level(m, square):
 
 
 def drop_off(m, square):
-    """The drop off the grid: from an exit its depth, from any other square none."""
-    return m.depths[square] if m.marks[square] == EXIT else 0
+    """The drop off the grid: from an exit the smaller of d and e·100·D, from any other square none."""
+    return min(m.depths[square], m.rules["edge"] * 100 * m.rules["side"]) if m.marks[square] == EXIT else 0
 
 
 def drop_to(m, square, near):

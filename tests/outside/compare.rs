@@ -1,6 +1,7 @@
 //! The comparison: the static library against document 01 on random, forged and damaged inputs. Every round has a seed of its own, so
 //! that one can be repeated alone. Words: --seed N, --rounds N, --from N (the first round), --seconds N (rounds for that long),
-//! --long; all others are sheets, with what `meadow` prints of them stored beside them.
+//! --long, --endless (the run of millions of steps that `meadow` refuses with 9); all others are sheets, with what `meadow` prints of
+//! them stored beside them.
 
 mod calls;
 mod chance;
@@ -29,13 +30,14 @@ const LONG_ROUNDS: u64 = 10 * ROUNDS;
 type Kind = fn(&mut Tally, &mut Chance);
 
 /// The kinds of rounds, in turn.
-const KINDS: [(&str, Kind); 13] = [
+const KINDS: [(&str, Kind); 14] = [
     ("series of steps and take-backs", steps::series),
     ("one value at or past a limit", limits::one_value),
     ("two values at or past a limit", limits::two_values),
     ("depth, outflow, clock at the brim", steps::brim),
     ("forged runs and records", forged::forged),
     ("deep and steep", steps::deep_and_steep),
+    ("exits at the edge slope's drop", steps::at_edges),
     ("exact brims of 7, 8, 9", steps::exact_brims),
     ("exact roundings of rain and inflow", steps::exact_roundings),
     ("shapes", steps::shapes),
@@ -50,12 +52,12 @@ struct Words {
     from: u64,
     rounds: u64,
     seconds: Option<u64>,
-    long: bool,
+    endless: bool,
     sheets: Vec<String>,
 }
 
 fn words() -> Words {
-    let mut words = Words { seed: 1, from: 0, rounds: ROUNDS, seconds: None, long: false, sheets: Vec::new() };
+    let mut words = Words { seed: 1, from: 0, rounds: ROUNDS, seconds: None, endless: false, sheets: Vec::new() };
     let mut rest = std::env::args().skip(1);
     while let Some(word) = rest.next() {
         let mut number = || rest.next().and_then(|number| number.parse().ok()).unwrap_or_else(|| usage());
@@ -64,10 +66,8 @@ fn words() -> Words {
             "--from" => words.from = number(),
             "--rounds" => words.rounds = number(),
             "--seconds" => words.seconds = Some(number()),
-            "--long" => {
-                words.long = true;
-                words.rounds = LONG_ROUNDS;
-            }
+            "--long" => words.rounds = LONG_ROUNDS,
+            "--endless" => words.endless = true,
             _ if word.starts_with('-') => usage(),
             _ => words.sheets.push(word),
         }
@@ -76,7 +76,7 @@ fn words() -> Words {
 }
 
 fn usage() -> ! {
-    eprintln!("usage: compare [--seed N] [--from N] [--rounds N] [--seconds N] [--long] [SHEET..]");
+    eprintln!("usage: compare [--seed N] [--from N] [--rounds N] [--seconds N] [--long] [--endless] [SHEET..]");
     std::process::exit(2);
 }
 
@@ -120,12 +120,12 @@ fn print_counts(tally: &Tally) {
 }
 
 /// An answer that a call can give and that no input of this run had is a hole in the comparison. `meadow` gives 9 only after a run of
-/// hundreds of thousands of steps, so that one is asked of the long run alone.
-fn answers_missing(tally: &Tally, long: bool) -> bool {
+/// millions of steps, so that one is asked only where this run is made.
+fn answers_missing(tally: &Tally, endless: bool) -> bool {
     let mut missing = false;
     for (call, answers) in ANSWERS {
         for answer in answers {
-            let asked = long || (call, *answer) != (Call::Meadow, 9);
+            let asked = endless || (call, *answer) != (Call::Meadow, 9);
             if asked && !tally.by_answer.contains_key(&(call, *answer)) {
                 println!("outside: no input was answered {} by {:?}", answer, call);
                 missing = true;
@@ -144,17 +144,17 @@ fn main() {
     for path in &words.sheets {
         texts::stored_sheet(&mut tally, path);
     }
-    if words.long {
+    if words.endless {
         tally.kind = "endless sheet";
         tally.meadow(&Text(sheets::endless()), OUT_ROOM);
     }
     let rounds = make_rounds(&mut tally, &words);
     print_counts(&tally);
-    if !words.long {
-        println!("outside: the run that meadow refuses with 9 is left out: it takes minutes; --long makes it");
+    if !words.endless {
+        println!("outside: the run that meadow refuses with 9 is left out: it takes millions of steps; --endless makes it");
     }
     // a few rounds alone, as when one is repeated, need not have every answer
-    if rounds >= KINDS.len() as u64 && answers_missing(&tally, words.long) {
+    if rounds >= KINDS.len() as u64 && answers_missing(&tally, words.endless) {
         std::process::exit(1);
     }
     let calls: u64 = tally.by_answer.values().sum();

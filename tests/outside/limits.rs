@@ -48,6 +48,7 @@ fn rules_and_run(changes: &mut Vec<Change>, base: &Lent) {
     each(changes, wide(1, 60_000), |lent, value| lent.rules.longest = value);
     each(changes, wide(shortest, shortest), |lent, value| lent.rules.longest = value);
     each(changes, wide(1, 3_600_000), |lent, value| lent.rules.update = value);
+    each(changes, wide(0, 10_000), |lent, value| lent.rules.edge = value);
     each(changes, wide(0, MOST_CLOCK), |lent, value| lent.run.clock = value);
     each(changes, wide(1, 60_000), |lent, value| lent.run.length = value);
     each(changes, wide(0, MOST_OUTFLOW), |lent, value| lent.run.outflow = value);

@@ -63,6 +63,18 @@ pub fn rules(chance: &mut Chance) -> Rules {
         shortest,
         longest,
         update: update(chance, shortest, longest),
+        edge: edge(chance),
+    }
+}
+
+/// None, gentle as a ditch, as a cliff, or any.
+fn edge(chance: &mut Chance) -> u64 {
+    match chance.below(6) {
+        0 => 0,
+        1 => chance.between(1, 30),
+        2 => 10_000 - chance.below(2),
+        3 => 10_000,
+        _ => chance.amount(10_000),
     }
 }
 
@@ -120,7 +132,7 @@ pub fn tables(chance: &mut Chance, meadow: &mut Meadow, clock: u64) {
     }
 }
 
-fn on_rim(meadow: &Meadow, square: usize) -> bool {
+pub fn on_rim(meadow: &Meadow, square: usize) -> bool {
     let (row, column) = (square / meadow.columns, square % meadow.columns);
     row == 0 || column == 0 || row + 1 == meadow.rows || column + 1 == meadow.columns
 }

@@ -1,4 +1,4 @@
-//! The step of document 01 on plain vectors, written for speed: what the library's time is held against. The arithmetic is 64 bits wide
+//! The step of the reference on plain vectors, written for speed: what the library's time is held against. The arithmetic is 64 bits wide
 //! (the most through a side is held to the depth first), a rim of squares that let nothing in saves every test for the edge of the
 //! grid, and the passes that can be one are one. What it gives is compared with the reference as the library's answers are.
 
@@ -81,11 +81,12 @@ struct Hatch {
     rows: Vec<[u64; 3]>,
 }
 
-/// A meadow with a rim round it, `width` squares a row.
+/// A meadow with a rim round it, `width` squares a row; no drop off the grid is above `most_off`.
 struct Ringed<'a> {
     rows: usize,
     columns: usize,
     width: usize,
+    most_off: u64,
     marks: Vec<u8>,
     beds: Vec<u32>,
     roughness: Vec<u32>,
@@ -101,7 +102,7 @@ struct Ringed<'a> {
 }
 
 impl<'a> Ringed<'a> {
-    fn new(meadow: &Meadow, records: &'a mut [u32]) -> Ringed<'a> {
+    fn new(meadow: &Meadow, rules: &Rules, records: &'a mut [u32]) -> Ringed<'a> {
         let (rows, columns) = (meadow.rows, meadow.columns);
         let width = columns + 2;
         let size = (rows + 2) * width;
@@ -109,6 +110,7 @@ impl<'a> Ringed<'a> {
             rows,
             columns,
             width,
+            most_off: rules.edge * 100 * rules.square_side,
             marks: vec![BEYOND; size],
             beds: vec![0; size],
             roughness: vec![1; size],
@@ -173,7 +175,7 @@ impl<'a> Ringed<'a> {
         if self.marks[at] == EXIT {
             for side in 0..4 {
                 if self.marks[around[side]] == BEYOND {
-                    drops[side] = self.depths[at] as u64;
+                    drops[side] = self.most_off.min(self.depths[at] as u64);
                 }
             }
         }
@@ -331,7 +333,7 @@ fn run_by(rows: &[[u64; 3]], clock: u64) -> u64 {
 pub fn run_to<R: Roots>(meadow: &mut Meadow, rules: &Rules, run: &Run, end: u64) -> Result<Made, u32> {
     check(meadow, rules, run, Some(end))?;
     let mut records = std::mem::take(&mut meadow.records);
-    let mut ringed = Ringed::new(meadow, &mut records);
+    let mut ringed = Ringed::new(meadow, rules, &mut records);
     let mut made = Made { number: 0, steps: 0, run: *run };
     while made.run.clock < end {
         match ringed.step::<R>(rules, &made.run) {

@@ -1,4 +1,5 @@
-//! Document 01 in plain Rust, in its order and its words, written from the document alone: what the library is compared with.
+//! Document 01 in plain Rust, in its order and its words, with request #102 of document 02, written from the documents alone: what the
+//! library is compared with.
 //! Amounts are `u128`, so that every formula stands as it is written there. The comment at each function names its sentence.
 
 pub const CLOSED: u8 = 0;
@@ -13,6 +14,7 @@ const MOST_ROUGHNESS: u128 = 10_000;
 const MOST_TOLERANCE: u128 = 10_000;
 const MOST_LENGTH: u128 = 60_000;
 const MOST_UPDATE: u128 = 3_600_000;
+const MOST_EDGE: u128 = 10_000;
 const MOST_CLOCK: u128 = 604_800_000;
 const MOST_RATE: u128 = 1_000_000;
 const MOST_LITRES: u128 = 100_000;
@@ -25,7 +27,7 @@ pub const INFLOW_ROOM: usize = 320;
 const MOST_TEXT: usize = 65_536;
 const MOST_MEADOW_SQUARES: usize = 1_024;
 
-/// "Rules there are q, step limits, U, roughness and D": roughness is lent with the meadow.
+/// "Rules there are q, step limits, U, roughness and D": roughness is lent with the meadow. #102: "Give the rules an edge slope e".
 #[derive(Clone, Copy, PartialEq, Debug)]
 pub struct Rules {
     pub square_side: u64,
@@ -33,6 +35,7 @@ pub struct Rules {
     pub shortest: u64,
     pub longest: u64,
     pub update: u64,
+    pub edge: u64,
 }
 
 /// "A run value holds: clock, step length, outflow total, kept, newest slot."
@@ -209,14 +212,19 @@ fn level(meadow: &Meadow, square: usize) -> u128 {
     meadow.beds[square] as u128 + meadow.depths[square] as u128
 }
 
+/// #102: "the drop off the grid is the smaller of d and e·100·D".
+fn drop_off(rules: &Rules, depth: u128) -> u128 {
+    depth.min(rules.edge as u128 * 100 * rules.square_side as u128)
+}
+
 /// "The four sides' drops of one cell, V for north, east, south and west."
-fn drops(meadow: &Meadow, square: usize) -> [u128; 4] {
+fn drops(meadow: &Meadow, rules: &Rules, square: usize) -> [u128; 4] {
     let mut drops = [0; 4];
     for side in 0..4 {
         drops[side] = match meadow.neighbour(square, side) {
             Some(next) if meadow.closed(next) => 0,
             Some(next) => level(meadow, square).saturating_sub(level(meadow, next)),
-            None if meadow.marks[square] == EXIT => meadow.depths[square] as u128,
+            None if meadow.marks[square] == EXIT => drop_off(rules, meadow.depths[square] as u128),
             None => 0,
         };
     }
@@ -224,9 +232,10 @@ fn drops(meadow: &Meadow, square: usize) -> [u128; 4] {
 }
 
 /// "If d = 0 or no drop is positive, nothing leaves. Otherwise .." and "Through each side: total·V / T."
-fn leaving(meadow: &Meadow, square: usize, side: u128, lasted: u128) -> [u128; 4] {
+fn leaving(meadow: &Meadow, rules: &Rules, square: usize, lasted: u128) -> [u128; 4] {
+    let side = rules.square_side as u128;
     let depth = meadow.depths[square] as u128;
-    let drops = drops(meadow, square);
+    let drops = drops(meadow, rules, square);
     let greatest = *drops.iter().max().unwrap();
     if depth == 0 || greatest == 0 {
         return [0; 4];
@@ -264,7 +273,7 @@ fn length_afresh(meadow: &Meadow, rules: &Rules) -> u64 {
         if meadow.closed(square) || depth == 0 {
             continue;
         }
-        for drop in drops(meadow, square) {
+        for drop in drops(meadow, rules, square) {
             if drop > rules.tolerance as u128 * 100 * side {
                 let above = 50_000 * side * side * meadow.roughness[square] as u128 * slope_root(drop, side);
                 let candidate = above / (depth * depth_root(depth));
@@ -302,7 +311,7 @@ fn step_on(meadow: &mut Meadow, rules: &Rules, run: &Run) -> Result<Run, u32> {
     let rained = rain_by(&meadow.rain, end) - rain_by(&meadow.rain, start);
     for square in 0..squares {
         if !meadow.closed(square) {
-            sent[square] = leaving(meadow, square, side, lasted as u128);
+            sent[square] = leaving(meadow, rules, square, lasted as u128);
             added[square] = rained + inflow_by(meadow, square, side, end) - inflow_by(meadow, square, side, start);
         }
     }
@@ -574,13 +583,14 @@ fn inflow_wrong(meadow: &Meadow) -> bool {
         })
 }
 
-/// 5: "q, step limits, U .. out of range".
+/// 5: "q, step limits, U .. out of range", and #102: "e above 10,000".
 fn rules_wrong(rules: &Rules) -> bool {
     rules.tolerance as u128 > MOST_TOLERANCE
         || rules.shortest < 1
         || rules.shortest > rules.longest
         || rules.longest as u128 > MOST_LENGTH
         || !within(1, rules.update as u128, MOST_UPDATE)
+        || rules.edge as u128 > MOST_EDGE
 }
 
 /// 5: "end not a multiple of U or out of range"; asked only of good rules.
@@ -681,7 +691,8 @@ pub fn read_sheet(text: &[u8], rooms: &mut Meadow) -> Result<Heading, Refusal> {
     refuse(1, least.iter().any(|room| *room < squares)).map_err(refused)?;
     refuse(1, rooms.rain.len() < RAIN_ROOM || rooms.inflow.len() < INFLOW_ROOM).map_err(refused)?;
 
-    let run = lines.get(1).and_then(|line| word_and_numbers(line, "run", 5)).ok_or(bad(1))?;
+    // #102: "The sheet's `run` line gains e as its last field."
+    let run = lines.get(1).and_then(|line| word_and_numbers(line, "run", 6)).ok_or(bad(1))?;
     for square in 0..squares {
         let at = 2 + square;
         let (row, column) = (square / read.columns, square % read.columns);
@@ -711,6 +722,7 @@ pub fn read_sheet(text: &[u8], rooms: &mut Meadow) -> Result<Heading, Refusal> {
         shortest: run[1] as u64,
         longest: run[2] as u64,
         update: run[3] as u64,
+        edge: run[5] as u64,
     };
     let end = run[4] as u64;
     refuse(2, marks_wrong(&read) || ground_wrong(&read)).map_err(refused)?;

@@ -4,7 +4,7 @@ use crate::calls::{Call, Tally};
 use crate::chance::Chance;
 use crate::limits;
 use crate::meadows::{self, Lent, MOST_BED, MOST_CLOCK, MOST_DEPTH, MOST_OUTFLOW};
-use crate::reference::{Rules, OPEN};
+use crate::reference::{Rules, EXIT, OPEN};
 use crate::worked::go_on;
 
 /// Arrows of every square of a small meadow and of some squares of a large one, and wet rows.
@@ -125,7 +125,7 @@ pub fn exact_brims(tally: &mut Tally, chance: &mut Chance) {
 fn exact_brim(tally: &mut Tally, chance: &mut Chance) {
     let shape = meadows::small_shape(chance);
     let mut lent = meadows::lent(chance, shape);
-    lent.rules = Rules { square_side: 1, tolerance: 0, shortest: 1, longest: 60_000, update: 1_000_000 };
+    lent.rules = Rules { square_side: 1, tolerance: 0, shortest: 1, longest: 60_000, update: 1_000_000, edge: 10_000 };
     lent.run.clock = 500_000;
     lent.run.length = chance.between(2_000, 60_000);
     lent.run.outflow = 0;
@@ -187,6 +187,32 @@ pub fn deep_and_steep(tally: &mut Tally, chance: &mut Chance) {
             lent.meadow.lasts[square] = MOST_DEPTH as u32;
         }
         tally.call(Call::Step, &lent);
+    }
+}
+
+/// Exits just as deep as the edge slope's drop, one less and one more, or of any depth, at a tolerance at or beside the edge slope.
+pub fn at_edges(tally: &mut Tally, chance: &mut Chance) {
+    for _ in 0..20 {
+        let shape = meadows::small_shape(chance);
+        let mut lent = meadows::lent(chance, shape);
+        let edge = chance.pick(&[1, 10, 100, 9_999, 10_000, lent.rules.edge]);
+        let drop = edge * 100 * lent.rules.square_side;
+        lent.rules.edge = edge;
+        lent.rules.tolerance = chance.pick(&[edge.saturating_sub(1), edge, edge + 1, lent.rules.tolerance]).min(10_000);
+        for square in lent.open_squares() {
+            if meadows::on_rim(&lent.meadow, square) {
+                lent.meadow.marks[square] = EXIT;
+            }
+            let any = chance.amount(MOST_DEPTH);
+            let depth = chance.pick(&[drop.saturating_sub(1), drop, drop + 1, any]);
+            lent.meadow.depths[square] = depth.min(MOST_DEPTH) as u32;
+        }
+        if chance.one_in(2) {
+            lent.run.clock -= lent.run.clock % lent.rules.update;
+        }
+        lent.end = meadows::end(chance, &lent.run, &lent.rules);
+        tally.call(Call::Step, &lent);
+        tally.call(Call::RunTo, &lent);
     }
 }
 

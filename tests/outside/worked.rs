@@ -6,7 +6,7 @@ use crate::library;
 use crate::meadows::{Lent, Sizes};
 use crate::reference::{Meadow, Rules, Run, EXIT, OPEN};
 
-const SHEET: &[u8] = b"grid\t1\t2\t1\nrun\t100\t1000\t1000\t1000\t1000\ncell\t0\t0\to\t0\t100\t1000\ncell\t0\t1\to\t0\t100\t0\n";
+const SHEET: &[u8] = b"grid\t1\t2\t1\nrun\t100\t1000\t1000\t1000\t1000\t10000\ncell\t0\t0\to\t0\t100\t1000\ncell\t0\t1\to\t0\t100\t0\n";
 const PRINTED: &[u8] = b"cell\t0\t0\t969\ncell\t0\t1\t31\nout\t0\nsteps\t1\nclock\t1000\n";
 
 /// A row of squares on flat ground, k 100, with a room for one record and a fresh run in steps of 1000 ms.
@@ -25,7 +25,7 @@ fn flat(marks: Vec<u8>, depths: Vec<u32>) -> Lent {
             lasts: vec![0; squares],
             records: vec![0; 2 + 6 * squares],
         },
-        rules: Rules { square_side: 1, tolerance: 100, shortest: 1_000, longest: 1_000, update: 1_000 },
+        rules: Rules { square_side: 1, tolerance: 100, shortest: 1_000, longest: 1_000, update: 1_000, edge: 10_000 },
         run: Run { clock: 0, length: 1_000, outflow: 0, kept: 0, newest: 0 },
         end: 1_000,
         row: 0,
@@ -88,12 +88,33 @@ fn single_squares(tally: &mut Tally) {
     }
 }
 
+/// The exit above at other edge slopes and depths, and what each of its sides lets out: the drop off the grid is the smaller of the depth
+/// and 100·e.
+fn edges(tally: &mut Tally) {
+    const EXITS: [(u64, u32, u32); 5] =
+        [(0, 10_000, 0), (50, 10_000, 1_000), (99, 10_000, 1_980), (100, 10_000, 2_000), (10_000, 2_000_000, 200_000)];
+    for (edge, depth, each_side) in EXITS {
+        let mut lent = flat(vec![EXIT], vec![depth]);
+        lent.rules.edge = edge;
+        let exit = tally.call(Call::Step, &lent);
+        hold("the edge slope", exit.meadow.depths == [depth - 4 * each_side] && exit.meadow.records[2..6] == [each_side; 4]);
+    }
+    // e = 10,000 is in range and 10,001 is not, for each call that takes rules
+    for (edge, number) in [(10_000, 0), (10_001, 5)] {
+        let mut lent = flat(vec![OPEN], vec![0]);
+        lent.rules.edge = edge;
+        for call in [Call::Fresh, Call::Step, Call::RunTo] {
+            hold("the steepest edge slope", tally.call(call, &lent).number == number);
+        }
+    }
+}
+
 /// The length is worked afresh at clock 0, and held in the run.
 fn lengths(tally: &mut Tally) {
     for (tolerance, length) in [(99, 250), (100, 60_000)] {
         let mut lent = flat(vec![OPEN; 2], vec![1_000_000, 900_000]);
         lent.meadow.roughness = vec![500; 2];
-        lent.rules = Rules { square_side: 10, tolerance, shortest: 1, longest: 60_000, update: 60_000 };
+        lent.rules = Rules { square_side: 10, tolerance, shortest: 1, longest: 60_000, update: 60_000, edge: 10_000 };
         hold("the step length", tally.call(Call::Step, &lent).run[1] == length);
     }
 }
@@ -118,6 +139,7 @@ fn tables(tally: &mut Tally) {
 pub fn cases(tally: &mut Tally) {
     two_squares(tally);
     single_squares(tally);
+    edges(tally);
     lengths(tally);
     tables(tally);
     let printed = tally.meadow(&Text(SHEET.to_vec()), OUT_ROOM).printed;

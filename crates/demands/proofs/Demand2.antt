@@ -46,7 +46,7 @@ use Rattle.flood.specs.Step.{stepNumber, stepped}
 use Rattle.flood.specs.Run.{Ended, ended, goOn, runFrom, runTo, freshRefusals, freshNumber, freshRun, freshLasts}
 use Rattle.sight.proofs.Alike.{AlikeDepths, AlikeRecords, arrow-alike, wet-alike}
 use Rattle.flood.proofs.CheckLaws.{checks-named, ready, ring-is}
-use Rattle.moves.proofs.MoveLaws.{leaves-open, covered, flood-walled}
+use Rattle.moves.proofs.MoveLaws.{leaves-open, covered, flood-walled, off-none}
 use Rattle.flood.proofs.RunToLaws.{made-is, refused-is}
 use Rattle.demands.specs.Closed.{SameOpen, SameGiven, SameRecord, SameRoom, SameWorld, SameEnd}
 use Rattle.demands.specs.Demand2.{RootsAre, StepGives, NoneDepends, NoneAltered, WallRule, Demand2}
@@ -580,6 +580,7 @@ module _ (p : Plan) where
         none-depends = none-depends;
         none-altered = none-altered;
         wall-rule = wall-rule;
+        nothing-leaves = λ g v e. off-none p (g .lie) (v .depths) (v .lasts) (stepDuration p g v) e;
         loader = loader-walls;
         exports-none-depends = exports-none-depends p none-depends;
       }

@@ -125,11 +125,17 @@ module _ (p : Plan) where
     -- and the sum of all that arrives in closed squares is 0
     pub walls-stay-dry : (g : Given) (v : Seen) → intoWalls p (stepMoves p g v .leaves) ≡ 0
 
+  -- ---- document 02, #102: "With e = 0 nothing leaves"
+
+  abbrev pub NothingLeaves : Type 0
+  NothingLeaves = (g : Given) (v : Seen) → g .lie .rules .edge ≡ 0 → offGrid p (stepMoves p g v .leaves) ≡ 0
+
   pub record Demand2 : Type 0 where
     pub step-gives : (g : Given) (w : World) → stepNumber p g w ≡ 0 → StepGives g w
     pub roots-are : RootsAre
     pub none-depends : NoneDepends
     pub none-altered : NoneAltered
     pub wall-rule : WallRule
+    pub nothing-leaves : NothingLeaves
     pub loader : LoaderWalls
     pub exports-none-depends : ExportsNoneDepends p

@@ -31,17 +31,17 @@ use Rattle.answer.specs.Program.{meadowText}
 
 -- document 01's sheet, and what `meadow` prints of it
 abbrev pub documentSheet : String
-documentSheet = "grid\t1\t2\t1\nrun\t100\t1000\t1000\t1000\t1000\ncell\t0\t0\to\t0\t100\t1000\ncell\t0\t1\to\t0\t100\t0\n"
+documentSheet = "grid\t1\t2\t1\nrun\t100\t1000\t1000\t1000\t1000\t10000\ncell\t0\t0\to\t0\t100\t1000\ncell\t0\t1\to\t0\t100\t0\n"
 
 abbrev pub documentOutput : String
 documentOutput = "cell\t0\t0\t969\ncell\t0\t1\t31\nout\t0\nsteps\t1\nclock\t1000\n"
 
 -- "one exit square, D 1, k 100, depth 10,000"; "two equal levels"
 abbrev pub exitSheet : String
-exitSheet = "grid\t1\t1\t1\nrun\t100\t1000\t1000\t1000\t1000\ncell\t0\t0\te\t0\t100\t10000\n"
+exitSheet = "grid\t1\t1\t1\nrun\t100\t1000\t1000\t1000\t1000\t10000\ncell\t0\t0\te\t0\t100\t10000\n"
 
 abbrev pub levelSheet : String
-levelSheet = "grid\t1\t2\t1\nrun\t100\t1000\t1000\t1000\t1000\ncell\t0\t0\to\t0\t100\t500\ncell\t0\t1\to\t0\t100\t500\n"
+levelSheet = "grid\t1\t2\t1\nrun\t100\t1000\t1000\t1000\t1000\t10000\ncell\t0\t0\to\t0\t100\t500\ncell\t0\t1\to\t0\t100\t500\n"
 
 -- ---- what a text says, and steps on it
 
@@ -88,7 +88,7 @@ module _ (text : String) where
 
 -- D 10 and a tolerance
 abbrev wide : ℕ → Rules
-wide q = record { «square_side» = 10; tolerance = q; shortest = 1; longest = 60_000; update = 60_000 }
+wide q = record { «square_side» = 10; tolerance = q; shortest = 1; longest = 60_000; update = 60_000; edge = 10_000 }
 
 -- 1,116,892,707,587,883 / 2^54, the f64 nearest to 0.062, whose bits are 0x3fafbe76c8b43958
 abbrev eastSpeed : Float

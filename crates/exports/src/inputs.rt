@@ -25,6 +25,7 @@ pub(crate) fn rules_from(numbers: &[u64]) -> Rules
         shortest: numbers[2],
         longest: numbers[3],
         update: numbers[4],
+        edge: numbers[5],
     }
 }
 

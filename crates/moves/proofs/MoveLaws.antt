@@ -2,27 +2,31 @@
 -- times stay in range. All of it follows from the weighing's own two laws and from the drops.
 -- Assumes nothing.
 use mathlib.Core.Path.{_≡_, refl, _∙_}
-use mathlib.Core.Bool.{true, false}
+use mathlib.Core.Bool.{Bool, true, false}
 use mathlib.Core.List.{List}
 use Prim.Native.Nat.{ℕ, zero, suc, _≤_, _<_}
 use native.Mathlib.Nat.{le-trans}
 use native.Mathlib.Omega.{arith}
 use lib.ListN.{getD}
 use borrow.Author.Tests.{ltb-true, ltb-false}
+use Rattle.reckon.specs.Tests.{pick}
 use Rattle.reckon.specs.Ranges.{mostLength}
 use Rattle.reckon.proofs.TestLaws.{pick-true, pick-false, pick-both}
-use Rattle.grid.specs.Squares.{north, east, south, west, sides}
+use Rattle.reckon.proofs.ListLaws.{sum-zero}
+use Rattle.grid.specs.Squares.{north, east, south, west, sides, squares, within, beside}
+use Rattle.grid.specs.Marks.{exit}
 use Rattle.rule.specs.Weighing.{weighed}
+use Rattle.rule.proofs.DropLaws.{edge-none}
 use Rattle.rule.proofs.WeighingLaws.{weighed-le, weighed-none}
 use Rattle.rule.proofs.LengthLaws.{length-from, length-to, lasts-from, lasts-to}
 use Rattle.ledger.specs.Runs.{Plan, Seen}
-use Rattle.ledger.specs.Flows.{shut, gone}
+use Rattle.ledger.specs.Flows.{Leaves, shut, gone, offSide, offSquare, offGrid}
 use Rattle.ledger.specs.Walls.{Walled}
 use Rattle.moves.specs.Given.{Ground, Given}
 use Rattle.moves.specs.Drops.{sideDrop, dropsOf}
 use Rattle.moves.specs.Moves.{candidates, leavesFor, stepLength, stepDuration}
 use Rattle.moves.specs.inner.Ready.{Ready}
-use Rattle.moves.proofs.DropLaws.{drop-closed, drop-rim}
+use Rattle.moves.proofs.DropLaws.{drop-closed, drop-exit, drop-rim}
 
 -- ---- what leaves a square
 
@@ -68,6 +72,36 @@ flood-walled p o depths lasts ms =
       walled = λ i side h l n e. no-drop p o depths lasts ms i side l (drop-closed p (o .rules) (o .beds) depths i side refl (ltb-true _ _ n) e);
       rimmed = λ i side h l n e. no-drop p o depths lasts ms i side l (drop-rim p (o .rules) (o .beds) depths i side refl (ltb-false _ _ n) e);
     }
+
+-- ---- "With e = 0 nothing leaves"
+
+module _ (p : Plan) (o : Ground) (depths lasts : List ℕ) (ms : ℕ) (e : o .rules .edge ≡ 0) where
+  -- there is no drop off the grid, from an exit or from any other square
+  off-side-none : (i side : ℕ) → side < sides → offSide p (leavesFor p o depths lasts ms) i side ≡ 0
+  unfolding offSide
+  off-side-none i side l = go (within (p .shape) (beside (p .shape) i side)) (exit (p .marks) i) refl refl
+    where
+      leaves : Leaves
+      leaves = leavesFor p o depths lasts ms
+
+      go : (on leads : Bool) → within (p .shape) (beside (p .shape) i side) ≡ on → exit (p .marks) i ≡ leads →
+          pick (within (p .shape) (beside (p .shape) i side)) 0 (leaves i side) ≡ 0
+      go true leads b d = pick-true 0 (leaves i side) b
+      go false true b d =
+          pick-false 0 (leaves i side) b
+          ∙ no-drop p o depths lasts ms i side l
+          (drop-exit p (o .rules) (o .beds) depths i side refl (ltb-false _ _ b) d ∙ edge-none (o .rules) (getD depths i 0) e)
+      go false false b d =
+          pick-false 0 (leaves i side) b
+          ∙ no-drop p o depths lasts ms i side l (drop-rim p (o .rules) (o .beds) depths i side refl (ltb-false _ _ b) d)
+
+  pub off-none : offGrid p (leavesFor p o depths lasts ms) ≡ 0
+  unfolding offGrid offSquare
+  off-none =
+      sum-zero (squares (p .shape)) _
+      (λ i h.
+      pick-both (λ (x : ℕ). x ≡ 0) (shut p i) refl
+      (rw (off-side-none i north (omega arith), off-side-none i east (omega arith), off-side-none i south (omega arith), off-side-none i west (omega arith))))
 
 -- ---- times
 

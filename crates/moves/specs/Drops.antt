@@ -17,7 +17,7 @@ module _ (p : Plan) (r : Rules) (beds depths : List ℕ) where
   levelAt i = level (getD beds i 0) (getD depths i 0)
 
   -- "towards an open or exit neighbour, own level less its level if positive, else 0; towards a closed square or off the grid, 0; but
-  -- off the grid from an exit, the drop is the depth d"
+  -- off the grid from an exit" by the edge slope (document 02, #102)
   unfoldable pub sideDrop : ℕ → ℕ → ℕ
   sideDrop i side =
       pick (within (p .shape) (beside (p .shape) i side))

@@ -16,6 +16,7 @@ ghost use mathlib.Core.Path.{_≡_};
 ghost use Prim.Native.Nat.{_+_, _<_};
 ghost use lib.ListN.{length, getD};
 ghost use Rattle.grid.specs.Squares.{OnSquare, sides};
+ghost use Rattle.rule.specs.inner.InRange.{EdgeInRange};
 ghost use Rattle.ledger.specs.Runs.{plan};
 ghost use Rattle.moves.specs.Drops.{dropsOf, sideDrop};
 ghost use Rattle.moves.specs.inner.Ready.{GroundLent};
@@ -40,7 +41,7 @@ fn side_drop(
     side: usize,
     own: u64,
 ) -> u64
-    requires { ⌜ (GroundLent (plan shape (now marks)) (now beds) (now depths)) × (OnSquare shape square column) × (side < sides) ⌝ }
+    requires { ⌜ (GroundLent (plan shape (now marks)) (now beds) (now depths)) × (OnSquare shape square column) × (side < sides) × (EdgeInRange rules) ⌝ }
     requires { ⌜ own ≡ getD (now beds) square 0 + getD (now depths) square 0 ⌝ }
     ensures { λ r. ⌜ r ≡ sideDrop (plan shape (now (marks .entry))) rules (now (beds .entry)) (now (depths .entry)) square side ⌝ }
 {
@@ -67,7 +68,7 @@ pub(crate) fn drops_of(
     square: usize,
     column: usize,
 ) -> [u64; 4]
-    requires { ⌜ (GroundLent (plan shape (now marks)) (now beds) (now depths)) × (OnSquare shape square column) ⌝ }
+    requires { ⌜ (GroundLent (plan shape (now marks)) (now beds) (now depths)) × (OnSquare shape square column) × (EdgeInRange rules) ⌝ }
     ensures { λ r. ⌜ r ≡ dropsOf (plan shape (now (marks .entry))) rules (now (beds .entry)) (now (depths .entry)) square ⌝ }
 {
     let own = level_of(beds, depths, square);

@@ -27,6 +27,10 @@ mostRoughness = 10_000
 abbrev pub mostTolerance : ℕ
 mostTolerance = 10_000
 
+-- document 02, #102: "an edge slope e in ten-thousandths", "e above 10,000 is 5"
+abbrev pub mostEdge : ℕ
+mostEdge = 10_000
+
 -- "shortest, longest step: ms, 1 ≤ shortest ≤ longest ≤ 60,000"
 abbrev pub mostLength : ℕ
 mostLength = 60_000

@@ -7,7 +7,7 @@ use Prim.Native.Nat.{ℕ}
 use lib.Dec.{leb}
 use borrow.Author.Tests.{leb-true}
 use Rattle.reckon.proofs.TestLaws.{every-each}
-use Rattle.reckon.specs.Ranges.{mostSide, mostBed, mostRoughness, mostTolerance, mostLength, mostUpdate, sideFine}
+use Rattle.reckon.specs.Ranges.{mostSide, mostBed, mostRoughness, mostTolerance, mostLength, mostUpdate, mostEdge, sideFine}
 use Rattle.rule.specs.Rules.{groundFine, rulesFine}
 use Rattle.rule.specs.inner.InRange.{RulesInRange, GroundInRange}
 use Rattle.rule.specs.declared.rules.Rules.{Rules}
@@ -24,6 +24,7 @@ rules-are r a b =
     ∷ leb (r .longest) mostLength
     ∷ leb 1 (r .update)
     ∷ leb (r .update) mostUpdate
+    ∷ leb (r .edge) mostEdge
     ∷ [])
     b in
     record {
@@ -35,6 +36,7 @@ rules-are r a b =
       longest-to = leb-true _ _ (t .1 .1 .1 .0);
       update-from = leb-true _ _ (t .1 .1 .1 .1 .0);
       update-to = leb-true _ _ (t .1 .1 .1 .1 .1 .0);
+      edge-to = leb-true _ _ (t .1 .1 .1 .1 .1 .1 .0);
     }
 
 pub ground-is : (bed k : ℕ) → groundFine bed k ≡ true → GroundInRange bed k

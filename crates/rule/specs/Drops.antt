@@ -1,7 +1,7 @@
 -- Document 01, "The step": the drops of one cell, but for which neighbour lies where.
 -- Assumes nothing.
 use mathlib.Core.Path.{_≡_}
-use Prim.Native.Nat.{ℕ, _+_, _-_}
+use Prim.Native.Nat.{ℕ, _+_, _-_, _*_, min}
 use Rattle.rule.specs.declared.rules.Rules.{Rules}
 
 -- "Level = bed + depth"
@@ -12,9 +12,9 @@ level bed d = bed + d
 abbrev pub dropTo : ℕ → ℕ → ℕ
 dropTo own neighbour = own - neighbour
 
--- "off the grid from an exit, the drop is the depth d"
+-- document 02, #102: "the drop off the grid is the smaller of d and e·100·D"
 unfoldable pub dropOff : Rules → ℕ → ℕ
-dropOff r d = d
+dropOff r d = min d (r .edge * 100 * r .«square_side»)
 
 -- ---- what the public functions give
 

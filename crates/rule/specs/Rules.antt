@@ -6,7 +6,7 @@ use mathlib.Core.List.{[], _∷_}
 use Prim.Native.Nat.{ℕ}
 use lib.Dec.{leb}
 use Rattle.reckon.specs.Tests.{every}
-use Rattle.reckon.specs.Ranges.{mostBed, mostRoughness, mostTolerance, mostLength, mostUpdate}
+use Rattle.reckon.specs.Ranges.{mostBed, mostRoughness, mostTolerance, mostLength, mostUpdate, mostEdge}
 use Rattle.rule.specs.declared.rules.Rules.{Rules}
 
 -- ---- the tests, each by its refusal's number
@@ -15,7 +15,7 @@ use Rattle.rule.specs.declared.rules.Rules.{Rules}
 unfoldable pub groundFine : ℕ → ℕ → Bool
 groundFine bed k = every (leb bed mostBed ∷ leb 1 k ∷ leb k mostRoughness ∷ [])
 
--- 5: "q, step limits, U .. out of range"
+-- 5: "q, step limits, U .. out of range", "e above 10,000"
 unfoldable pub rulesFine : Rules → Bool
 rulesFine r =
     every
@@ -25,6 +25,7 @@ rulesFine r =
     ∷ leb (r .longest) mostLength
     ∷ leb 1 (r .update)
     ∷ leb (r .update) mostUpdate
+    ∷ leb (r .edge) mostEdge
     ∷ [])
 
 -- ---- what the public functions give

@@ -1,21 +1,24 @@
 // The rules of a call; the tests of refusals 5 and 2 that concern the rules or one square.
 use reckon::ranges::MOST_BED;
+use reckon::ranges::MOST_EDGE;
 use reckon::ranges::MOST_LENGTH;
 use reckon::ranges::MOST_ROUGHNESS;
 use reckon::ranges::MOST_TOLERANCE;
 use reckon::ranges::MOST_UPDATE;
 ghost use Rattle.rule.specs.Rules.{RulesJudged, GroundJudged};
 
-// square_side is D in m; tolerance is q in ten-thousandths; shortest, longest and update (U) are in ms.
+// square_side is D in m; tolerance is q in ten-thousandths; shortest, longest and update (U) are in ms; edge is e, the surface slope
+// beyond an exit, in ten-thousandths.
 pub struct Rules {
     pub square_side: u64,
     pub tolerance: u64,
     pub shortest: u64,
     pub longest: u64,
     pub update: u64,
+    pub edge: u64,
 }
 
-// Refusal 5: tolerance, step limits and update time are in range.
+// Refusal 5: tolerance, step limits, update time and edge slope are in range.
 pub fn rules_fine(rules: Rules) -> bool
     ensures { λ r. ⌜ RulesJudged rules r ⌝ }
 {
@@ -34,7 +37,10 @@ pub fn rules_fine(rules: Rules) -> bool
     if rules.update < 1 {
         return false;
     }
-    rules.update <= MOST_UPDATE
+    if MOST_UPDATE < rules.update {
+        return false;
+    }
+    rules.edge <= MOST_EDGE
 }
 
 // Refusal 2: bed and roughness of a square not closed are in range.

@@ -25,6 +25,7 @@ const RULES: Rules = Rules {
     shortest: 1000,
     longest: 1000,
     update: 1000,
+    edge: 10_000,
 };
 
 const MARKS: [u8; 9] = [1, 1, 0, 2, 1, 1, 1, 1, 0];

@@ -114,6 +114,7 @@ fn line(row: [u64; 10]) {
         shortest: 1,
         longest: 60_000,
         update: 60_000,
+        edge: 10_000,
     };
     let depth = row[2];
     let last = row[3];

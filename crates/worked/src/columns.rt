@@ -17,6 +17,7 @@ fn rules() -> Rules {
         shortest: 1000,
         longest: 1000,
         update: 1000,
+        edge: 10_000,
     }
 }
 

@@ -48,6 +48,7 @@ pub(crate) fn sheet(room: usize) -> Meadow {
             shortest: 1000,
             longest: 1000,
             update: 1000,
+            edge: 10_000,
         },
         run: Run {
             clock: 0,

@@ -78,6 +78,7 @@ fn varied() -> Meadow {
         shortest: 100,
         longest: 2000,
         update: 2500,
+        edge: 10_000,
     };
     m.rules = rules;
     let marks = [1, 1, 0, 2];
@@ -119,6 +120,7 @@ fn second(m: Meadow) -> Meadow {
         shortest: 50,
         longest: 400,
         update: 300,
+        edge: 10_000,
     };
     new.rules = rules;
     let beds = [0, 40_000, 0, 60_000];
@@ -139,6 +141,7 @@ fn third(m: Meadow) -> Meadow {
         shortest: 1,
         longest: 60_000,
         update: 3_600_000,
+        edge: 10_000,
     };
     new.rules = rules;
     let beds = [1_000_000, 0, 0, 5];

@@ -4,7 +4,7 @@
 use Prim.Native.Nat.{ℕ, _≤_}
 use mathlib.Core.List.{List}
 use lib.ListN.{getD}
-use Rattle.reckon.specs.Ranges.{mostSide, mostBed, mostDepth, mostRoughness, mostTolerance, mostLength, mostUpdate}
+use Rattle.reckon.specs.Ranges.{mostSide, mostBed, mostDepth, mostRoughness, mostTolerance, mostLength, mostUpdate, mostEdge}
 use Rattle.rule.specs.declared.rules.Rules.{Rules}
 
 -- ---- what a call whose tests pass may rely on (`rules-are`, `ground-is`)
@@ -18,11 +18,18 @@ pub record RulesInRange (r : Rules) : Type 0 where
   pub longest-to : r .longest ≤ mostLength
   pub update-from : 1 ≤ r .update
   pub update-to : r .update ≤ mostUpdate
+  pub edge-to : r .edge ≤ mostEdge
 
 pub record GroundInRange (bed k : ℕ) : Type 0 where
   pub bed-to : bed ≤ mostBed
   pub roughness-from : 1 ≤ k
   pub roughness-to : k ≤ mostRoughness
+
+-- ---- what the drop off the grid asks
+
+pub record EdgeInRange (r : Rules) : Type 0 where
+  pub side-to : r .«square_side» ≤ mostSide
+  pub edge-to : r .edge ≤ mostEdge
 
 -- ---- what the weighing and the step length ask
 

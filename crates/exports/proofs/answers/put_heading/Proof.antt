@@ -1,4 +1,4 @@
--- `exports::answers::put_heading` meets its contract: ten stores fill a slice of ten.
+-- `exports::answers::put_heading` meets its contract: eleven stores fill a slice of eleven.
 -- Assumes nothing.
 use native.Mathlib.Omega.{arith}
 use lib.ListN.{length-set}
@@ -43,6 +43,10 @@ slice-write-room-10 : tie.Need-slice-write-room-10
 slice-write-room-10 c =
     simp length-set (omega arith)
 
+slice-write-room-11 : tie.Need-slice-write-room-11
+slice-write-room-11 c =
+    simp length-set (omega arith)
+
 same-length : tie.Need-same-length
 same-length c = search needs
 
@@ -64,5 +68,6 @@ put-heading-spec =
     slice-write-room-8
     slice-write-room-9
     slice-write-room-10
+    slice-write-room-11
     same-length
     returns)

@@ -29,7 +29,11 @@ returns-5 c = search (lt-leb, le-leb)
 
 returns-6 : tie.Need-returns-6
 unfolding rulesFine every
-returns-6 c = search (lt-leb, le-leb, and-true)
+returns-6 c = search (lt-leb, le-leb)
+
+returns-7 : tie.Need-returns-7
+unfolding rulesFine every
+returns-7 c = search (lt-leb, le-leb, and-true)
 
 pub rules-fine-spec : {M : Type 1} → statement M
-rules-fine-spec = tie.close (tie.spec returns returns-2 returns-3 returns-4 returns-5 returns-6)
+rules-fine-spec = tie.close (tie.spec returns returns-2 returns-3 returns-4 returns-5 returns-6 returns-7)

@@ -36,11 +36,17 @@ array-read-t23 c = search needs
 cast-t24 : tie.Need-cast-t24
 cast-t24 c = search needs
 
-array-read-t28 : tie.Need-array-read-t28
-array-read-t28 c = search needs
+array-read-t27 : tie.Need-array-read-t27
+array-read-t27 c = search needs
 
-cast-t29 : tie.Need-cast-t29
-cast-t29 c = search needs
+cast-t28 : tie.Need-cast-t28
+cast-t28 c = search needs
+
+array-read-t32 : tie.Need-array-read-t32
+array-read-t32 c = search needs
+
+cast-t33 : tie.Need-cast-t33
+cast-t33 c = search needs
 
 returns : tie.Need-returns
 unfolding asRun runLine
@@ -60,6 +66,8 @@ run-line-spec =
     cast-t20
     array-read-t23
     cast-t24
-    array-read-t28
-    cast-t29
+    array-read-t27
+    cast-t28
+    array-read-t32
+    cast-t33
     returns)

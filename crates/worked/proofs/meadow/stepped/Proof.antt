@@ -17,7 +17,7 @@ slice-aggregate-step-in-4 : tie.Need-slice-aggregate-step-in-4
 slice-aggregate-step-in-4 c = search needs
 
 slice-aggregate-step-in-5 : tie.Need-slice-aggregate-step-in-5
-slice-aggregate-step-in-5 c = search needs
+slice-aggregate-step-in-5 c = search (needs, c .before .before .before .before .before .before .before .before .before .before .before .before .before .before .before .before .good .0 .1 .1 .1 .1 .1 .1 .1)
 
 slice-aggregate-step-in-6 : tie.Need-slice-aggregate-step-in-6
 slice-aggregate-step-in-6 c = search (needs, c .before .before .before .before .before .before .before .before .before .before .before .before .before .before .before .before .before .good .0 .1 .1 .1 .1 .1 .1 .1 .1)
