@@ -15,11 +15,11 @@ ghost use Rattle.text.specs.Writing.{Wrote, lineText};
 ghost use Rattle.answer.specs.Printed.{PutRefused, PutWorld, cellText, cellsText, madeText, mostRefused};
 
 // The line of a refusal.
-pub fn put_refused(out: &mut [u8], at: usize, number: u32, line: usize) -> usize
+pub fn put_refused(out: &mut [u8], at: usize, refusal: u32, line: usize) -> usize
     requires { ⌜ at + mostRefused ≤ length (now out) ⌝ }
-    ensures { λ r. ⌜ PutRefused number line at (now (out .entry)) (now (out .exit)) r ⌝ }
+    ensures { λ r. ⌜ PutRefused refusal line at (now (out .entry)) (now (out .exit)) r ⌝ }
 {
-    let values = [number as u64, line as u64];
+    let values = [refusal as u64, line as u64];
     put_line(out, at, b"refused", &values)
 }
 

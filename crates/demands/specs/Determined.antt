@@ -159,7 +159,7 @@ pub record SightDetermined : Type 0 where
 pub record TextDetermined : Type 0 where
   pub byte-is : (text : List ℕ) (at byte : ℕ) → One (ByteIs text at byte)
   pub word-at : (text : List ℕ) (at : ℕ) (word : List ℕ) → One (WordAt text at word)
-  pub number-at : (text : List ℕ) (at : ℕ) → One (Reading.NumberAt text at)
+  pub number-at : (text : List ℕ) (at : ℕ) → One (Reading.NumberReadAt text at)
   pub field-at : (text : List ℕ) (at : ℕ) → One (FieldAt text at)
   pub fields-at : (text : List ℕ) (at count : ℕ) → One (FieldsAt text at count)
   pub rest-of-line : (text : List ℕ) (at count : ℕ) → One (RestOfLine text at count)

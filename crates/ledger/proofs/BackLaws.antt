@@ -22,7 +22,7 @@ use Rattle.ledger.specs.Flows.{shut, gone, came, offGrid}
 use Rattle.ledger.specs.Record.{recordSize, lastedIn, leavesIn, lastIn, addedIn, roomSlots, newestRecord}
 use Rattle.ledger.specs.Checks.{oneEach, watersFine, timesFine, WaterLent}
 use Rattle.ledger.specs.TakeBack.{heldAndGone, cameAndAdded, depthBefore, squareRestorable, restorable, worldBefore, backRefusals, backNumber, takenBack, TakesBack, earlyRefusals, runBefore}
-use Rattle.ledger.specs.inner.TakeBack.{Kept, Looked, RecordAndDepths, Restores}
+use Rattle.ledger.specs.inner.TakeBack.{Kept, EarlyRefused, RecordAndDepths, Restores}
 use Rattle.ledger.specs.inner.Walks.{Walked}
 use Rattle.ledger.specs.declared.runs.Run.{Run}
 use Rattle.ledger.specs.declared.runs.Answer.the-variants.{Done, Refused}
@@ -128,38 +128,38 @@ module _ (p : Plan) (w : World) where
         lasts-long = eqb-true _ _ (t .1 .1 .1 .0);
       }
 
-  refused-by : {n : ℕ} → (n ≡ 0 → ⊥) → backNumber p w ≡ n → Looked p w n
+  refused-by : {n : ℕ} → (n ≡ 0 → ⊥) → backNumber p w ≡ n → EarlyRefused p w n
   refused-by d e = record { refused = λ z. sym e; passed = λ z. absurd (d z) }
 
-  pub looked-1 : sized ≡ false → Looked p w 1
+  pub looked-1 : sized ≡ false → EarlyRefused p w 1
   unfolding backNumber backRefusals earlyRefusals
   looked-1 e = refused-by (λ z. omega arith) (refusal-here 1 _ e)
 
   module _ (s : sized ≡ true) where
-    pub looked-2 : marksFine (p .shape) (p .marks) ≡ false → Looked p w 2
+    pub looked-2 : marksFine (p .shape) (p .marks) ≡ false → EarlyRefused p w 2
     unfolding backNumber backRefusals earlyRefusals
     looked-2 e = refused-by (λ z. omega arith) (refusal-later 1 _ s ∙ refusal-here 2 _ e)
 
     module _ (m : marksFine (p .shape) (p .marks) ≡ true) where
-      pub looked-3 : watersFine p (w .depths) (w .lasts) ≡ false → Looked p w 3
+      pub looked-3 : watersFine p (w .depths) (w .lasts) ≡ false → EarlyRefused p w 3
       unfolding backNumber backRefusals earlyRefusals
       looked-3 e = refused-by (λ z. omega arith) (refusal-later 1 _ s ∙ (refusal-later 2 _ m ∙ refusal-here 3 _ e))
 
       module _ (l : watersFine p (w .depths) (w .lasts) ≡ true) where
-        pub looked-6 : runFine (roomSlots p (w .records)) (w .run) ≡ false → Looked p w 6
+        pub looked-6 : runFine (roomSlots p (w .records)) (w .run) ≡ false → EarlyRefused p w 6
         unfolding backNumber backRefusals earlyRefusals runFine
         looked-6 e =
             refused-by (λ z. omega arith) (refusal-later 1 _ s ∙ (refusal-later 2 _ m ∙ (refusal-later 3 _ l ∙ refusal-here 6 _ e)))
 
         module _ (r : runFine (roomSlots p (w .records)) (w .run) ≡ true) where
-          pub looked-10 : w .run .kept ≡ 0 → Looked p w 10
+          pub looked-10 : w .run .kept ≡ 0 → EarlyRefused p w 10
           unfolding backNumber backRefusals earlyRefusals runFine
           looked-10 e =
               refused-by (λ z. omega arith)
               (refusal-later 1 _ s
               ∙ (refusal-later 2 _ m ∙ (refusal-later 3 _ l ∙ (refusal-later 6 _ r ∙ refusal-here 10 _ (ap not (eq-eqb (w .run .kept) 0 e))))))
 
-          pub looked-none : (w .run .kept ≡ 0 → ⊥) → Looked p w 0
+          pub looked-none : (w .run .kept ≡ 0 → ⊥) → EarlyRefused p w 0
           looked-none d =
               record {
                 refused = λ z. absurd (z refl);
@@ -190,7 +190,7 @@ module _ (p : Plan) (w : World) where
         lasts-are = ap (λ (v : World). v .lasts) (sym stays);
       }
 
-  pub takes-refused : {n : ℕ} → (n ≡ 0 → ⊥) → Looked p w n → TakesBack p w (Refused n) (w .depths) (w .lasts)
+  pub takes-refused : {n : ℕ} → (n ≡ 0 → ⊥) → EarlyRefused p w n → TakesBack p w (Refused n) (w .depths) (w .lasts)
   takes-refused d l = as-it-was d (l .refused d)
 
   module _ (k : Kept p w) {rec : List ℕ} (q : rec ≡ newestRecord p w) where

@@ -14,7 +14,7 @@ ghost use Rattle.ledger.specs.Flows.{came, gone};
 ghost use Rattle.ledger.specs.Record.{Recorded, addedIn, headWords, lastIn, lastWord, lastedIn, leavesIn, wordPlace};
 ghost use Rattle.ledger.specs.Checks.{oneEach};
 ghost use Rattle.ledger.specs.TakeBack.{TakesBack, depthBefore, restorable, runBefore, squareRestorable};
-ghost use Rattle.ledger.specs.inner.TakeBack.{RecordAndDepths, Looked, Restores};
+ghost use Rattle.ledger.specs.inner.TakeBack.{RecordAndDepths, EarlyRefused, Restores};
 ghost use Rattle.ledger.specs.inner.Walks.{Walked};
 use crate::checks::one_each;
 use crate::checks::times_fine;
@@ -58,8 +58,15 @@ fn sizes_fine(shape: Shape, marks: &[u8], depths: &[u32], lasts: &[u32]) -> bool
 }
 
 // The number of the first refusal before 11, 0 for none.
-fn look(shape: Shape, run: Run, marks: &[u8], depths: &[u32], lasts: &[u32], records: &[u32]) -> u32
-    ensures { λ r. ⌜ Looked (plan shape (now (marks .entry))) (world (now (depths .entry)) (now (lasts .entry)) (now (records .entry)) run) r ⌝ }
+fn early_refusal(
+    shape: Shape,
+    run: Run,
+    marks: &[u8],
+    depths: &[u32],
+    lasts: &[u32],
+    records: &[u32],
+) -> u32
+    ensures { λ r. ⌜ EarlyRefused (plan shape (now (marks .entry))) (world (now (depths .entry)) (now (lasts .entry)) (now (records .entry)) run) r ⌝ }
 {
     if !sizes_fine(shape, marks, depths, lasts) {
         return 1;
@@ -254,9 +261,9 @@ pub fn take_back(
 ) -> Answer
     ensures { λ r. ⌜ TakesBack (plan shape (now (marks .entry))) (world (now (depths .entry)) (now (lasts .entry)) (now (records .entry)) run) r (now (depths .exit)) (now (lasts .exit)) ⌝ }
 {
-    let number = look(shape, run, marks, depths, lasts, records);
-    if number != 0 {
-        return Answer::Refused(number);
+    let refused = early_refusal(shape, run, marks, depths, lasts, records);
+    if refused != 0 {
+        return Answer::Refused(refused);
     }
     let size = record_size(shape);
     let slots = trials::slots_in(size, records.len());

@@ -11,7 +11,7 @@ use Rattle.reckon.specs.Tests.{pick}
 use Rattle.reckon.proofs.TestLaws.{not-both, pick-true, pick-false}
 use Rattle.text.specs.Reading.{tab, newline, mostFields, isByte, wordAt, fieldsAt, restOfLine, nextLine, LineOf}
 use Rattle.text.specs.Writing.{fieldsText, restText, lineText}
-use Rattle.text.specs.inner.Standing.{plain, Stands}
+use Rattle.text.specs.inner.Standing.{plain, StandsAt}
 use Rattle.text.specs.declared.reading.Fields.{Fields}
 use Rattle.text.proofs.StandLaws.{stands-both, stands-byte, stands-word}
 use Rattle.text.proofs.RoundTrip.{fields-found, rest-found, line-found}
@@ -25,7 +25,7 @@ use Rattle.sheet.specs.declared.lines.CellLine.{CellLine}
 pub record Lined (s : List ℕ) (p q : ℕ) : Type 0 where
   pub text : List ℕ
   pub plain-is : plain text ≡ true
-  pub stands : Stands s p (text ++ (newline ∷ [])) q
+  pub stands : StandsAt s p (text ++ (newline ∷ [])) q
 
 module _ {s : List ℕ} {p q : ℕ} (l : Lined s p q) where
   pub lined-next : nextLine s p ≡ q
@@ -44,13 +44,13 @@ module _ {s : List ℕ} {p q : ℕ} (l : Lined s p q) where
         length-drop p s,
       )
 
-lined-after : {s : List ℕ} {p q r : ℕ} (t : List ℕ) → plain t ≡ true → Stands s p t q → Lined s q r → Lined s p r
+lined-after : {s : List ℕ} {p q r : ℕ} (t : List ℕ) → plain t ≡ true → StandsAt s p t q → Lined s q r → Lined s p r
 lined-after {s} {p} {q} {r} t e a l =
     record {
       text = t ++ l .text;
       plain-is = plain-both t (l .text) e (l .plain-is);
       stands =
-          subst (λ (u : List ℕ). Stands s p u r) (sym (append-assoc t (l .text) (newline ∷ []))) (stands-both a (l .stands));
+          subst (λ (u : List ℕ). StandsAt s p u r) (sym (append-assoc t (l .text) (newline ∷ []))) (stands-both a (l .stands));
     }
 
 plain-nothing : plain [] ≡ true
@@ -71,7 +71,7 @@ row-lined {f} s p word count few w e t =
       text = word ++ fieldsText vs;
       plain-is = plain-both word (fieldsText vs) w (plain-fields vs);
       stands =
-          subst (λ (u : List ℕ). Stands s p u (f .next)) (sym (append-assoc word (fieldsText vs) (newline ∷ [])))
+          subst (λ (u : List ℕ). StandsAt s p u (f .next)) (sym (append-assoc word (fieldsText vs) (newline ∷ [])))
           (line-found s p count few t word e .stands);
     }
 

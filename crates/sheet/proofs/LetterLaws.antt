@@ -11,7 +11,7 @@ use borrow.Author.Tests.{eqb-true}
 use Rattle.reckon.proofs.TestLaws.{not-both}
 use Rattle.text.specs.Reading.{tab, newline, isByte, wordAt, fieldsAt}
 use Rattle.text.specs.Writing.{fieldsText}
-use Rattle.text.specs.inner.Standing.{Stands}
+use Rattle.text.specs.inner.Standing.{StandsAt}
 use Rattle.text.specs.declared.reading.Fields.{Fields}
 use Rattle.text.proofs.StandLaws.{stands-both, stands-byte, stands-word}
 use Rattle.text.proofs.RoundTrip.{fields-found}
@@ -23,7 +23,7 @@ use Rattle.sheet.proofs.KindLaws.{choice}
 
 -- where the line is found, its mark's letter stands after a tab
 abbrev Lettered : List ℕ → ℕ → CellLine → Type 0
-Lettered s p c = c .found ≡ true → Stands s p (tab ∷ letterOf (c .mark) ∷ []) (p + 1 + 1)
+Lettered s p c = c .found ≡ true → StandsAt s p (tab ∷ letterOf (c .mark) ∷ []) (p + 1 + 1)
 
 module _ (s : List ℕ) (p : ℕ) where
   none-lettered : Lettered s p noCell
@@ -31,7 +31,7 @@ module _ (s : List ℕ) (p : ℕ) where
   none-lettered e = not-both e refl
 
   module _ (t : isByte s p tab ≡ true) where
-    letter-stands : (letter : ℕ) → isByte s (p + 1) letter ≡ true → Stands s p (tab ∷ letter ∷ []) (p + 1 + 1)
+    letter-stands : (letter : ℕ) → isByte s (p + 1) letter ≡ true → StandsAt s p (tab ∷ letter ∷ []) (p + 1 + 1)
     letter-stands letter h = stands-both (stands-byte s p tab t) (stands-byte s (p + 1) letter h)
 
     closed-lettered : isByte s (p + 1) xLetter ≡ true → Lettered s p (closedCell s (p + 2))
@@ -73,7 +73,7 @@ module _ (s : List ℕ) (p row column : ℕ) where
   none-headed e = not-both e refl
 
   -- what stands in a text is followed by the rest of it
-  followed : {t : List ℕ} {q : ℕ} → Stands s p t q → drop p s ≡ t ++ drop (p + length t) s
+  followed : {t : List ℕ} {q : ℕ} → StandsAt s p t q → drop p s ≡ t ++ drop (p + length t) s
   followed {t} a = a .text ∙ ap (λ (k : ℕ). t ++ drop k s) (a .after)
 
   abbrev places : Fields
@@ -86,7 +86,7 @@ module _ (s : List ℕ) (p row column : ℕ) where
       let values : take 2 (places .values) ≡ row ∷ column ∷ [] = two-of (places .values) (written .many) ∙ rw (r, c) in
       followed
       (stands-both (stands-word s p cellWord w)
-      (stands-both (subst (λ (vs : List ℕ). Stands s (p + length cellWord) (fieldsText vs) (places .next)) values (written .stands))
+      (stands-both (subst (λ (vs : List ℕ). StandsAt s (p + length cellWord) (fieldsText vs) (places .next)) values (written .stands))
       (marked-lettered s (places .next) e)))
 
   -- a cell line that is found begins with its word, the row, the column and the letter of its mark

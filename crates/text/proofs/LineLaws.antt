@@ -14,7 +14,7 @@ use borrow.Author.Tests.{ne-eqb}
 use Rattle.reckon.proofs.TestLaws.{not-both, pick-true, pick-false}
 use Rattle.text.specs.Reading.{tab, newline, lineLength, nextLine, lineFrom}
 use Rattle.text.specs.Writing.{decimal, fieldText, fieldsText}
-use Rattle.text.specs.inner.Standing.{plain, Stands}
+use Rattle.text.specs.inner.Standing.{plain, StandsAt}
 use Rattle.text.proofs.ReadingLaws.{by-test, by-lt}
 use Rattle.text.proofs.WritingLaws.{decimal-small, decimal-large}
 
@@ -68,7 +68,7 @@ unfolding lineLength
 newline-length r = pick-true _ _ refl
 
 -- a text with no newline, and then one: the next line starts after it
-pub line-ends : {s : List ℕ} {p q : ℕ} (t : List ℕ) → plain t ≡ true → Stands s p (t ++ (newline ∷ [])) q → nextLine s p ≡ q
+pub line-ends : {s : List ℕ} {p q : ℕ} (t : List ℕ) → plain t ≡ true → StandsAt s p (t ++ (newline ∷ [])) q → nextLine s p ≡ q
 unfolding nextLine
 line-ends {s} {p} {q} t e a =
     let l : lineLength (drop p s) ≡ length t + 1 =

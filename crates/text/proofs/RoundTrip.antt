@@ -15,7 +15,7 @@ use Rattle.reckon.proofs.TestLaws.{not-both, pick-true, pick-false, pick-both}
 use Rattle.text.specs.Reading.{tab, newline, mostNumber, mostFields, isByte, wordAt, isDigit, digitsOf, valueFrom, wellFormed, numberFrom, numberAt, fieldAt, Reading, before, withNumber, readFields, lineEnded, readRest, readLine, padded, asFields, FieldsAt, RestOfLine, LineOf}
 use Rattle.text.specs.Reading.Reading.{read, unread}
 use Rattle.text.specs.Writing.{decimal, fieldText, fieldsText, restText, lineText, PutNumber, PutLine}
-use Rattle.text.specs.inner.Standing.{Readable, Stands, StandAlone, AsWritten}
+use Rattle.text.specs.inner.Standing.{Readable, StandsAt, StandAlone, AsWritten}
 use Rattle.text.specs.declared.reading.Number.{Number}
 use Rattle.text.specs.declared.reading.Number.the-variants.{Is, Not}
 use Rattle.text.specs.declared.reading.Fields.{Fields}
@@ -256,7 +256,7 @@ newline-alone = digit-under newline (omega arith)
 
 -- no digit stands where fields begin, if none stands after them
 alone-before :
-    {s : List ℕ} {p q : ℕ} (vs : List ℕ) → Stands s p (fieldsText vs) q → isDigit (getD s q 0) ≡ false →
+    {s : List ℕ} {p q : ℕ} (vs : List ℕ) → StandsAt s p (fieldsText vs) q → isDigit (getD s q 0) ≡ false →
     isDigit (getD s p 0) ≡ false
 unfolding fieldsText fieldText
 alone-before {s} {p} {q} [] a e = ap (λ (k : ℕ). isDigit (getD s k 0)) (omega (arith, a .after)) ∙ e
@@ -267,7 +267,7 @@ pub fields-back :
 unfolding readFields fieldsText before
 fields-back {s} {p} {q} [] a = ap (read []) (omega (arith, a .stands .after))
 fields-back {s} {p} {q} (v ∷ vs) a =
-    let rest : Stands s (p + length (fieldText v)) (fieldsText vs) q =
+    let rest : StandsAt s (p + length (fieldText v)) (fieldsText vs) q =
     stands-second (fieldText v) (fieldsText vs) (a .stands) in
     let here : fieldAt s p ≡ Is v (p + length (fieldText v)) =
     field-back v
@@ -322,10 +322,10 @@ fields-only s p (suc count) {vs} {q} e = go (fieldAt s p) refl e (λ r ws n f. f
 -- ---- a line
 
 pub rest-back :
-    {s : List ℕ} {p q : ℕ} (vs : List ℕ) → Stands s p (restText vs) q → Readable vs → readRest s p (length vs) ≡ read vs q
+    {s : List ℕ} {p q : ℕ} (vs : List ℕ) → StandsAt s p (restText vs) q → Readable vs → readRest s p (length vs) ≡ read vs q
 unfolding readRest lineEnded restText
 rest-back {s} {p} {q} vs a h =
-    let end : Stands s (p + length (fieldsText vs)) (newline ∷ []) q = stands-second (fieldsText vs) (newline ∷ []) a in
+    let end : StandsAt s (p + length (fieldsText vs)) (newline ∷ []) q = stands-second (fieldsText vs) (newline ∷ []) a in
     let here : readFields s p (length vs) ≡ read vs (p + length (fieldsText vs)) =
     fields-back vs
     (record {
@@ -350,23 +350,23 @@ rest-only s p count {vs} {q} e = go (readFields s p count) refl e
         let k : n + 1 ≡ q = cc in
         let a = fields-only s p count (f ∙ ap (λ (us : List ℕ). read us n) g) in
         record {
-          stands = subst (λ (m : ℕ). Stands s p (restText vs) m) k (stands-both (a .stands) (stands-byte s n newline b));
+          stands = subst (λ (m : ℕ). StandsAt s p (restText vs) m) k (stands-both (a .stands) (stands-byte s n newline b));
           many = a .many;
           readable = a .readable;
         })
         (λ b. not-read (sym (pick-false _ _ b) ∙ e))
 
-rest-within : {s : List ℕ} {p q : ℕ} (vs : List ℕ) → Stands s p (restText vs) q → q ≤ length s
+rest-within : {s : List ℕ} {p q : ℕ} (vs : List ℕ) → StandsAt s p (restText vs) q → q ≤ length s
 unfolding restText
 rest-within vs a = stands-within (stands-second (fieldsText vs) (newline ∷ []) a)
 
 -- a line of a kind that was written from its word and values reads as those values
 pub line-back :
-    {s : List ℕ} {p q : ℕ} (word vs : List ℕ) → Stands s p (lineText word vs) q → Readable vs →
+    {s : List ℕ} {p q : ℕ} (word vs : List ℕ) → StandsAt s p (lineText word vs) q → Readable vs →
     readLine s p word (length vs) ≡ read vs q
 unfolding readLine lineText
 line-back {s} {p} {q} word vs a h =
-    let rest : Stands s (p + length word) (restText vs) q = stands-second word (restText vs) a in
+    let rest : StandsAt s (p + length word) (restText vs) q = stands-second word (restText vs) a in
     let fits : p + length word ≤ length s = omega (arith, rest .after, rest-within vs rest) in
     pick-true _ _ (word-stands fits (stands-first word (restText vs) a)) ∙ rest-back vs rest h
 

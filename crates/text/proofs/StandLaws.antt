@@ -13,15 +13,15 @@ use borrow.Author.Tests.{eq-eqb, eqb-true}
 use Rattle.reckon.proofs.TestLaws.{all-at, all-of}
 use Rattle.text.specs.Reading.{isByte, wordAt, sameAt}
 use Rattle.text.specs.Writing.{Wrote}
-use Rattle.text.specs.inner.Standing.{Stands}
+use Rattle.text.specs.inner.Standing.{StandsAt}
 use Rattle.reckon.specs.Lists.{placed}
 use Rattle.reckon.proofs.ListLaws.{placed-after}
 use Rattle.text.proofs.ReadingLaws.{byte-here, byte-within, byte-same, word-within, word-all, word-same}
 
-pub stands-none : (s : List ℕ) (p : ℕ) → Stands s p [] p
+pub stands-none : (s : List ℕ) (p : ℕ) → StandsAt s p [] p
 stands-none s p = record { after = sym (add-zero p); text = refl }
 
-pub stands-both : {s t u : List ℕ} {p q r : ℕ} → Stands s p t q → Stands s q u r → Stands s p (t ++ u) r
+pub stands-both : {s t u : List ℕ} {p q r : ℕ} → StandsAt s p t q → StandsAt s q u r → StandsAt s p (t ++ u) r
 stands-both {s} {t} {u} {p} {q} {r} a b =
     record {
       after = omega (arith, a .after, b .after, length-append t u);
@@ -29,36 +29,36 @@ stands-both {s} {t} {u} {p} {q} {r} a b =
     }
 
 -- a text that stands, cut after t
-module _ {s : List ℕ} {p r : ℕ} (t u : List ℕ) (a : Stands s p (t ++ u) r) where
+module _ {s : List ℕ} {p r : ℕ} (t u : List ℕ) (a : StandsAt s p (t ++ u) r) where
   after-first : drop (p + length t) s ≡ u ++ drop r s
   after-first =
       sym (drop-drop (length t) p s)
       ∙ (ap (drop (length t)) (a .text ∙ append-assoc t u (drop r s)) ∙ drop-append-seam t (u ++ drop r s))
 
-  pub stands-first : Stands s p t (p + length t)
+  pub stands-first : StandsAt s p t (p + length t)
   stands-first =
       record { after = refl; text = a .text ∙ (append-assoc t u (drop r s) ∙ ap (λ (l : List ℕ). t ++ l) (sym after-first)) }
 
-  pub stands-second : Stands s (p + length t) u r
+  pub stands-second : StandsAt s (p + length t) u r
   stands-second = record { after = omega (arith, a .after, length-append t u); text = after-first }
 
 -- a text with a byte in it ends within
-pub stands-within : {s : List ℕ} {p q b : ℕ} {t : List ℕ} → Stands s p (b ∷ t) q → q ≤ length s
+pub stands-within : {s : List ℕ} {p q b : ℕ} {t : List ℕ} → StandsAt s p (b ∷ t) q → q ≤ length s
 stands-within {s} {p} {q} {b} {t} a =
     omega (arith, a .after, ap length (a .text), length-append (b ∷ t) (drop q s), length-drop p s, length-drop q s)
 
-pub stands-byte : (s : List ℕ) (p b : ℕ) → isByte s p b ≡ true → Stands s p (b ∷ []) (p + 1)
+pub stands-byte : (s : List ℕ) (p b : ℕ) → isByte s p b ≡ true → StandsAt s p (b ∷ []) (p + 1)
 stands-byte s p b e =
     record { after = refl; text = drop-cons s p 0 (byte-within s p b e) ∙ rw (byte-same s p b e, add-one) }
 
-pub byte-stands : {s t : List ℕ} {p q b : ℕ} → Stands s p (b ∷ t) q → (getD s p 0 ≡ b) × (isByte s p b ≡ true)
+pub byte-stands : {s t : List ℕ} {p q b : ℕ} → StandsAt s p (b ∷ t) q → (getD s p 0 ≡ b) × (isByte s p b ≡ true)
 byte-stands {s} {t} {p} {q} {b} a =
     let e : getD s p 0 ≡ b =
     ap (λ (k : ℕ). getD s k 0) (sym (add-zero p)) ∙ (sym (getD-drop p s 0 0) ∙ ap (λ (l : List ℕ). getD l 0 0) (a .text)) in
     let h : p < length s = omega (arith, a .after, stands-within a) in
     (e, byte-here s p b h ∙ eq-eqb _ _ e)
 
-pub stands-word : (s : List ℕ) (p : ℕ) (word : List ℕ) → wordAt s p word ≡ true → Stands s p word (p + length word)
+pub stands-word : (s : List ℕ) (p : ℕ) (word : List ℕ) → wordAt s p word ≡ true → StandsAt s p word (p + length word)
 stands-word s p word e =
     let h : p + length word ≤ length s = word-within s p word e in
     let long : length (take (length word) (drop p s)) ≡ length word =
@@ -77,7 +77,7 @@ stands-word s p word e =
           ∙ ap (λ (l : List ℕ). word ++ l) (drop-drop (length word) p s));
     }
 
-pub word-stands : {s word : List ℕ} {p q : ℕ} → q ≤ length s → Stands s p word q → wordAt s p word ≡ true
+pub word-stands : {s word : List ℕ} {p q : ℕ} → q ≤ length s → StandsAt s p word q → wordAt s p word ≡ true
 word-stands {s} {word} {p} {q} h a =
     word-same s p word (omega (arith, a .after))
     (all-of (length word) (sameAt s p word)
@@ -88,7 +88,7 @@ word-stands {s} {word} {p} {q} h a =
 
 -- what was put into a room stands there, and what follows it in the room is as it was
 module _ {t old new : List ℕ} {at r : ℕ} (fits : at + length t ≤ length old) (put : Wrote t at old new r) where
-  pub wrote-stands : Stands new at t r
+  pub wrote-stands : StandsAt new at t r
   unfolding placed
   wrote-stands =
       let e : drop at new ≡ t ++ drop (length t) (drop at old) =

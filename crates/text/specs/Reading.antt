@@ -151,8 +151,8 @@ ByteIs s p b r = r ≡ isByte s p b
 abbrev pub WordAt : List ℕ → ℕ → List ℕ → Bool → Type 0
 WordAt s p word r = r ≡ wordAt s p word
 
-abbrev pub NumberAt : List ℕ → ℕ → Number → Type 0
-NumberAt s p r = r ≡ numberAt s p
+abbrev pub NumberReadAt : List ℕ → ℕ → Number → Type 0
+NumberReadAt s p r = r ≡ numberAt s p
 
 abbrev pub FieldAt : List ℕ → ℕ → Number → Type 0
 FieldAt s p r = r ≡ fieldAt s p

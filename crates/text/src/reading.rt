@@ -4,7 +4,7 @@ ghost use mathlib.Core.Bool.{true, _&&_};
 ghost use Prim.Native.Nat.{_+_, _≤_};
 ghost use lib.Dec.{eqb};
 ghost use lib.ListN.{getD, drop};
-ghost use Rattle.text.specs.Reading.{mostFields, isDigit, digitsOf, numberFrom, ByteIs, WordAt, NumberAt, FieldAt, FieldsAt, RestOfLine, LineOf, asFields, Reading};
+ghost use Rattle.text.specs.Reading.{mostFields, isDigit, digitsOf, numberFrom, ByteIs, WordAt, NumberReadAt, FieldAt, FieldsAt, RestOfLine, LineOf, asFields, Reading};
 
 // What stands at a position as a number: its value and the position after it, or none.
 pub enum Number {
@@ -103,7 +103,7 @@ fn digits(text: &[u8], at: usize) -> Number
 
 // The number at a position.
 pub fn number_at(text: &[u8], at: usize) -> Number
-    ensures { λ r. ⌜ NumberAt (now (text .entry)) at r ⌝ }
+    ensures { λ r. ⌜ NumberReadAt (now (text .entry)) at r ⌝ }
 {
     if !is_digit(text, at) {
         return Number::Not;

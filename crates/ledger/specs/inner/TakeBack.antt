@@ -22,7 +22,7 @@ pub record Kept (p : Plan) (w : World) : Type 0 where
   pub some-kept : w .run .kept ≡ 0 → ⊥
 
 -- the number of the first refusal before 11, 0 for none
-pub record Looked (p : Plan) (w : World) (n : ℕ) : Type 0 where
+pub record EarlyRefused (p : Plan) (w : World) (n : ℕ) : Type 0 where
   pub refused : (n ≡ 0 → ⊥) → n ≡ backNumber p w
   pub passed : n ≡ 0 → Kept p w
 

@@ -20,18 +20,18 @@ Readable [] = Unit {0}
 Readable (v ∷ vs) = (v ≤ mostNumber) × Readable vs
 
 -- the text t stands in s at p, and q is the position after it
-pub record Stands (s : List ℕ) (p : ℕ) (t : List ℕ) (q : ℕ) : Type 0 where
+pub record StandsAt (s : List ℕ) (p : ℕ) (t : List ℕ) (q : ℕ) : Type 0 where
   pub after : q ≡ p + length t
   pub text : drop p s ≡ t ++ drop q s
 
 -- the same of a number or of fields of these values: they are readable, and no digit follows
 pub record StandAlone (s : List ℕ) (p : ℕ) (t vs : List ℕ) (q : ℕ) : Type 0 where
-  pub stands : Stands s p t q
+  pub stands : StandsAt s p t q
   pub alone : isDigit (getD s q 0) ≡ false
   pub readable : Readable vs
 
 -- and of count fields that were read
 pub record AsWritten (s : List ℕ) (p : ℕ) (t vs : List ℕ) (count q : ℕ) : Type 0 where
-  pub stands : Stands s p t q
+  pub stands : StandsAt s p t q
   pub many : length vs ≡ count
   pub readable : Readable vs

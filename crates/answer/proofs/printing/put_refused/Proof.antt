@@ -17,7 +17,7 @@ put-line-requires : tie.Need-put-line-requires
 unfolding refusedText
 put-line-requires c κs =
     let start = c .before .before .before .before in
-    let h = refused-short (start .args .number) (start .args .line) (omega arith) (omega arith) in omega (arith, h, start .pre)
+    let h = refused-short (start .args .refusal) (start .args .line) (omega arith) (omega arith) in omega (arith, h, start .pre)
 
 same-length : tie.Need-same-length
 same-length c = search needs

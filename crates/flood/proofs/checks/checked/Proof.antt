@@ -16,6 +16,37 @@ use Rattle.flood.proofs.CheckLaws.{fails-by, holds-by, lent-fine, lent-
 use Rattle.flood.proofs.checks.checked.Statement.{statement}
 use Rattle.flood.proofs.checks.checked.Tie as tie
 
+-- ---- the places, each by the one before it
+
+abbrev begin : tie.After-lent-fine → tie.Start
+begin c = c .before .before .before .before .before .before .before .before .before
+
+abbrev lent : tie.After-grounds-fine → tie.Else1
+lent c = c .before .before .before
+
+abbrev grounds : tie.Else4 → tie.Else3
+grounds c = c .before .before
+
+abbrev waters : tie.Else5 → tie.Else4
+waters c = c .before .before
+
+abbrev tables : tie.Else6 → tie.Else5
+tables c = c .before
+
+abbrev rules : tie.After-run-fine → tie.Else6
+rules c = c .before .before
+
+abbrev start-1 : tie.Else1 → tie.Start
+start-1 c = begin (c .before)
+
+abbrev start-2 : tie.Else3 → tie.Start
+start-2 c = start-1 (lent (c .before))
+
+abbrev start-5 : tie.Else6 → tie.Start
+start-5 c = start-2 (grounds (waters (tables c)))
+
+-- ---- what is known there
+
 -- the table for the arguments
 abbrev rows : tie.Start → List Row
 rows s =
@@ -29,28 +60,30 @@ rows s =
 abbrev Past : ℕ → tie.Start → Type 0
 Past k s = refusal (rows s) ≡ refusal (drop k (rows s))
 
-past-1 : (c : tie.Else1) → Past 1 (c .before .before .before .before .before .before .before .before .before .before)
+past-1 : (c : tie.Else1) → Past 1 (start-1 c)
 unfolding checkRefusals
 past-1 c = refusal-later 1 _ (holds-by (c .before .lent-fine .ensures) (c .if1 .left))
 
-past-2 : (c : tie.Else3) → Past 2 (c .before .before .before .before .before .before .before .before .before .before .before .before .before .before)
+past-2 : (c : tie.Else3) → Past 2 (start-2 c)
 unfolding checkRefusals
 past-2 c =
     let at-if2 = c .before .before in
-    past-1 (at-if2 .before .before) ∙ refusal-later 2 _
+    past-1 (lent (c .before)) ∙ refusal-later 2 _
     (each-every _ (holds-by (at-if2 .before .marks-fine .ensures) (at-if2 .if2 .left), (holds-by (c .before .grounds-fine .ensures _) (c .if3 .left), tt)))
 
-past-3 : (c : tie.Else4) → Past 3 (c .before .before .before .before .before .before .before .before .before .before .before .before .before .before .before .before)
+past-3 : (c : tie.Else4) → Past 3 (start-2 (grounds c))
 unfolding checkRefusals
-past-3 c = past-2 (c .before .before) ∙ refusal-later 3 _ (holds-by (c .before .waters-fine .ensures) (c .if4 .left))
+past-3 c = past-2 (grounds c) ∙ refusal-later 3 _ (holds-by (c .before .waters-fine .ensures) (c .if4 .left))
 
-past-4 : (c : tie.Else5) → Past 4 (c .before .before .before .before .before .before .before .before .before .before .before .before .before .before .before .before .before .before)
+past-4 : (c : tie.Else5) → Past 4 (start-2 (grounds (waters c)))
 unfolding checkRefusals
-past-4 c = past-3 (c .before .before) ∙ refusal-later 4 _ (holds-by (c .before .tables-fine .ensures) (c .if5 .left))
+past-4 c = past-3 (waters c) ∙ refusal-later 4 _ (holds-by (c .before .tables-fine .ensures) (c .if5 .left))
 
-past-5 : (c : tie.Else6) → Past 5 (c .before .before .before .before .before .before .before .before .before .before .before .before .before .before .before .before .before .before .before)
+past-5 : (c : tie.Else6) → Past 5 (start-5 c)
 unfolding checkRefusals
-past-5 c = past-4 (c .before) ∙ refusal-later 5 _ (not-false _ (c .if6 .left))
+past-5 c = past-4 (tables c) ∙ refusal-later 5 _ (not-false _ (c .if6 .left))
+
+-- ---- the answers
 
 lent-fine-requires : tie.Need-lent-fine-requires
 lent-fine-requires c κs = search needs
@@ -71,10 +104,12 @@ grounds-fine-requires c κs = lent-ground _ _ _ _ _ _ _ (holds-by (c .before .be
 
 returns-3 : tie.Need-returns-3
 unfolding checkRefusals
-returns-3 c = sym (past-1 (c .before .before .before .before) ∙ refusal-here 2 _ (every-fails _ 1 (fails-by (c .before .grounds-fine .ensures _) (c .if3 .taken))))
+returns-3 c = sym (past-1 (lent (c .before)) ∙ refusal-here 2 _ (every-fails _ 1 (fails-by (c .before .grounds-fine .ensures _) (c .if3 .taken))))
 
 waters-fine-requires : tie.Need-waters-fine-requires
-waters-fine-requires c κs = lent-water _ _ _ _ _ _ _ (holds-by (c .before .before .before .before .before .lent-fine .ensures) (c .before .before .before .before .if1 .left))
+waters-fine-requires c κs =
+    let at-if1 = lent (c .before) in
+    lent-water _ _ _ _ _ _ _ (holds-by (at-if1 .before .lent-fine .ensures) (at-if1 .if1 .left))
 
 returns-4 : tie.Need-returns-4
 unfolding checkRefusals
@@ -82,9 +117,8 @@ returns-4 c = sym (past-2 (c .before .before) ∙ refusal-here 3 _ (fails-by (c 
 
 tables-fine-requires : tie.Need-tables-fine-requires
 tables-fine-requires c κs =
-    let at-if1 = c .before .before .before .before .before .before in
-    let at-lent-fine = at-if1 .before in
-    lent-marked _ _ _ _ _ _ _ (holds-by (at-lent-fine .lent-fine .ensures) (at-if1 .if1 .left))
+    let at-if1 = lent (grounds c .before) in
+    lent-marked _ _ _ _ _ _ _ (holds-by (at-if1 .before .lent-fine .ensures) (at-if1 .if1 .left))
 
 returns-5 : tie.Need-returns-5
 unfolding checkRefusals
@@ -96,9 +130,8 @@ returns-6 c = sym (past-4 (c .before) ∙ refusal-here 5 _ (not-true _ (c .if6 .
 
 slots-of-requires : tie.Need-slots-of-requires
 slots-of-requires c κs =
-    let at-if1 = c .before .before .before .before .before .before .before .before .before in
-    let at-lent-fine = at-if1 .before in
-    lent-fine _ _ _ _ _ _ _ (holds-by (at-lent-fine .lent-fine .ensures) (at-if1 .if1 .left))
+    let at-if1 = lent (grounds (waters (tables c)) .before) in
+    lent-fine _ _ _ _ _ _ _ (holds-by (at-if1 .before .lent-fine .ensures) (at-if1 .if1 .left))
 
 run-fine-requires : tie.Need-run-fine-requires
 run-fine-requires c κs = search needs
@@ -106,20 +139,16 @@ run-fine-requires c κs = search needs
 returns-7 : tie.Need-returns-7
 unfolding checkRefusals runFine roomSlots
 returns-7 c =
-    let start =
-    c .before .before .before .before .before .before .before .before .before .before .before .before .before .before .before .before .before .before .before .before .before .before
-    in
+    let start = start-5 (rules (c .before)) in
     sym
-    (past-5 (c .before .before .before) ∙ refusal-here 6 _ (fails-by (run-fine-by (start .args .run) (c .before .run-fine .ensures) (c .before .before .slots-of .ensures)) (c .if7 .taken)))
+    (past-5 (rules (c .before)) ∙ refusal-here 6 _ (fails-by (run-fine-by (start .args .run) (c .before .run-fine .ensures) (c .before .before .slots-of .ensures)) (c .if7 .taken)))
 
 returns-8 : tie.Need-returns-8
 unfolding checkRefusals runFine roomSlots
 returns-8 c =
-    let start =
-    c .before .before .before .before .before .before .before .before .before .before .before .before .before .before .before .before .before .before .before .before .before .before
-    in
+    let start = start-5 (rules (c .before)) in
     sym
-    (past-5 (c .before .before .before) ∙ passed-refusal _ (holds-by (run-fine-by (start .args .run) (c .before .run-fine .ensures) (c .before .before .slots-of .ensures)) (c .if7 .left), tt))
+    (past-5 (rules (c .before)) ∙ passed-refusal _ (holds-by (run-fine-by (start .args .run) (c .before .run-fine .ensures) (c .before .before .slots-of .ensures)) (c .if7 .left), tt))
 
 pub checked-spec : {M : Type 1} → statement M
 checked-spec =

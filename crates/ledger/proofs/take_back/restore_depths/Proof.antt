@@ -25,6 +25,16 @@ abbrev μ-loop : tie.MeasureT-loop
 μ-loop shape marks rec depths₀ squares square₀ column₀ depths square column =
     squares - square
 
+-- ---- the places, each by the one before it
+
+abbrev begin : tie.After-squares-of Inv-loop μ-loop → tie.Start Inv-loop μ-loop
+begin c = c .before .before .before .before
+
+abbrev turning : tie.After-restore-depth Inv-loop μ-loop → tie.At-loop Inv-loop μ-loop
+turning c = c .before .before .before
+
+-- ---- the answers
+
 squares-of-requires : tie.Need-squares-of-requires Inv-loop μ-loop
 squares-of-requires c κs =
     c .before .before .before .pre .0 .recorded .fine
@@ -35,8 +45,8 @@ loop-holds c =
 
 restore-depth-requires : tie.Need-restore-depth-requires Inv-loop μ-loop
 restore-depth-requires c κs =
-    let start = c .before .before .before .before .before .before .before in
     let turn = c .before .before in
+    let start = begin (turn .before) in
     let p = plan (start .args .shape) (start .args .marks .now) in
     let i = turn .loop .square in
     let h = walk-stands _ (turn .loop .inv .0) (start .pre .0 .recorded .fine) (c .before .loop-test .taken) in
@@ -54,18 +64,20 @@ restore-depth-requires c κs =
 
 add-square : tie.Need-add-square Inv-loop μ-loop
 add-square c =
-    let at-pre = c .before .before .before .before .before .before .before .before .before .before in
+    let turn = turning (c .before .before) in
+    let start = begin (turn .before) in
     omega (
       arith,
       c .before .before .before .before .loop-test .taken,
-      c .before .before .before .before .before .before .squares-of .ensures,
-      at-pre .pre .0 .recorded .fine .few,
+      turn .before .squares-of .ensures,
+      start .pre .0 .recorded .fine .few,
     )
 
 next-column-requires : tie.Need-next-column-requires Inv-loop μ-loop
 next-column-requires c κs =
-    let start = c .before .before .before .before .before .before .before .before .before .before in
-    (start .pre .0 .recorded .fine, walk-column _ (c .before .before .before .before .before .loop .inv .0) (start .pre .0 .recorded .fine))
+    let turn = turning (c .before .before) in
+    let start = begin (turn .before) in
+    (start .pre .0 .recorded .fine, walk-column _ (turn .loop .inv .0) (start .pre .0 .recorded .fine))
 
 loop-less : tie.Need-loop-less Inv-loop μ-loop
 loop-less c =
@@ -73,16 +85,17 @@ loop-less c =
 
 loop-again : tie.Need-loop-again Inv-loop μ-loop
 loop-again c =
-    let start = c .before .before .before .before .before .before .before .before .before .before .before in
-    let turn = c .before .before .before .before .before .before in
-    let at-loop-test = c .before .before .before .before .before in
+    let turned = c .before .before .before in
+    let turn = turning turned in
+    let at-loop-test = turned .before .before in
+    let start = begin (turn .before) in
     let p = plan (start .args .shape) (start .args .marks .now) in
     let i = turn .loop .square in
     let l : i < length (start .args .depths .now) =
     omega (
       arith,
       start .pre .0 .depths-long,
-      c .before .before .before .before .before .before .before .squares-of .ensures,
+      turn .before .squares-of .ensures,
       at-loop-test .loop-test .taken,
     ) in
     let same : getD (turn .loop .depths) i 0 ≡ getD (start .args .depths .now) i 0 =
@@ -91,7 +104,7 @@ loop-again c =
       walk-next _ (turn .loop .inv .0) (at-loop-test .loop-test .taken) (c .next-column .ensures),
       filled-turn (closed (start .args .marks .now)) (depthBefore p (ofDepths (start .args .depths .now)) (start .args .rec .now))
           (start .args .depths .now) l (turn .loop .inv .1) (λ z. before-own p (start .args .rec .now) _ _ i same)
-          (c .before .before .before .restore-depth .ensures),
+          (turned .restore-depth .ensures),
     )
 
 same-length : tie.Need-same-length Inv-loop μ-loop

@@ -21,10 +21,10 @@ use Rattle.ledger.proofs.take_back.take_back.Tie as tie
 
 -- ---- the places, each from the one after it
 
-abbrev start : tie.After-look → tie.Start
+abbrev start : tie.After-early-refusal → tie.Start
 start c = c .before .before .before .before .before .before .before
 
-abbrev looked : tie.Else1 → tie.After-look
+abbrev looked : tie.Else1 → tie.After-early-refusal
 looked c = c .before
 
 abbrev passed : tie.After-record-size → tie.Else1
@@ -75,14 +75,14 @@ open-at c = passed (sized (counted c))
 
 -- ---- what is known there
 
-abbrev ground : tie.After-look → Plan
+abbrev ground : tie.After-early-refusal → Plan
 ground c = plan (start c .args .shape) (start c .args .marks .now)
 
-abbrev now-is : tie.After-look → World
+abbrev now-is : tie.After-early-refusal → World
 now-is c = world (start c .args .depths .now) (start c .args .lasts .now) (start c .args .records .now) (start c .args .run)
 
 kept : (c : tie.Else1) → Kept (ground (looked c)) (now-is (looked c))
-kept c = looked c .look .ensures .passed (c .if1 .left)
+kept c = looked c .early-refusal .ensures .passed (c .if1 .left)
 
 fits :
     (c : tie.After-slots-in) → let z = sized c .record-size .result in let w = now-is (looked (passed (sized c))) in
@@ -118,8 +118,8 @@ restored c = sym (found (fitting c) .try-record .ensures .fits-is) ∙ fit c
 
 -- ---- the needs
 
-look-requires : tie.Need-look-requires
-look-requires c κs = search needs
+early-refusal-requires : tie.Need-early-refusal-requires
+early-refusal-requires c κs = search needs
 
 same-length : tie.Need-same-length
 same-length c = search needs
@@ -128,7 +128,7 @@ same-length-2 : tie.Need-same-length-2
 same-length-2 c = search needs
 
 returns : tie.Need-returns
-returns c = takes-refused (ground (c .before)) (now-is (c .before)) (c .if1 .taken) (c .before .look .ensures)
+returns c = takes-refused (ground (c .before)) (now-is (c .before)) (c .if1 .taken) (c .before .early-refusal .ensures)
 
 record-size-requires : tie.Need-record-size-requires
 record-size-requires c κs = kept c .watered .fine
@@ -216,7 +216,7 @@ pub take-back-spec : {M : Type 1} → statement M
 take-back-spec =
     tie.close
     (tie.spec
-    look-requires
+    early-refusal-requires
     same-length
     same-length-2
     returns

@@ -8,6 +8,19 @@ use Rattle.sight.proofs.ArrowLaws.{opened, seen-refused, seen-late, see
 use Rattle.sight.proofs.arrows.arrow.Statement.{statement}
 use Rattle.sight.proofs.arrows.arrow.Tie as tie
 
+-- ---- the places, each by the one before it
+
+abbrev begin : tie.After-early-refusal → tie.Start
+begin c = c .before .before .before .before
+
+abbrev let-in : tie.After-slot-start → tie.Else1
+let-in c = c .before .before
+
+abbrev read-at : tie.After-times-fine → tie.After-slot-start
+read-at c = c .before .before
+
+-- ---- the answers
+
 early-refusal-requires : tie.Need-early-refusal-requires
 early-refusal-requires c κs = search needs
 
@@ -20,7 +33,7 @@ record-size-requires c κs = opened _ _ _ _ _ (c .before .early-refusal .ensures
 slot-start-requires : tie.Need-slot-start-requires
 slot-start-requires c κs =
     let at-early-refusal = c .before .before in
-    let start = at-early-refusal .before .before .before .before in
+    let start = begin at-early-refusal in
     omega (
       arith,
       room-within (opened _ _ _ _ _ (at-early-refusal .early-refusal .ensures) (c .before .if1 .left))
@@ -30,9 +43,9 @@ slot-start-requires c κs =
 
 add-end : tie.Need-add-end
 add-end c =
-    let at-if1 = c .before .before in
+    let at-if1 = let-in c in
     let at-early-refusal = at-if1 .before in
-    let start = at-early-refusal .before .before .before .before in
+    let start = begin at-early-refusal in
     omega (
       arith,
       room-within (opened _ _ _ _ _ (at-early-refusal .early-refusal .ensures) (at-if1 .if1 .left))
@@ -42,9 +55,9 @@ add-end c =
 
 mul-rec : tie.Need-mul-rec
 mul-rec c =
-    let at-if1 = c .before .before in
+    let at-if1 = let-in c in
     let at-early-refusal = at-if1 .before in
-    let start = at-early-refusal .before .before .before .before in
+    let start = begin at-early-refusal in
     omega (
       arith,
       room-within (opened _ _ _ _ _ (at-early-refusal .early-refusal .ensures) (at-if1 .if1 .left))
@@ -60,7 +73,7 @@ part-rec-start c = omega arith
 
 part-rec-end : tie.Need-part-rec-end
 part-rec-end c =
-    let at-if1 = c .before .before in
+    let at-if1 = let-in c in
     let at-early-refusal = at-if1 .before in
     room-within (opened _ _ _ _ _ (at-early-refusal .early-refusal .ensures) (at-if1 .if1 .left)) (c .before .record-size .ensures)
     (c .slot-start .ensures)
@@ -78,9 +91,9 @@ times-fine-requires c κs =
 
 returns-2 : tie.Need-returns-2
 returns-2 c =
-    let at-slot-start = c .before .before .before in
+    let at-slot-start = read-at (c .before) in
     let at-record-size = at-slot-start .before in
-    let at-if1 = at-record-size .before in
+    let at-if1 = let-in at-slot-start in
     let at-early-refusal = at-if1 .before in
     let rec = record-is (opened _ _ _ _ _ (at-early-refusal .early-refusal .ensures) (at-if1 .if1 .left))
     (at-record-size .record-size .ensures) (at-slot-start .slot-start .ensures) in
@@ -89,16 +102,16 @@ returns-2 c =
 
 square-at-requires : tie.Need-square-at-requires
 square-at-requires c κs =
-    let at-if1 = c .before .before .before .before .before in
+    let at-if1 = let-in (read-at (c .before)) in
     let at-early-refusal = at-if1 .before in
     opened _ _ _ _ _ (at-early-refusal .early-refusal .ensures) (at-if1 .if1 .left) .on-grid
 
 seen-requires : tie.Need-seen-requires
 seen-requires c κs =
     let at-times-fine = c .before .before in
-    let at-slot-start = at-times-fine .before .before in
+    let at-slot-start = read-at at-times-fine in
     let at-record-size = at-slot-start .before in
-    let at-if1 = at-record-size .before in
+    let at-if1 = let-in at-slot-start in
     let at-early-refusal = at-if1 .before in
     let left = opened _ _ _ _ _ (at-early-refusal .early-refusal .ensures) (at-if1 .if1 .left) in
     let rec = record-is left (at-record-size .record-size .ensures) (at-slot-start .slot-start .ensures) in
@@ -112,9 +125,9 @@ returns-3 : tie.Need-returns-3
 returns-3 c =
     let at-if2 = c .before .before in
     let at-times-fine = at-if2 .before in
-    let at-slot-start = at-times-fine .before .before in
+    let at-slot-start = read-at at-times-fine in
     let at-record-size = at-slot-start .before in
-    let at-if1 = at-record-size .before in
+    let at-if1 = let-in at-slot-start in
     let at-early-refusal = at-if1 .before in
     let rec = record-is (opened _ _ _ _ _ (at-early-refusal .early-refusal .ensures) (at-if1 .if1 .left))
     (at-record-size .record-size .ensures) (at-slot-start .slot-start .ensures) in

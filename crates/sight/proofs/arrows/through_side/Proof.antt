@@ -9,6 +9,19 @@ use denote.Ref.{now}
 use Rattle.sight.proofs.arrows.through_side.Statement.{statement}
 use Rattle.sight.proofs.arrows.through_side.Tie as tie
 
+-- ---- the places, each by the one before it
+
+abbrev begin : tie.After-number → tie.Start
+begin c = c .before .before .before .before
+
+abbrev own : tie.After-squares-of → tie.After-number
+own c = c .before .before
+
+abbrev beyond : tie.Else2 → tie.After-squares-of
+beyond c = c .before .before .before
+
+-- ---- the answers
+
 number-requires : tie.Need-number-requires
 number-requires c κs = search needs
 
@@ -23,20 +36,18 @@ leaving-requires c κs = search needs
 
 add-t13 : tie.Need-add-t13
 add-t13 c =
-    let at-number = c .before .before .before .before in
-    let start = at-number .before .before .before .before in
+    let at-number = own (c .before .before) in
+    let start = begin at-number in
     omega (arith, depth-to _ _ (start .pre .0 .depths-fine) (start .pre .1 .0 .0 .inside) (start .pre .1 .0 .1), at-number .number .ensures)
 
 returns : tie.Need-returns
 returns c =
     let at-squares-of = c .before .before in
-    let at-beside-on = at-squares-of .before in
-    let at-number = at-beside-on .before in
-    let at-shared-slice-known3 = at-number .before in
-    let start = at-shared-slice-known3 .before .before .before in
+    let at-number = own at-squares-of in
+    let start = begin at-number in
     let low = depth-to _ _ (start .pre .0 .depths-fine) (start .pre .1 .0 .0 .inside) (start .pre .1 .0 .1) in
-    side-off _ _ (now (start .args .rec)) _ _ (λ k. omega (arith, at-shared-slice-known3 .shared-slice-known3 .given k))
-    (at-number .number .ensures) (at-beside-on .beside-on .ensures) (at-squares-of .squares-of .ensures) low
+    side-off _ _ (now (start .args .rec)) _ _ (λ k. omega (arith, at-number .before .shared-slice-known3 .given k))
+    (at-number .number .ensures) (at-squares-of .before .beside-on .ensures) (at-squares-of .squares-of .ensures) low
     (start .pre .0 .recorded .marks-long) (c .before .if1 .taken) (c .leaving .ensures)
 
 is-closed-requires : tie.Need-is-closed-requires
@@ -44,21 +55,19 @@ is-closed-requires c κs = search needs
 
 add-t15 : tie.Need-add-t15
 add-t15 c =
-    let at-number = c .before .before .before .before .before in
-    let start = at-number .before .before .before .before in
+    let at-number = own (c .before .before .before) in
+    let start = begin at-number in
     omega (arith, depth-to _ _ (start .pre .0 .depths-fine) (start .pre .1 .0 .0 .inside) (start .pre .1 .0 .1), at-number .number .ensures)
 
 returns-2 : tie.Need-returns-2
 returns-2 c =
     let at-if1 = c .before .before in
     let at-squares-of = at-if1 .before in
-    let at-beside-on = at-squares-of .before in
-    let at-number = at-beside-on .before in
-    let at-shared-slice-known3 = at-number .before in
-    let start = at-shared-slice-known3 .before .before .before in
+    let at-number = own at-squares-of in
+    let start = begin at-number in
     let low = depth-to _ _ (start .pre .0 .depths-fine) (start .pre .1 .0 .0 .inside) (start .pre .1 .0 .1) in
-    side-closed _ _ (now (start .args .rec)) _ _ (λ k. omega (arith, at-shared-slice-known3 .shared-slice-known3 .given k))
-    (at-number .number .ensures) (at-beside-on .beside-on .ensures) (at-squares-of .squares-of .ensures) low (at-if1 .if1 .left)
+    side-closed _ _ (now (start .args .rec)) _ _ (λ k. omega (arith, at-number .before .shared-slice-known3 .given k))
+    (at-number .number .ensures) (at-squares-of .before .beside-on .ensures) (at-squares-of .squares-of .ensures) low (at-if1 .if1 .left)
     (sym (c .before .is-closed .ensures) ∙ c .if2 .taken)
 
 leaving-requires-2 : tie.Need-leaving-requires-2
@@ -75,9 +84,9 @@ add-t19 c =
     let at-if2 = c .before .before .before in
     let at-is-closed = at-if2 .before in
     let at-if1 = at-is-closed .before in
-    let at-squares-of = at-if1 .before in
-    let at-number = at-squares-of .before .before in
-    let start = at-number .before .before .before .before in
+    let at-squares-of = beyond at-if2 in
+    let at-number = own at-squares-of in
+    let start = begin at-number in
     let near = depth-to _ _ (start .pre .0 .depths-fine) (omega (arith, at-squares-of .squares-of .ensures, at-if1 .if1 .left))
     (sym (at-is-closed .is-closed .ensures) ∙ at-if2 .if2 .left) in
     omega (
@@ -95,16 +104,14 @@ returns-3 c =
     let at-if2 = at-leaving2 .before in
     let at-is-closed = at-if2 .before in
     let at-if1 = at-is-closed .before in
-    let at-squares-of = at-if1 .before in
-    let at-beside-on = at-squares-of .before in
-    let at-number = at-beside-on .before in
-    let at-shared-slice-known3 = at-number .before in
-    let start = at-shared-slice-known3 .before .before .before in
+    let at-squares-of = beyond at-if2 in
+    let at-number = own at-squares-of in
+    let start = begin at-number in
     let low = depth-to _ _ (start .pre .0 .depths-fine) (start .pre .1 .0 .0 .inside) (start .pre .1 .0 .1) in
     let near = depth-to _ _ (start .pre .0 .depths-fine) (omega (arith, at-squares-of .squares-of .ensures, at-if1 .if1 .left))
     (sym (at-is-closed .is-closed .ensures) ∙ at-if2 .if2 .left) in
-    side-open _ _ (now (start .args .rec)) _ _ (λ k. omega (arith, at-shared-slice-known3 .shared-slice-known3 .given k))
-    (at-number .number .ensures) (at-beside-on .beside-on .ensures) (at-squares-of .squares-of .ensures) low
+    side-open _ _ (now (start .args .rec)) _ _ (λ k. omega (arith, at-number .before .shared-slice-known3 .given k))
+    (at-number .number .ensures) (at-squares-of .before .beside-on .ensures) (at-squares-of .squares-of .ensures) low
     (sym (at-is-closed .is-closed .ensures) ∙ at-if2 .if2 .left) (at-leaving2 .leaving2 .ensures) (c .before .sent-to .ensures)
     (c .number2 .ensures) near
 

@@ -1,4 +1,4 @@
--- `ledger::take_back::look` meets its contract: the tests in the table's order, each after those before it passed.
+-- `ledger::take_back::early_refusal` meets its contract: the tests in the table's order, each after those before it passed.
 -- Assumes nothing.
 use mathlib.Core.Path.{_≡_, sym, ap, _∙_}
 use mathlib.Core.Bool.{true}
@@ -11,8 +11,8 @@ use Rattle.ledger.specs.Checks.{watersFine}
 use Rattle.ledger.proofs.RecordLaws.{slots-of}
 use Rattle.ledger.proofs.BackLaws.{sized, watered-of, looked-1, looked-2, looked-3, looked-6, looked-10, looked-none}
 use borrow.Author.Needs.{needs}
-use Rattle.ledger.proofs.take_back.look.Statement.{statement}
-use Rattle.ledger.proofs.take_back.look.Tie as tie
+use Rattle.ledger.proofs.take_back.early_refusal.Statement.{statement}
+use Rattle.ledger.proofs.take_back.early_refusal.Tie as tie
 
 -- ---- the places, each from the one after it
 
@@ -142,8 +142,8 @@ returns-6 c =
     looked-none (p before) (w before) (sizes-pass (first (second before))) (marks-pass (second before)) (waters-pass before)
     (sym (run-judged judged) ∙ not-false _ (kept (c .before) .if4 .left)) (c .if5 .left)
 
-pub look-spec : {M : Type 1} → statement M
-look-spec =
+pub early-refusal-spec : {M : Type 1} → statement M
+early-refusal-spec =
     tie.close
     (tie.spec
     sizes-fine-requires
