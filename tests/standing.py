@@ -22,8 +22,10 @@ ROWS = [
     # one drop of 1: T 2, the total 1 gives 1·1/2 = 0
     ("1 µm down", (0, 0, 0), (1_000_000, 1_000_000, 999_999), None, [(1, 1, 1)]),
     ("level", (0, 1_000, 5_000), (9_000, 8_000, 4_000), None, []),
-    # h 21, s 4: 21·4/3000 = 0 mm/s, so it is the speed that keeps it
+    # h 21, s 4: 100·21·4/300 = 28 µm/s, and m is 28·1000·101/10^10 = 0, so it is the speed that keeps it
     ("thin water", (1, 1, 0), (100, 101, 100), None, []),
+    # h 785, s 3: 785 µm/s, which is 0 in whole mm/s; m 1, of T 2 and VM 1 a total of 2, which gives 1, but Vmin 1 gives 1·1/2 = 0
+    ("slow water, 1 µm down", (0, 0, 0), (22_000, 22_000, 21_999), None, [(1, 1, 1)]),
     # north and south lie off the grid, with drops of 300,000 and not of 1,000,000
     ("an exit, 1 µm down one way", (0, 0, 0), (1_000_000, 1_000_000, 999_999), 300, [(1, 1, 300_000)]),
     ("an exit that lets nothing out, 1 µm down one way", (0, 0, 0), (1_000_000, 1_000_000, 999_999), 0, [(1, 1, 1)]),
@@ -66,7 +68,7 @@ def hold_samples(checks):
     """The held pond stands at its mouth; an answer to another sheet is no answer."""
     samples = TOP / "samples"
     held = told(samples / "held-pond.sheet", samples / "held-pond.out").stdout.splitlines()
-    checks.hold(held[:2] == ["standing\t27", "steep\t1"] and held[2].startswith("square\t2\t6\t"), "the held pond")
+    checks.hold(held[:2] == ["standing\t22", "steep\t1"] and held[2].startswith("square\t3\t6\t"), "the held pond")
     other = told(samples / "held-pond.sheet", samples / "document-01.out")
     checks.hold(other.returncode == 1 and "no depth for square" in other.stderr, "another sheet's answer is taken")
 

@@ -6,8 +6,8 @@ from meadow.standing import STEEP, standing_squares
 from shared import claim, table
 
 SAMPLE = TOP / "samples" / "held-pond.sheet"
-# a mouth that lets half of the pond out
-HALF_MOUTH = (5, POND + 1)
+# a mouth that lets a part of the pond out
+PART_MOUTH = (2, POND + 1)
 
 
 def bank():
@@ -68,7 +68,7 @@ def figures(long):
     claim(rows[4][2] > 0 and rows[4][3] == 0, "the settled pond has no standing squares, or steep ones")
     yield from table(heads, rows)
     water = settled()
-    for mouth, name in ((HELD_MOUTH, "a mouth that lets nothing out"), (HALF_MOUTH, "a mouth that lets half of it out")):
+    for mouth, name in ((HELD_MOUTH, "a mouth that lets nothing out"), (PART_MOUTH, "a mouth that lets a part of it out")):
         yield ""
         yield f"Opened at row {mouth[0]}, column {mouth[1]}, {name}:"
         yield ""

@@ -1,10 +1,8 @@
-"""Thin water: speeds in whole mm/s and amounts in whole µm keep it where it is."""
-import math
-
+"""Thin water: amounts in whole µm keep it where it is."""
 from meadow.lines import HOUR, MINUTE, Sheet
 from meadow.programs import meadow
 from meadow.ranges import MOST_DEPTH
-from meadow.weighing import height, slope as root_of_slope, weigh
+from meadow.weighing import speed, weigh
 from shared import USUAL, claim, limits, table
 
 SIDE = 10
@@ -41,21 +39,6 @@ def moves_in(slope, roughness, ms):
     return lambda depth: any(weigh(SIDE, depth, 0, roughness, ms, [0, fall(slope), 0, 0]))
 
 
-def has_speed(slope, roughness):
-    return lambda depth: height(depth) * root_of_slope(SIDE, fall(slope)) >= 10 * roughness
-
-
-def moves_in_micrometres(slope, roughness, ms):
-    """As moves_in, with the speed in µm/s that request #105 asks for."""
-
-    def moves(depth):
-        speed = min(math.isqrt(9_810_000 * depth), 100 * height(depth) * root_of_slope(SIDE, fall(slope)) // roughness)
-        most = min(depth, speed * ms * depth // (SIDE * 1_000_000_000))
-        return min(2 * most, depth, fall(slope)) // 2 > 0
-
-    return moves
-
-
 def found_still(slope, roughness, ms):
     """The greatest still depth for a step, worked from the rule and then tried: `meadow` moves nothing there, and moves 1 µm more."""
     depth = still_up_to(moves_in(slope, roughness, ms))
@@ -68,10 +51,8 @@ def found_still(slope, roughness, ms):
 def still_rows():
     for slope in SLOPES:
         for roughness in ROUGHNESSES:
-            speed = still_up_to(has_speed(slope, roughness))
-            today = [found_still(slope, roughness, ms) for ms in STEPS]
-            asked = [still_up_to(moves_in_micrometres(slope, roughness, ms)) for ms in (500, 10_000)]
-            yield (f"1 in {slope:,}", roughness / 10_000, speed, *today, *asked)
+            claim(speed(SIDE, 1, roughness, fall(slope)) > 0, f"the thinnest water has no speed on 1 in {slope}")
+            yield (f"1 in {slope:,}", roughness / 10_000, *(found_still(slope, roughness, ms) for ms in STEPS))
 
 
 def kinematic_share(slope, roughness, rate):
@@ -95,8 +76,7 @@ def rain_rows(long):
 
 
 def figures(long):
-    heads = ["slope", "n", "speed 0 up to"] + [f"still in {ms:,} ms up to" for ms in STEPS]
-    yield from table(heads + ["#105: in 500 ms", "#105: in 10,000 ms"], still_rows())
+    yield from table(["slope", "n", *(f"still in {ms:,} ms up to" for ms in STEPS)], still_rows())
     yield ""
     heads = ["rain for an hour", "steps", "out after 1 h", "out after 3 h", "kinematic wave, 1 h"]
     yield from table(heads, rain_rows(long))

@@ -14,7 +14,7 @@ NINE_HATCHES = [(2 + 2 * i, LEAT, 10 * i * SECOND, (90 + 10 * i) * SECOND, 400 +
 # the pond: 6 by 6 squares behind a closed bank
 POND, POND_SIDE, POND_ROUGHNESS, POND_MOUTH_BED = 6, 5, 300, 300 * MILLIMETRE
 # a mouth in its bank that lets nothing out
-HELD_MOUTH = (2, POND + 1)
+HELD_MOUTH = (3, POND + 1)
 
 
 def walled_bed(row, column):

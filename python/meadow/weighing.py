@@ -1,4 +1,5 @@
-"""Document 01, "The step", with request #102's edge slope: the drops of one square, and what leaves it through its four sides."""
+"""Document 01, "The step", with request #102's edge slope and #105's speeds in µm/s: the drops of one square, and what leaves it through
+its four sides."""
 import math
 
 from .world import CLOSED, EXIT
@@ -40,10 +41,15 @@ def slope(side, drop):
 
 
 def speed(side, depth, roughness, greatest):
-    """v in mm/s: the smaller of the critical speed and Manning's."""
-    critical = math.isqrt(981 * depth // 100)
-    manning = height(depth) * slope(side, greatest) // (10 * roughness)
+    """v in µm/s: the smaller of the critical speed, the largest c with c² ≤ 9,810,000·d, and Manning's, 100·h·s / k."""
+    critical = math.isqrt(9_810_000 * depth)
+    manning = 100 * height(depth) * slope(side, greatest) // roughness
     return min(critical, manning)
+
+
+def most_through(side, depth, roughness, ms, greatest):
+    """m: the most through the steepest side."""
+    return speed(side, depth, roughness, greatest) * ms * depth // (side * 1_000_000_000)
 
 
 def weigh(side, depth, last, roughness, ms, drops):
@@ -53,7 +59,7 @@ def weigh(side, depth, last, roughness, ms, drops):
         return [0, 0, 0, 0]
     least, greatest = min(positive), max(positive)
     weights = sum(drops) + least
-    most = speed(side, depth, roughness, greatest) * ms * depth // (side * 1_000_000)
+    most = most_through(side, depth, roughness, ms, greatest)
     total = min(depth, most * weights // greatest, least + last)
     return [total * drop // weights for drop in drops]
 

@@ -1,6 +1,6 @@
 """The square that docs/METHOD.md works by hand: 25 cm of water, two neighbours lower, one higher, one closed."""
 from .step_length import candidates
-from .weighing import height, slope, speed, weigh
+from .weighing import height, most_through, slope, speed, weigh
 
 SIDE, ROUGHNESS, DEPTH, LAST, LASTS, TOLERANCE = 10, 300, 250_000, 15_000, 1_000, 10
 # north, east, south, west
@@ -11,8 +11,7 @@ def worked():
     """Each quantity by its name on the page, in the page's order."""
     least, greatest = min(drop for drop in DROPS if drop), max(DROPS)
     weights = sum(DROPS) + least
-    v = speed(SIDE, DEPTH, ROUGHNESS, greatest)
-    m = v * LASTS * DEPTH // (SIDE * 1_000_000)
+    m = most_through(SIDE, DEPTH, ROUGHNESS, LASTS, greatest)
     leaves = weigh(SIDE, DEPTH, LAST, ROUGHNESS, LASTS, DROPS)
     (candidate,) = candidates(SIDE, TOLERANCE, DEPTH, ROUGHNESS, DROPS)
     return {
@@ -21,7 +20,7 @@ def worked():
         "T": weights,
         "h": height(DEPTH),
         "s": slope(SIDE, greatest),
-        "v": v,
+        "v": speed(SIDE, DEPTH, ROUGHNESS, greatest),
         "m": m,
         "m·T / VM": m * weights // greatest,
         "Vmin + P": least + LAST,

@@ -12,6 +12,8 @@ mod forged;
 mod library;
 mod limits;
 mod meadows;
+// what the benchmark alone counts is not used here
+#[allow(dead_code)]
 mod plain;
 mod reference;
 mod sheets;
@@ -24,19 +26,21 @@ use chance::Chance;
 use declared::OUT_ROOM;
 use std::time::{Duration, Instant};
 
-const ROUNDS: u64 = 440;
+const ROUNDS: u64 = 504;
 const LONG_ROUNDS: u64 = 10 * ROUNDS;
 
 type Kind = fn(&mut Tally, &mut Chance);
 
 /// The kinds of rounds, in turn.
-const KINDS: [(&str, Kind); 14] = [
+const KINDS: [(&str, Kind); 16] = [
     ("series of steps and take-backs", steps::series),
     ("one value at or past a limit", limits::one_value),
     ("two values at or past a limit", limits::two_values),
     ("depth, outflow, clock at the brim", steps::brim),
     ("forged runs and records", forged::forged),
     ("deep and steep", steps::deep_and_steep),
+    ("Manning's speed at the critical one", steps::at_critical),
+    ("the most through a side just whole", steps::at_whole_amounts),
     ("exits at the edge slope's drop", steps::at_edges),
     ("exact brims of 7, 8, 9", steps::exact_brims),
     ("exact roundings of rain and inflow", steps::exact_roundings),

@@ -1,12 +1,16 @@
 //! The step of the reference on plain vectors, written for speed: what the library's time is held against. The arithmetic is 64 bits wide
-//! (the most through a side is held to the depth first), a rim of squares that let nothing in saves every test for the edge of the
-//! grid, and the passes that can be one are one. What it gives is compared with the reference as the library's answers are.
+//! (the most through a side is held to the depth first), the critical speed's root is found only where that speed is the smaller, a rim of
+//! squares that let nothing in saves every test for the edge of the grid, and the passes that can be one are one. What it gives is compared
+//! with the reference as the library's answers are.
 
 use crate::reference::{check, Made, Meadow, Rules, Run, CLOSED, EXIT};
 
 const MOST_DEPTH: u64 = 100_000_000;
 const MOST_CLOCK: u64 = 604_800_000;
 const MOST_OUTFLOW: u64 = 1_000_000_000_000_000;
+
+/// The greatest critical speed in µm/s, that of the deepest water.
+const GREATEST_CRITICAL: u64 = 31_320_919;
 
 /// Beyond the rim: a mark of this engine only.
 const BEYOND: u8 = 3;
@@ -204,6 +208,12 @@ impl<'a> Ringed<'a> {
         least.max(rules.shortest)
     }
 
+    /// Manning's speed in µm/s of a square with water.
+    fn manning<R: Roots>(&self, at: usize, greatest: u64, side: u64) -> u64 {
+        let depth = self.depths[at] as u64;
+        100 * R::cube(depth * depth) * R::square(100 * greatest / side) / self.roughness[at] as u64
+    }
+
     fn flow<R: Roots>(&self, at: usize, side: u64, lasted: u64) -> [u32; 4] {
         let depth = self.depths[at] as u64;
         if depth == 0 {
@@ -216,9 +226,8 @@ impl<'a> Ringed<'a> {
         }
         let least = drops.iter().fold(greatest, |least, drop| if *drop > 0 { least.min(*drop) } else { least });
         let whole = drops[0] + drops[1] + drops[2] + drops[3] + least;
-        let critical = R::square(981 * depth / 100);
-        let manning = R::cube(depth * depth) * R::square(100 * greatest / side) / (10 * self.roughness[at] as u64);
-        let most = (critical.min(manning) * lasted * depth / (side * 1_000_000)).min(depth);
+        let moved = speed::<R>(depth, self.manning::<R>(at, greatest, side)) * lasted;
+        let most = most_held(moved, depth, side * 1_000_000_000);
         let total = depth.min(most * whole / greatest).min(least + self.lasts[at] as u64);
         drops.map(|drop| if drop == 0 { 0 } else { (total * drop / whole) as u32 })
     }
@@ -322,6 +331,48 @@ impl<'a> Ringed<'a> {
         std::mem::swap(&mut self.depths, &mut self.depths_after);
         Ok(Run { clock, length, outflow, kept: (run.kept + 1).min(slots), newest })
     }
+}
+
+/// Whether Manning's speed is the smaller one, found without a root: its square is at most 9,810,000·d. Above the greatest critical speed
+/// it is not, so that the square is taken only where it fits.
+fn is_subcritical(depth: u64, manning: u64) -> bool {
+    manning <= GREATEST_CRITICAL && manning * manning <= 9_810_000 * depth
+}
+
+/// The smaller of Manning's speed and the critical one, in µm/s.
+fn speed<R: Roots>(depth: u64, manning: u64) -> u64 {
+    if is_subcritical(depth, manning) {
+        manning
+    } else {
+        R::square(9_810_000 * depth)
+    }
+}
+
+/// moved·depth / side, at most the depth. It is the depth where the water moves by the whole side or more; else the product fits.
+fn most_held(moved: u64, depth: u64, side: u64) -> u64 {
+    if moved < side {
+        moved * depth / side
+    } else {
+        depth
+    }
+}
+
+/// How many squares of a meadow have water and a drop, and in how many of them the critical speed's root is found.
+pub fn critical_roots(meadow: &Meadow, rules: &Rules) -> (usize, usize) {
+    let ringed = Ringed::new(meadow, rules, &mut []);
+    let (mut weighed, mut found) = (0, 0);
+    for at in 0..ringed.marks.len() {
+        let depth = ringed.depths[at] as u64;
+        if depth == 0 {
+            continue;
+        }
+        let greatest = ringed.drops(at).into_iter().max().unwrap();
+        if greatest > 0 {
+            weighed += 1;
+            found += !is_subcritical(depth, ringed.manning::<Digits>(at, greatest, rules.square_side)) as usize;
+        }
+    }
+    (weighed, found)
 }
 
 /// The sum of amount times time run by a clock, over rows of from, to and amount.

@@ -1,5 +1,5 @@
-//! Document 01 in plain Rust, in its order and its words, with request #102 of document 02, written from the documents alone: what the
-//! library is compared with.
+//! Document 01 in plain Rust, in its order and its words, with requests #102 and #105 of document 02, written from the documents alone:
+//! what the library is compared with.
 //! Amounts are `u128`, so that every formula stands as it is written there. The comment at each function names its sentence.
 
 pub const CLOSED: u8 = 0;
@@ -182,10 +182,10 @@ pub fn fresh(meadow: &mut Meadow, rules: &Rules) -> Result<Run, u32> {
 
 // ---------------------------------------------------------------- The step
 
-/// The largest whole number whose power does not pass `of`; `largest(3, n)` is the largest h with h³ ≤ n. No root of document 01
-/// reaches 2^20.
+/// The largest whole number whose power does not pass `of`; `largest(3, n)` is the largest h with h³ ≤ n. No root of the documents
+/// reaches 2^25: the greatest is the critical speed of 100 m of water, 31,320,919 µm/s.
 fn largest(power: u32, of: u128) -> u128 {
-    let (mut fits, mut passes) = (0u128, 1u128 << 20);
+    let (mut fits, mut passes) = (0u128, 1u128 << 25);
     while passes - fits > 1 {
         let tried = (fits + passes) / 2;
         if tried.pow(power) <= of {
@@ -242,12 +242,16 @@ fn leaving(meadow: &Meadow, rules: &Rules, square: usize, lasted: u128) -> [u128
     }
     let least = *drops.iter().filter(|drop| **drop > 0).min().unwrap();
     let whole = drops.iter().sum::<u128>() + least;
-    let critical = largest(2, 981 * depth / 100);
-    let manning = depth_root(depth) * slope_root(greatest, side) / (10 * meadow.roughness[square] as u128);
-    let speed = critical.min(manning);
-    let most = speed * lasted * depth / (side * 1_000_000);
+    let most = speed_of(depth, greatest, side, meadow.roughness[square] as u128) * lasted * depth / (side * 1_000_000_000);
     let total = depth.min(most * whole / greatest).min(least + meadow.lasts[square] as u128);
     drops.map(|drop| total * drop / whole)
+}
+
+/// #105, in µm/s: "the largest c with c² ≤ 9,810,000·d, and 100·h·s / k"; the smaller of the two.
+fn speed_of(depth: u128, greatest: u128, side: u128, roughness: u128) -> u128 {
+    let critical = largest(2, 9_810_000 * depth);
+    let manning = 100 * depth_root(depth) * slope_root(greatest, side) / roughness;
+    critical.min(manning)
 }
 
 /// "Rain by clock t: sum of rate·time run, / 3,600,000, on every square not closed."

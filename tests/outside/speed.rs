@@ -171,16 +171,24 @@ fn time_meadow(text: &[u8]) -> (Times, Vec<u8>) {
     })
 }
 
-/// The three roots of every square of a meadow, taken as often as in a run: what finding roots alone costs.
-fn time_roots<R: plain::Roots>(meadow: &Meadow) -> (Vec<f64>, u64) {
+/// The roots of a depth: those of the height and the slope, which every square with a drop takes, and with them that of the critical speed.
+fn two_roots<R: plain::Roots>(depth: u64) -> u64 {
+    R::cube(depth * depth) + R::square(100 * depth / RULES.square_side)
+}
+
+fn three_roots<R: plain::Roots>(depth: u64) -> u64 {
+    two_roots::<R>(depth) + R::square(9_810_000 * depth)
+}
+
+/// The roots of every square of a meadow, taken as often as in a run: what finding roots alone costs.
+fn time_roots(meadow: &Meadow, roots: impl Fn(u64) -> u64) -> (Vec<f64>, u64) {
     let mut sum = 0;
     let times = (0..ROUNDS)
         .map(|_| {
             let start = processor_time();
             for turn in 0..STEPS {
                 for depth in &meadow.depths {
-                    let depth = *depth as u64 + turn;
-                    sum += R::cube(depth * depth) + R::square(981 * depth / 100) + R::square(100 * depth / RULES.square_side);
+                    sum += roots(*depth as u64 + turn);
                 }
             }
             processor_time() - start
@@ -213,13 +221,24 @@ fn line(name: &str, times: &Times, parts: f64) {
 
 // ---------------------------------------------------------------- tables
 
+fn roots_line(name: &str, meadow: &Meadow, digits: impl Fn(u64) -> u64, floats: impl Fn(u64) -> u64) {
+    let ((digits, a), (floats, b)) = (time_roots(meadow, digits), time_roots(meadow, floats));
+    assert!(a == b, "the two ways to find a root differ");
+    let roots = STEPS as f64 * meadow.squares() as f64;
+    println!("| {} | {} | {} |", name, spread(&digits, roots, 1), spread(&floats, roots, 1));
+}
+
 fn state(start: &Meadow, end: &Meadow, made: &Made) -> String {
     let share = |count: usize| format!("{:.1} %", 100.0 * count as f64 / start.squares() as f64);
+    let (weighed, found) = plain::critical_roots(end, &RULES);
     format!(
-        "{} of the squares wet at the start, {} at the end; {} sent water in the last step",
+        "{} of the squares wet at the start, {} at the end; {} sent water in the last step; at the end {} have water and a drop, and the \
+         critical speed's root is found in {} of them",
         share(wet_squares(start)),
         share(wet_squares(end)),
-        share(sending_squares(end, made))
+        share(sending_squares(end, made)),
+        weighed,
+        found
     )
 }
 
@@ -249,12 +268,10 @@ fn main() {
     line(&words[1], &times, 1000.0);
 
     let meadow = all_wet(64);
-    let ((digits, a), (floats, b)) = (time_roots::<plain::Digits>(&meadow), time_roots::<plain::Floats>(&meadow));
-    assert!(a == b, "the two ways to find a root differ");
-    let roots = STEPS as f64 * meadow.squares() as f64;
-    println!("\n| nanoseconds for the three roots of a wet square | roots by digits | roots by f64 |");
+    println!("\n| nanoseconds for the roots of a wet square | roots by digits | roots by f64 |");
     println!("|---|---|---|");
-    println!("| 64 by 64, all wet | {} | {} |", spread(&digits, roots, 1), spread(&floats, roots, 1));
+    roots_line("height and slope", &meadow, two_roots::<plain::Digits>, two_roots::<plain::Floats>);
+    roots_line("height, slope and critical speed", &meadow, three_roots::<plain::Digits>, three_roots::<plain::Floats>);
 
     println!("\n| all wet | squares | library, ns a step | library, ns a square | digits, ns a square | f64, ns a square |");
     println!("|---|---|---|---|---|---|");

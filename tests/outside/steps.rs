@@ -190,6 +190,68 @@ pub fn deep_and_steep(tally: &mut Tally, chance: &mut Chance) {
     }
 }
 
+/// The largest whole number whose power fits, by binary digits: apart from both engines.
+fn root(power: u32, of: u64) -> u64 {
+    let fits = |root: u64| (root as u128).pow(power) <= of as u128;
+    (0..25).rev().map(|bit| 1 << bit).fold(0, |root, place| if fits(root + place) { root + place } else { root })
+}
+
+/// A step of `ms`, and a run of that one step, of a square with water beside a dry one that lies `drop` below its level; P limits nothing.
+fn one_fall(tally: &mut Tally, chance: &mut Chance, [side, depth, roughness, drop, ms]: [u64; 5]) {
+    let mut lent = meadows::lent(chance, (1, 2));
+    let bed = if drop < depth { 0 } else { MOST_BED };
+    lent.meadow.marks = vec![OPEN; 2];
+    lent.meadow.beds = vec![bed as u32, (bed + depth - drop) as u32];
+    lent.meadow.roughness = vec![roughness as u32; 2];
+    lent.meadow.depths = vec![depth as u32, 0];
+    lent.meadow.lasts = vec![MOST_DEPTH as u32; 2];
+    lent.meadow.rain.clear();
+    lent.meadow.inflow.clear();
+    lent.rules.square_side = side;
+    lent.rules.update = ms + 1;
+    lent.run.clock = 1;
+    lent.run.length = ms;
+    lent.end = ms + 1;
+    tally.call(Call::Step, &lent);
+    tally.call(Call::RunTo, &lent);
+}
+
+/// Water so deep that 1 µm/s tells in what leaves, and a roughness and a drop for which Manning's speed is at the critical one or beside it.
+pub fn at_critical(tally: &mut Tally, chance: &mut Chance) {
+    for _ in 0..20 {
+        let depth = chance.between(40_000_000, MOST_DEPTH);
+        let (critical, height) = (root(2, 9_810_000 * depth), root(3, depth * depth));
+        let mut near = vec![(10_000, 100 * critical / height)];
+        for roughness in 1..=10_000 {
+            let above = (critical * roughness).div_ceil(100 * height);
+            let beside = |slope: u64| (100 * height * slope / roughness).abs_diff(critical) <= 2;
+            near.extend([above - 1, above].into_iter().filter(|slope| beside(*slope)).map(|slope| (roughness, slope)));
+        }
+        let side = chance.pick(&[1, 2, 10, 99, 100]);
+        let (roughness, slope) = chance.pick(&near);
+        let drop = (slope * slope * side).div_ceil(100);
+        let ms = chance.between(side * 1_000_000_000 / depth, side * 1_000_000_000 / (2 * critical));
+        one_fall(tally, chance, [side, depth, roughness, drop, ms]);
+    }
+}
+
+/// Water of any depth, thin water above all, and a step that just lets so many µm through its steepest side, or is 1 ms too short for it.
+pub fn at_whole_amounts(tally: &mut Tally, chance: &mut Chance) {
+    for _ in 0..40 {
+        let side = chance.pick(&[1, 2, 7, 10, 100]);
+        let roughness = chance.pick(&[1, 300, 3_500, 10_000]);
+        let (deepest, steepest) = (chance.pick(&[1_000, 20_000, 1_000_000, MOST_DEPTH]), chance.pick(&[100, 10_000, 1_000_000, MOST_BED]));
+        let (depth, drop) = (chance.between(1, deepest), chance.between(1, steepest));
+        let manning = 100 * root(3, depth * depth) * root(2, 100 * drop / side) / roughness;
+        let speed = manning.min(root(2, 9_810_000 * depth)).max(1) as u128;
+        let amount = chance.pick(&[1, 2, 1 + depth / 3]) as u128;
+        let enough = (amount * side as u128 * 1_000_000_000).div_ceil(speed * depth as u128).clamp(2, 60_000) as u64;
+        for ms in [enough, enough - 1] {
+            one_fall(tally, chance, [side, depth, roughness, drop, ms]);
+        }
+    }
+}
+
 /// Exits just as deep as the edge slope's drop, one less and one more, or of any depth, at a tolerance at or beside the edge slope.
 pub fn at_edges(tally: &mut Tally, chance: &mut Chance) {
     for _ in 0..20 {

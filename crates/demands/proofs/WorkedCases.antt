@@ -77,11 +77,14 @@ other-sheet-cases =
     }
 
 number-cases : NumberCases
-unfolding pick allBelow sumBelow rootFrom rootOf rowGives tableGives rainBy onSquare inflowBy candidate counts sideCandidates candidatesOf heightOf slopeOf
+unfolding pick allBelow sumBelow rootFrom rootOf rowGives tableGives rainBy onSquare inflowBy candidate counts sideCandidates candidatesOf heightOf slopeOf lesserPositive leastDrop greatestDrop dropSum criticalSpeed manningSpeed speedOf mostThrough totalOf
 number-cases =
     record {
       candidate = refl;
       no-candidate = refl;
+      thin-speed = refl;
+      thin-most = refl;
+      thin-total = refl;
       rain-before = refl;
       rain-by = refl;
       inflow-before = refl;

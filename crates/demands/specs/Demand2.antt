@@ -33,11 +33,11 @@ use Rattle.demands.specs.Loader.{LoaderWalls}
 use Rattle.demands.specs.Closed.{SameOpen, SameGiven, SameRecord, SameRoom, SameWorld, SameEnd}
 use Rattle.demands.specs.Exported.{ExportsNoneDepends}
 
--- "h: the largest whole number with h³ ≤ d²", "s: the largest with s² ≤ 100·VM / D", "the largest c with c² ≤ 981·d / 100"
+-- "h: the largest whole number with h³ ≤ d²", "s: the largest with s² ≤ 100·VM / D", #105's "the largest c with c² ≤ 9,810,000·d"
 pub record RootsAre : Type 0 where
   pub height : (d : ℕ) → d ≤ mostDepth → Root 3 (d * d) (heightOf d)
   pub slope : (r : Rules) (drop : ℕ) → drop ≤ mostDrop → Root 2 (100 * drop / r .«square_side») (slopeOf r drop)
-  pub critical : (d : ℕ) → d ≤ mostDepth → Root 2 (981 * d / 100) (criticalSpeed d)
+  pub critical : (d : ℕ) → d ≤ mostDepth → Root 2 (9_810_000 * d) (criticalSpeed d)
 
 module _ (p : Plan) where
   -- ---- "Each step gives exactly the depths, transfers, outflow and step length that the published weighted cellular automaton rule gives in

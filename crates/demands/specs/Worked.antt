@@ -108,17 +108,17 @@ twice = next documentSheet once
 
 -- of the sheet
 pub record SheetCases : Type 0 where
-  -- "the sheet above: h 100, s 316, speeds 99 and 31, m 31, total 62, through east 31", and its output, whole
+  -- "the sheet above: h 100, s 316, .. m 31, total 62, through east 31", and its output, whole; by #105 the speeds are 99,045 and 31,600
   pub printed : meadowText (bytesOf documentSheet) ≡ bytesOf documentOutput
   pub first-drops : drops documentSheet before ≡ 0 ∷ 1_000 ∷ 0 ∷ 0 ∷ []
-  pub first-workings : workings documentSheet before ≡ 100 ∷ 316 ∷ 99 ∷ 31 ∷ 31 ∷ 31 ∷ 62 ∷ []
+  pub first-workings : workings documentSheet before ≡ 100 ∷ 316 ∷ 99_045 ∷ 31_600 ∷ 31_600 ∷ 31 ∷ 62 ∷ []
   pub first-east : stepMoves (onPlan documentSheet) (byGiven documentSheet) (seenOf before) .leaves 0 east ≡ 31
   pub first-record : once .records ≡ 1_000 ∷ 1_000 ∷ 0 ∷ 31 ∷ 0 ∷ 0 ∷ 0 ∷ 0 ∷ 0 ∷ 0 ∷ 0 ∷ 0 ∷ 0 ∷ 0 ∷ []
-  -- "its second step (1000 ms): drop 938, h 97, s 306, speed 29, m 28, total 56; depths 941 and 59"
+  -- "its second step (1000 ms): drop 938, h 97, s 306, .. m 28, total 56; depths 941 and 59"; by #105 the speed is 29,682
   pub second-made : stepNumber (onPlan documentSheet) (byGiven documentSheet) once ≡ 0
   pub second-duration : duration documentSheet once ≡ 1_000
   pub second-drops : drops documentSheet once ≡ 0 ∷ 938 ∷ 0 ∷ 0 ∷ []
-  pub second-workings : workings documentSheet once ≡ 97 ∷ 306 ∷ 97 ∷ 29 ∷ 29 ∷ 28 ∷ 56 ∷ []
+  pub second-workings : workings documentSheet once ≡ 97 ∷ 306 ∷ 97_498 ∷ 29_682 ∷ 29_682 ∷ 28 ∷ 56 ∷ []
   pub second-depths : twice .depths ≡ 941 ∷ 59 ∷ []
   pub second-record : twice .records ≡ 1_000 ∷ 1_000 ∷ 0 ∷ 28 ∷ 0 ∷ 0 ∷ 31 ∷ 0 ∷ 0 ∷ 0 ∷ 0 ∷ 0 ∷ 0 ∷ 0 ∷ []
   -- "take-back of the first step: depths 1000 and 0, P 0, clock 0"
@@ -132,9 +132,10 @@ pub record SheetCases : Type 0 where
 
 -- of an exit alone, and of two equal levels
 pub record OtherSheetCases : Type 0 where
-  -- "one exit square, D 1, k 100, depth 10,000, 1000 ms: v 313, m 3,130, total 10,000, each side 2,000; depth 2,000, outflow 8,000"
+  -- "one exit square, D 1, k 100, depth 10,000, 1000 ms: .. total 10,000, each side 2,000; depth 2,000, outflow 8,000"; by #105 v is
+  -- 313,209 and m 3,132
   pub exit-drops : drops exitSheet (start exitSheet) ≡ 10_000 ∷ 10_000 ∷ 10_000 ∷ 10_000 ∷ []
-  pub exit-workings : workings exitSheet (start exitSheet) ≡ 464 ∷ 1_000 ∷ 313 ∷ 464 ∷ 313 ∷ 3_130 ∷ 10_000 ∷ []
+  pub exit-workings : workings exitSheet (start exitSheet) ≡ 464 ∷ 1_000 ∷ 313_209 ∷ 464_000 ∷ 313_209 ∷ 3_132 ∷ 10_000 ∷ []
   pub exit-record : next exitSheet (start exitSheet) .records ≡ 1_000 ∷ 1_000 ∷ 2_000 ∷ 2_000 ∷ 2_000 ∷ 2_000 ∷ 0 ∷ 0 ∷ []
   pub exit-depth : next exitSheet (start exitSheet) .depths ≡ 2_000 ∷ []
   pub exit-outflow : next exitSheet (start exitSheet) .run .outflow ≡ 8_000
@@ -147,6 +148,10 @@ pub record NumberCases : Type 0 where
   -- "d = 1,000,000, k 500, D 10, one drop of 100,000: q 99 gives a candidate of 250 ms; q 100 gives none"
   pub candidate : candidatesOf (wide 99) 1_000_000 500 (0 ∷ 100_000 ∷ 0 ∷ 0 ∷ []) ≡ 250 ∷ []
   pub no-candidate : candidatesOf (wide 100) 1_000_000 500 (0 ∷ 100_000 ∷ 0 ∷ 0 ∷ []) ≡ []
+  -- #105, thin water: D 10, 10 mm deep, k 3,500, one drop of 100, 60,000 ms: speed 410, m 24, total 48 (in whole mm/s the speed was 0)
+  pub thin-speed : speedOf (wide 0) 10_000 3_500 100 ≡ 410
+  pub thin-most : mostThrough (wide 0) 10_000 3_500 60_000 100 ≡ 24
+  pub thin-total : totalOf (wide 0) 10_000 0 3_500 60_000 (0 ∷ 100 ∷ 0 ∷ 0 ∷ []) ≡ 48
   -- "rain 3,600 µm/h from 0: 0 by 999 ms, 1 by 1000"
   pub rain-before : rainBy (0 ∷ 604_800_000 ∷ 3_600 ∷ []) 999 ≡ 0
   pub rain-by : rainBy (0 ∷ 604_800_000 ∷ 3_600 ∷ []) 1_000 ≡ 1

@@ -69,6 +69,18 @@ root-over p b a h =
     let x = pow-cancel p (lt-of-le-of-lt h (a .high)) in
     omega arith
 
+-- a number is at most the root where its power is at most n
+pub root-least : {p n r : ℕ} (b : ℕ) → Root p n r → b ^ p ≤ n → b ≤ r
+root-least {p} b a h =
+    let x = pow-cancel p (lt-of-le-of-lt h (a .high)) in
+    omega arith
+
+-- .. and the root at most a number whose power is above n
+pub root-most : {p n r : ℕ} (b : ℕ) → Root p n r → n < b ^ p → r ≤ b
+root-most {p} b a h =
+    let x = pow-cancel p (lt-of-le-of-lt (a .low) h) in
+    omega arith
+
 -- a greater number has no lesser root
 pub root-mono : {p n m r s : ℕ} → Root p n r → Root p m s → n ≤ m → r ≤ s
 root-mono {p} a b h =

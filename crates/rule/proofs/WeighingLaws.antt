@@ -2,21 +2,21 @@
 -- at most the depth, and a side without a drop sends nothing.
 -- Assumes nothing.
 use mathlib.Core.Path.{_≡_, refl, sym, _∙_, ap}
-use mathlib.Core.Bool.{_||_}
+use mathlib.Core.Bool.{Bool, true, false, _||_}
 use mathlib.Core.List.{List, [], _∷_}
 use Prim.Native.Nat.{ℕ, zero, suc, _+_, _*_, _/_, _≤_, _<_, min}
 use native.Mathlib.Nat.{le-trans, mul-le-mul, mul-le-mul-left, mul-le-mul-right, div-le-self, div-mul-le-self, mul-add, add-mul, mul-zero, le-of-mul-le-mul-right, min-eq-left, min-eq-right, zero-div}
 use native.Mathlib.Decide.{decLe, ℕ-discrete}
 use native.Mathlib.Omega.{arith}
-use lib.Dec.{eqb}
+use lib.Dec.{eqb, leb}
 use lib.ListN.{getD}
-use borrow.Author.Tests.{eq-eqb, ne-eqb}
+use borrow.Author.Tests.{eq-eqb, ne-eqb, leb-true, leb-false}
 use Rattle.reckon.specs.Roots.{Root}
 use Rattle.reckon.proofs.TestLaws.{pick-true, pick-false, pick-both}
 use Rattle.reckon.proofs.QuotientLaws.{div-mono, le-scaled}
-use Rattle.reckon.proofs.RootLaws.{root-is, root-right, root-le, root-over}
+use Rattle.reckon.proofs.RootLaws.{square, root-is, root-right, root-le, root-over, root-least, root-most}
 use Rattle.reckon.specs.Ranges.{mostDepth}
-use Rattle.rule.specs.Weighing.{lesserPositive, leastDrop, greatestDrop, dropSum, heightOf, slopeOf, criticalSpeed, speedOf, mostThrough, totalOf, throughSides, weighed}
+use Rattle.rule.specs.Weighing.{lesserPositive, leastDrop, greatestDrop, dropSum, heightOf, slopeOf, criticalSpeed, manningSpeed, speedOf, mostThrough, totalOf, throughSides, weighed}
 use Rattle.rule.specs.inner.InRange.{mostDrop, DropsInRange}
 use Rattle.rule.specs.declared.rules.Rules.{Rules}
 
@@ -46,17 +46,40 @@ slope-root r {drop} h = root-right 2 _ (omega arith) (omega (arith, div-le-self 
 pub slope-le : (r : Rules) {drop : ℕ} → drop ≤ mostDrop → slopeOf r drop ≤ 331662
 slope-le r {drop} h = root-le 331662 (slope-root r h) (omega (arith, div-le-self (100 * drop) (r .«square_side»)))
 
-pub critical-is : {d s : ℕ} → d ≤ mostDepth → Root 2 (981 * d / 100) s → s ≡ criticalSpeed d
+pub critical-is : {d s : ℕ} → d ≤ mostDepth → Root 2 (9810000 * d) s → s ≡ criticalSpeed d
 unfolding criticalSpeed
 critical-is h a = root-is (omega arith) (omega arith) a
 
-critical-le : {d : ℕ} → d ≤ mostDepth → criticalSpeed d ≤ 31320
+critical-root : {d : ℕ} → d ≤ mostDepth → Root 2 (9810000 * d) (criticalSpeed d)
 unfolding criticalSpeed
-critical-le h = root-le 31320 (root-right 2 _ (omega arith) (omega arith)) (omega arith)
+critical-root h = root-right 2 _ (omega arith) (omega arith)
 
-pub speed-le : {d : ℕ} (r : Rules) (k drop : ℕ) → d ≤ mostDepth → speedOf r d k drop ≤ 31320
+critical-le : {d : ℕ} → d ≤ mostDepth → criticalSpeed d ≤ 31320919
+critical-le h = root-le 31320919 (critical-root h) (omega arith)
+
+pub speed-le : {d : ℕ} (r : Rules) (k drop : ℕ) → d ≤ mostDepth → speedOf r d k drop ≤ 31320919
 unfolding speedOf
 speed-le r k drop h = omega (arith, critical-le h)
+
+-- ---- which speed is the smaller, told by the square of Manning's
+
+module _ (r : Rules) (d k drop : ℕ) where
+  pub manning-made : {h s : ℕ} → h ≡ heightOf d → s ≡ slopeOf r drop → 100 * h * s / k ≡ manningSpeed r d k drop
+  unfolding manningSpeed
+  manning-made eh es = rw (eh, es)
+
+  module _ {v : ℕ} {b : Bool} (deep : d ≤ mostDepth) (is : v ≡ manningSpeed r d k drop) (told : b ≡ leb (v * v) (9810000 * d)) where
+    pub manning-smaller : b ≡ true → v ≡ speedOf r d k drop
+    unfolding speedOf
+    manning-smaller e =
+        let low : v ≤ criticalSpeed d = root-least v (critical-root deep) (rw (square v) (leb-true _ _ (sym told ∙ e))) in
+        omega (arith, is, low)
+
+    pub critical-smaller : {c : ℕ} → b ≡ false → c ≡ criticalSpeed d → c ≡ speedOf r d k drop
+    unfolding speedOf
+    critical-smaller e ec =
+        let high : criticalSpeed d ≤ v = root-most v (critical-root deep) (rw (square v) (leb-false _ _ (sym told ∙ e))) in
+        omega (arith, is, high, ec)
 
 -- ---- m may be held to d first
 

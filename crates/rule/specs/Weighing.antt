@@ -4,7 +4,7 @@
 use mathlib.Core.Path.{_≡_}
 use mathlib.Core.Bool.{_||_}
 use mathlib.Core.List.{List, [], _∷_}
-use Prim.Native.Nat.{ℕ, _+_, _*_, _/_, min, max}
+use Prim.Native.Nat.{ℕ, _+_, _*_, _/_, _^_, min, max}
 use lib.Dec.{eqb}
 use lib.ListN.{getD}
 use Rattle.reckon.specs.Tests.{pick}
@@ -35,21 +35,21 @@ heightOf d = rootOf 3 (d * d)
 unfoldable pub slopeOf : Rules → ℕ → ℕ
 slopeOf r drop = rootOf 2 (100 * drop / r .«square_side»)
 
--- "Critical speed, mm/s: the largest c with c² ≤ 981·d / 100"
+-- document 02, #105: "the speed promise speak of µm/s: the largest c with c² ≤ 9,810,000·d"
 unfoldable pub criticalSpeed : ℕ → ℕ
-criticalSpeed d = rootOf 2 (981 * d / 100)
+criticalSpeed d = rootOf 2 (9_810_000 * d)
 
--- "Manning speed: h·s / (10·k)"
+-- #105: ".. and 100·h·s / k", Manning's speed in µm/s
 unfoldable pub manningSpeed : Rules → ℕ → ℕ → ℕ → ℕ
-manningSpeed r d k drop = heightOf d * slopeOf r drop / (10 * k)
+manningSpeed r d k drop = 100 * heightOf d * slopeOf r drop / k
 
 -- "v is the smaller"
 unfoldable pub speedOf : Rules → ℕ → ℕ → ℕ → ℕ
 speedOf r d k drop = min (criticalSpeed d) (manningSpeed r d k drop)
 
--- "Most through the steepest side: m = v·Δt·d / (D·1,000,000)"
+-- "Most through the steepest side", by #105: "m = v·Δt·d / (D·10^9)"
 unfoldable pub mostThrough : Rules → ℕ → ℕ → ℕ → ℕ → ℕ
-mostThrough r d k ms drop = speedOf r d k drop * ms * d / (r .«square_side» * 1_000_000)
+mostThrough r d k ms drop = speedOf r d k drop * ms * d / (r .«square_side» * 10 ^ 9)
 
 -- "Total: the smallest of d, m·T / VM, and Vmin + P"
 unfoldable pub totalOf : Rules → ℕ → ℕ → ℕ → ℕ → List ℕ → ℕ

@@ -7,9 +7,16 @@ use reckon::roots::cube_root;
 use reckon::roots::square_root;
 ghost use mathlib.Core.Path.{_≡_};
 ghost use Prim.Native.Nat.{_*_, _/_, _<_, _≤_, min};
+ghost use lib.Dec.{leb};
 ghost use Rattle.reckon.specs.Ranges.{mostDepth, mostLength};
 ghost use Rattle.rule.specs.Weighing.{lesserPositive, leastDrop, greatestDrop, dropSum, heightOf, slopeOf, criticalSpeed, speedOf, mostThrough, totalOf, throughSides, Weighs};
 ghost use Rattle.rule.specs.inner.InRange.{mostDrop, DropsInRange, SquareInRange, Weighable};
+
+// The acceleration of gravity as document 02 has it for speeds in µm/s under a depth in µm: c² ≤ 9,810,000·d.
+const GRAVITY: u64 = 9_810_000;
+
+// The critical speed of the greatest depth, µm/s.
+const GREATEST_CRITICAL: u64 = 31_320_919;
 
 // The lesser of two drops that are positive, 0 where neither is.
 fn lesser_positive(a: u64, b: u64) -> u64
@@ -62,20 +69,35 @@ pub(crate) fn slope(rules: Rules, drop: u64) -> u64
     square_root(100 * drop / rules.square_side)
 }
 
+// The critical speed, µm/s.
 fn critical_speed(depth: u64) -> u64
     requires { ⌜ depth ≤ mostDepth ⌝ }
     ensures { λ r. ⌜ r ≡ criticalSpeed depth ⌝ }
 {
-    square_root(981 * depth / 100)
+    square_root(GRAVITY * depth)
 }
 
-// The smaller of critical and Manning speed, mm/s.
+// Whether a speed is at most the critical one, told without its root. The first test keeps the square within 64 bits.
+fn is_subcritical(depth: u64, speed: u64) -> bool
+    requires { ⌜ depth ≤ mostDepth ⌝ }
+    ensures { λ r. ⌜ r ≡ leb (speed * speed) (9_810_000 * depth) ⌝ }
+{
+    if GREATEST_CRITICAL < speed {
+        return false;
+    }
+    speed * speed <= GRAVITY * depth
+}
+
+// The smaller of critical and Manning speed, µm/s. In most squares it is Manning's, and the critical root is not found.
 fn speed(rules: Rules, depth: u64, roughness: u64, drop: u64) -> u64
     requires { ⌜ (SquareInRange rules depth roughness) × (drop ≤ mostDrop) ⌝ }
     ensures { λ r. ⌜ r ≡ speedOf rules depth roughness drop ⌝ }
 {
-    let manning = height(depth) * slope(rules, drop) / (10 * roughness);
-    lesser(critical_speed(depth), manning)
+    let manning = 100 * height(depth) * slope(rules, drop) / roughness;
+    if is_subcritical(depth, manning) {
+        return manning;
+    }
+    critical_speed(depth)
 }
 
 // The most through the steepest side, held to the depth: as it stands it passes 64 bits.
@@ -84,7 +106,7 @@ fn most_held(rules: Rules, depth: u64, roughness: u64, lasts: u64, drop: u64) ->
     ensures { λ r. ⌜ r ≡ min depth (mostThrough rules depth roughness lasts drop) ⌝ }
 {
     let moved = speed(rules, depth, roughness, drop) * lasts;
-    part(depth, moved, rules.square_side * 1_000_000)
+    part(depth, moved, rules.square_side * 1_000_000_000)
 }
 
 // All that leaves, where there is water and a drop.

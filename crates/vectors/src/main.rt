@@ -5,7 +5,7 @@ use rule::rules::Rules;
 use rule::weighing::weigh;
 ghost use Rattle.rule.specs.inner.InRange.{Weighable, Candidacy};
 
-const ROWS: usize = 56;
+const ROWS: usize = 63;
 
 // The greatest depth, and the greatest drop.
 const DEEP: u64 = 100_000_000;
@@ -78,6 +78,16 @@ const VECTORS: [[u64; 10]; ROWS] = [
     [7, 3, 7654321, 123456, 77, 777, 17, 1717, 171717, 17171717],
     [99, 9, 98765432, 11111, 123, 4567, 1, 98765432, 1234567, 1],
     [13, 1, 31415926, 5358, 3238, 4626, 1300, 1301, 0, 33832795],
+    // thin water on a gentle slope, which in whole mm/s stood still
+    [10, 0, 10_000, 0, 3500, 60_000, 0, 100, 0, 0],
+    [10, 0, 1000, DEEP, 300, 60_000, 100, 0, 0, 0],
+    [100, 0, 100_000, 0, 10_000, 60_000, 0, 0, 1000, 999],
+    // the most through the steepest side just under and just over the depth, where its product comes to 10^19
+    [100, 0, DEEP, DEEP, 1, 3192, HIGH, 1, 0, 0],
+    [100, 0, DEEP, DEEP, 1, 3193, HIGH, 1, 0, 0],
+    // Manning's speed at and one above the critical one
+    [1, 0, 1000, DEEP, 10_000, 838, 98_099_121, 1, 0, 0],
+    [1, 0, 1000, DEEP, 10_000, 838, 98_101_102, 1, 0, 0],
 ];
 
 fn field(n: u64) {

@@ -16,7 +16,7 @@ speed-requires c κs = search needs
 mul-moved : tie.Need-mul-moved
 mul-moved c =
     let a = c .before .args in
-    let v : c .speed .result ≤ 31320 = omega (arith, speed-le (a .rules) (a .roughness) (a .drop) (c .before .pre .0 .depth-to)) in
+    let v : c .speed .result ≤ 31320919 = omega (arith, speed-le (a .rules) (a .roughness) (a .drop) (c .before .pre .0 .depth-to)) in
     omega (arith, mul-le-mul v (c .before .pre .2))
 
 mul-part : tie.Need-mul-part
@@ -24,7 +24,7 @@ mul-part c = search needs
 
 part-requires : tie.Need-part-requires
 part-requires c κs =
-    let w : c .before .before .args .rules .«square_side» * 1000000 ≤ 100000000 = omega arith in
+    let w : c .before .before .args .rules .«square_side» * 1000000000 ≤ 100000000000 = omega arith in
     omega (arith, mul-le-mul w (c .before .before .pre .0 .depth-to))
 
 returns : tie.Need-returns
