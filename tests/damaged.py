@@ -17,11 +17,24 @@ from meadow.sheets import MOST_BYTES, answered  # noqa: E402
 # ---- base sheets
 
 
+def flat_grid(rows, columns):
+    """One-metre squares of one bed, still closed, for a step of one second."""
+    return Sheet(rows, columns, 1, tolerance=100, shortest=SECOND, longest=SECOND, update=SECOND)
+
+
 def square_grid(size, depth, mark="o"):
-    """A level grid of one-metre squares for a step of one second."""
-    sheet = Sheet(size, size, 1, tolerance=100, shortest=SECOND, longest=SECOND, update=SECOND)
+    """A level grid."""
+    sheet = flat_grid(size, size)
     for place in sheet.squares:
         sheet.put(place, 0, 100, depth, mark)
+    return sheet.text(SECOND)
+
+
+def row_of(*depths):
+    """A row of squares with water."""
+    sheet = flat_grid(1, len(depths))
+    for column, depth in enumerate(depths):
+        sheet.put((0, column), 0, 100, depth)
     return sheet.text(SECOND)
 
 
@@ -32,6 +45,8 @@ BASES = {
     "three by three": square_grid(3, 0),
     # the exit that document 01 works by hand: line 3 has 1 cm of water, and every side lies off the grid
     "exit": square_grid(1, 10_000, "e"),
+    # the middle square is 1 µm above the west one and 30 cm above the east one
+    "standing": row_of(999_999, 1_000_000, 700_000),
     "nothing": "",
 }
 A_HATCH = line_of(INFLOW, {"row": 0, "column": 0, "from": 0, "to": SECOND, "litres": 1})
@@ -172,6 +187,43 @@ CASES = [
         [field(2, "shortest", 500), field(2, "edge", 101), field(3, "depth", 1_000_000)],
         left([977_376], 22_624, steps=2),
     ),
+    # the editions, each worked by hand. One drop alone: editions 1 and 3 send half of m·T / VM = 62, edition 2 sends m = 31
+    ("edition-2-one-drop", "document 01", "edition 2 where there is one drop", [field(2, "edition", 2)], left([969, 31], 0)),
+    ("edition-3-one-drop", "document 01", "edition 3 where there is one drop", [field(2, "edition", 3)], left([969, 31], 0)),
+    # m = 3,132 through each side, 12,528 in all: each becomes 3,132·10,000 / 12,528 = 2,500
+    ("edition-2-exit", "exit", "edition 2 lets out more than there is, cut down to the depth", [field(2, "edition", 2)], left([0], 10_000)),
+    # c = 250,567 is above 250,000: m = 1,603, and 1,603·6,400 / 6,412 = 1,600
+    (
+        "edition-2-just-scaled",
+        "exit",
+        "edition 2 just above the depth",
+        [field(2, "edition", 2), field(3, "depth", 6_400)],
+        left([0], 6_400),
+    ),
+    # c = 249,999 is below 250,000: m = 1,592, and the four come to 6,368
+    (
+        "edition-2-just-not-scaled",
+        "exit",
+        "edition 2 just below the depth",
+        [field(2, "edition", 2), field(3, "depth", 6_371)],
+        left([3], 6_368),
+    ),
+    # d = 2 and e = 10,000: h = 1, s = 14, v = 14 and m = 0
+    ("edition-2-thin", "exit", "edition 2 with water too thin to move", [field(2, "edition", 2), field(3, "depth", 2)], left([2], 0)),
+    # m·T / VM = 15,660 as with every edge slope, so the total is d and not Vmin + P = 5,000: 2,000 to each side
+    (
+        "edition-3-without-limit",
+        "exit",
+        "edition 3 where the least drop would limit",
+        [field(2, "edition", 3), field(2, "edge", 50)],
+        left([2_000], 8_000),
+    ),
+    # Vmin = 1 and T = 300,002: the total 1 gives the steep side 300,000 / 300,002 = 0
+    ("edition-1-standing", "standing", "edition 1, and the middle square stands", [], left([999_999, 1_000_000, 700_000], 0)),
+    # c = 3,132,091, so that m passes d: the total 1,000,000 gives 999,993 to the east and 3 to the west
+    ("edition-3-standing", "standing", "edition 3 frees it", [field(2, "edition", 3)], left([1_000_002, 4, 1_699_993], 0)),
+    # d to the east, and with s = 10 and v = 100,000 a tenth of it to the west: of 1,100,000, 909,090 and 90,909
+    ("edition-2-standing", "standing", "edition 2 frees it", [field(2, "edition", 2)], left([1_090_908, 1, 1_609_090], 0)),
     # the text: 12 with its line
     ("empty", "nothing", "nothing at all", [], (12, 1)),
     ("blank-first-line", "document 01", "a blank line before the first", [before("")], (12, 1)),
@@ -183,12 +235,15 @@ CASES = [
     ("grid-spaces", "document 01", "spaces for tabs", [spaces(1)], (12, 1)),
     ("grid-word-upper-case", "document 01", "the first word in upper case", [word(1, "Grid")], (12, 1)),
     ("run-missing", "document 01", "the grid line alone", [cut(2)], (12, 2)),
-    ("run-without-edge", "document 01", "the run line without its edge slope, as it once was", [last_gone(2)], (12, 2)),
-    ("run-field-missing", "document 01", "the run line without its two last fields", [last_gone(2), last_gone(2)], (12, 2)),
-    ("run-field-too-many", "document 01", "a seventh field on the run line", [one_more(2)], (12, 2)),
+    ("run-without-edition", "document 01", "the run line without its edition, as it once was", [last_gone(2)], (12, 2)),
+    ("run-without-edge", "document 01", "without its edge slope too, as it was before that", [last_gone(2), last_gone(2)], (12, 2)),
+    ("run-field-missing", "document 01", "the run line without its three last fields", [only(2, 4)], (12, 2)),
+    ("run-field-too-many", "document 01", "an eighth field on the run line", [one_more(2)], (12, 2)),
     ("run-needless-zero", "document 01", "a needless zero", [field(2, "tolerance", "0100")], (12, 2)),
     ("run-sign", "document 01", "a sign", [field(2, "tolerance", "-1")], (12, 2)),
-    ("run-edge-empty", "document 01", "a tab at the run line's end, and no edge slope", [field(2, "edge", "")], (12, 2)),
+    ("run-edge-empty", "document 01", "two tabs before the edition, and no edge slope", [field(2, "edge", "")], (12, 2)),
+    ("run-edition-empty", "document 01", "a tab at the run line's end, and no edition", [field(2, "edition", "")], (12, 2)),
+    ("run-edition-needless-zero", "document 01", "edition 01", [field(2, "edition", "01")], (12, 2)),
     ("cells-missing", "document 01", "no square", [cut(3)], (12, 3)),
     ("cell-missing", "document 01", "one square too few", [cut(4)], (12, 4)),
     ("cell-too-many", "document 01", "one square too many", [after(SOUTH_OF_THE_GRID)], (12, 5)),
@@ -232,6 +287,9 @@ CASES = [
     ("update-0", "document 01", "an update time of 0", [field(2, "update", 0)], (5, 0)),
     ("edge-too-large", "document 01", "an edge slope of 10,001", [field(2, "edge", 10_001)], (5, 0)),
     ("edge-number-largest", "document 01", "an edge slope of 2^32 - 1, read and then judged", [field(2, "edge", 4_294_967_295)], (5, 0)),
+    ("edition-0", "document 01", "edition 0", [field(2, "edition", 0)], (5, 0)),
+    ("edition-4", "document 01", "edition 4", [field(2, "edition", 4)], (5, 0)),
+    ("edition-number-largest", "document 01", "an edition of 2^32 - 1, read and then judged", [field(2, "edition", 4_294_967_295)], (5, 0)),
     ("end-no-multiple", "document 01", "an end that is no multiple of the update time", [field(2, "end", 1_500)], (5, 0)),
     ("end-too-late", "document 01", "an end after a week", [field(2, "end", 604_801_000)], (5, 0)),
     # the run itself
@@ -273,6 +331,13 @@ CASES = [
         "document 01",
         "a tolerance of 10,001, and rain that ends before it begins",
         [field(2, "tolerance", 10_001), after(A_SHOWER), field(5, "from", 2), field(5, "to", 1)],
+        (4, 0),
+    ),
+    (
+        "two-rain-before-edition",
+        "document 01",
+        "edition 4, and rain that ends before it begins",
+        [field(2, "edition", 4), after(A_SHOWER), field(5, "from", 2), field(5, "to", 1)],
         (4, 0),
     ),
     # the program's own limit

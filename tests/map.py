@@ -1,6 +1,6 @@
 #!/usr/bin/env python3
 """The map of each sample has a wall for each closed square, an exit for each exit, blue just where the answer has water, and a mark for
-each standing square; a refused sheet has no map."""
+each standing square; one of another edition says so instead; a refused sheet has no map."""
 import subprocess
 import sys
 import tempfile
@@ -16,7 +16,7 @@ from meadow.sheets import read  # noqa: E402
 
 TOOL = TOP / "tools" / "map.py"
 SAMPLES = TOP / "samples"
-KINDS = ("wall", "exit", "wet", "dry", "standing")
+KINDS = ("wall", "exit", "wet", "dry", "standing", "edition")
 # the samples that have standing squares, and how many
 STANDING = {"held-pond": 22}
 
@@ -30,7 +30,7 @@ def expected(sheet, answer):
     marks = [square["mark"] for square in read(sheet.read_text())[0].squares.values()]
     depths = Answer(answer.read_text()).depths.values()
     wet = sum(depth > 0 for depth in depths)
-    return dict(zip(KINDS, (marks.count("x"), marks.count("e"), wet, len(depths) - wet, STANDING.get(sheet.stem, 0))))
+    return dict(zip(KINDS, (marks.count("x"), marks.count("e"), wet, len(depths) - wet, STANDING.get(sheet.stem, 0), 0)))
 
 
 def found(svg):
@@ -50,6 +50,17 @@ def hold_samples(checks):
                 checks.hold(counts[kind] == wanted[kind], f"{sheet.name}: {counts[kind]} of {kind} drawn, not {wanted[kind]}")
 
 
+def hold_edition(checks):
+    """The held pond as a sheet of edition 3: no square stands, and the map says why."""
+    held, end = read((SAMPLES / "held-pond.sheet").read_text())
+    held.run["edition"] = 3
+    with tempfile.NamedTemporaryFile("w", suffix=".sheet") as sheet:
+        sheet.write(held.text(end))
+        sheet.flush()
+        counts = found(drawn(sheet.name, SAMPLES / "held-pond.out").stdout)
+    checks.hold((counts["standing"], counts["edition"]) == (0, 1), f"the map of edition 3 has {counts}")
+
+
 def hold_refusal(checks):
     with tempfile.NamedTemporaryFile("w", suffix=".out") as answer:
         answer.write(refused_text(12, 3))
@@ -61,6 +72,7 @@ def hold_refusal(checks):
 def main():
     checks = Checks("map")
     hold_samples(checks)
+    hold_edition(checks)
     hold_refusal(checks)
     checks.end()
 

@@ -39,6 +39,7 @@ UNITS = {
     "longest step": "longest",
     "update time": "update",
     "edge slope": "edge",
+    "edition": "edition",
     "clock, and times in tables": "clock",
     "rain": "rate",
     "inflow": "litres",

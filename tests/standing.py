@@ -10,6 +10,7 @@ sys.path.insert(0, str(Path(__file__).resolve().parent.parent / "python"))
 from meadow.counted import Checks  # noqa: E402
 from meadow.lines import SECOND, Sheet, answer_text  # noqa: E402
 from meadow.programs import TOP  # noqa: E402
+from meadow.weighing import EDITIONS, WEIGHTED  # noqa: E402
 
 TOOL = TOP / "tools" / "standing.py"
 # Beds and depths of three squares in a row, D 10, roughness 300, steps of 1000 ms; the edge slope where the middle square is an exit; then
@@ -37,9 +38,9 @@ def told(sheet, answer):
     return subprocess.run([sys.executable, TOOL, sheet, answer], capture_output=True, text=True)
 
 
-def pond(beds, depths, edge):
+def pond(beds, depths, edge, edition=1):
     """Three squares in a row, before any step."""
-    sheet = Sheet(1, 3, 10, tolerance=0, shortest=SECOND, longest=SECOND, update=SECOND, edge=edge or 0)
+    sheet = Sheet(1, 3, 10, tolerance=0, shortest=SECOND, longest=SECOND, update=SECOND, edge=edge or 0, edition=edition)
     for column, (bed, depth) in enumerate(zip(beds, depths)):
         sheet.put((0, column), bed, 300, depth, "e" if column == 1 and edge is not None else "o")
     return sheet.text(0)
@@ -57,11 +58,14 @@ def expected(depths, standing):
 
 
 def hold_ponds(checks, room):
+    """Each row as worked by hand; without the limit Vmin + P, in editions 2 and 3, no square stands."""
     for name, beds, depths, edge, standing in ROWS:
         sheet, answer = Path(room) / "sheet", Path(room) / "out"
-        sheet.write_text(pond(beds, depths, edge))
         answer.write_text(answered(depths))
-        checks.hold(told(sheet, answer).stdout == expected(depths, standing), f"{name}: not as worked by hand")
+        for edition in EDITIONS:
+            sheet.write_text(pond(beds, depths, edge, edition))
+            wanted = expected(depths, standing if edition == WEIGHTED else [])
+            checks.hold(told(sheet, answer).stdout == wanted, f"{name}, edition {edition}: not as worked by hand")
 
 
 def hold_samples(checks):

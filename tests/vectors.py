@@ -1,5 +1,6 @@
 #!/usr/bin/env python3
-"""The rows of the program `vectors`, read from its source and worked by document 01 in Python, held to crates/vectors/stdout.
+"""The rows of the program `vectors`, read from its source and worked by document 01 in Python, by each edition of the rule, held to
+crates/vectors/stdout.
 
 vectors.py --write writes that file instead.
 """
@@ -11,7 +12,7 @@ sys.path.insert(0, str(Path(__file__).resolve().parent.parent / "python"))
 from meadow.ranges import RANGES, fine  # noqa: E402
 from meadow.sources import constants  # noqa: E402
 from meadow.step_length import candidates  # noqa: E402
-from meadow.weighing import weigh  # noqa: E402
+from meadow.weighing import EDITIONS, weigh  # noqa: E402
 from stored import hold  # noqa: E402
 
 NAMES = ("side", "tolerance", "depth", "last", "roughness", "lasted")
@@ -19,16 +20,16 @@ NAMES = ("side", "tolerance", "depth", "last", "roughness", "lasted")
 HIGHEST_DROP = RANGES["bed"][1] + RANGES["depth"][1]
 
 
-def line(row):
-    """What the program prints of a row: four transfers, and the least of the longest step and the candidates."""
+def line(row, edition):
+    """What the program prints of a row by an edition: four transfers, and the least of the longest step and the candidates."""
     values, drops = dict(zip(NAMES, row)), row[len(NAMES) :]
     if not all(fine(name, value) for name, value in values.items()) or len(drops) != 4 or max(drops) > HIGHEST_DROP:
         raise ValueError(f"a row of crates/vectors is out of range: {row}")
     side, tolerance, depth, last, roughness, ms = values.values()
-    leaves = weigh(side, depth, last, roughness, ms, drops)
+    leaves = weigh(side, depth, last, roughness, ms, drops, edition)
     least = min([RANGES["longest"][1], *candidates(side, tolerance, depth, roughness, drops)])
     return " ".join(map(str, [*leaves, least])) + "\n"
 
 
 if __name__ == "__main__":
-    hold("vectors", "".join(line(row) for row in constants("vectors")["VECTORS"]))
+    hold("vectors", "".join(line(row, edition) for row in constants("vectors")["VECTORS"] for edition in EDITIONS))

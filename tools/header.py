@@ -46,7 +46,7 @@ REFUSALS = [
     ("GROUND", "mark above 2, exit off the rim, bed or roughness of a square not closed out of range"),
     ("WATER", "depth or last leaving of a square not closed out of range"),
     ("TABLE", "rain or inflow: odd length, over 64 rows, a value out of range, from > to, a closed or missing square"),
-    ("RULES", "q, step limits, U, e or wet depth out of range; end not a multiple of U or out of range"),
+    ("RULES", "q, step limits, U, e, edition or wet depth out of range; end not a multiple of U or out of range"),
     ("RUN", "no room for a record, or a run value out of range"),
     ("CLOCK", "the step would pass clock 604,800,000"),
     ("DEPTH", "a new depth above 100,000,000"),
@@ -76,7 +76,7 @@ TOP = """\
    number; and one that a call may write overlaps with no other array of that call.
 
    These arrays have exactly so many numbers, else the call is refused by 1 before all else:
-     rules       square_side, tolerance, shortest, longest, update, edge
+     rules       square_side, tolerance, shortest, longest, update, edge, edition
      run         clock, length, outflow, kept, newest: goes in, and the run that the call leaves comes out in it, for the next call;
                  flood_fresh only writes it, flood_arrow only reads it
      steps       the steps that a run to an end made

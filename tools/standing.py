@@ -2,7 +2,8 @@
 """standing.py SHEET ANSWER: counts and lists the standing squares of what `meadow` answered to a sheet.
 
 Prints `standing` and the count, `steep` and how many of them fall by 1 mm or more on some side, then for each, the steepest first,
-`square`, row, column, depth, least drop and greatest drop in µm. python/meadow/standing.py says what a standing square is.
+`square`, row, column, depth, least drop and greatest drop in µm. python/meadow/standing.py says what a standing square is. A sheet
+of edition 2 or 3 has none.
 """
 import sys
 from pathlib import Path

@@ -5,14 +5,16 @@ from pathlib import Path
 
 sys.path.insert(0, str(Path(__file__).resolve().parent.parent / "python"))
 
-from analytical_wave import compare, wave_depth, wave_sheet  # noqa: E402
+from analytical_wave import WAVES, compare, fold, wave_depth, wave_sheet  # noqa: E402
 from ditch_mouth import BED_EDGE, BELOW_EDGE, FLOW, SQUARES, normal_depth, profile  # noqa: E402
+from editions import FIXED, wave as wave_by  # noqa: E402
 from long_step import RUNS, level_meadow  # noqa: E402
 from meadow.drawing import svg  # noqa: E402
 from meadow.grounds import HELD_MOUTH, opened_pond  # noqa: E402
 from meadow.lines import HOUR, MINUTE, SECOND  # noqa: E402
 from meadow.programs import TOP, ended, meadow  # noqa: E402
 from pond import settled  # noqa: E402
+from shared import limits  # noqa: E402
 
 FOLDER = TOP / "docs" / "pictures"
 WIDTH, HEIGHT = 640, 300
@@ -73,6 +75,22 @@ def wave():
     return chart.text()
 
 
+def editions():
+    """The wave by each edition in steps of four times the least, as source 000's Fig. 5 has it."""
+    side, fixed = 10, FIXED[10][1]
+    places = fold(WAVES[side])
+    chart = Chart(range(0, 3_751, 750), [0, 1, 2, 3, 4, 5, 6], "distance from the inlet, m", f"depth, m, after 3,600 s in steps of {fixed} ms")
+    for edition, colour in ((2, RED), (3, GREEN), (1, BLUE)):
+        found, _ = compare(wave_by(side, limits(0, fixed, fixed, 60_000), edition), places, side)
+        chart.line([((i + 0.5) * side, depth) for i, depth in enumerate(found)], colour)
+    chart.line([(x, wave_depth(x, HOUR / SECOND)) for x in (*range(0, 3_600, 25), *range(3_576, 3_601, 2), 3_750)], GREY, "4 3")
+    chart.name(1_600, 5.2, "dashes: the analytical wave", GREY)
+    chart.name(1_600, 4.7, "blue: edition 1", BLUE)
+    chart.name(1_600, 4.2, "red: edition 2, Manning in each direction", RED)
+    chart.name(1_600, 3.7, "green: edition 3, without the limit Vmin + P", GREEN)
+    return chart.text()
+
+
 def ditch_mouth():
     side = 10
     centres = [(column + 0.5) * side for column in range(SQUARES)]
@@ -100,6 +118,7 @@ PICTURES = {
     "wave.svg": wave,
     "held-pond.svg": lambda: map_of(opened_pond(settled(), HELD_MOUTH), 10 * MINUTE),
     "ditch-mouth.svg": ditch_mouth,
+    "editions.svg": editions,
     "usual-steps.svg": lambda: map_of(level_meadow(RUNS["usual"]), 30 * MINUTE),
     "long-steps.svg": lambda: map_of(level_meadow(RUNS["all 60 s"]), 30 * MINUTE),
 }

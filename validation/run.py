@@ -13,6 +13,7 @@ sys.path.insert(0, str(Path(__file__).resolve().parent.parent / "python"))
 import analytical_wave  # noqa: E402
 import basin  # noqa: E402
 import ditch_mouth  # noqa: E402
+import editions  # noqa: E402
 import lake  # noqa: E402
 import long_step  # noqa: E402
 import pond  # noqa: E402
@@ -36,6 +37,7 @@ PARTS = {
     "thin": thin_water,
     "mouth": ditch_mouth,
     "step": long_step,
+    "editions": editions,
 }
 
 

@@ -5,7 +5,7 @@
    number; and one that a call may write overlaps with no other array of that call.
 
    These arrays have exactly so many numbers, else the call is refused by 1 before all else:
-     rules       square_side, tolerance, shortest, longest, update, edge
+     rules       square_side, tolerance, shortest, longest, update, edge, edition
      run         clock, length, outflow, kept, newest: goes in, and the run that the call leaves comes out in it, for the next call;
                  flood_fresh only writes it, flood_arrow only reads it
      steps       the steps that a run to an end made
@@ -48,7 +48,7 @@ extern "C" {
 #define FLOOD_REFUSED_GROUND 2 /* mark above 2, exit off the rim, bed or roughness of a square not closed out of range */
 #define FLOOD_REFUSED_WATER 3 /* depth or last leaving of a square not closed out of range */
 #define FLOOD_REFUSED_TABLE 4 /* rain or inflow: odd length, over 64 rows, a value out of range, from > to, a closed or missing square */
-#define FLOOD_REFUSED_RULES 5 /* q, step limits, U, e or wet depth out of range; end not a multiple of U or out of range */
+#define FLOOD_REFUSED_RULES 5 /* q, step limits, U, e, edition or wet depth out of range; end not a multiple of U or out of range */
 #define FLOOD_REFUSED_RUN 6 /* no room for a record, or a run value out of range */
 #define FLOOD_REFUSED_CLOCK 7 /* the step would pass clock 604,800,000 */
 #define FLOOD_REFUSED_DEPTH 8 /* a new depth above 100,000,000 */
@@ -57,12 +57,12 @@ extern "C" {
 #define FLOOD_REFUSED_RECORD 11 /* the newest record cannot be right */
 #define FLOOD_REFUSED_TEXT 12 /* sheet text, with its line */
 
-#define FLOOD_RULES_NUMBERS 6
+#define FLOOD_RULES_NUMBERS 7
 #define FLOOD_RUN_NUMBERS 5
 #define FLOOD_STEPS_NUMBERS 1
 #define FLOOD_SPEED_NUMBERS 2
 #define FLOOD_COUNT_NUMBERS 1
-#define FLOOD_HEADING_NUMBERS 11
+#define FLOOD_HEADING_NUMBERS 12
 #define FLOOD_LINE_NUMBERS 1
 #define FLOOD_OUT_ROOM 40960
 #define FLOOD_RAIN_ROOM 192

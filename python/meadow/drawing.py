@@ -1,11 +1,12 @@
 """A map of a sheet and of what `meadow` answered to it, as SVG.
 
 Depths are blue in steps, closed squares are walls, exits have a gold edge, dry ground is shaded by its height. Standing squares have a
-red diamond: filled where the square falls by 1 mm or more on some side, else an outline. No depth is computed: those that the answer has
-are drawn.
+red diamond: filled where the square falls by 1 mm or more on some side, else an outline; an edition of the rule other than the first, in
+which no square stands, is said instead. No depth is computed: those that the answer has are drawn.
 """
 from .lines import CLOSED
 from .standing import STEEP, standing_squares
+from .weighing import WEIGHTED
 
 SQUARE = 22
 MARGIN = 28
@@ -78,7 +79,17 @@ def numbers(rows, columns):
     return drawn + [words(MARGIN - 6, MARGIN + row * SQUARE + middle, row, down) for row in range(0, rows, EVERY)]
 
 
-def legend(x, side, lowest, highest, totals, standing):
+def legend_of_standing(x, y, standing):
+    """The two kinds of standing squares, and how many there are."""
+    drawn = []
+    for steep, name in ((True, "standing, falls by 1 mm or more"), (False, "standing, falls by less")):
+        count = sum((square[4] >= STEEP) == steep for square in standing)
+        drawn += [diamond(x + 8 - SQUARE / 2, y + 7 - SQUARE / 2, steep), words(x + 24, y + 12, f"{name}: {count}")]
+        y += 18
+    return drawn
+
+
+def legend(x, sheet, lowest, highest, totals, standing):
     drawn = [words(x, MARGIN + 12, "depth of water", ' font-weight="bold"')]
     y = MARGIN + 24
     for _, colour, name in BLUES:
@@ -91,12 +102,12 @@ def legend(x, side, lowest, highest, totals, standing):
         drawn += [box(x, y, 16, 14, colour), words(x + 24, y + 12, name)]
         y += 18
     drawn += [box(x + 1, y + 1, 14, 12, "none", f' stroke="{EXIT}" stroke-width="3"'), words(x + 24, y + 12, "exit")]
-    for steep, name in ((True, "standing, falls by 1 mm or more"), (False, "standing, falls by less")):
-        y += 18
-        count = sum((square[4] >= STEEP) == steep for square in standing)
-        drawn += [diamond(x + 8 - SQUARE / 2, y + 7 - SQUARE / 2, steep), words(x + 24, y + 12, f"{name}: {count}")]
-    y += 34
-    drawn.append(words(x, y, f"a square is {side} m by {side} m; north is up"))
+    if sheet.run["edition"] == WEIGHTED:
+        drawn += legend_of_standing(x, y + 18, standing)
+    else:
+        drawn.append(words(x, y + 30, f"edition {sheet.run['edition']}: no square stands", ' class="edition"'))
+    y += 70
+    drawn.append(words(x, y, f"a square is {sheet.side} m by {sheet.side} m; north is up"))
     for name, unit in (("clock", " ms"), ("steps", ""), ("out", " µm over one square")):
         if name in totals:
             y += 18
@@ -119,5 +130,5 @@ def svg(sheet, answer):
     for row, column, _, _, greatest in standing:
         drawn.append(diamond(MARGIN + column * SQUARE, MARGIN + row * SQUARE, greatest >= STEEP, ' class="standing"'))
     drawn += numbers(sheet.rows, sheet.columns)
-    drawn += legend(2 * MARGIN + sheet.columns * SQUARE, sheet.side, lowest, highest, answer.totals, standing)
+    drawn += legend(2 * MARGIN + sheet.columns * SQUARE, sheet, lowest, highest, answer.totals, standing)
     return "\n".join(drawn + ["</svg>"]) + "\n"

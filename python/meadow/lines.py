@@ -24,6 +24,7 @@ SHEET_LINES = {
         Field("update", 60_000),
         Field("end"),
         Field("edge", 10_000),
+        Field("edition", 1),
     ],
     "cell": [Field("row"), Field("column"), Field("mark", "o"), Field("bed"), Field("roughness"), Field("depth", 0)],
     "rain": [Field("from"), Field("to"), Field("rate")],

@@ -19,6 +19,7 @@ RANGES = {
     "longest": (1, 60_000),
     "update": (1, 3_600_000),
     "edge": (0, 10_000),
+    "edition": (1, 3),
     "length": (1, 60_000),
     "lasted": (1, 60_000),
     "clock": (0, LAST_CLOCK),

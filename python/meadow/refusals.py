@@ -72,8 +72,8 @@ def inflow_wrong(m):
 
 
 def rules_wrong(m):
-    """Of 5: tolerance, step limits, update time or edge slope out of range."""
-    named = all(fine(name, m.rules[name]) for name in ("tolerance", "shortest", "longest", "update", "edge"))
+    """Of 5: tolerance, step limits, update time, edge slope or edition out of range."""
+    named = all(fine(name, m.rules[name]) for name in ("tolerance", "shortest", "longest", "update", "edge", "edition"))
     return not named or m.rules["shortest"] > m.rules["longest"]
 
 

@@ -1,6 +1,6 @@
 """The square that docs/METHOD.md works by hand: 25 cm of water, two neighbours lower, one higher, one closed."""
 from .step_length import candidates
-from .weighing import height, most_through, slope, speed, weigh
+from .weighing import DIRECTED, UNLIMITED, height, most_through, slope, speed, weigh
 
 SIDE, ROUGHNESS, DEPTH, LAST, LASTS, TOLERANCE = 10, 300, 250_000, 15_000, 1_000, 10
 # north, east, south, west
@@ -12,7 +12,8 @@ def worked():
     least, greatest = min(drop for drop in DROPS if drop), max(DROPS)
     weights = sum(DROPS) + least
     m = most_through(SIDE, DEPTH, ROUGHNESS, LASTS, greatest)
-    leaves = weigh(SIDE, DEPTH, LAST, ROUGHNESS, LASTS, DROPS)
+    square = SIDE, DEPTH, LAST, ROUGHNESS, LASTS, DROPS
+    leaves, directed, unlimited = weigh(*square), weigh(*square, DIRECTED), weigh(*square, UNLIMITED)
     (candidate,) = candidates(SIDE, TOLERANCE, DEPTH, ROUGHNESS, DROPS)
     return {
         "Vmin": least,
@@ -28,6 +29,10 @@ def worked():
         "east": leaves[1],
         "P after": sum(leaves),
         "candidate": candidate,
+        "edition 2, north": directed[0],
+        "edition 2, east": directed[1],
+        "edition 3, north": unlimited[0],
+        "edition 3, east": unlimited[1],
     }
 
 

@@ -16,7 +16,7 @@ def across(side):
 
 
 class Meadow:
-    """Shape, rules (side, tolerance, shortest, longest, update, edge) and slices as they are lent, and the run value."""
+    """Shape, rules (side, tolerance, shortest, longest, update, edge, edition) and slices as they are lent, and the run value."""
 
     def __init__(self, rows, columns, rules, marks, beds, roughness, rain, inflow, depths, lasts, records):
         self.rows, self.columns, self.rules = rows, columns, rules

@@ -1,12 +1,12 @@
 //! The exported functions as a Rust program links and calls them. Made from crates/exports/src by tools/header.py, and kept true by
 //! tests/header.py.
 
-pub const RULES_NUMBERS: usize = 6;
+pub const RULES_NUMBERS: usize = 7;
 pub const RUN_NUMBERS: usize = 5;
 pub const STEPS_NUMBERS: usize = 1;
 pub const SPEED_NUMBERS: usize = 2;
 pub const COUNT_NUMBERS: usize = 1;
-pub const HEADING_NUMBERS: usize = 11;
+pub const HEADING_NUMBERS: usize = 12;
 pub const LINE_NUMBERS: usize = 1;
 pub const OUT_ROOM: usize = 40960;
 pub const RAIN_ROOM: usize = 192;

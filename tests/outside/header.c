@@ -16,7 +16,7 @@ static void expect(const char *what, uint64_t got, uint64_t wanted)
 
 int main(void)
 {
-    const char *sheet = "grid\t1\t2\t1\nrun\t100\t1000\t1000\t1000\t1000\t10000\n"
+    const char *sheet = "grid\t1\t2\t1\nrun\t100\t1000\t1000\t1000\t1000\t10000\t1\n"
                         "cell\t0\t0\to\t0\t100\t1000\ncell\t0\t1\to\t0\t100\t0\n";
     const char *answer = "cell\t0\t0\t969\ncell\t0\t1\t31\nout\t0\nsteps\t1\nclock\t1000\n";
     const uint8_t *text = (const uint8_t *)sheet;
@@ -33,6 +33,7 @@ int main(void)
     expect("read", flood_read_sheet(text, strlen(sheet), marks, 2, beds, 2, roughness, 2, depths, 2, rain, FLOOD_RAIN_ROOM, inflow, FLOOD_INFLOW_ROOM, heading, FLOOD_HEADING_NUMBERS, line, FLOOD_LINE_NUMBERS), FLOOD_DONE);
     expect("columns", heading[1], 2);
     expect("edge slope", rules[5], 10000);
+    expect("edition", rules[6], 1);
     expect("end", heading[FLOOD_HEADING_RULES + FLOOD_RULES_NUMBERS], 1000);
     expect("fresh", flood_fresh(1, 2, rules, FLOOD_RULES_NUMBERS, marks, 2, lasts, 2, records, record, run, FLOOD_RUN_NUMBERS), FLOOD_DONE);
     expect("last leaving", lasts[0] + lasts[1], 0);

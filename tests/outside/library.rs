@@ -4,7 +4,7 @@ use crate::declared::*;
 use crate::reference::{Meadow, Rules, Run};
 
 pub fn rules_numbers(rules: &Rules) -> [u64; RULES_NUMBERS] {
-    [rules.square_side, rules.tolerance, rules.shortest, rules.longest, rules.update, rules.edge]
+    [rules.square_side, rules.tolerance, rules.shortest, rules.longest, rules.update, rules.edge, rules.edition]
 }
 
 pub fn run_numbers(run: &Run) -> [u64; RUN_NUMBERS] {

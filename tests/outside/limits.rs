@@ -49,6 +49,7 @@ fn rules_and_run(changes: &mut Vec<Change>, base: &Lent) {
     each(changes, wide(shortest, shortest), |lent, value| lent.rules.longest = value);
     each(changes, wide(1, 3_600_000), |lent, value| lent.rules.update = value);
     each(changes, wide(0, 10_000), |lent, value| lent.rules.edge = value);
+    each(changes, wide(1, 3), |lent, value| lent.rules.edition = value);
     each(changes, wide(0, MOST_CLOCK), |lent, value| lent.run.clock = value);
     each(changes, wide(1, 60_000), |lent, value| lent.run.length = value);
     each(changes, wide(0, MOST_OUTFLOW), |lent, value| lent.run.outflow = value);
@@ -123,7 +124,7 @@ fn sizes(changes: &mut Vec<Change>, base: &Lent) {
     each(changes, ways(), |lent, way| resized(&mut lent.wet, way));
     let record = base.meadow.record_size() as u64;
     each(changes, vec![record - 1, record, record + 1], |lent, length| lent.meadow.records.resize(length as usize, 7));
-    for more in [-6, -1, 1, 7] {
+    for more in [-7, -1, 1, 7] {
         changes.push(Box::new(move |lent| lent.sizes.rules = more));
         changes.push(Box::new(move |lent| lent.sizes.run = more));
         changes.push(Box::new(move |lent| lent.sizes.answer = more));

@@ -64,6 +64,7 @@ pub fn rules(chance: &mut Chance) -> Rules {
         longest,
         update: update(chance, shortest, longest),
         edge: edge(chance),
+        edition: chance.between(1, 3),
     }
 }
 

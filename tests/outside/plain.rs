@@ -12,6 +12,10 @@ const MOST_OUTFLOW: u64 = 1_000_000_000_000_000;
 /// The greatest critical speed in µm/s, that of the deepest water.
 const GREATEST_CRITICAL: u64 = 31_320_919;
 
+/// The editions whose rule is not document 01's.
+const DIRECTED: u64 = 2;
+const UNLIMITED: u64 = 3;
+
 /// Beyond the rim: a mark of this engine only.
 const BEYOND: u8 = 3;
 
@@ -208,13 +212,31 @@ impl<'a> Ringed<'a> {
         least.max(rules.shortest)
     }
 
-    /// Manning's speed in µm/s of a square with water.
-    fn manning<R: Roots>(&self, at: usize, greatest: u64, side: u64) -> u64 {
-        let depth = self.depths[at] as u64;
-        100 * R::cube(depth * depth) * R::square(100 * greatest / side) / self.roughness[at] as u64
+    /// Manning's speed in µm/s of a square with water, from its height.
+    fn manning<R: Roots>(&self, at: usize, high: u64, drop: u64, side: u64) -> u64 {
+        100 * high * R::square(100 * drop / side) / self.roughness[at] as u64
     }
 
-    fn flow<R: Roots>(&self, at: usize, side: u64, lasted: u64) -> [u32; 4] {
+    /// The most through a side, held to the depth.
+    fn most<R: Roots>(&self, at: usize, high: u64, drop: u64, side: u64, lasted: u64) -> u64 {
+        let depth = self.depths[at] as u64;
+        most_held(speed::<R>(depth, self.manning::<R>(at, high, drop, side)) * lasted, depth, side * 1_000_000_000)
+    }
+
+    /// Edition 2: each side by its own drop, with one height for all four, and cut down where they come to more than the depth.
+    fn directed<R: Roots>(&self, at: usize, drops: [u64; 4], side: u64, lasted: u64) -> [u32; 4] {
+        let depth = self.depths[at] as u64;
+        let high = R::cube(depth * depth);
+        let amounts = drops.map(|drop| if drop == 0 { 0 } else { self.most::<R>(at, high, drop, side, lasted) });
+        let sum = amounts[0] + amounts[1] + amounts[2] + amounts[3];
+        if sum <= depth {
+            return amounts.map(|amount| amount as u32);
+        }
+        amounts.map(|amount| if amount == 0 { 0 } else { (amount * depth / sum) as u32 })
+    }
+
+    fn flow<R: Roots>(&self, at: usize, rules: &Rules, lasted: u64) -> [u32; 4] {
+        let side = rules.square_side;
         let depth = self.depths[at] as u64;
         if depth == 0 {
             return [0; 4];
@@ -224,21 +246,26 @@ impl<'a> Ringed<'a> {
         if greatest == 0 {
             return [0; 4];
         }
+        if rules.edition == DIRECTED {
+            return self.directed::<R>(at, drops, side, lasted);
+        }
         let least = drops.iter().fold(greatest, |least, drop| if *drop > 0 { least.min(*drop) } else { least });
         let whole = drops[0] + drops[1] + drops[2] + drops[3] + least;
-        let moved = speed::<R>(depth, self.manning::<R>(at, greatest, side)) * lasted;
-        let most = most_held(moved, depth, side * 1_000_000_000);
-        let total = depth.min(most * whole / greatest).min(least + self.lasts[at] as u64);
+        let most = self.most::<R>(at, R::cube(depth * depth), greatest, side, lasted);
+        let mut total = depth.min(most * whole / greatest);
+        if rules.edition != UNLIMITED {
+            total = total.min(least + self.lasts[at] as u64);
+        }
         drops.map(|drop| if drop == 0 { 0 } else { (total * drop / whole) as u32 })
     }
 
     /// Fills `flows`, and gives what leaves the grid.
-    fn find_flows<R: Roots>(&mut self, side: u64, lasted: u64) -> u64 {
+    fn find_flows<R: Roots>(&mut self, rules: &Rules, lasted: u64) -> u64 {
         let mut off = 0;
         for row in 0..self.rows {
             let from = self.at(row, 0);
             for at in from..from + self.columns {
-                let flow = self.flow::<R>(at, side, lasted);
+                let flow = self.flow::<R>(at, rules, lasted);
                 self.flows[at] = flow;
                 if self.marks[at] == EXIT {
                     for (next, amount) in self.neighbours(at).into_iter().zip(flow) {
@@ -317,7 +344,7 @@ impl<'a> Ringed<'a> {
         if clock > MOST_CLOCK {
             return Err(7);
         }
-        let outflow = run.outflow + self.find_flows::<R>(rules.square_side, lasted);
+        let outflow = run.outflow + self.find_flows::<R>(rules, lasted);
         let rained = self.find_added(rules.square_side, run.clock, clock);
         if !self.find_depths(rained) {
             return Err(8);
@@ -369,7 +396,8 @@ pub fn critical_roots(meadow: &Meadow, rules: &Rules) -> (usize, usize) {
         let greatest = ringed.drops(at).into_iter().max().unwrap();
         if greatest > 0 {
             weighed += 1;
-            found += !is_subcritical(depth, ringed.manning::<Digits>(at, greatest, rules.square_side)) as usize;
+            let high = Digits::cube(depth * depth);
+            found += !is_subcritical(depth, ringed.manning::<Digits>(at, high, greatest, rules.square_side)) as usize;
         }
     }
     (weighed, found)

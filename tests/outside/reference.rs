@@ -1,5 +1,5 @@
-//! Document 01 in plain Rust, in its order and its words, with requests #102 and #105 of document 02, written from the documents alone:
-//! what the library is compared with.
+//! Document 01 in plain Rust, in its order and its words, with requests #102, #105 and #113 of document 02, written from the documents
+//! alone: what the library is compared with.
 //! Amounts are `u128`, so that every formula stands as it is written there. The comment at each function names its sentence.
 
 pub const CLOSED: u8 = 0;
@@ -15,6 +15,7 @@ const MOST_TOLERANCE: u128 = 10_000;
 const MOST_LENGTH: u128 = 60_000;
 const MOST_UPDATE: u128 = 3_600_000;
 const MOST_EDGE: u128 = 10_000;
+const MOST_EDITION: u128 = 3;
 const MOST_CLOCK: u128 = 604_800_000;
 const MOST_RATE: u128 = 1_000_000;
 const MOST_LITRES: u128 = 100_000;
@@ -28,6 +29,7 @@ const MOST_TEXT: usize = 65_536;
 const MOST_MEADOW_SQUARES: usize = 1_024;
 
 /// "Rules there are q, step limits, U, roughness and D": roughness is lent with the meadow. #102: "Give the rules an edge slope e".
+/// #113: "a second rule edition, chosen per run".
 #[derive(Clone, Copy, PartialEq, Debug)]
 pub struct Rules {
     pub square_side: u64,
@@ -36,6 +38,7 @@ pub struct Rules {
     pub longest: u64,
     pub update: u64,
     pub edge: u64,
+    pub edition: u64,
 }
 
 /// "A run value holds: clock, step length, outflow total, kept, newest slot."
@@ -231,26 +234,53 @@ fn drops(meadow: &Meadow, rules: &Rules, square: usize) -> [u128; 4] {
     drops
 }
 
-/// "If d = 0 or no drop is positive, nothing leaves. Otherwise .." and "Through each side: total·V / T."
+/// "If d = 0 or no drop is positive, nothing leaves. Otherwise .." by the edition; an edition that there is not is refused by 5.
 fn leaving(meadow: &Meadow, rules: &Rules, square: usize, lasted: u128) -> [u128; 4] {
-    let side = rules.square_side as u128;
-    let depth = meadow.depths[square] as u128;
     let drops = drops(meadow, rules, square);
     let greatest = *drops.iter().max().unwrap();
-    if depth == 0 || greatest == 0 {
+    if meadow.depths[square] == 0 || greatest == 0 {
         return [0; 4];
     }
+    match rules.edition {
+        2 => in_each_direction(meadow, rules, square, lasted, drops),
+        edition => by_total(meadow, rules, square, lasted, drops, edition == 3),
+    }
+}
+
+/// "Total: the smallest of d, m·T / VM, and Vmin + P. Through each side: total·V / T." #113's third edition is "document 01's rule without
+/// the Vmin + P limit".
+fn by_total(meadow: &Meadow, rules: &Rules, square: usize, lasted: u128, drops: [u128; 4], unlimited: bool) -> [u128; 4] {
+    let greatest = *drops.iter().max().unwrap();
     let least = *drops.iter().filter(|drop| **drop > 0).min().unwrap();
     let whole = drops.iter().sum::<u128>() + least;
-    let most = speed_of(depth, greatest, side, meadow.roughness[square] as u128) * lasted * depth / (side * 1_000_000_000);
-    let total = depth.min(most * whole / greatest).min(least + meadow.lasts[square] as u128);
+    let by_speed = (meadow.depths[square] as u128).min(most_through(meadow, rules, square, lasted, greatest) * whole / greatest);
+    let total = if unlimited { by_speed } else { by_speed.min(least + meadow.lasts[square] as u128) };
     drops.map(|drop| total * drop / whole)
 }
 
+/// #113's second edition: "for each positive drop, s from that drop, speed as now, amount the smaller of d and v·Δt·d over the same
+/// divisor. If the four sum to more than d, each becomes amount·d / sum, rounded down."
+fn in_each_direction(meadow: &Meadow, rules: &Rules, square: usize, lasted: u128, drops: [u128; 4]) -> [u128; 4] {
+    let depth = meadow.depths[square] as u128;
+    let amounts = drops.map(|drop| if drop == 0 { 0 } else { depth.min(most_through(meadow, rules, square, lasted, drop)) });
+    let sum = amounts.iter().sum::<u128>();
+    if sum > depth {
+        amounts.map(|amount| amount * depth / sum)
+    } else {
+        amounts
+    }
+}
+
+/// "Most through the steepest side: m = v·Δt·d / (D·1,000,000)", by #105 over D·10^9; #113 asks the same of every drop.
+fn most_through(meadow: &Meadow, rules: &Rules, square: usize, lasted: u128, drop: u128) -> u128 {
+    let (side, depth) = (rules.square_side as u128, meadow.depths[square] as u128);
+    speed_of(depth, drop, side, meadow.roughness[square] as u128) * lasted * depth / (side * 1_000_000_000)
+}
+
 /// #105, in µm/s: "the largest c with c² ≤ 9,810,000·d, and 100·h·s / k"; the smaller of the two.
-fn speed_of(depth: u128, greatest: u128, side: u128, roughness: u128) -> u128 {
+fn speed_of(depth: u128, drop: u128, side: u128, roughness: u128) -> u128 {
     let critical = largest(2, 9_810_000 * depth);
-    let manning = 100 * depth_root(depth) * slope_root(greatest, side) / roughness;
+    let manning = 100 * depth_root(depth) * slope_root(drop, side) / roughness;
     critical.min(manning)
 }
 
@@ -587,7 +617,7 @@ fn inflow_wrong(meadow: &Meadow) -> bool {
         })
 }
 
-/// 5: "q, step limits, U .. out of range", and #102: "e above 10,000".
+/// 5: "q, step limits, U .. out of range"; #102: "e above 10,000"; #113: "another edition", 1 to 3 being those there are.
 fn rules_wrong(rules: &Rules) -> bool {
     rules.tolerance as u128 > MOST_TOLERANCE
         || rules.shortest < 1
@@ -595,6 +625,7 @@ fn rules_wrong(rules: &Rules) -> bool {
         || rules.longest as u128 > MOST_LENGTH
         || !within(1, rules.update as u128, MOST_UPDATE)
         || rules.edge as u128 > MOST_EDGE
+        || !within(1, rules.edition as u128, MOST_EDITION)
 }
 
 /// 5: "end not a multiple of U or out of range"; asked only of good rules.
@@ -695,8 +726,8 @@ pub fn read_sheet(text: &[u8], rooms: &mut Meadow) -> Result<Heading, Refusal> {
     refuse(1, least.iter().any(|room| *room < squares)).map_err(refused)?;
     refuse(1, rooms.rain.len() < RAIN_ROOM || rooms.inflow.len() < INFLOW_ROOM).map_err(refused)?;
 
-    // #102: "The sheet's `run` line gains e as its last field."
-    let run = lines.get(1).and_then(|line| word_and_numbers(line, "run", 6)).ok_or(bad(1))?;
+    // #102: "The sheet's `run` line gains e as its last field"; #113: "gains the edition, 1 to 3, as its last field".
+    let run = lines.get(1).and_then(|line| word_and_numbers(line, "run", 7)).ok_or(bad(1))?;
     for square in 0..squares {
         let at = 2 + square;
         let (row, column) = (square / read.columns, square % read.columns);
@@ -727,6 +758,7 @@ pub fn read_sheet(text: &[u8], rooms: &mut Meadow) -> Result<Heading, Refusal> {
         longest: run[2] as u64,
         update: run[3] as u64,
         edge: run[5] as u64,
+        edition: run[6] as u64,
     };
     let end = run[4] as u64;
     refuse(2, marks_wrong(&read) || ground_wrong(&read)).map_err(refused)?;

@@ -7,7 +7,8 @@ use crate::reference::{Meadow, Rules, CLOSED, EXIT, INFLOW_ROOM, OPEN, RAIN_ROOM
 
 pub fn written(meadow: &Meadow, rules: &Rules, end: u64) -> Vec<u8> {
     let mut text = format!("grid\t{}\t{}\t{}\n", meadow.rows, meadow.columns, rules.square_side);
-    text += &format!("run\t{}\t{}\t{}\t{}\t{}\t{}\n", rules.tolerance, rules.shortest, rules.longest, rules.update, end, rules.edge);
+    let run = [rules.tolerance, rules.shortest, rules.longest, rules.update, end, rules.edge, rules.edition];
+    text += &format!("run\t{}\n", run.map(|number| number.to_string()).join("\t"));
     for square in 0..meadow.squares() {
         text += &format!("cell\t{}\t{}\t", square / meadow.columns, square % meadow.columns);
         if meadow.marks[square] == CLOSED {
@@ -44,12 +45,12 @@ pub fn overfull(chance: &mut Chance) -> Vec<u8> {
     meadow.roughness[4] = 100;
     meadow.depths[4] = chance.between(0, 100_000_000) as u32;
     meadow.inflow = vec![1, 1, 0, 604_800_000, 100_000];
-    let rules = Rules { square_side: 1, tolerance: 0, shortest: 250, longest: 250, update: 1_000, edge: 10_000 };
+    let rules = Rules { square_side: 1, tolerance: 0, shortest: 250, longest: 250, update: 1_000, edge: 10_000, edition: 1 };
     written(&meadow, &rules, 1_000 * chance.between(1, 2))
 }
 
-/// A row of exits, each with as much inflow as it can carry, 1 m a step through each side off the grid: after some 7,800,000 steps more
-/// water has left than can be counted. On wider squares, where an exit lets out more, the tables cannot bring so much.
+/// A row of exits, each filled to nearly the deepest depth in every step; by edition 2 all of it leaves in the next. After some 156,000 steps
+/// more water has left than can be counted. By edition 1 an exit lets out 1 m through a side in a step, and it would take millions.
 pub fn endless() -> Vec<u8> {
     let mut meadow = Meadow {
         rows: 1,
@@ -61,9 +62,9 @@ pub fn endless() -> Vec<u8> {
         ..Meadow::default()
     };
     for column in 0..64 {
-        meadow.inflow.extend([0, column, 0, 604_800_000, 28_500]);
+        meadow.inflow.extend([0, column, 0, 604_800_000, 99_999]);
     }
-    let rules = Rules { square_side: 1, tolerance: 10_000, shortest: 70, longest: 70, update: 3_600_000, edge: 10_000 };
+    let rules = Rules { square_side: 1, tolerance: 10_000, shortest: 1_000, longest: 1_000, update: 3_600_000, edge: 10_000, edition: 2 };
     written(&meadow, &rules, 604_800_000)
 }
 
@@ -86,7 +87,7 @@ pub fn rooms(chance: &mut Chance, squares: usize) -> Meadow {
 }
 
 pub fn lent(chance: &mut Chance, text: Vec<u8>, squares: usize) -> LentSheet {
-    let wrong = |chance: &mut Chance| if chance.one_in(60) { chance.pick(&[-11, -1, 1, 3]) } else { 0 };
+    let wrong = |chance: &mut Chance| if chance.one_in(60) { chance.pick(&[-12, -1, 1, 3]) } else { 0 };
     LentSheet { rooms: rooms(chance, squares), heading: wrong(chance), line: wrong(chance), text: Text(text) }
 }
 
@@ -182,7 +183,7 @@ fn needless_zero(chance: &mut Chance, text: &mut Vec<u8>) {
 /// The ranges of the numbers of each kind of line, by the place of the field; a cell's place is no range but the one it must have.
 const RANGES: [(&str, &[(usize, u64, u64)]); 5] = [
     ("grid", &[(1, 1, 64), (2, 1, 64), (3, 1, 100)]),
-    ("run", &[(1, 0, 10_000), (2, 1, 60_000), (3, 1, 60_000), (4, 1, 3_600_000), (5, 0, 604_800_000), (6, 0, 10_000)]),
+    ("run", &[(1, 0, 10_000), (2, 1, 60_000), (3, 1, 60_000), (4, 1, 3_600_000), (5, 0, 604_800_000), (6, 0, 10_000), (7, 1, 3)]),
     ("cell", &[(1, 0, 0), (2, 0, 0), (4, 0, 1_000_000_000), (5, 1, 10_000), (6, 0, 100_000_000)]),
     ("rain", &[(1, 0, 604_800_000), (2, 0, 604_800_000), (3, 0, 1_000_000)]),
     ("inflow", &[(1, 0, 63), (2, 0, 63), (3, 0, 604_800_000), (4, 0, 604_800_000), (5, 0, 100_000)]),

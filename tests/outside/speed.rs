@@ -22,7 +22,7 @@ const STEPS: u64 = 200;
 const STEP_LASTS: u64 = 100;
 const SLOTS: usize = 4;
 const RULES: Rules =
-    Rules { square_side: 10, tolerance: 100, shortest: STEP_LASTS, longest: STEP_LASTS, update: 50 * STEP_LASTS, edge: 10_000 };
+    Rules { square_side: 10, tolerance: 100, shortest: STEP_LASTS, longest: STEP_LASTS, update: 50 * STEP_LASTS, edge: 10_000, edition: 1 };
 
 type RunTo = fn(&mut Meadow, &Rules, &Run, u64) -> Result<Made, u32>;
 

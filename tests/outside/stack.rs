@@ -10,11 +10,11 @@ use std::fmt::Write;
 
 const ALONG: usize = 64;
 const ALONG_IN_PROGRAM: usize = 32;
-const RULES: [u64; RULES_NUMBERS] = [10, 0, 100, 100, 100, 10_000];
+const RULES: [u64; RULES_NUMBERS] = [10, 0, 100, 100, 100, 10_000, 1];
 const END: u64 = 500;
 
 fn sheet(along: usize) -> Vec<u8> {
-    let mut text = format!("grid\t{}\t{}\t10\nrun\t0\t100\t100\t100\t{}\t10000\n", along, along, END);
+    let mut text = format!("grid\t{}\t{}\t10\nrun\t0\t100\t100\t100\t{}\t10000\t1\n", along, along, END);
     for square in 0..along * along {
         let (row, column) = (square / along, square % along);
         writeln!(text, "cell\t{}\t{}\to\t{}\t350\t{}", row, column, square % 7 * 1000, 500_000 + square).unwrap();

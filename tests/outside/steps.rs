@@ -4,7 +4,7 @@ use crate::calls::{Call, Tally};
 use crate::chance::Chance;
 use crate::limits;
 use crate::meadows::{self, Lent, MOST_BED, MOST_CLOCK, MOST_DEPTH, MOST_OUTFLOW};
-use crate::reference::{Rules, EXIT, OPEN};
+use crate::reference::{Rules, CLOSED, EXIT, OPEN};
 use crate::worked::go_on;
 
 /// Arrows of every square of a small meadow and of some squares of a large one, and wet rows.
@@ -32,11 +32,12 @@ fn wet_depth(chance: &mut Chance, lent: &Lent) -> u32 {
     }
 }
 
-/// New rules, tables or roughness, as a warden may give between two calls.
+/// New rules, another edition, now and then one that there is not, new tables or roughness, as a warden may give between two calls.
 fn change_rules(chance: &mut Chance, lent: &mut Lent) {
-    match chance.below(3) {
+    match chance.below(4) {
         0 => lent.rules = meadows::rules(chance),
-        1 => meadows::tables(chance, &mut lent.meadow, lent.run.clock),
+        1 => lent.rules.edition = chance.pick(&[1, 1, 2, 2, 3, 3, 0, 4]),
+        2 => meadows::tables(chance, &mut lent.meadow, lent.run.clock),
         _ => {
             for square in lent.open_squares() {
                 lent.meadow.roughness[square] = chance.between(1, 10_000) as u32;
@@ -125,7 +126,8 @@ pub fn exact_brims(tally: &mut Tally, chance: &mut Chance) {
 fn exact_brim(tally: &mut Tally, chance: &mut Chance) {
     let shape = meadows::small_shape(chance);
     let mut lent = meadows::lent(chance, shape);
-    lent.rules = Rules { square_side: 1, tolerance: 0, shortest: 1, longest: 60_000, update: 1_000_000, edge: 10_000 };
+    let edition = lent.rules.edition;
+    lent.rules = Rules { square_side: 1, tolerance: 0, shortest: 1, longest: 60_000, update: 1_000_000, edge: 10_000, edition };
     lent.run.clock = 500_000;
     lent.run.length = chance.between(2_000, 60_000);
     lent.run.outflow = 0;
@@ -248,6 +250,60 @@ pub fn at_whole_amounts(tally: &mut Tally, chance: &mut Chance) {
         let enough = (amount * side as u128 * 1_000_000_000).div_ceil(speed * depth as u128).clamp(2, 60_000) as u64;
         for ms in [enough, enough - 1] {
             one_fall(tally, chance, [side, depth, roughness, drop, ms]);
+        }
+    }
+}
+
+/// A step of `ms`, and a run of that one step, of a square with water among dry ones that lie so far below its level; a drop of 0 is a
+/// closed square.
+fn four_falls(tally: &mut Tally, chance: &mut Chance, drops: [u64; 4], [side, depth, roughness, ms]: [u64; 4]) {
+    const CENTRE: usize = 4;
+    const BESIDE: [usize; 4] = [1, 5, 7, 3];
+    let mut lent = meadows::lent(chance, (3, 3));
+    lent.meadow.marks = vec![CLOSED; 9];
+    lent.meadow.marks[CENTRE] = OPEN;
+    lent.meadow.beds[CENTRE] = (MOST_BED - depth) as u32;
+    lent.meadow.roughness[CENTRE] = roughness as u32;
+    lent.meadow.depths[CENTRE] = depth as u32;
+    lent.meadow.lasts[CENTRE] = chance.amount(MOST_DEPTH) as u32;
+    for (square, drop) in BESIDE.into_iter().zip(drops).filter(|(_, drop)| *drop > 0) {
+        lent.meadow.marks[square] = OPEN;
+        lent.meadow.beds[square] = (MOST_BED - drop) as u32;
+        lent.meadow.roughness[square] = roughness as u32;
+        lent.meadow.depths[square] = 0;
+        lent.meadow.lasts[square] = 0;
+    }
+    lent.meadow.rain.clear();
+    lent.meadow.inflow.clear();
+    lent.rules.square_side = side;
+    lent.rules.edition = chance.pick(&[1, 2, 2, 2, 3]);
+    lent.rules.update = ms + 1;
+    lent.run.clock = 1;
+    lent.run.length = ms;
+    lent.end = ms + 1;
+    tally.call(Call::Step, &lent);
+    tally.call(Call::RunTo, &lent);
+}
+
+/// Water that falls on one to four sides, and a step in which what edition 2 sends by each just comes to the depth, or 1 ms less or more.
+pub fn at_sums(tally: &mut Tally, chance: &mut Chance) {
+    for _ in 0..30 {
+        let side = chance.pick(&[1, 2, 7, 10, 100]);
+        let roughness = chance.pick(&[1, 300, 3_500, 10_000]);
+        let (deepest, steepest) = (chance.pick(&[8, 1_000, 20_000, 1_000_000, MOST_DEPTH]), chance.pick(&[9, 10_000, 1_000_000, MOST_BED]));
+        let depth = chance.between(1, deepest);
+        let alike = chance.between(1, steepest);
+        let drops = [0; 4].map(|none| match chance.below(4) {
+            0 => none,
+            1 => alike,
+            _ => chance.between(1, steepest),
+        });
+        let critical = root(2, 9_810_000 * depth);
+        let speed = |drop: u64| critical.min(100 * root(3, depth * depth) * root(2, 100 * drop / side) / roughness);
+        let speeds = drops.into_iter().filter(|drop| *drop > 0).map(speed).sum::<u64>().max(1);
+        let whole = (side * 1_000_000_000).div_ceil(speeds).clamp(2, 59_999);
+        for ms in [whole - 1, whole, whole + 1] {
+            four_falls(tally, chance, drops, [side, depth, roughness, ms]);
         }
     }
 }

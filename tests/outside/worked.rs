@@ -4,9 +4,9 @@ use crate::calls::{After, Call, Tally, Text};
 use crate::declared::OUT_ROOM;
 use crate::library;
 use crate::meadows::{Lent, Sizes};
-use crate::reference::{Meadow, Rules, Run, EXIT, OPEN};
+use crate::reference::{Meadow, Rules, Run, CLOSED, EXIT, OPEN};
 
-const SHEET: &[u8] = b"grid\t1\t2\t1\nrun\t100\t1000\t1000\t1000\t1000\t10000\ncell\t0\t0\to\t0\t100\t1000\ncell\t0\t1\to\t0\t100\t0\n";
+const SHEET: &[u8] = b"grid\t1\t2\t1\nrun\t100\t1000\t1000\t1000\t1000\t10000\t1\ncell\t0\t0\to\t0\t100\t1000\ncell\t0\t1\to\t0\t100\t0\n";
 const PRINTED: &[u8] = b"cell\t0\t0\t969\ncell\t0\t1\t31\nout\t0\nsteps\t1\nclock\t1000\n";
 
 /// A row of squares on flat ground, k 100, with a room for one record and a fresh run in steps of 1000 ms.
@@ -25,7 +25,7 @@ fn flat(marks: Vec<u8>, depths: Vec<u32>) -> Lent {
             lasts: vec![0; squares],
             records: vec![0; 2 + 6 * squares],
         },
-        rules: Rules { square_side: 1, tolerance: 100, shortest: 1_000, longest: 1_000, update: 1_000, edge: 10_000 },
+        rules: Rules { square_side: 1, tolerance: 100, shortest: 1_000, longest: 1_000, update: 1_000, edge: 10_000, edition: 1 },
         run: Run { clock: 0, length: 1_000, outflow: 0, kept: 0, newest: 0 },
         end: 1_000,
         row: 0,
@@ -109,12 +109,75 @@ fn edges(tally: &mut Tally) {
     }
 }
 
+/// The exit by other editions: its edge slope, its depth, and what each side lets out.
+fn edition_exits(tally: &mut Tally) {
+    const EXITS: [(u64, u64, u32, u32); 6] = [
+        // m = 3,132, four times above the depth: 3,132·10,000 / 12,528
+        (2, 10_000, 10_000, 2_500),
+        // the drop is half the depth, the speed still the critical one
+        (2, 50, 10_000, 2_500),
+        // m = 1,603: 1,603·6,400 / 6,412; and m = 1,592, four times below the depth
+        (2, 10_000, 6_400, 1_600),
+        (2, 10_000, 6_371, 1_592),
+        // m·T / VM = 15,660, so the total is the depth, where Vmin + P would be 10,000 and 5,000
+        (3, 10_000, 10_000, 2_000),
+        (3, 50, 10_000, 2_000),
+    ];
+    for (edition, edge, depth, each_side) in EXITS {
+        let mut lent = flat(vec![EXIT], vec![depth]);
+        lent.rules.edge = edge;
+        lent.rules.edition = edition;
+        let exit = tally.call(Call::Step, &lent);
+        hold("an exit by its edition", exit.meadow.depths == [depth - 4 * each_side] && exit.meadow.records[2..6] == [each_side; 4]);
+        hold("the last leaving by every edition", exit.meadow.lasts == [4 * each_side]);
+    }
+}
+
+/// The middle square falls by 1 µm to the west and 30 cm to the east: by edition 1 it stands, by 2 and 3 it lets nearly all of it go.
+fn standing(tally: &mut Tally) {
+    for (edition, depths) in [(1, [999_999, 1_000_000, 700_000]), (2, [1_090_908, 1, 1_609_090]), (3, [1_000_002, 4, 1_699_993])] {
+        let mut lent = flat(vec![OPEN; 3], vec![999_999, 1_000_000, 700_000]);
+        lent.rules.edition = edition;
+        hold("a standing square by its edition", tally.call(Call::Step, &lent).meadow.depths == depths);
+    }
+}
+
+/// 5 m of water with drops of 3, 40,000, 50,000 and 60,000: T = 150,006, and the critical speed of 7,003,570 lets all of it through any
+/// side but the first, whose s = 17 and v = 497,080 give m = 2,485,400.
+fn least_drop(tally: &mut Tally) {
+    const LEAVES: [(u64, [u32; 4]); 3] =
+        [(1, [0, 0, 0, 1]), (2, [710_707, 1_429_764, 1_429_764, 1_429_764]), (3, [99, 1_333_280, 1_666_600, 1_999_920])];
+    for (edition, leaves) in LEAVES {
+        let mut lent = flat(vec![CLOSED; 9], vec![0; 9]);
+        lent.meadow.rows = 3;
+        lent.meadow.columns = 3;
+        for (square, depth) in [(1, 4_999_997), (5, 4_960_000), (7, 4_950_000), (3, 4_940_000), (4, 5_000_000)] {
+            lent.meadow.marks[square] = OPEN;
+            lent.meadow.depths[square] = depth;
+        }
+        lent.rules.edition = edition;
+        let step = tally.call(Call::Step, &lent);
+        hold("a least drop by its edition", step.meadow.records[26..30] == leaves && step.meadow.lasts[4] == leaves.iter().sum::<u32>());
+    }
+}
+
+/// Each edition there is, and those beside them, for each call that takes rules.
+fn edition_numbers(tally: &mut Tally) {
+    for (edition, number) in [(0, 5), (1, 0), (2, 0), (3, 0), (4, 5)] {
+        let mut lent = flat(vec![OPEN], vec![0]);
+        lent.rules.edition = edition;
+        for call in [Call::Fresh, Call::Step, Call::RunTo] {
+            hold("the editions there are", tally.call(call, &lent).number == number);
+        }
+    }
+}
+
 /// The length is worked afresh at clock 0, and held in the run.
 fn lengths(tally: &mut Tally) {
     for (tolerance, length) in [(99, 250), (100, 60_000)] {
         let mut lent = flat(vec![OPEN; 2], vec![1_000_000, 900_000]);
         lent.meadow.roughness = vec![500; 2];
-        lent.rules = Rules { square_side: 10, tolerance, shortest: 1, longest: 60_000, update: 60_000, edge: 10_000 };
+        lent.rules = Rules { square_side: 10, tolerance, shortest: 1, longest: 60_000, update: 60_000, edge: 10_000, edition: 1 };
         hold("the step length", tally.call(Call::Step, &lent).run[1] == length);
     }
 }
@@ -140,6 +203,10 @@ pub fn cases(tally: &mut Tally) {
     two_squares(tally);
     single_squares(tally);
     edges(tally);
+    edition_exits(tally);
+    standing(tally);
+    least_drop(tally);
+    edition_numbers(tally);
     lengths(tally);
     tables(tally);
     let printed = tally.meadow(&Text(SHEET.to_vec()), OUT_ROOM).printed;

@@ -27,6 +27,7 @@ use Rattle.rule.specs.Drops.{dropOff}
 use Rattle.rule.specs.Length.{durationFor}
 use Rattle.rule.specs.Rules.{groundFine}
 use Rattle.rule.specs.Weighing.{heightOf, slopeOf, criticalSpeed}
+use Rattle.rule.proofs.WeighingLaws.{weighed-weighted, weighed-directed, weighed-unlimited}
 use Rattle.rule.specs.declared.rules.Rules.{Rules}
 use Rattle.ledger.specs.Runs.{Plan, World, world, Seen, seenOf}
 use Rattle.ledger.specs.Flows.{shut, gone, sent, came, offSide, offSquare, offGrid}
@@ -522,8 +523,12 @@ module _ (p : Plan) where
         let flows = ready p g (ringOf p w) (seenOf w) (checked g w made) .flows in
         let depths-long : length (w .depths) ≡ squares (p .shape) = flows .lies .sited .depths-long in
         let lasts-long : length (w .lasts) ≡ squares (p .shape) = flows .lasts-long in
+        let through = leaves-open p (g .lie) (w .depths) (w .lasts) (stepDuration p g (seenOf w)) in
         record {
-          transfers = λ i side e. leaves-open p (g .lie) (w .depths) (w .lasts) (stepDuration p g (seenOf w)) i side e;
+          edition = (flows .lies .rules .edition-from, flows .lies .rules .edition-to);
+          weighted = λ is i side e. through i side e ∙ ap (λ (l : List ℕ). getD l side 0) (weighed-weighted (g .lie .rules) _ _ _ _ _ is);
+          directed = λ is i side e. through i side e ∙ ap (λ (l : List ℕ). getD l side 0) (weighed-directed (g .lie .rules) _ _ _ _ _ is);
+          unlimited = λ is i side e. through i side e ∙ ap (λ (l : List ℕ). getD l side 0) (weighed-unlimited (g .lie .rules) _ _ _ _ _ is);
           depths = λ i h e. ap (λ (u : World). getD (u .depths) i 0) (made-is p g w made) ∙ filled-in _ _ _ (w .depths) i (omega arith) h e;
           lasts = λ i h e. ap (λ (u : World). getD (u .lasts) i 0) (made-is p g w made) ∙ filled-in _ _ _ (w .lasts) i (omega arith) h e;
           outflow = ap (λ (u : World). u .run .outflow) (made-is p g w made);

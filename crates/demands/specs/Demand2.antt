@@ -11,7 +11,7 @@ use Rattle.reckon.specs.Ranges.{mostDepth}
 use Rattle.reckon.specs.Roots.{Root}
 use Rattle.grid.specs.Squares.{squares, sides}
 use Rattle.rule.specs.Length.{lengthAt, durationFor}
-use Rattle.rule.specs.Weighing.{heightOf, slopeOf, criticalSpeed, weighed}
+use Rattle.rule.specs.Weighing.{heightOf, slopeOf, criticalSpeed, weightedSides, directedSides, unlimitedSides}
 use Rattle.rule.specs.inner.InRange.{mostDrop}
 use Rattle.rule.specs.declared.rules.Rules.{Rules}
 use Rattle.ledger.specs.Runs.{Plan, World, Seen, seenOf}
@@ -50,15 +50,30 @@ module _ (p : Plan) where
     abbrev duration : ℕ
     duration = stepMoves p g (seenOf w) .duration
 
+    -- of a square before the step: its depth, last leaving, roughness and drops
+    abbrev depthAt : ℕ → ℕ
+    depthAt i = getD (w .depths) i 0
+
+    abbrev lastAt : ℕ → ℕ
+    lastAt i = getD (w .lasts) i 0
+
+    abbrev roughnessAt : ℕ → ℕ
+    roughnessAt i = getD (g .lie .roughness) i 0
+
+    abbrev dropsAt : ℕ → List ℕ
+    dropsAt i = dropsOf p (g .lie .rules) (g .lie .beds) (w .depths) i
+
     -- of a step that is made
     pub record StepGives : Type 0 where
+      -- document 02, #113: "demand 2 reads for each with its own definition"; there is no fourth edition
+      pub edition : (1 ≤ g .lie .rules .edition) × (g .lie .rules .edition ≤ 3)
       -- the transfers of a square not closed: the weighing of its drops, both of the water before the step
-      pub transfers : (i side : ℕ) → shut p i ≡ false →
-          amounts i side
-          ≡ getD
-          (weighed (g .lie .rules) (getD (w .depths) i 0) (getD (w .lasts) i 0) (getD (g .lie .roughness) i 0) duration
-          (dropsOf p (g .lie .rules) (g .lie .beds) (w .depths) i))
-          side 0
+      pub weighted : g .lie .rules .edition ≡ 1 → (i side : ℕ) → shut p i ≡ false →
+          amounts i side ≡ getD (weightedSides (g .lie .rules) (depthAt i) (lastAt i) (roughnessAt i) duration (dropsAt i)) side 0
+      pub directed : g .lie .rules .edition ≡ 2 → (i side : ℕ) → shut p i ≡ false →
+          amounts i side ≡ getD (directedSides (g .lie .rules) (depthAt i) (roughnessAt i) duration (dropsAt i)) side 0
+      pub unlimited : g .lie .rules .edition ≡ 3 → (i side : ℕ) → shut p i ≡ false →
+          amounts i side ≡ getD (unlimitedSides (g .lie .rules) (depthAt i) (roughnessAt i) duration (dropsAt i)) side 0
       -- "New depth = old − four leaving + what neighbours send + what is added"
       pub depths : (i : ℕ) → i < squares (p .shape) → shut p i ≡ false →
           getD (stepped p g w .depths) i 0

@@ -12,7 +12,7 @@ use lib.Ieee.{Float, fin}
 use Rattle.reckon.specs.Tables.{rainBy, inflowBy}
 use Rattle.grid.specs.Squares.{east}
 use Rattle.rule.specs.declared.rules.Rules.{Rules}
-use Rattle.rule.specs.Weighing.{greatestDrop, heightOf, slopeOf, criticalSpeed, manningSpeed, speedOf, mostThrough, totalOf}
+use Rattle.rule.specs.Weighing.{greatestDrop, heightOf, slopeOf, criticalSpeed, manningSpeed, speedOf, mostThrough, totalOf, weighed}
 use Rattle.rule.specs.Length.{candidatesOf}
 use Rattle.ledger.specs.Runs.{Plan, World, seenOf}
 use Rattle.ledger.specs.TakeBack.{backNumber, takenBack}
@@ -31,17 +31,17 @@ use Rattle.answer.specs.Program.{meadowText}
 
 -- document 01's sheet, and what `meadow` prints of it
 abbrev pub documentSheet : String
-documentSheet = "grid\t1\t2\t1\nrun\t100\t1000\t1000\t1000\t1000\t10000\ncell\t0\t0\to\t0\t100\t1000\ncell\t0\t1\to\t0\t100\t0\n"
+documentSheet = "grid\t1\t2\t1\nrun\t100\t1000\t1000\t1000\t1000\t10000\t1\ncell\t0\t0\to\t0\t100\t1000\ncell\t0\t1\to\t0\t100\t0\n"
 
 abbrev pub documentOutput : String
 documentOutput = "cell\t0\t0\t969\ncell\t0\t1\t31\nout\t0\nsteps\t1\nclock\t1000\n"
 
 -- "one exit square, D 1, k 100, depth 10,000"; "two equal levels"
 abbrev pub exitSheet : String
-exitSheet = "grid\t1\t1\t1\nrun\t100\t1000\t1000\t1000\t1000\t10000\ncell\t0\t0\te\t0\t100\t10000\n"
+exitSheet = "grid\t1\t1\t1\nrun\t100\t1000\t1000\t1000\t1000\t10000\t1\ncell\t0\t0\te\t0\t100\t10000\n"
 
 abbrev pub levelSheet : String
-levelSheet = "grid\t1\t2\t1\nrun\t100\t1000\t1000\t1000\t1000\t10000\ncell\t0\t0\to\t0\t100\t500\ncell\t0\t1\to\t0\t100\t500\n"
+levelSheet = "grid\t1\t2\t1\nrun\t100\t1000\t1000\t1000\t1000\t10000\t1\ncell\t0\t0\to\t0\t100\t500\ncell\t0\t1\to\t0\t100\t500\n"
 
 -- ---- what a text says, and steps on it
 
@@ -88,7 +88,11 @@ module _ (text : String) where
 
 -- D 10 and a tolerance
 abbrev wide : ℕ → Rules
-wide q = record { «square_side» = 10; tolerance = q; shortest = 1; longest = 60_000; update = 60_000; edge = 10_000 }
+wide q = record { «square_side» = 10; tolerance = q; shortest = 1; longest = 60_000; update = 60_000; edge = 10_000; edition = 1 }
+
+-- D 1 and an edition
+abbrev narrow : ℕ → Rules
+narrow edition = record { «square_side» = 1; tolerance = 0; shortest = 1; longest = 60_000; update = 60_000; edge = 10_000; edition = edition }
 
 -- 1,116,892,707,587,883 / 2^54, the f64 nearest to 0.062, whose bits are 0x3fafbe76c8b43958
 abbrev eastSpeed : Float
@@ -106,14 +110,16 @@ twice = next documentSheet once
 
 -- ---- the cases
 
--- of the sheet
-pub record SheetCases : Type 0 where
-  -- "the sheet above: h 100, s 316, .. m 31, total 62, through east 31", and its output, whole; by #105 the speeds are 99,045 and 31,600
-  pub printed : meadowText (bytesOf documentSheet) ≡ bytesOf documentOutput
+-- of the sheet: its first step
+pub record FirstStep : Type 0 where
+  -- "the sheet above: h 100, s 316, .. m 31, total 62, through east 31"; by #105 the speeds are 99,045 and 31,600
   pub first-drops : drops documentSheet before ≡ 0 ∷ 1_000 ∷ 0 ∷ 0 ∷ []
   pub first-workings : workings documentSheet before ≡ 100 ∷ 316 ∷ 99_045 ∷ 31_600 ∷ 31_600 ∷ 31 ∷ 62 ∷ []
   pub first-east : stepMoves (onPlan documentSheet) (byGiven documentSheet) (seenOf before) .leaves 0 east ≡ 31
   pub first-record : once .records ≡ 1_000 ∷ 1_000 ∷ 0 ∷ 31 ∷ 0 ∷ 0 ∷ 0 ∷ 0 ∷ 0 ∷ 0 ∷ 0 ∷ 0 ∷ 0 ∷ 0 ∷ []
+
+-- its second step
+pub record SecondStep : Type 0 where
   -- "its second step (1000 ms): drop 938, h 97, s 306, .. m 28, total 56; depths 941 and 59"; by #105 the speed is 29,682
   pub second-made : stepNumber (onPlan documentSheet) (byGiven documentSheet) once ≡ 0
   pub second-duration : duration documentSheet once ≡ 1_000
@@ -121,6 +127,9 @@ pub record SheetCases : Type 0 where
   pub second-workings : workings documentSheet once ≡ 97 ∷ 306 ∷ 97_498 ∷ 29_682 ∷ 29_682 ∷ 28 ∷ 56 ∷ []
   pub second-depths : twice .depths ≡ 941 ∷ 59 ∷ []
   pub second-record : twice .records ≡ 1_000 ∷ 1_000 ∷ 0 ∷ 28 ∷ 0 ∷ 0 ∷ 31 ∷ 0 ∷ 0 ∷ 0 ∷ 0 ∷ 0 ∷ 0 ∷ 0 ∷ []
+
+-- the take-back of the first, and the arrow after it
+pub record BackAndArrow : Type 0 where
   -- "take-back of the first step: depths 1000 and 0, P 0, clock 0"
   pub back-made : backNumber (onPlan documentSheet) once ≡ 0
   pub back-depths : takenBack (onPlan documentSheet) once .depths ≡ 1_000 ∷ 0 ∷ []
@@ -129,6 +138,13 @@ pub record SheetCases : Type 0 where
   -- "arrow of square 0 0 after it: east is 62,000 / 1,000,000 rounded once, north 0"
   pub arrow : seenAt (onPlan documentSheet) 1 (view (once .depths) (once .records) (once .run)) 0 0 ≡ Moving (record { east = eastSpeed; north = zero64 })
   pub arrow-quotient : quotientOf 62_000 1_000_000 ≡ eastSpeed
+
+-- all of the sheet, and its output, whole
+pub record SheetCases : Type 0 where
+  pub printed : meadowText (bytesOf documentSheet) ≡ bytesOf documentOutput
+  pub first : FirstStep
+  pub second : SecondStep
+  pub back-and-arrow : BackAndArrow
 
 -- of an exit alone, and of two equal levels
 pub record OtherSheetCases : Type 0 where
@@ -159,8 +175,19 @@ pub record NumberCases : Type 0 where
   pub inflow-before : inflowBy (0 ∷ 0 ∷ 0 ∷ 604_800_000 ∷ 1 ∷ []) 0 0 2 3 ≡ 0
   pub inflow-by : inflowBy (0 ∷ 0 ∷ 0 ∷ 604_800_000 ∷ 1 ∷ []) 0 0 2 4 ≡ 1
 
--- all cases marked P
+-- #113: of one square of D 1 and k 100 in a step of 1,000 ms, by each edition
+pub record EditionCases : Type 0 where
+  -- one drop: edition 2 lets m through, as edition 1 does
+  pub directed-alone : weighed (narrow 2) 1_000 0 100 1_000 (0 ∷ 1_000 ∷ 0 ∷ 0 ∷ []) ≡ 0 ∷ 31 ∷ 0 ∷ 0 ∷ []
+  -- four drops of the depth: m is 3,132 each, 12,528 in all, which is more than 10,000, so that each becomes 3,132 · 10,000 / 12,528
+  pub directed-scaled : weighed (narrow 2) 10_000 0 100 1_000 (10_000 ∷ 10_000 ∷ 10_000 ∷ 10_000 ∷ []) ≡ 2_500 ∷ 2_500 ∷ 2_500 ∷ 2_500 ∷ []
+  -- a least drop of 3 and no last leaving: the total is 3 by edition 1, and all 5,000,000 by edition 3, where m is above the depth
+  pub limited : weighed (narrow 1) 5_000_000 0 100 1_000 (3 ∷ 40_000 ∷ 50_000 ∷ 60_000 ∷ []) ≡ 0 ∷ 0 ∷ 0 ∷ 1 ∷ []
+  pub unlimited : weighed (narrow 3) 5_000_000 0 100 1_000 (3 ∷ 40_000 ∷ 50_000 ∷ 60_000 ∷ []) ≡ 99 ∷ 1_333_280 ∷ 1_666_600 ∷ 1_999_920 ∷ []
+
+-- all cases marked P, and those of the editions
 pub record ProvedCases : Type 0 where
   pub sheet : SheetCases
   pub other-sheets : OtherSheetCases
   pub numbers : NumberCases
+  pub editions : EditionCases

@@ -14,13 +14,13 @@ use Rattle.sheet.specs.declared.reading.Heading.{Heading}
 abbrev pub shapeFrom : ℕ → ℕ → Shape
 shapeFrom rows columns = record { rows = rows; columns = columns }
 
--- "side D", "slope tolerance q", "shortest, longest step", "update time U", "edge slope e": in this order
+-- "side D", "slope tolerance q", "shortest, longest step", "update time U", "edge slope e", "edition": in this order
 abbrev pub rulesFrom : List ℕ → Rules
 rulesFrom l =
-    record { «square_side» = getD l 0 0; tolerance = getD l 1 0; shortest = getD l 2 0; longest = getD l 3 0; update = getD l 4 0; edge = getD l 5 0 }
+    record { «square_side» = getD l 0 0; tolerance = getD l 1 0; shortest = getD l 2 0; longest = getD l 3 0; update = getD l 4 0; edge = getD l 5 0; edition = getD l 6 0 }
 
 abbrev pub rulesNumbers : Rules → List ℕ
-rulesNumbers r = r .«square_side» ∷ r .tolerance ∷ r .shortest ∷ r .longest ∷ r .update ∷ r .edge ∷ []
+rulesNumbers r = r .«square_side» ∷ r .tolerance ∷ r .shortest ∷ r .longest ∷ r .update ∷ r .edge ∷ r .edition ∷ []
 
 -- "A run value holds: clock, step length .., outflow total, kept .., newest slot": in this order
 abbrev pub runValueFrom : List ℕ → Run
@@ -39,7 +39,7 @@ headingNumbers h =
 -- ---- sizes: a slice lent for rules, a run or an answer has exactly these numbers
 
 abbrev pub rulesSize : ℕ
-rulesSize = 6
+rulesSize = 7
 
 abbrev pub runSize : ℕ
 runSize = 5
@@ -54,7 +54,7 @@ abbrev pub countSize : ℕ
 countSize = 1
 
 abbrev pub headingSize : ℕ
-headingSize = 11
+headingSize = 12
 
 abbrev pub lineSize : ℕ
 lineSize = 1

@@ -17,7 +17,7 @@ pub(crate) fn put_run(run: Run, room: &mut [u64])
     room[4] = run.newest as u64;
 }
 
-// Puts a sheet's heading into its eleven places.
+// Puts a sheet's heading into its twelve places.
 pub(crate) fn put_heading(heading: Heading, room: &mut [u64])
     requires { ⌜ length (now room) ≡ headingSize ⌝ }
     ensures { λ _. ⌜ now (room .exit) ≡ headingNumbers heading ⌝ }
@@ -32,7 +32,8 @@ pub(crate) fn put_heading(heading: Heading, room: &mut [u64])
     room[5] = rules.longest;
     room[6] = rules.update;
     room[7] = rules.edge;
-    room[8] = heading.end;
-    room[9] = heading.rain_rows as u64;
-    room[10] = heading.inflow_rows as u64;
+    room[8] = rules.edition;
+    room[9] = heading.end;
+    room[10] = heading.rain_rows as u64;
+    room[11] = heading.inflow_rows as u64;
 }

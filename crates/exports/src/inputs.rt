@@ -26,6 +26,7 @@ pub(crate) fn rules_from(numbers: &[u64]) -> Rules
         longest: numbers[3],
         update: numbers[4],
         edge: numbers[5],
+        edition: numbers[6],
     }
 }
 

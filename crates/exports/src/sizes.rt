@@ -1,5 +1,5 @@
 // How many numbers a slice has that is lent for rules, a run or an answer.
-pub(crate) const RULES_NUMBERS: usize = 6;
+pub(crate) const RULES_NUMBERS: usize = 7;
 
 pub(crate) const RUN_NUMBERS: usize = 5;
 
@@ -9,7 +9,7 @@ pub(crate) const SPEED_NUMBERS: usize = 2;
 
 pub(crate) const COUNT_NUMBERS: usize = 1;
 
-pub(crate) const HEADING_NUMBERS: usize = 11;
+pub(crate) const HEADING_NUMBERS: usize = 12;
 
 pub(crate) const LINE_NUMBERS: usize = 1;
 

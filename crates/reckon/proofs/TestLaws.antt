@@ -27,6 +27,12 @@ module _ {A : Type 0} {b : Bool} (x y : A) where
   unfolding pick
   pick-false e = rw e
 
+-- what is done to a choice is done to what is chosen
+pub pick-ap : {A B : Type 0} (f : A → B) (b : Bool) (x y : A) → f (pick b x y) ≡ pick b (f x) (f y)
+unfolding pick
+pick-ap f true x y = refl
+pick-ap f false x y = refl
+
 pub pick-same : {A : Type 0} (b : Bool) (x : A) → pick b x x ≡ x
 unfolding pick
 pick-same true x = refl

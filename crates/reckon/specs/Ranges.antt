@@ -31,6 +31,10 @@ mostTolerance = 10_000
 abbrev pub mostEdge : ℕ
 mostEdge = 10_000
 
+-- document 02, #113: "the edition, 1 to 3", "another edition is 5"
+abbrev pub mostEdition : ℕ
+mostEdition = 3
+
 -- "shortest, longest step: ms, 1 ≤ shortest ≤ longest ≤ 60,000"
 abbrev pub mostLength : ℕ
 mostLength = 60_000

@@ -13,6 +13,8 @@ pub const MOST_TOLERANCE: u64 = 10_000;
 
 pub const MOST_EDGE: u64 = 10_000;
 
+pub const MOST_EDITION: u64 = 3;
+
 pub const MOST_LENGTH: u64 = 60_000;
 
 pub const MOST_UPDATE: u64 = 3_600_000;

@@ -7,7 +7,7 @@ use Prim.Native.Nat.{ℕ}
 use lib.Dec.{leb}
 use borrow.Author.Tests.{leb-true}
 use Rattle.reckon.proofs.TestLaws.{every-each}
-use Rattle.reckon.specs.Ranges.{mostSide, mostBed, mostRoughness, mostTolerance, mostLength, mostUpdate, mostEdge, sideFine}
+use Rattle.reckon.specs.Ranges.{mostSide, mostBed, mostRoughness, mostTolerance, mostLength, mostUpdate, mostEdge, mostEdition, sideFine}
 use Rattle.rule.specs.Rules.{groundFine, rulesFine}
 use Rattle.rule.specs.inner.InRange.{RulesInRange, GroundInRange}
 use Rattle.rule.specs.declared.rules.Rules.{Rules}
@@ -25,6 +25,8 @@ rules-are r a b =
     ∷ leb 1 (r .update)
     ∷ leb (r .update) mostUpdate
     ∷ leb (r .edge) mostEdge
+    ∷ leb 1 (r .edition)
+    ∷ leb (r .edition) mostEdition
     ∷ [])
     b in
     record {
@@ -37,6 +39,8 @@ rules-are r a b =
       update-from = leb-true _ _ (t .1 .1 .1 .1 .0);
       update-to = leb-true _ _ (t .1 .1 .1 .1 .1 .0);
       edge-to = leb-true _ _ (t .1 .1 .1 .1 .1 .1 .0);
+      edition-from = leb-true _ _ (t .1 .1 .1 .1 .1 .1 .1 .0);
+      edition-to = leb-true _ _ (t .1 .1 .1 .1 .1 .1 .1 .1 .0);
     }
 
 pub ground-is : (bed k : ℕ) → groundFine bed k ≡ true → GroundInRange bed k

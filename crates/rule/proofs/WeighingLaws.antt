@@ -1,22 +1,24 @@
--- Laws of the weighing: how large each part can be, that m may be held to d first, and what every use above rests on: the four sum to
--- at most the depth, and a side without a drop sends nothing.
+-- Laws of the weighing: how large each part can be, that m may be held to d first, and what every use above rests on, whatever the
+-- edition: the four sum to at most the depth, and a side without a drop sends nothing.
 -- Assumes nothing.
 use mathlib.Core.Path.{_≡_, refl, sym, _∙_, ap}
 use mathlib.Core.Bool.{Bool, true, false, _||_}
 use mathlib.Core.List.{List, [], _∷_}
 use Prim.Native.Nat.{ℕ, zero, suc, _+_, _*_, _/_, _≤_, _<_, min}
-use native.Mathlib.Nat.{le-trans, mul-le-mul, mul-le-mul-left, mul-le-mul-right, div-le-self, div-mul-le-self, mul-add, add-mul, mul-zero, le-of-mul-le-mul-right, min-eq-left, min-eq-right, zero-div}
+use native.Mathlib.Nat.{le-trans, mul-le-mul, mul-le-mul-left, mul-le-mul-right, div-le-self, div-mul-le-self, mul-add, add-mul, mul-zero, zero-mul, mul-comm, le-of-mul-le-mul-right, min-eq-left, min-eq-right, zero-div}
 use native.Mathlib.Decide.{decLe, ℕ-discrete}
 use native.Mathlib.Omega.{arith}
 use lib.Dec.{eqb, leb}
 use lib.ListN.{getD}
-use borrow.Author.Tests.{eq-eqb, ne-eqb, leb-true, leb-false}
+use borrow.Author.Tests.{eq-eqb, ne-eqb, leb-true, leb-false, le-leb, lt-leb}
+use Rattle.reckon.specs.Tests.{pick}
 use Rattle.reckon.specs.Roots.{Root}
-use Rattle.reckon.proofs.TestLaws.{pick-true, pick-false, pick-both}
+use Rattle.reckon.proofs.TestLaws.{pick-true, pick-false, pick-both, pick-ap}
 use Rattle.reckon.proofs.QuotientLaws.{div-mono, le-scaled}
 use Rattle.reckon.proofs.RootLaws.{square, root-is, root-right, root-le, root-over, root-least, root-most}
 use Rattle.reckon.specs.Ranges.{mostDepth}
-use Rattle.rule.specs.Weighing.{lesserPositive, leastDrop, greatestDrop, dropSum, heightOf, slopeOf, criticalSpeed, manningSpeed, speedOf, mostThrough, totalOf, throughSides, weighed}
+use Rattle.rule.specs.Weighing.{lesserPositive, leastDrop, greatestDrop, dropSum, heightOf, slopeOf, criticalSpeed, manningSpeed, speedOf, mostThrough, totalOf, throughSides, nothingUnless, directedEdition, unlimitedEdition, weightedSides, directedAmount, directedAmounts, fourOf, scaledTo, directedSides, unlimitedTotal, unlimitedSides, weighed}
+use Rattle.rule.specs.inner.Totals.{totalBy}
 use Rattle.rule.specs.inner.InRange.{mostDrop, DropsInRange}
 use Rattle.rule.specs.declared.rules.Rules.{Rules}
 
@@ -128,45 +130,51 @@ pub greatest-sum : (v : List ℕ) → greatestDrop v ≤ dropSum v
 unfolding greatestDrop dropSum
 greatest-sum v = omega arith
 
-pub total-le : (r : Rules) (d p k ms : ℕ) (v : List ℕ) → totalOf r d p k ms v ≤ d
-unfolding totalOf
-total-le r d p k ms v = omega arith
+pub total-le : (r : Rules) (d p k ms : ℕ) (v : List ℕ) → totalBy r d p k ms v ≤ d
+unfolding totalBy totalOf unlimitedTotal
+total-le r d p k ms v = pick-both (λ (x : ℕ). x ≤ d) (eqb (r .edition) unlimitedEdition) (omega arith) (omega arith)
 
--- ---- the cases of the rule
+-- ---- the total, with m held to d first
 
-module _ (r : Rules) (d p k ms : ℕ) (v : List ℕ) where
-  pub weighed-dry : d ≡ 0 → weighed r d p k ms v ≡ 0 ∷ 0 ∷ 0 ∷ 0 ∷ []
-  unfolding weighed
-  weighed-dry e = pick-true _ _ (rw (eq-eqb d 0 e))
-
-  pub weighed-flat : (d ≡ 0 → ⊥) → greatestDrop v ≡ 0 → weighed r d p k ms v ≡ 0 ∷ 0 ∷ 0 ∷ 0 ∷ []
-  unfolding weighed
-  weighed-flat h e = pick-true _ _ (rw (ne-eqb d 0 h, eq-eqb (greatestDrop v) 0 e))
-
-  pub weighed-wet : (d ≡ 0 → ⊥) → (greatestDrop v ≡ 0 → ⊥) → weighed r d p k ms v ≡ throughSides (totalOf r d p k ms v) v
-  unfolding weighed
-  weighed-wet h g = pick-false _ _ (rw (ne-eqb d 0 h, ne-eqb (greatestDrop v) 0 g))
-
-  -- the parts as the code names them
-  pub weighed-made : {all : ℕ} {x : List ℕ} → (d ≡ 0 → ⊥) → (greatestDrop v ≡ 0 → ⊥) → all ≡ totalOf r d p k ms v → x ≡ throughSides all v → x ≡ weighed r d p k ms v
-  weighed-made h g et ex = ex ∙ (ap (λ (a : ℕ). throughSides a v) et ∙ sym (weighed-wet h g))
-
-  pub total-made :
-      {least sum steepest most low all : ℕ} →
-      0 < greatestDrop v → least ≡ leastDrop v → sum ≡ dropSum v → steepest ≡ greatestDrop v →
-      most ≡ min d (mostThrough r d k ms steepest) → low ≡ min (most * sum / steepest) (least + p) → all ≡ min d low →
-      all ≡ totalOf r d p k ms v
-  unfolding totalOf
-  total-made pos el es eg em ew ea =
+-- the parts as the code names them
+module _
+    (r : Rules) (d p k ms : ℕ) (v : List ℕ) {least sum steepest most all : ℕ} (drop : 0 < greatestDrop v) (least-is : least ≡ leastDrop v)
+    (sum-is : sum ≡ dropSum v) (steepest-is : steepest ≡ greatestDrop v) (most-is : most ≡ min d (mostThrough r d k ms steepest)) where
+  pub total-limited :
+      {low : ℕ} → (r .edition ≡ unlimitedEdition → ⊥) → low ≡ min (most * sum / steepest) (least + p) → all ≡ min d low → all ≡ totalBy r d p k ms v
+  unfolding totalBy totalOf
+  total-limited other el ea =
       ea
-      ∙ (ap (λ (x : ℕ). min d x) (ew ∙ rw (em, el, es, eg))
-      ∙ hold d (mostThrough r d k ms (greatestDrop v)) (dropSum v) (greatestDrop v) (leastDrop v + p) pos (greatest-sum v))
+      ∙ (ap (λ (x : ℕ). min d x) (el ∙ rw (most-is, least-is, sum-is, steepest-is))
+      ∙ (hold d (mostThrough r d k ms (greatestDrop v)) (dropSum v) (greatestDrop v) (leastDrop v + p) drop (greatest-sum v)
+      ∙ sym (pick-false _ _ (ne-eqb _ _ other))))
 
--- ---- what every use above rests on
+  pub total-unlimited : r .edition ≡ unlimitedEdition → all ≡ min d (most * sum / steepest) → all ≡ totalBy r d p k ms v
+  unfolding totalBy unlimitedTotal
+  total-unlimited third ea =
+      ea
+      ∙ (rw (most-is, sum-is, steepest-is)
+      (held d (mostThrough r d k ms (greatestDrop v)) (dropSum v) (greatestDrop v) drop (greatest-sum v) (decLe _ d))
+      ∙ sym (pick-true _ _ (eq-eqb _ _ third)))
 
--- the sum of four
-abbrev pub fourOf : List ℕ → ℕ
-fourOf v = getD v 0 0 + getD v 1 0 + getD v 2 0 + getD v 3 0
+-- ---- nothing leaves without water or without a drop
+
+abbrev none : List ℕ
+none = 0 ∷ 0 ∷ 0 ∷ 0 ∷ []
+
+unless-dry : (d : ℕ) (v x : List ℕ) → d ≡ 0 → nothingUnless d v x ≡ none
+unfolding nothingUnless
+unless-dry d v x e = pick-true _ _ (rw (eq-eqb d 0 e))
+
+unless-flat : (d : ℕ) (v x : List ℕ) → (d ≡ 0 → ⊥) → greatestDrop v ≡ 0 → nothingUnless d v x ≡ none
+unfolding nothingUnless
+unless-flat d v x h e = pick-true _ _ (rw (ne-eqb d 0 h, eq-eqb (greatestDrop v) 0 e))
+
+unless-wet : (d : ℕ) (v x : List ℕ) → (d ≡ 0 → ⊥) → (greatestDrop v ≡ 0 → ⊥) → nothingUnless d v x ≡ x
+unfolding nothingUnless
+unless-wet d v x h g = pick-false _ _ (rw (ne-eqb d 0 h, ne-eqb (greatestDrop v) 0 g))
+
+-- ---- the sum of four, and their shares
 
 -- the shares of a total are at most it
 shares-le : (a t n e s w : ℕ) → 0 < t → n + e + s + w ≤ t → a * n / t + a * e / t + a * s / t + a * w / t ≤ a
@@ -188,19 +196,14 @@ through-le : (a : ℕ) (v : List ℕ) → 0 < dropSum v → fourOf (throughSides
 unfolding throughSides dropSum
 through-le a v pos = shares-le a (dropSum v) _ _ _ _ pos (omega arith)
 
--- the four sum to at most the depth
-pub weighed-le : (r : Rules) (d p k ms : ℕ) (v : List ℕ) → fourOf (weighed r d p k ms v) ≤ d
-weighed-le r d p k ms v = go (ℕ-discrete d 0) (ℕ-discrete (greatestDrop v) 0)
-  where
-    go : Dec (d ≡ 0) → Dec (greatestDrop v ≡ 0) → fourOf (weighed r d p k ms v) ≤ d
-    go (yes e) x = rw (weighed-dry r d p k ms v e) (omega arith)
-    go (no h) (yes e) = rw (weighed-flat r d p k ms v h e) (omega arith)
-    go (no h) (no g) =
-        rw (weighed-wet r d p k ms v h g)
-        (le-trans (through-le (totalOf r d p k ms v) v (omega (arith, greatest-sum v))) (total-le r d p k ms v))
+pub through-made : (v : List ℕ) {a t : ℕ} {x : List ℕ} → a ≡ t → x ≡ throughSides a v → x ≡ throughSides t v
+through-made v e ex = ex ∙ ap (λ (z : ℕ). throughSides z v) e
 
 pub none-through : (a t : ℕ) → a * 0 / t ≡ 0
 none-through a t = rw (mul-zero a) (zero-div t)
+
+none-share : (a t : ℕ) → 0 * a / t ≡ 0
+none-share a t = rw (zero-mul a) (zero-div t)
 
 through-none : (a : ℕ) (v : List ℕ) (side : ℕ) → getD v side 0 ≡ 0 → getD (throughSides a v) side 0 ≡ 0
 unfolding throughSides
@@ -217,8 +220,173 @@ nothing (suc (suc zero)) = refl
 nothing (suc (suc (suc zero))) = refl
 nothing (suc (suc (suc (suc side)))) = refl
 
--- a side without a drop sends nothing
-pub weighed-none : (r : Rules) (d p k ms : ℕ) (v : List ℕ) (side : ℕ) → getD v side 0 ≡ 0 → getD (weighed r d p k ms v) side 0 ≡ 0
-unfolding weighed
-weighed-none r d p k ms v side e =
-    pick-both (λ (l : List ℕ). getD l side 0 ≡ 0) (eqb d 0 || eqb (greatestDrop v) 0) (nothing side) (through-none (totalOf r d p k ms v) v side e)
+-- ---- editions 1 and 3: by a total
+
+by-total-le : (d a : ℕ) (v : List ℕ) → a ≤ d → fourOf (nothingUnless d v (throughSides a v)) ≤ d
+by-total-le d a v le = go (ℕ-discrete d 0) (ℕ-discrete (greatestDrop v) 0)
+  where
+    go : Dec (d ≡ 0) → Dec (greatestDrop v ≡ 0) → fourOf (nothingUnless d v (throughSides a v)) ≤ d
+    go (yes e) x = rw (unless-dry d v (throughSides a v) e) (omega arith)
+    go (no h) (yes e) = rw (unless-flat d v (throughSides a v) h e) (omega arith)
+    go (no h) (no g) = rw (unless-wet d v (throughSides a v) h g) (le-trans (through-le a v (omega (arith, greatest-sum v))) le)
+
+by-total-none : (d a : ℕ) (v : List ℕ) (side : ℕ) → getD v side 0 ≡ 0 → getD (nothingUnless d v (throughSides a v)) side 0 ≡ 0
+unfolding nothingUnless
+by-total-none d a v side e =
+    pick-both (λ (l : List ℕ). getD l side 0 ≡ 0) (eqb d 0 || eqb (greatestDrop v) 0) (nothing side) (through-none a v side e)
+
+-- ---- edition 2: by each drop
+
+module _ (r : Rules) (d k ms : ℕ) where
+  pub directed-le : (drop : ℕ) → directedAmount r d k ms drop ≤ d
+  unfolding directedAmount
+  directed-le drop = pick-both (λ (x : ℕ). x ≤ d) (eqb drop 0) (omega arith) (omega arith)
+
+  pub directed-zero : {drop : ℕ} → drop ≡ 0 → directedAmount r d k ms drop ≡ 0
+  unfolding directedAmount
+  directed-zero {drop} e = pick-true _ _ (eq-eqb drop 0 e)
+
+  pub directed-some : {drop x : ℕ} → (drop ≡ 0 → ⊥) → x ≡ min d (mostThrough r d k ms drop) → x ≡ directedAmount r d k ms drop
+  unfolding directedAmount
+  directed-some {drop} h e = e ∙ sym (pick-false _ _ (ne-eqb drop 0 h))
+
+  amounts-none : (v : List ℕ) (side : ℕ) → getD v side 0 ≡ 0 → getD (directedAmounts r d k ms v) side 0 ≡ 0
+  unfolding directedAmounts
+  amounts-none v zero e = directed-zero e
+  amounts-none v (suc zero) e = directed-zero e
+  amounts-none v (suc (suc zero)) e = directed-zero e
+  amounts-none v (suc (suc (suc zero))) e = directed-zero e
+  amounts-none v (suc (suc (suc (suc side)))) e = refl
+
+scaled-le : (d : ℕ) (a : List ℕ) → fourOf (scaledTo d a) ≤ d
+unfolding scaledTo pick
+scaled-le d a = go (leb (fourOf a) d) refl
+  where
+    share : (x : ℕ) → x * d / fourOf a ≡ d * x / fourOf a
+    share x = ap (λ (y : ℕ). y / fourOf a) (mul-comm x d)
+
+    cut : List ℕ
+    cut = getD a 0 0 * d / fourOf a ∷ getD a 1 0 * d / fourOf a ∷ getD a 2 0 * d / fourOf a ∷ getD a 3 0 * d / fourOf a ∷ []
+
+    go : (b : Bool) → leb (fourOf a) d ≡ b → fourOf (pick b a cut) ≤ d
+    go true e = leb-true _ _ e
+    go false e =
+        let over : d < fourOf a = leb-false _ _ e in
+        rw (share (getD a 0 0), share (getD a 1 0), share (getD a 2 0), share (getD a 3 0))
+        (shares-le d (fourOf a) _ _ _ _ (omega arith) (omega arith))
+
+scaled-none : (d : ℕ) (a : List ℕ) (side : ℕ) → getD a side 0 ≡ 0 → getD (scaledTo d a) side 0 ≡ 0
+unfolding scaledTo
+scaled-none d a side e = pick-both (λ (l : List ℕ). getD l side 0 ≡ 0) (leb (fourOf a) d) e (cut side e)
+  where
+    cut : (s : ℕ) → getD a s 0 ≡ 0 →
+        getD (getD a 0 0 * d / fourOf a ∷ getD a 1 0 * d / fourOf a ∷ getD a 2 0 * d / fourOf a ∷ getD a 3 0 * d / fourOf a ∷ []) s 0 ≡ 0
+    cut zero z = ap (λ (x : ℕ). x * d / fourOf a) z ∙ none-share d (fourOf a)
+    cut (suc zero) z = ap (λ (x : ℕ). x * d / fourOf a) z ∙ none-share d (fourOf a)
+    cut (suc (suc zero)) z = ap (λ (x : ℕ). x * d / fourOf a) z ∙ none-share d (fourOf a)
+    cut (suc (suc (suc zero))) z = ap (λ (x : ℕ). x * d / fourOf a) z ∙ none-share d (fourOf a)
+    cut (suc (suc (suc (suc s)))) z = refl
+
+-- the cases as the code has them
+module _ (d : ℕ) (a : List ℕ) where
+  pub scaled-kept : fourOf a ≤ d → a ≡ scaledTo d a
+  unfolding scaledTo
+  scaled-kept h = sym (pick-true _ _ (le-leb _ _ h))
+
+  pub scaled-cut :
+      {n e s w : ℕ} → d < fourOf a → n ≡ getD a 0 0 * d / fourOf a → e ≡ getD a 1 0 * d / fourOf a → s ≡ getD a 2 0 * d / fourOf a →
+      w ≡ getD a 3 0 * d / fourOf a → n ∷ e ∷ s ∷ w ∷ [] ≡ scaledTo d a
+  unfolding scaledTo
+  scaled-cut over en ee es ew = rw (en, ee, es, ew) (sym (pick-false _ _ (lt-leb _ _ over)))
+
+-- four amounts of 0 stay
+scaled-nothing : (d : ℕ) (a : List ℕ) → a ≡ none → scaledTo d a ≡ none
+unfolding scaledTo
+scaled-nothing d a e = rw e (pick-true _ _ (le-leb 0 d (omega arith)))
+
+module _ (r : Rules) (d k ms : ℕ) (v : List ℕ) where
+  directed-nothing : ((drop : ℕ) → drop ≤ greatestDrop v → directedAmount r d k ms drop ≡ 0) → directedSides r d k ms v ≡ none
+  unfolding directedSides directedAmounts greatestDrop
+  directed-nothing z =
+      scaled-nothing d _
+      (rw (z (getD v 0 0) (omega arith), z (getD v 1 0) (omega arith), z (getD v 2 0) (omega arith), z (getD v 3 0) (omega arith)))
+
+  pub directed-made :
+      {n e s w : ℕ} {x : List ℕ} → n ≡ directedAmount r d k ms (getD v 0 0) → e ≡ directedAmount r d k ms (getD v 1 0) →
+      s ≡ directedAmount r d k ms (getD v 2 0) → w ≡ directedAmount r d k ms (getD v 3 0) → x ≡ scaledTo d (n ∷ e ∷ s ∷ w ∷ []) →
+      x ≡ directedSides r d k ms v
+  unfolding directedSides directedAmounts
+  directed-made en ee es ew ex = ex ∙ rw (en, ee, es, ew)
+
+  directed-dry : d ≡ 0 → directedSides r d k ms v ≡ none
+  directed-dry e = directed-nothing (λ drop h. omega (arith, directed-le r d k ms drop, e))
+
+  directed-flat : greatestDrop v ≡ 0 → directedSides r d k ms v ≡ none
+  directed-flat e = directed-nothing (λ drop h. directed-zero r d k ms (omega (arith, e)))
+
+-- ---- the edition chosen
+
+module _ (r : Rules) (d p k ms : ℕ) (v : List ℕ) where
+  pub weighed-directed : r .edition ≡ directedEdition → weighed r d p k ms v ≡ directedSides r d k ms v
+  unfolding weighed
+  weighed-directed e = pick-true _ _ (eq-eqb _ _ e)
+
+  -- the two that weigh by a total
+  pub weighed-total : (r .edition ≡ directedEdition → ⊥) → weighed r d p k ms v ≡ nothingUnless d v (throughSides (totalBy r d p k ms v) v)
+  unfolding weighed weightedSides unlimitedSides totalBy
+  weighed-total other =
+      pick-false _ _ (ne-eqb _ _ other)
+      ∙ sym (pick-ap (λ (t : ℕ). nothingUnless d v (throughSides t v)) (eqb (r .edition) unlimitedEdition) (unlimitedTotal r d k ms v) (totalOf r d p k ms v))
+
+  -- demand 2's three readings
+  pub weighed-weighted : r .edition ≡ 1 → weighed r d p k ms v ≡ weightedSides r d p k ms v
+  unfolding weighed
+  weighed-weighted e =
+      pick-false _ _ (ne-eqb (r .edition) directedEdition (λ (h : r .edition ≡ directedEdition). omega (arith, e, h)))
+      ∙ pick-false _ _ (ne-eqb (r .edition) unlimitedEdition (λ (h : r .edition ≡ unlimitedEdition). omega (arith, e, h)))
+
+  pub weighed-unlimited : r .edition ≡ unlimitedEdition → weighed r d p k ms v ≡ unlimitedSides r d k ms v
+  unfolding weighed
+  weighed-unlimited e =
+      pick-false _ _ (ne-eqb (r .edition) directedEdition (λ (h : r .edition ≡ directedEdition). omega (arith, e, h))) ∙ pick-true _ _ (eq-eqb _ _ e)
+
+  -- ---- the cases as the code has them
+
+  pub weighed-dry : d ≡ 0 → weighed r d p k ms v ≡ 0 ∷ 0 ∷ 0 ∷ 0 ∷ []
+  weighed-dry e = go (ℕ-discrete (r .edition) directedEdition)
+    where
+      go : Dec (r .edition ≡ directedEdition) → weighed r d p k ms v ≡ none
+      go (yes second) = weighed-directed second ∙ directed-dry r d k ms v e
+      go (no other) = weighed-total other ∙ unless-dry d v _ e
+
+  pub weighed-flat : (d ≡ 0 → ⊥) → greatestDrop v ≡ 0 → weighed r d p k ms v ≡ 0 ∷ 0 ∷ 0 ∷ 0 ∷ []
+  weighed-flat h e = go (ℕ-discrete (r .edition) directedEdition)
+    where
+      go : Dec (r .edition ≡ directedEdition) → weighed r d p k ms v ≡ none
+      go (yes second) = weighed-directed second ∙ directed-flat r d k ms v e
+      go (no other) = weighed-total other ∙ unless-flat d v _ h e
+
+  pub weighed-made :
+      {x : List ℕ} → (d ≡ 0 → ⊥) → (greatestDrop v ≡ 0 → ⊥) → (r .edition ≡ directedEdition → ⊥) → x ≡ throughSides (totalBy r d p k ms v) v →
+      x ≡ weighed r d p k ms v
+  weighed-made h g other ex = ex ∙ sym (weighed-total other ∙ unless-wet d v _ h g)
+
+  -- ---- what every use above rests on, of every edition
+
+  -- the four sum to at most the depth
+  pub weighed-le : fourOf (weighed r d p k ms v) ≤ d
+  unfolding directedSides
+  weighed-le = go (ℕ-discrete (r .edition) directedEdition)
+    where
+      go : Dec (r .edition ≡ directedEdition) → fourOf (weighed r d p k ms v) ≤ d
+      go (yes second) = rw (weighed-directed second) (scaled-le d (directedAmounts r d k ms v))
+      go (no other) = rw (weighed-total other) (by-total-le d (totalBy r d p k ms v) v (total-le r d p k ms v))
+
+  -- a side without a drop sends nothing
+  pub weighed-none : (side : ℕ) → getD v side 0 ≡ 0 → getD (weighed r d p k ms v) side 0 ≡ 0
+  unfolding directedSides
+  weighed-none side e = go (ℕ-discrete (r .edition) directedEdition)
+    where
+      go : Dec (r .edition ≡ directedEdition) → getD (weighed r d p k ms v) side 0 ≡ 0
+      go (yes second) = rw (weighed-directed second) (scaled-none d (directedAmounts r d k ms v) side (amounts-none r d k ms v side e))
+      go (no other) = rw (weighed-total other) (by-total-none d (totalBy r d p k ms v) v side e)

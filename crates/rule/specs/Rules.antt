@@ -6,7 +6,7 @@ use mathlib.Core.List.{[], _∷_}
 use Prim.Native.Nat.{ℕ}
 use lib.Dec.{leb}
 use Rattle.reckon.specs.Tests.{every}
-use Rattle.reckon.specs.Ranges.{mostBed, mostRoughness, mostTolerance, mostLength, mostUpdate, mostEdge}
+use Rattle.reckon.specs.Ranges.{mostBed, mostRoughness, mostTolerance, mostLength, mostUpdate, mostEdge, mostEdition}
 use Rattle.rule.specs.declared.rules.Rules.{Rules}
 
 -- ---- the tests, each by its refusal's number
@@ -15,7 +15,7 @@ use Rattle.rule.specs.declared.rules.Rules.{Rules}
 unfoldable pub groundFine : ℕ → ℕ → Bool
 groundFine bed k = every (leb bed mostBed ∷ leb 1 k ∷ leb k mostRoughness ∷ [])
 
--- 5: "q, step limits, U .. out of range", "e above 10,000"
+-- 5: "q, step limits, U .. out of range", "e above 10,000", "another edition"
 unfoldable pub rulesFine : Rules → Bool
 rulesFine r =
     every
@@ -26,6 +26,8 @@ rulesFine r =
     ∷ leb 1 (r .update)
     ∷ leb (r .update) mostUpdate
     ∷ leb (r .edge) mostEdge
+    ∷ leb 1 (r .edition)
+    ∷ leb (r .edition) mostEdition
     ∷ [])
 
 -- ---- what the public functions give

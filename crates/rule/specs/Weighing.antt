@@ -1,11 +1,11 @@
--- Document 01, "The step": what leaves one square through its four sides, from its depth d, its last leaving P, its roughness k,
--- how long the step lasts (ms) and its four drops V for north, east, south and west. Divisions round down.
+-- Document 01, "The step", with document 02's #105 and #113: what leaves one square through its four sides, from its depth d, its last
+-- leaving P, its roughness k, how long the step lasts (ms) and its four drops V for north, east, south and west. Divisions round down.
 -- Assumes nothing.
 use mathlib.Core.Path.{_≡_}
 use mathlib.Core.Bool.{_||_}
 use mathlib.Core.List.{List, [], _∷_}
 use Prim.Native.Nat.{ℕ, _+_, _*_, _/_, _^_, min, max}
-use lib.Dec.{eqb}
+use lib.Dec.{eqb, leb}
 use lib.ListN.{getD}
 use Rattle.reckon.specs.Tests.{pick}
 use Rattle.reckon.specs.Roots.{rootOf}
@@ -65,8 +65,60 @@ throughSides total v =
     ∷ []
 
 -- "If d = 0 or no drop is positive, nothing leaves. Otherwise .."
+unfoldable pub nothingUnless : ℕ → List ℕ → List ℕ → List ℕ
+nothingUnless d v through = pick (eqb d 0 || eqb (greatestDrop v) 0) (0 ∷ 0 ∷ 0 ∷ 0 ∷ []) through
+
+-- ---- the editions
+
+-- #113: "a second rule edition", "a third edition"; any other is document 01's, and row 5 refuses all but 1 to 3
+abbrev pub directedEdition : ℕ
+directedEdition = 2
+
+abbrev pub unlimitedEdition : ℕ
+unlimitedEdition = 3
+
+-- edition 1: document 01's rule
+unfoldable pub weightedSides : Rules → ℕ → ℕ → ℕ → ℕ → List ℕ → List ℕ
+weightedSides r d p k ms v = nothingUnless d v (throughSides (totalOf r d p k ms v) v)
+
+-- edition 2, document 02, #113: "for each positive drop, s from that drop, speed as now, amount the smaller of d and v·Δt·d over the
+-- same divisor"
+unfoldable pub directedAmount : Rules → ℕ → ℕ → ℕ → ℕ → ℕ
+directedAmount r d k ms drop = pick (eqb drop 0) 0 (min d (mostThrough r d k ms drop))
+
+unfoldable pub directedAmounts : Rules → ℕ → ℕ → ℕ → List ℕ → List ℕ
+directedAmounts r d k ms v =
+    directedAmount r d k ms (getD v 0 0)
+    ∷ directedAmount r d k ms (getD v 1 0)
+    ∷ directedAmount r d k ms (getD v 2 0)
+    ∷ directedAmount r d k ms (getD v 3 0)
+    ∷ []
+
+-- the sum of four
+abbrev pub fourOf : List ℕ → ℕ
+fourOf v = getD v 0 0 + getD v 1 0 + getD v 2 0 + getD v 3 0
+
+-- #113: "If the four sum to more than d, each becomes amount·d / sum, rounded down"
+unfoldable pub scaledTo : ℕ → List ℕ → List ℕ
+scaledTo d a =
+    pick (leb (fourOf a) d) a
+    (getD a 0 0 * d / fourOf a ∷ getD a 1 0 * d / fourOf a ∷ getD a 2 0 * d / fourOf a ∷ getD a 3 0 * d / fourOf a ∷ [])
+
+unfoldable pub directedSides : Rules → ℕ → ℕ → ℕ → List ℕ → List ℕ
+directedSides r d k ms v = scaledTo d (directedAmounts r d k ms v)
+
+-- edition 3, #113: "document 01's rule without the Vmin + P limit"
+unfoldable pub unlimitedTotal : Rules → ℕ → ℕ → ℕ → List ℕ → ℕ
+unlimitedTotal r d k ms v = min d (mostThrough r d k ms (greatestDrop v) * dropSum v / greatestDrop v)
+
+unfoldable pub unlimitedSides : Rules → ℕ → ℕ → ℕ → List ℕ → List ℕ
+unlimitedSides r d k ms v = nothingUnless d v (throughSides (unlimitedTotal r d k ms v) v)
+
+-- #113: "chosen per run"
 unfoldable pub weighed : Rules → ℕ → ℕ → ℕ → ℕ → List ℕ → List ℕ
-weighed r d p k ms v = pick (eqb d 0 || eqb (greatestDrop v) 0) (0 ∷ 0 ∷ 0 ∷ 0 ∷ []) (throughSides (totalOf r d p k ms v) v)
+weighed r d p k ms v =
+    pick (eqb (r .edition) directedEdition) (directedSides r d k ms v)
+    (pick (eqb (r .edition) unlimitedEdition) (unlimitedSides r d k ms v) (weightedSides r d p k ms v))
 
 -- ---- what the public function gives
 

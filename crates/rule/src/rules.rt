@@ -1,6 +1,7 @@
 // The rules of a call; the tests of refusals 5 and 2 that concern the rules or one square.
 use reckon::ranges::MOST_BED;
 use reckon::ranges::MOST_EDGE;
+use reckon::ranges::MOST_EDITION;
 use reckon::ranges::MOST_LENGTH;
 use reckon::ranges::MOST_ROUGHNESS;
 use reckon::ranges::MOST_TOLERANCE;
@@ -8,7 +9,8 @@ use reckon::ranges::MOST_UPDATE;
 ghost use Rattle.rule.specs.Rules.{RulesJudged, GroundJudged};
 
 // square_side is D in m; tolerance is q in ten-thousandths; shortest, longest and update (U) are in ms; edge is e, the surface slope
-// beyond an exit, in ten-thousandths.
+// beyond an exit, in ten-thousandths; edition is 1 for document 01's rule, 2 for Manning's formula in each direction, 3 for document
+// 01's rule without the limit by the least drop and the last leaving.
 pub struct Rules {
     pub square_side: u64,
     pub tolerance: u64,
@@ -16,9 +18,10 @@ pub struct Rules {
     pub longest: u64,
     pub update: u64,
     pub edge: u64,
+    pub edition: u64,
 }
 
-// Refusal 5: tolerance, step limits, update time and edge slope are in range.
+// Refusal 5: tolerance, step limits, update time, edge slope and edition are in range.
 pub fn rules_fine(rules: Rules) -> bool
     ensures { λ r. ⌜ RulesJudged rules r ⌝ }
 {
@@ -40,7 +43,13 @@ pub fn rules_fine(rules: Rules) -> bool
     if MOST_UPDATE < rules.update {
         return false;
     }
-    rules.edge <= MOST_EDGE
+    if MOST_EDGE < rules.edge {
+        return false;
+    }
+    if rules.edition < 1 {
+        return false;
+    }
+    rules.edition <= MOST_EDITION
 }
 
 // Refusal 2: bed and roughness of a square not closed are in range.

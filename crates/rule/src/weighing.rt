@@ -9,14 +9,20 @@ ghost use mathlib.Core.Path.{_≡_};
 ghost use Prim.Native.Nat.{_*_, _/_, _<_, _≤_, min};
 ghost use lib.Dec.{leb};
 ghost use Rattle.reckon.specs.Ranges.{mostDepth, mostLength};
-ghost use Rattle.rule.specs.Weighing.{lesserPositive, leastDrop, greatestDrop, dropSum, heightOf, slopeOf, criticalSpeed, speedOf, mostThrough, totalOf, throughSides, Weighs};
+ghost use Rattle.rule.specs.Weighing.{lesserPositive, leastDrop, greatestDrop, dropSum, heightOf, slopeOf, criticalSpeed, speedOf, mostThrough, throughSides, directedAmount, scaledTo, directedSides, Weighs};
 ghost use Rattle.rule.specs.inner.InRange.{mostDrop, DropsInRange, SquareInRange, Weighable};
+ghost use Rattle.rule.specs.inner.Totals.{totalBy, AmountsWithin};
 
 // The acceleration of gravity as document 02 has it for speeds in µm/s under a depth in µm: c² ≤ 9,810,000·d.
 const GRAVITY: u64 = 9_810_000;
 
 // The critical speed of the greatest depth, µm/s.
 const GREATEST_CRITICAL: u64 = 31_320_919;
+
+// The editions whose rule is not document 01's.
+const DIRECTED_EDITION: u64 = 2;
+
+const UNLIMITED_EDITION: u64 = 3;
 
 // The lesser of two drops that are positive, 0 where neither is.
 fn lesser_positive(a: u64, b: u64) -> u64
@@ -88,28 +94,29 @@ fn is_subcritical(depth: u64, speed: u64) -> bool
     speed * speed <= GRAVITY * depth
 }
 
-// The smaller of critical and Manning speed, µm/s. In most squares it is Manning's, and the critical root is not found.
-fn speed(rules: Rules, depth: u64, roughness: u64, drop: u64) -> u64
-    requires { ⌜ (SquareInRange rules depth roughness) × (drop ≤ mostDrop) ⌝ }
+// The smaller of critical and Manning speed, µm/s, from the square's height. In most squares it is Manning's, and the critical root is
+// not found.
+fn speed(rules: Rules, depth: u64, high: u64, roughness: u64, drop: u64) -> u64
+    requires { ⌜ (SquareInRange rules depth roughness) × (drop ≤ mostDrop) × (high ≡ heightOf depth) ⌝ }
     ensures { λ r. ⌜ r ≡ speedOf rules depth roughness drop ⌝ }
 {
-    let manning = 100 * height(depth) * slope(rules, drop) / roughness;
+    let manning = 100 * high * slope(rules, drop) / roughness;
     if is_subcritical(depth, manning) {
         return manning;
     }
     critical_speed(depth)
 }
 
-// The most through the steepest side, held to the depth: as it stands it passes 64 bits.
-fn most_held(rules: Rules, depth: u64, roughness: u64, lasts: u64, drop: u64) -> u64
-    requires { ⌜ (SquareInRange rules depth roughness) × (drop ≤ mostDrop) × (lasts ≤ mostLength) ⌝ }
+// The most through a side, held to the depth: as it stands it passes 64 bits.
+fn most_held(rules: Rules, depth: u64, high: u64, roughness: u64, lasts: u64, drop: u64) -> u64
+    requires { ⌜ (SquareInRange rules depth roughness) × (drop ≤ mostDrop) × (lasts ≤ mostLength) × (high ≡ heightOf depth) ⌝ }
     ensures { λ r. ⌜ r ≡ min depth (mostThrough rules depth roughness lasts drop) ⌝ }
 {
-    let moved = speed(rules, depth, roughness, drop) * lasts;
+    let moved = speed(rules, depth, high, roughness, drop) * lasts;
     part(depth, moved, rules.square_side * 1_000_000_000)
 }
 
-// All that leaves, where there is water and a drop.
+// All that leaves by a total, where there is water and a drop: with edition 3 the least drop and the last leaving set no limit.
 fn total(
     rules: Rules,
     depth: u64,
@@ -122,22 +129,26 @@ fn total(
 ) -> u64
     requires { ⌜ Weighable rules depth last roughness lasts drops ⌝ }
     requires { ⌜ (0 < greatestDrop drops) × (least ≡ leastDrop drops) × (sum ≡ dropSum drops) ⌝ }
-    ensures { λ r. ⌜ r ≡ totalOf rules depth last roughness lasts drops ⌝ }
+    ensures { λ r. ⌜ r ≡ totalBy rules depth last roughness lasts drops ⌝ }
 {
     let steepest = greatest_drop(drops);
-    let by_speed = most_held(rules, depth, roughness, lasts, steepest) * sum / steepest;
+    let most = most_held(rules, depth, height(depth), roughness, lasts, steepest);
+    let by_speed = most * sum / steepest;
+    if rules.edition == UNLIMITED_EDITION {
+        return lesser(depth, by_speed);
+    }
     lesser(depth, lesser(by_speed, least + last))
 }
 
-// One side's share of the total.
-fn through(total: u64, drop: u64, sum: u64) -> u64
-    requires { ⌜ (total ≤ mostDepth) × (drop ≤ mostDrop) × (0 < sum) ⌝ }
-    ensures { λ r. ⌜ r ≡ total * drop / sum ⌝ }
+// A share of an amount: so many parts of the sum of parts.
+fn share(amount: u64, parts: u64, sum: u64) -> u64
+    requires { ⌜ (amount ≤ mostDepth) × (parts ≤ mostDrop) × (0 < sum) ⌝ }
+    ensures { λ r. ⌜ r ≡ amount * parts / sum ⌝ }
 {
-    if drop == 0 {
+    if parts == 0 {
         return 0;
     }
-    total * drop / sum
+    amount * parts / sum
 }
 
 fn through_sides(total: u64, drops: [u64; 4], sum: u64) -> [u64; 4]
@@ -146,14 +157,81 @@ fn through_sides(total: u64, drops: [u64; 4], sum: u64) -> [u64; 4]
     ensures { λ r. ⌜ r ≡ throughSides total drops ⌝ }
 {
     [
-        through(total, drops[0], sum),
-        through(total, drops[1], sum),
-        through(total, drops[2], sum),
-        through(total, drops[3], sum),
+        share(total, drops[0], sum),
+        share(total, drops[1], sum),
+        share(total, drops[2], sum),
+        share(total, drops[3], sum),
     ]
 }
 
-// What leaves through the four sides, north, east, south, west.
+// By total: what leaves through the four sides, where there is water and a drop.
+fn by_total(
+    rules: Rules,
+    depth: u64,
+    last: u64,
+    roughness: u64,
+    lasts: u64,
+    drops: [u64; 4],
+) -> [u64; 4]
+    requires { ⌜ Weighable rules depth last roughness lasts drops ⌝ }
+    requires { ⌜ 0 < greatestDrop drops ⌝ }
+    ensures { λ r. ⌜ r ≡ throughSides (totalBy rules depth last roughness lasts drops) drops ⌝ }
+{
+    let least = least_drop(drops);
+    let sum = drop_sum(drops, least);
+    let all = total(rules, depth, last, roughness, lasts, drops, least, sum);
+    through_sides(all, drops, sum)
+}
+
+// Edition 2: what one side's own drop moves.
+fn directed_amount(
+    rules: Rules,
+    depth: u64,
+    high: u64,
+    roughness: u64,
+    lasts: u64,
+    drop: u64,
+) -> u64
+    requires { ⌜ (SquareInRange rules depth roughness) × (drop ≤ mostDrop) × (lasts ≤ mostLength) × (high ≡ heightOf depth) ⌝ }
+    ensures { λ r. ⌜ r ≡ directedAmount rules depth roughness lasts drop ⌝ }
+{
+    if drop == 0 {
+        return 0;
+    }
+    most_held(rules, depth, high, roughness, lasts, drop)
+}
+
+// Edition 2: the four amounts as they stand, and where they sum to more than the depth, each cut down in proportion.
+fn scaled(depth: u64, amounts: [u64; 4]) -> [u64; 4]
+    requires { ⌜ (depth ≤ mostDepth) × (AmountsWithin depth amounts) ⌝ }
+    ensures { λ r. ⌜ r ≡ scaledTo depth amounts ⌝ }
+{
+    let sum = amounts[0] + amounts[1] + amounts[2] + amounts[3];
+    if sum <= depth {
+        return amounts;
+    }
+    [
+        share(amounts[0], depth, sum),
+        share(amounts[1], depth, sum),
+        share(amounts[2], depth, sum),
+        share(amounts[3], depth, sum),
+    ]
+}
+
+// Edition 2: what leaves through the four sides, each by its own drop.
+fn directed(rules: Rules, depth: u64, roughness: u64, lasts: u64, drops: [u64; 4]) -> [u64; 4]
+    requires { ⌜ (SquareInRange rules depth roughness) × (lasts ≤ mostLength) × (DropsInRange drops) ⌝ }
+    ensures { λ r. ⌜ r ≡ directedSides rules depth roughness lasts drops ⌝ }
+{
+    let high = height(depth);
+    let north = directed_amount(rules, depth, high, roughness, lasts, drops[0]);
+    let east = directed_amount(rules, depth, high, roughness, lasts, drops[1]);
+    let south = directed_amount(rules, depth, high, roughness, lasts, drops[2]);
+    let west = directed_amount(rules, depth, high, roughness, lasts, drops[3]);
+    scaled(depth, [north, east, south, west])
+}
+
+// What leaves through the four sides, north, east, south, west, by the rules' edition.
 pub fn weigh(
     rules: Rules,
     depth: u64,
@@ -171,8 +249,8 @@ pub fn weigh(
     if greatest_drop(drops) == 0 {
         return [0, 0, 0, 0];
     }
-    let least = least_drop(drops);
-    let sum = drop_sum(drops, least);
-    let all = total(rules, depth, last, roughness, lasts, drops, least, sum);
-    through_sides(all, drops, sum)
+    if rules.edition == DIRECTED_EDITION {
+        return directed(rules, depth, roughness, lasts, drops);
+    }
+    by_total(rules, depth, last, roughness, lasts, drops)
 }

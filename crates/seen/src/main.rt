@@ -26,6 +26,7 @@ const RULES: Rules = Rules {
     longest: 1000,
     update: 1000,
     edge: 10_000,
+    edition: 1,
 };
 
 const MARKS: [u8; 9] = [1, 1, 0, 2, 1, 1, 1, 1, 0];

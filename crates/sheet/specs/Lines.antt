@@ -45,9 +45,9 @@ asGrid f =
 unfoldable pub gridLine : List ℕ → GridLine
 gridLine s = asGrid (lineOf s 0 gridWord gridFields)
 
--- "`run` q shortest longest U end", and "e as its last field" (document 02, #102); D is told by line 1
+-- "`run` q shortest longest U end", and document 02's "e as its last field" (#102) and "the edition, 1 to 3, as its last field" (#113); D is told by line 1
 abbrev pub runFields : ℕ
-runFields = 6
+runFields = 7
 
 unfoldable pub asRun : ℕ → Fields → RunLine
 asRun D f =
@@ -61,6 +61,7 @@ asRun D f =
             longest = getD (f .values) 2 0;
             update = getD (f .values) 3 0;
             edge = getD (f .values) 5 0;
+            edition = getD (f .values) 6 0;
           };
       end = getD (f .values) 4 0;
       next = f .next;

@@ -65,7 +65,7 @@ pub(crate) fn grid_line(text: &[u8]) -> GridLine
 }
 
 // `run` q shortest longest U end; line 1 tells D.
-const RUN_FIELDS: usize = 6;
+const RUN_FIELDS: usize = 7;
 
 pub(crate) fn run_line(text: &[u8], at: usize, side: u64) -> RunLine
     ensures { λ r. ⌜ r ≡ runLine (now (text .entry)) at side ⌝ }
@@ -81,6 +81,7 @@ pub(crate) fn run_line(text: &[u8], at: usize, side: u64) -> RunLine
             longest: values[2] as u64,
             update: values[3] as u64,
             edge: values[5] as u64,
+            edition: values[6] as u64,
         },
         end: values[4] as u64,
         next: line.next,

@@ -19,14 +19,14 @@ pub record NumbersWorked : Type 0 where
   pub zero-written : decimal 0 ≡ 48 ∷ []
   pub greatest-written : decimal 4_294_967_295 ≡ bytesOf "4294967295"
 
--- document 01's `run` line, with the edge slope at its end
+-- document 01's `run` line, with the edge slope and the edition at its end
 abbrev runText : String
-runText = "run\t100\t1000\t1000\t1000\t1000\t10000\n"
+runText = "run\t100\t1000\t1000\t1000\t1000\t10000\t1\n"
 
 pub record LinesWorked : Type 0 where
-  pub run-read : readLine (bytesOf runText) 0 (bytesOf "run") 6 ≡ read (100 ∷ 1_000 ∷ 1_000 ∷ 1_000 ∷ 1_000 ∷ 10_000 ∷ []) 34
-  pub run-written : lineText (bytesOf "run") (100 ∷ 1_000 ∷ 1_000 ∷ 1_000 ∷ 1_000 ∷ 10_000 ∷ []) ≡ bytesOf runText
-  pub run-next : nextLine (bytesOf runText) 0 ≡ 34
+  pub run-read : readLine (bytesOf runText) 0 (bytesOf "run") 7 ≡ read (100 ∷ 1_000 ∷ 1_000 ∷ 1_000 ∷ 1_000 ∷ 10_000 ∷ 1 ∷ []) 36
+  pub run-written : lineText (bytesOf "run") (100 ∷ 1_000 ∷ 1_000 ∷ 1_000 ∷ 1_000 ∷ 10_000 ∷ 1 ∷ []) ≡ bytesOf runText
+  pub run-next : nextLine (bytesOf runText) 0 ≡ 36
   pub rain-read : readLine (bytesOf "rain\t0\t9\t3\n") 0 (bytesOf "rain") 3 ≡ read (0 ∷ 9 ∷ 3 ∷ []) 11
   pub carriage-return : readLine (bytesOf "rain\t0\t9\t3\r\n") 0 (bytesOf "rain") 3 ≡ unread
   pub no-newline : readLine (bytesOf "rain\t0\t9\t3") 0 (bytesOf "rain") 3 ≡ unread

@@ -1,11 +1,11 @@
-// Runs vectors of the weighing and of the step-length candidates, worked outside Rattle by tests/vectors.py: a line for each row, its
-// four transfers and the least of 60,000 and its candidates.
+// Runs vectors of the weighing and of the step-length candidates, worked outside Rattle by tests/vectors.py: a line for each row and
+// each edition of the rule, its four transfers and the least of 60,000 and its candidates.
 use rule::length::shorter;
 use rule::rules::Rules;
 use rule::weighing::weigh;
 ghost use Rattle.rule.specs.inner.InRange.{Weighable, Candidacy};
 
-const ROWS: usize = 63;
+const ROWS: usize = 65;
 
 // The greatest depth, and the greatest drop.
 const DEEP: u64 = 100_000_000;
@@ -80,11 +80,13 @@ const VECTORS: [[u64; 10]; ROWS] = [
     [13, 1, 31415926, 5358, 3238, 4626, 1300, 1301, 0, 33832795],
     // thin water on a gentle slope, which in whole mm/s stood still
     [10, 0, 10_000, 0, 3500, 60_000, 0, 100, 0, 0],
-    [10, 0, 1000, DEEP, 300, 60_000, 100, 0, 0, 0],
+    [10, 0, 900, DEEP, 300, 60_000, 100, 0, 0, 0],
     [100, 0, 100_000, 0, 10_000, 60_000, 0, 0, 1000, 999],
-    // the most through the steepest side just under and just over the depth, where its product comes to 10^19
+    // the most through the steepest side just under, at and just over the depth, where its product comes to 10^19
     [100, 0, DEEP, DEEP, 1, 3192, HIGH, 1, 0, 0],
     [100, 0, DEEP, DEEP, 1, 3193, HIGH, 1, 0, 0],
+    [100, 0, DEEP, DEEP, 7505, 3200, 118_504_996, 1, 0, 0],
+    [100, 0, DEEP, DEEP, 6404, 3200, 86_285_521, 1, 0, 0],
     // Manning's speed at and one above the critical one
     [1, 0, 1000, DEEP, 10_000, 838, 98_099_121, 1, 0, 0],
     [1, 0, 1000, DEEP, 10_000, 838, 98_101_102, 1, 0, 0],
@@ -116,8 +118,8 @@ fn answer(rules: Rules, depth: u64, last: u64, roughness: u64, lasts: u64, drops
     end_line(shorter(rules, 60_000, depth, roughness, drops));
 }
 
-// The line of a row.
-fn line(row: [u64; 10]) {
+// The line of a row by one edition.
+fn edition_line(row: [u64; 10], edition: u64) {
     let rules = Rules {
         square_side: row[0],
         tolerance: row[1],
@@ -125,6 +127,7 @@ fn line(row: [u64; 10]) {
         longest: 60_000,
         update: 60_000,
         edge: 10_000,
+        edition,
     };
     let depth = row[2];
     let last = row[3];
@@ -168,6 +171,13 @@ fn line(row: [u64; 10]) {
         return out_of_range();
     }
     answer(rules, depth, last, roughness, lasts, drops);
+}
+
+// The lines of a row, one for each edition.
+fn line(row: [u64; 10]) {
+    edition_line(row, 1);
+    edition_line(row, 2);
+    edition_line(row, 3);
 }
 
 fn main() {

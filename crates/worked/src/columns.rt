@@ -18,6 +18,7 @@ fn rules() -> Rules {
         longest: 1000,
         update: 1000,
         edge: 10_000,
+        edition: 1,
     }
 }
 

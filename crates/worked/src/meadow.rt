@@ -19,9 +19,6 @@ pub(crate) const ROOM: usize = 80;
 
 // All that the calls are lent, and what the last call gave: the refusal's number, 0 for none, and the steps of a run to an end.
 pub(crate) struct Meadow {
-    pub shape: Shape,
-    pub rules: Rules,
-    pub run: Run,
     pub marks: [u8; 4],
     pub beds: [u32; 4],
     pub roughness: [u32; 4],
@@ -31,6 +28,9 @@ pub(crate) struct Meadow {
     pub lasts: [u32; 4],
     pub records: [u32; ROOM],
     pub room: usize,
+    pub shape: Shape,
+    pub rules: Rules,
+    pub run: Run,
     pub refused: u32,
     pub steps: u64,
 }
@@ -49,6 +49,7 @@ pub(crate) fn sheet(room: usize) -> Meadow {
             longest: 1000,
             update: 1000,
             edge: 10_000,
+            edition: 1,
         },
         run: Run {
             clock: 0,

@@ -79,6 +79,7 @@ fn varied() -> Meadow {
         longest: 2000,
         update: 2500,
         edge: 10_000,
+        edition: 1,
     };
     m.rules = rules;
     let marks = [1, 1, 0, 2];
@@ -121,6 +122,7 @@ fn second(m: Meadow) -> Meadow {
         longest: 400,
         update: 300,
         edge: 10_000,
+        edition: 1,
     };
     new.rules = rules;
     let beds = [0, 40_000, 0, 60_000];
@@ -142,6 +144,7 @@ fn third(m: Meadow) -> Meadow {
         longest: 60_000,
         update: 3_600_000,
         edge: 10_000,
+        edition: 1,
     };
     new.rules = rules;
     let beds = [1_000_000, 0, 0, 5];

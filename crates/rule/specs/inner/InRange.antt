@@ -4,7 +4,7 @@
 use Prim.Native.Nat.{ℕ, _≤_}
 use mathlib.Core.List.{List}
 use lib.ListN.{getD}
-use Rattle.reckon.specs.Ranges.{mostSide, mostBed, mostDepth, mostRoughness, mostTolerance, mostLength, mostUpdate, mostEdge}
+use Rattle.reckon.specs.Ranges.{mostSide, mostBed, mostDepth, mostRoughness, mostTolerance, mostLength, mostUpdate, mostEdge, mostEdition}
 use Rattle.rule.specs.declared.rules.Rules.{Rules}
 
 -- ---- what a call whose tests pass may rely on (`rules-are`, `ground-is`)
@@ -19,6 +19,8 @@ pub record RulesInRange (r : Rules) : Type 0 where
   pub update-from : 1 ≤ r .update
   pub update-to : r .update ≤ mostUpdate
   pub edge-to : r .edge ≤ mostEdge
+  pub edition-from : 1 ≤ r .edition
+  pub edition-to : r .edition ≤ mostEdition
 
 pub record GroundInRange (bed k : ℕ) : Type 0 where
   pub bed-to : bed ≤ mostBed

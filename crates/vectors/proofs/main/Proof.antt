@@ -7,10 +7,10 @@ use Rattle.vectors.proofs.main.Statement.{statement}
 use Rattle.vectors.proofs.main.Tie as tie
 
 abbrev Inv-loop : tie.InvT-loop
-Inv-loop i₀ i = i ≤ 63
+Inv-loop i₀ i = i ≤ 65
 
 abbrev μ-loop : tie.MeasureT-loop
-μ-loop i₀ i = 63 - i
+μ-loop i₀ i = 65 - i
 
 loop-holds : tie.Need-loop-holds Inv-loop μ-loop
 loop-holds c = omega arith

@@ -1,5 +1,6 @@
--- `exports::answers::put_heading` meets its contract: eleven stores fill a slice of eleven.
+-- `exports::answers::put_heading` meets its contract: twelve stores fill a slice of twelve.
 -- Assumes nothing.
+use mathlib.Core.Path.{refl}
 use native.Mathlib.Omega.{arith}
 use lib.ListN.{length-set}
 use Rattle.exports.proofs.AnswerLaws.{stored}
@@ -47,8 +48,13 @@ slice-write-room-11 : tie.Need-slice-write-room-11
 slice-write-room-11 c =
     simp length-set (omega arith)
 
+slice-write-room-12 : tie.Need-slice-write-room-12
+slice-write-room-12 c =
+    simp length-set (omega arith)
+
 same-length : tie.Need-same-length
-same-length c = search needs
+same-length c =
+    simp length-set refl
 
 returns : tie.Need-returns
 returns c =
@@ -69,5 +75,6 @@ put-heading-spec =
     slice-write-room-9
     slice-write-room-10
     slice-write-room-11
+    slice-write-room-12
     same-length
     returns)

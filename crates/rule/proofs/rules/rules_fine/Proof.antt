@@ -33,7 +33,15 @@ returns-6 c = search (lt-leb, le-leb)
 
 returns-7 : tie.Need-returns-7
 unfolding rulesFine every
-returns-7 c = search (lt-leb, le-leb, and-true)
+returns-7 c = search (lt-leb, le-leb)
+
+returns-8 : tie.Need-returns-8
+unfolding rulesFine every
+returns-8 c = search (lt-leb, le-leb)
+
+returns-9 : tie.Need-returns-9
+unfolding rulesFine every
+returns-9 c = search (lt-leb, le-leb, and-true)
 
 pub rules-fine-spec : {M : Type 1} → statement M
-rules-fine-spec = tie.close (tie.spec returns returns-2 returns-3 returns-4 returns-5 returns-6 returns-7)
+rules-fine-spec = tie.close (tie.spec returns returns-2 returns-3 returns-4 returns-5 returns-6 returns-7 returns-8 returns-9)

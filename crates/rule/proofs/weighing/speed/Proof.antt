@@ -9,19 +9,16 @@ use Rattle.rule.proofs.WeighingLaws.{height-le, slope-le, manning-made,
 use Rattle.rule.proofs.weighing.speed.Statement.{statement}
 use Rattle.rule.proofs.weighing.speed.Tie as tie
 
-height-requires : tie.Need-height-requires
-height-requires c κs = search needs
-
 mul-manning : tie.Need-mul-manning
-mul-manning c = omega (arith, c .height .ensures, height-le (c .before .pre .0 .depth-to))
+mul-manning c = omega (arith, c .pre .2, height-le (c .pre .0 .depth-to))
 
 slope-requires : tie.Need-slope-requires
 slope-requires c κs = search needs
 
 mul-manning-2 : tie.Need-mul-manning-2
 mul-manning-2 c =
-    let start = c .before .before in
-    let h : 100 * c .before .height .result ≤ 21544300 = omega (arith, height-le (start .pre .0 .depth-to)) in
+    let start = c .before in
+    let h : 100 * start .args .high ≤ 21544300 = omega (arith, start .pre .2, height-le (start .pre .0 .depth-to)) in
     let s : c .slope .result ≤ 331662 = omega (arith, slope-le (start .args .rules) (start .pre .1)) in
     omega (arith, mul-le-mul h s)
 
@@ -34,11 +31,10 @@ is-subcritical-requires c κs = search needs
 returns : tie.Need-returns
 returns c =
     let at-slope = c .before .before in
-    let at-height = at-slope .before in
-    let start = at-height .before in
+    let start = at-slope .before in
     let a = start .args in
     manning-smaller (a .rules) (a .depth) (a .roughness) (a .drop) (start .pre .0 .depth-to)
-    (manning-made (a .rules) (a .depth) (a .roughness) (a .drop) (at-height .height .ensures) (at-slope .slope .ensures))
+    (manning-made (a .rules) (a .depth) (a .roughness) (a .drop) (start .pre .2) (at-slope .slope .ensures))
     (c .before .is-subcritical .ensures)
     (c .if1 .taken)
 
@@ -49,11 +45,10 @@ returns-2 : tie.Need-returns-2
 returns-2 c =
     let at-test = c .before .before in
     let at-slope = at-test .before in
-    let at-height = at-slope .before in
-    let start = at-height .before in
+    let start = at-slope .before in
     let a = start .args in
     critical-smaller (a .rules) (a .depth) (a .roughness) (a .drop) (start .pre .0 .depth-to)
-    (manning-made (a .rules) (a .depth) (a .roughness) (a .drop) (at-height .height .ensures) (at-slope .slope .ensures))
+    (manning-made (a .rules) (a .depth) (a .roughness) (a .drop) (start .pre .2) (at-slope .slope .ensures))
     (at-test .is-subcritical .ensures)
     (c .before .if1 .left)
     (c .critical-speed .ensures)
@@ -62,7 +57,6 @@ pub speed-spec : {M : Type 1} → statement M
 speed-spec =
     tie.close
     (tie.spec
-    height-requires
     mul-manning
     slope-requires
     mul-manning-2

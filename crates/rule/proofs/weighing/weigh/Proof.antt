@@ -1,9 +1,9 @@
--- `rule::weighing::weigh` meets its contract: a case each for no water, no drop, and both.
+-- `rule::weighing::weigh` meets its contract: a case each for no water, no drop, the second edition, and the two that weigh by a total.
 -- Assumes nothing.
 use mathlib.Core.Path.{sym, _∙_}
 use native.Mathlib.Omega.{arith}
 use borrow.Author.Needs.{needs}
-use Rattle.rule.proofs.WeighingLaws.{weighed-dry, weighed-flat, greatest-sum, total-le, weighed-made}
+use Rattle.rule.proofs.WeighingLaws.{weighed-dry, weighed-flat, weighed-directed, weighed-made}
 use Rattle.rule.proofs.weighing.weigh.Statement.{statement}
 use Rattle.rule.proofs.weighing.weigh.Tie as tie
 
@@ -16,44 +16,27 @@ greatest-drop-requires c κs = search needs
 returns-2 : tie.Need-returns-2
 returns-2 c = sym (weighed-flat _ _ _ _ _ _ (c .before .before .if1 .left) (sym (c .before .greatest-drop .ensures) ∙ c .if2 .taken))
 
-least-drop-requires : tie.Need-least-drop-requires
-least-drop-requires c κs = search needs
-
-drop-sum-requires : tie.Need-drop-sum-requires
-drop-sum-requires c κs = search needs
-
-total-requires : tie.Need-total-requires
-total-requires c κs = search needs
-
-through-sides-requires : tie.Need-through-sides-requires
-through-sides-requires c κs =
-    let s = c .before .before .before .before .before .before in
-    let a = s .args in (
-      s .pre .drops,
-      (
-        omega (arith, total-le (a .rules) (a .depth) (a .last) (a .roughness) (a .lasts) (a .drops), s .pre .square .depth-to),
-        omega (arith, greatest-sum (a .drops)),
-        c .before .drop-sum .ensures,
-      ),
-    )
+directed-requires : tie.Need-directed-requires
+directed-requires c κs = search needs
 
 returns-3 : tie.Need-returns-3
-returns-3 c =
-    let s = c .before .before .before .before .before .before .before in
-    let a = s .args in
-    weighed-made (a .rules) (a .depth) (a .last) (a .roughness) (a .lasts) (a .drops) (c .before .before .before .before .before .before .if1 .left)
-    (λ e. c .before .before .before .before .if2 .left (c .before .before .before .before .before .greatest-drop .ensures ∙ e))
-    (c .before .total .ensures) (c .through-sides .ensures)
+returns-3 c = c .directed .ensures ∙ sym (weighed-directed _ _ _ _ _ _ (c .before .if3 .taken))
+
+by-total-requires : tie.Need-by-total-requires
+by-total-requires c κs =
+    let at-second = c .before .before in
+    let at-greatest = at-second .before in
+    (at-greatest .before .before .pre, omega (arith, at-second .if2 .left, at-greatest .greatest-drop .ensures))
+
+returns-4 : tie.Need-returns-4
+returns-4 c =
+    let at-third = c .before in
+    let at-second = at-third .before .before in
+    let at-greatest = at-second .before in
+    let start = at-greatest .before .before in
+    let a = start .args in
+    weighed-made (a .rules) (a .depth) (a .last) (a .roughness) (a .lasts) (a .drops) (at-greatest .before .if1 .left)
+    (λ e. at-second .if2 .left (at-greatest .greatest-drop .ensures ∙ e)) (at-third .if3 .left) (c .by-total .ensures)
 
 pub weigh-spec : {M : Type 1} → statement M
-weigh-spec =
-    tie.close
-    (tie.spec
-    returns
-    greatest-drop-requires
-    returns-2
-    least-drop-requires
-    drop-sum-requires
-    total-requires
-    through-sides-requires
-    returns-3)
+weigh-spec = tie.close (tie.spec returns greatest-drop-requires returns-2 directed-requires returns-3 by-total-requires returns-4)

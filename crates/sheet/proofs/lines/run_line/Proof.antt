@@ -42,11 +42,17 @@ array-read-t27 c = search needs
 cast-t28 : tie.Need-cast-t28
 cast-t28 c = search needs
 
-array-read-t32 : tie.Need-array-read-t32
-array-read-t32 c = search needs
+array-read-t31 : tie.Need-array-read-t31
+array-read-t31 c = search needs
 
-cast-t33 : tie.Need-cast-t33
-cast-t33 c = search needs
+cast-t32 : tie.Need-cast-t32
+cast-t32 c = search needs
+
+array-read-t36 : tie.Need-array-read-t36
+array-read-t36 c = search needs
+
+cast-t37 : tie.Need-cast-t37
+cast-t37 c = search needs
 
 returns : tie.Need-returns
 unfolding asRun runLine
@@ -68,6 +74,8 @@ run-line-spec =
     cast-t24
     array-read-t27
     cast-t28
-    array-read-t32
-    cast-t33
+    array-read-t31
+    cast-t32
+    array-read-t36
+    cast-t37
     returns)
