@@ -31,10 +31,29 @@ def held_pond():
     return opened_pond(settled, HELD_MOUTH).text(10 * MINUTE)
 
 
+# soak rates in µm an hour, each an order of magnitude
+CLAY, LOAM, SAND = 1_000, 10_000, 100_000
+
+
+def soaking_meadow():
+    """Rain of 30 mm an hour for an hour on a meadow that falls to the south and to a leat in the west: clay along the leat, where the
+    rain stands and runs off, loam in the middle, which takes a part of it, and sand in the east, which takes all; then ten minutes without."""
+    sheet = Sheet(9, 10, 10, longest=20 * SECOND, edge=50)
+    for row, column in sheet.squares:
+        leat = column == 0
+        bed = (1_000 + 30 * (8 - row) + 20 * column - 300 * leat) * MILLIMETRE
+        rate = CLAY if column < 3 else LOAM if column < 7 else SAND
+        mark = "e" if leat and row == 8 else "o"
+        sheet.put((row, column), bed, 300 if leat else 350, 0, mark, rate=rate)
+    sheet.rain.append((0, HOUR, 30_000))
+    return sheet.text(70 * MINUTE)
+
+
 SAMPLES = {
     "document-01": document_01,
     "dry-weather": dry_weather,
     "held-pond": held_pond,
+    "soaking-meadow": soaking_meadow,
     "walled-meadow": lambda: drowned_meadow().text(3 * MINUTE),
 }
 

@@ -38,9 +38,9 @@ meadow() {
 meadow "$room/few" 5
 expect 0 '^total +5 +2 ' "$room/few"
 expect 0 '^demands +3 +0 ' "$room/few"
-meadow "$room/most" 1600
-expect 0 '^total +1600 ' "$room/most"
-meadow "$room/more" 1601
+meadow "$room/most" 1700
+expect 0 '^total +1700 ' "$room/most"
+meadow "$room/more" 1701
 expect 1 '1 lines too many' "$room/more"
 meadow "$room/none" 0
 expect 1 'no definitions found' "$room/none"

@@ -42,6 +42,8 @@ BASES = {
     # lines: 1 grid, 2 run, 3 the west square with 1 mm of water, 4 the east square
     "document 01": (TOP / "samples" / "document-01.sheet").read_text(encoding="ascii"),
     "full square": square_grid(1, 100_000_000),
+    # line 3 has 1 mm of water that cannot go anywhere
+    "puddle": square_grid(1, 1_000),
     "three by three": square_grid(3, 0),
     # the exit that document 01 works by hand: line 3 has 1 cm of water, and every side lies off the grid
     "exit": square_grid(1, 10_000, "e"),
@@ -51,6 +53,8 @@ BASES = {
 }
 A_HATCH = line_of(INFLOW, {"row": 0, "column": 0, "from": 0, "to": SECOND, "litres": 1})
 A_SHOWER = line_of(RAIN, {"from": 0, "to": SECOND, "rate": 1})
+# 277 µm in the second of these seconds
+A_CLOUDBURST = line_of(RAIN, {"from": SECOND, "to": 2 * SECOND, "rate": 1_000_000})
 A_WEEK = 604_800_000
 SOUTH_OF_THE_GRID = line_of(SQUARE, {"row": 1, "column": 0, "bed": 0, "roughness": 100})
 
@@ -144,9 +148,10 @@ def long_text(size):
     return lambda _text: "0" * size
 
 
-def left(depths, outflow, steps=1):
-    """The answer of a run of one second that leaves the first row so deep."""
-    return answer_text({(0, column): depth for column, depth in enumerate(depths)}, {"outflow": outflow, "steps": steps, "clock": SECOND})
+def left(depths, outflow, steps=1, soaked=0, clock=SECOND):
+    """The answer of a run, of one second where nothing else is said, that leaves the first row so deep."""
+    totals = {"outflow": outflow, "soaked": soaked, "steps": steps, "clock": clock}
+    return answer_text({(0, column): depth for column, depth in enumerate(depths)}, totals)
 
 
 # ---- the table: name, base sheet, the edit in words, the edit, the answer (a refusal's number and line, or the text)
@@ -224,6 +229,69 @@ CASES = [
     ("edition-3-standing", "standing", "edition 3 frees it", [field(2, "edition", 3)], left([1_000_002, 4, 1_699_993], 0)),
     # d to the east, and with s = 10 and v = 100,000 a tenth of it to the west: of 1,100,000, 909,090 and 90,909
     ("edition-2-standing", "standing", "edition 2 frees it", [field(2, "edition", 2)], left([1_090_908, 1, 1_609_090], 0)),
+    # soaking, each worked by hand: by clock t a rate has rate·t / 3,600,000 due. In one second 3,600 µm an hour come to 1 µm
+    ("soak-1", "puddle", "a rate that comes to 1 µm", [field(3, "rate", 3_600)], left([999], 0, soaked=1)),
+    ("soak-just-under-1", "puddle", "a rate just below it", [field(3, "rate", 3_599)], left([1_000], 0)),
+    ("soak-just-under-2", "puddle", "a rate just below 2 µm", [field(3, "rate", 7_199)], left([999], 0, soaked=1)),
+    ("soak-2", "puddle", "a rate that comes to 2 µm", [field(3, "rate", 7_200)], left([998], 0, soaked=2)),
+    # 1,000,000,000 / 3,600,000 = 277
+    ("soak-fastest", "puddle", "the greatest rate", [field(3, "rate", 1_000_000)], left([723], 0, soaked=277)),
+    (
+        "soak-all-there-is",
+        "puddle",
+        "the greatest rate, and as much water as is due",
+        [field(3, "rate", 1_000_000), field(3, "depth", 277)],
+        left([0], 0, soaked=277),
+    ),
+    ("soak-more-due", "puddle", "1 µm less than is due", [field(3, "rate", 1_000_000), field(3, "depth", 276)], left([0], 0, soaked=276)),
+    ("soak-dry", "puddle", "a dry square", [field(3, "rate", 1_000_000), field(3, "depth", 0)], left([0], 0)),
+    # 2,700 an hour is 3/4 µm a second: 0, 1, 2 and 3 are due by the four clocks, and 0 by each second taken by itself
+    (
+        "soak-by-the-clock",
+        "puddle",
+        "four steps, rounded by the clock",
+        [field(3, "rate", 2_700), field(2, "end", 4 * SECOND)],
+        left([997], 0, steps=4, soaked=3, clock=4 * SECOND),
+    ),
+    # due are 100 a second; the 277 of the second second arrive after its soaking, and the 200 that a dry square did not give are lost
+    (
+        "soak-before-rain",
+        "puddle",
+        "a dry square, and rain that falls in the second step",
+        [field(3, "depth", 0), field(3, "rate", 360_000), field(2, "end", 2 * SECOND), after(A_CLOUDBURST)],
+        left([277], 0, steps=2, clock=2 * SECOND),
+    ),
+    (
+        "soak-nothing-owed",
+        "puddle",
+        "the same, and the third step",
+        [field(3, "depth", 0), field(3, "rate", 360_000), field(2, "end", 3 * SECOND), after(A_CLOUDBURST)],
+        left([177], 0, steps=3, soaked=100, clock=3 * SECOND),
+    ),
+    # west 1,000 − 31 − 1 + 1, east 0 − 0 − 0 + 31 + 1: what arrives in the east does not soak yet
+    (
+        "soak-sides-and-rain",
+        "document 01",
+        "a side, soaking and rain at once; the east dry, with the greatest rate",
+        [field(3, "rate", 3_600), field(4, "rate", 1_000_000), after(A_SHOWER), field(5, "rate", 3_600)],
+        left([969, 32], 0, soaked=1),
+    ),
+    ("soak-exit", "exit", "an exit that soaks, after its sides have taken 8,000", [field(3, "rate", 1_000_000)], left([1_723], 8_000, soaked=277)),
+    # the four come to 6,368 of 6,371, as without soaking
+    (
+        "soak-after-the-sides",
+        "exit",
+        "less water left by the sides than is due",
+        [field(2, "edition", 2), field(3, "depth", 6_371), field(3, "rate", 1_000_000)],
+        left([0], 6_368, soaked=3),
+    ),
+    (
+        "soak-nothing-left",
+        "exit",
+        "no water left by the sides",
+        [field(2, "edition", 2), field(3, "rate", 1_000_000)],
+        left([0], 10_000),
+    ),
     # the text: 12 with its line
     ("empty", "nothing", "nothing at all", [], (12, 1)),
     ("blank-first-line", "document 01", "a blank line before the first", [before("")], (12, 1)),
@@ -252,7 +320,14 @@ CASES = [
     ("cell-mark-unknown", "document 01", "a mark that there is not", [field(4, "mark", "q")], (12, 4)),
     ("cell-mark-upper-case", "document 01", "a mark in upper case", [field(4, "mark", "O")], (12, 4)),
     ("cell-closed-with-fields", "document 01", "a closed square with a bed", [field(4, "mark", "x")], (12, 4)),
-    ("cell-open-without-depth", "document 01", "an open square without its last field", [last_gone(4)], (12, 4)),
+    ("cell-closed-with-rate", "document 01", "a closed square with a rate alone", [closed(4), one_more(4, "0")], (12, 4)),
+    ("cell-open-without-rate", "document 01", "an open square without its rate, as it once was", [last_gone(4)], (12, 4)),
+    ("cell-exit-without-rate", "exit", "an exit without its rate", [last_gone(3)], (12, 3)),
+    ("cell-open-without-depth", "document 01", "without its depth too", [last_gone(4), last_gone(4)], (12, 4)),
+    ("cell-field-too-many", "document 01", "a field after the rate", [one_more(4)], (12, 4)),
+    ("cell-rate-empty", "document 01", "a tab at a square's end, and no rate", [field(4, "rate", "")], (12, 4)),
+    ("cell-rate-needless-zero", "document 01", "a rate of 07", [field(4, "rate", "07")], (12, 4)),
+    ("cell-rate-too-large", "document 01", "a rate of 2^32", [field(4, "rate", 4_294_967_296)], (12, 4)),
     ("cell-double-tab", "document 01", "two tabs before a bed", [field(4, "bed", "\t0")], (12, 4)),
     ("cell-question-mark", "document 01", "a bed that the survey could not see", [field(4, "bed", "?")], (12, 4)),
     ("cell-number-too-large", "document 01", "a bed of 2^32", [field(4, "bed", 4_294_967_296)], (12, 4)),
@@ -271,6 +346,8 @@ CASES = [
     ("bed-too-high", "document 01", "a bed above 1,000 m", [field(4, "bed", 1_000_000_001)], (2, 0)),
     ("roughness-0", "document 01", "a roughness of 0", [field(4, "roughness", 0)], (2, 0)),
     ("cell-number-largest", "document 01", "a bed of 2^32 - 1, read and then judged", [field(4, "bed", 4_294_967_295)], (2, 0)),
+    ("rate-too-fast", "document 01", "a soak rate above 1 m an hour", [field(4, "rate", 1_000_001)], (2, 0)),
+    ("rate-number-largest", "document 01", "a soak rate of 2^32 - 1, read and then judged", [field(4, "rate", 4_294_967_295)], (2, 0)),
     # water: 3
     ("depth-too-deep", "document 01", "a depth above 100 m", [field(4, "depth", 100_000_001)], (3, 0)),
     # tables: 4
@@ -316,6 +393,20 @@ CASES = [
         "document 01",
         "a depth too deep, and a later bed too high",
         [field(3, "depth", 100_000_001), field(4, "bed", 1_000_000_001)],
+        (2, 0),
+    ),
+    (
+        "two-text-before-rate",
+        "document 01",
+        "a soak rate too fast, and a later line cut short",
+        [field(3, "rate", 1_000_001), last_gone(4)],
+        (12, 4),
+    ),
+    (
+        "two-rate-before-depth",
+        "document 01",
+        "a depth too deep, and a later soak rate too fast",
+        [field(3, "depth", 100_000_001), field(4, "rate", 1_000_001)],
         (2, 0),
     ),
     ("two-bed-before-65-lines", "document 01", "a roughness of 0, and 65 rows of rain", [field(4, "roughness", 0), after(A_SHOWER, 65)], (2, 0)),

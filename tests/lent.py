@@ -8,13 +8,13 @@ from meadow.steps import fresh, run_to, step
 from meadow.take_back import take_back
 from meadow.world import Meadow
 
-RUN = ("clock", "length", "outflow", "kept", "newest")
+RUN = ("clock", "length", "outflow", "kept", "newest", "soaked")
 
 
-def meadow(shape, rules, run, marks, beds, roughness, rain, inflow, depths, lasts, records):
+def meadow(shape, rules, run, marks, beds, roughness, rates, rain, inflow, depths, lasts, records):
     """The meadow that a call is lent; `run` None is a run that the call does not look at."""
     named = {"side" if name == "square_side" else name: value for name, value in vars(rules).items()}
-    lent = Meadow(shape.rows, shape.columns, named, marks, beds, roughness, rain, inflow, depths, lasts, records)
+    lent = Meadow(shape.rows, shape.columns, named, marks, beds, roughness, rates, rain, inflow, depths, lasts, records)
     for name in RUN if run else ():
         setattr(lent, name, getattr(run, name))
     return lent
@@ -46,7 +46,7 @@ def run_after(answer, before):
 
 def freshens(shape, rules, marks, lasts, records):
     """A fresh run."""
-    return answer(fresh, meadow(shape, rules, None, marks, [], [], [], [], [], lasts, records))
+    return answer(fresh, meadow(shape, rules, None, marks, [], [], [], [], [], [], lasts, records))
 
 
 def steps(*parts):
@@ -66,7 +66,7 @@ NO_RULES = Struct(square_side=1, longest=1)
 
 def takes_back(shape, run, marks, depths, lasts, records):
     """A take-back."""
-    return answer(take_back, meadow(shape, NO_RULES, run, marks, [], [], [], [], depths, lasts, records))
+    return answer(take_back, meadow(shape, NO_RULES, run, marks, [], [], [], [], [], depths, lasts, records))
 
 
 def bits(speed):
@@ -76,7 +76,7 @@ def bits(speed):
 
 def arrow(shape, side, run, marks, depths, records, row, column):
     """What is seen of a square, in the program's words."""
-    m = meadow(shape, Struct(square_side=side, longest=1), run, marks, [], [], [], [], depths, [], records)
+    m = meadow(shape, Struct(square_side=side, longest=1), run, marks, [], [], [], [], [], depths, [], records)
     try:
         kind, speeds = sights.arrow(m, row, column)
     except Refused as refused:
@@ -86,7 +86,7 @@ def arrow(shape, side, run, marks, depths, records, row, column):
 
 def wet_rows(shape, marks, depths, wet_depth, rows):
     """The wet count in the program's words; the rows are written."""
-    m = meadow(shape, NO_RULES, None, marks, [], [], [], [], depths, [], [])
+    m = meadow(shape, NO_RULES, None, marks, [], [], [], [], [], depths, [], [])
     try:
         return f"wet {sights.wet_rows(m, wet_depth, rows)}"
     except Refused as refused:

@@ -1,6 +1,6 @@
 #!/usr/bin/env python3
-"""The map of each sample has a wall for each closed square, an exit for each exit, blue just where the answer has water, and a mark for
-each standing square; one of another edition says so instead; a refused sheet has no map."""
+"""The map of each sample has a wall for each closed square, an exit for each exit, blue just where the answer has water, a mark for each
+standing square, and the answer's totals; one of another edition says so instead; a refused sheet has no map."""
 import subprocess
 import sys
 import tempfile
@@ -48,6 +48,8 @@ def hold_samples(checks):
             counts, wanted = found(made.stdout), expected(sheet, answer)
             for kind in KINDS:
                 checks.hold(counts[kind] == wanted[kind], f"{sheet.name}: {counts[kind]} of {kind} drawn, not {wanted[kind]}")
+            for name, total in Answer(answer.read_text()).totals.items():
+                checks.hold(f">{name}: {total:,}" in made.stdout, f"{sheet.name}: the map does not say {name}")
 
 
 def hold_edition(checks):

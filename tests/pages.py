@@ -33,6 +33,7 @@ UNITS = {
     "depth": "depth",
     "last leaving": "last",
     "roughness": "roughness",
+    "soak rate": "soak rate",
     "mark": "mark",
     "slope tolerance": "tolerance",
     "shortest step": "shortest",
@@ -44,6 +45,7 @@ UNITS = {
     "rain": "rate",
     "inflow": "litres",
     "outflow total": "outflow",
+    "total soaked": "soaked",
 }
 PATH = re.compile(r"`((?:\.ci|bin|crates|docs|python|samples|tests|tools|validation)/[\w./-]+?)/?`")
 LINK = re.compile(r"\]\((?!http|#)([^)#]+)\)")

@@ -48,7 +48,7 @@ def pond(beds, depths, edge, edition=1):
 
 def answered(depths):
     """The answer that leaves them as they are."""
-    return answer_text({(0, column): depth for column, depth in enumerate(depths)}, {"outflow": 0, "steps": 0, "clock": 0})
+    return answer_text({(0, column): depth for column, depth in enumerate(depths)}, {"outflow": 0, "soaked": 0, "steps": 0, "clock": 0})
 
 
 def expected(depths, standing):

@@ -14,7 +14,7 @@ from stored import hold  # noqa: E402
 
 OUT = []
 STATE = ("depths", "lasts")
-RUN_BUT_KEPT = ("clock", "length", "outflow", "newest")
+RUN_BUT_KEPT = ("clock", "length", "outflow", "newest", "soaked")
 
 
 def write_all(_to, text):

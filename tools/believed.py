@@ -10,7 +10,7 @@ in a Worked.antt (cases worked by hand, which are proved). Imports, lists of mod
 import os
 import sys
 
-MOST = 1600
+MOST = 1700
 APART = "demands"
 NOT_DEFINITIONS = ("--", "use ", "pub use ", "pub mod ", "mod ")
 

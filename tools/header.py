@@ -40,32 +40,33 @@ CONSTANTS = [
     ("STILL", "exports", "STILL"),
 ]
 
-# the table of document 01, from 1
+# the table of document 01, and what document 02 adds to it
 REFUSALS = [
-    ("SHAPE", "shape or D out of range, an array of another size than it must have, an asked square off the grid"),
-    ("GROUND", "mark above 2, exit off the rim, bed or roughness of a square not closed out of range"),
-    ("WATER", "depth or last leaving of a square not closed out of range"),
-    ("TABLE", "rain or inflow: odd length, over 64 rows, a value out of range, from > to, a closed or missing square"),
-    ("RULES", "q, step limits, U, e, edition or wet depth out of range; end not a multiple of U or out of range"),
-    ("RUN", "no room for a record, or a run value out of range"),
-    ("CLOCK", "the step would pass clock 604,800,000"),
-    ("DEPTH", "a new depth above 100,000,000"),
-    ("OUTFLOW", "outflow total above 10^15"),
-    ("NONE_KEPT", "no step is kept to take back or to see"),
-    ("RECORD", "the newest record cannot be right"),
-    ("TEXT", "sheet text, with its line"),
+    (1, "SHAPE", "shape or D out of range, an array of another size than it must have, an asked square off the grid"),
+    (2, "GROUND", "mark above 2, exit off the rim, bed, roughness or soak rate of a square not closed out of range"),
+    (3, "WATER", "depth or last leaving of a square not closed out of range"),
+    (4, "TABLE", "rain or inflow: odd length, over 64 rows, a value out of range, from > to, a closed or missing square"),
+    (5, "RULES", "q, step limits, U, e, edition or wet depth out of range; end not a multiple of U or out of range"),
+    (6, "RUN", "no room for a record, or a run value out of range"),
+    (7, "CLOCK", "the step would pass clock 604,800,000"),
+    (8, "DEPTH", "a new depth above 100,000,000"),
+    (9, "OUTFLOW", "outflow total above 10^15"),
+    (10, "NONE_KEPT", "no step is kept to take back or to see"),
+    (11, "RECORD", "the newest record cannot be right"),
+    (12, "TEXT", "sheet text, with its line"),
+    (15, "SOAKED", "total soaked above 10^15"),
 ]
 
 # KiB of stack that suffice for a call, as tests/stack.sh measures them, its thread's own start included
 STACK = {
     "flood_fresh": 16,
-    "flood_step": 128,
-    "flood_run_to": 128,
+    "flood_step": 144,
+    "flood_run_to": 144,
     "flood_take_back": 16,
     "flood_arrow": 16,
     "flood_wet_rows": 16,
-    "flood_read_sheet": 192,
-    "flood_meadow": 320,
+    "flood_read_sheet": 224,
+    "flood_meadow": 352,
 }
 
 TOP = """\
@@ -77,7 +78,7 @@ TOP = """\
 
    These arrays have exactly so many numbers, else the call is refused by 1 before all else:
      rules       square_side, tolerance, shortest, longest, update, edge, edition
-     run         clock, length, outflow, kept, newest: goes in, and the run that the call leaves comes out in it, for the next call;
+     run         clock, length, outflow, kept, newest, soaked: goes in, and the run that the call leaves comes out in it, for the next call;
                  flood_fresh only writes it, flood_arrow only reads it
      steps       the steps that a run to an end made
      speeds      east and north, in m/s
@@ -90,7 +91,7 @@ TOP = """\
 
    A refused call leaves every array as it was, but for these:
      flood_read_sheet   writes `line` unless `heading` or `line` has not its size.
-     flood_run_to       refused by 7, 8 or 9 has made the steps that `steps` tells; depths, lasts, records and run are those before the
+     flood_run_to       refused by 7, 8, 9 or 15 has made the steps that `steps` tells; depths, lasts, records and run are those before the
                         step refused.
    flood_meadow prints a refusal as it prints an answer.
 
@@ -196,7 +197,7 @@ def header():
         text += f"     {name:<18} {size:>3} KiB\n"
     text = text.rstrip("\n") + " */\n" + MIDDLE
     text += named("DONE", 0)
-    for number, (name, words) in enumerate(REFUSALS, 1):
+    for number, name, words in REFUSALS:
         text += named("REFUSED_" + name, number, words)
     text += "\n"
     for name, crate, source in CONSTANTS:
@@ -243,7 +244,7 @@ def declared():
     for name, crate, source in CONSTANTS:
         kind, number = constant(crate, source)
         text += f"pub const {name}: {kind} = {number};\n"
-    for number, (name, words) in enumerate(REFUSALS, 1):
+    for number, name, words in REFUSALS:
         text += f"pub const REFUSED_{name}: u32 = {number};\n"
     text += "\n"
     head, square = record_words()

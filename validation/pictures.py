@@ -13,8 +13,10 @@ from meadow.drawing import svg  # noqa: E402
 from meadow.grounds import HELD_MOUTH, opened_pond  # noqa: E402
 from meadow.lines import HOUR, MINUTE, SECOND  # noqa: E402
 from meadow.programs import TOP, ended, meadow  # noqa: E402
+from meadow.sheets import read  # noqa: E402
 from pond import settled  # noqa: E402
 from shared import limits  # noqa: E402
+from soaking import SAMPLE  # noqa: E402
 
 FOLDER = TOP / "docs" / "pictures"
 WIDTH, HEIGHT = 640, 300
@@ -121,6 +123,7 @@ PICTURES = {
     "editions.svg": editions,
     "usual-steps.svg": lambda: map_of(level_meadow(RUNS["usual"]), 30 * MINUTE),
     "long-steps.svg": lambda: map_of(level_meadow(RUNS["all 60 s"]), 30 * MINUTE),
+    "soaking-meadow.svg": lambda: map_of(*read(SAMPLE.read_text(encoding="ascii"))),
 }
 
 

@@ -17,10 +17,12 @@ import editions  # noqa: E402
 import lake  # noqa: E402
 import long_step  # noqa: E402
 import pond  # noqa: E402
+import soaking  # noqa: E402
 import thin_water  # noqa: E402
 import turns  # noqa: E402
 import update_time  # noqa: E402
 import walls  # noqa: E402
+import wetting_front  # noqa: E402
 from meadow.counted import Checks  # noqa: E402
 from meadow.programs import TOP, ended  # noqa: E402
 from shared import Wrong  # noqa: E402
@@ -38,6 +40,8 @@ PARTS = {
     "mouth": ditch_mouth,
     "step": long_step,
     "editions": editions,
+    "soak": soaking,
+    "front": wetting_front,
 }
 
 

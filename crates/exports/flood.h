@@ -6,7 +6,7 @@
 
    These arrays have exactly so many numbers, else the call is refused by 1 before all else:
      rules       square_side, tolerance, shortest, longest, update, edge, edition
-     run         clock, length, outflow, kept, newest: goes in, and the run that the call leaves comes out in it, for the next call;
+     run         clock, length, outflow, kept, newest, soaked: goes in, and the run that the call leaves comes out in it, for the next call;
                  flood_fresh only writes it, flood_arrow only reads it
      steps       the steps that a run to an end made
      speeds      east and north, in m/s
@@ -19,20 +19,20 @@
 
    A refused call leaves every array as it was, but for these:
      flood_read_sheet   writes `line` unless `heading` or `line` has not its size.
-     flood_run_to       refused by 7, 8 or 9 has made the steps that `steps` tells; depths, lasts, records and run are those before the
+     flood_run_to       refused by 7, 8, 9 or 15 has made the steps that `steps` tells; depths, lasts, records and run are those before the
                         step refused.
    flood_meadow prints a refusal as it prints an answer.
 
    A call does nothing but write the arrays lent to it: it takes no memory, opens nothing, waits for nothing, and ends. Its own rooms lie
    on the stack. This much of it suffices, as tests/stack.sh measures for each on the largest grid:
      flood_fresh         16 KiB
-     flood_step         128 KiB
-     flood_run_to       128 KiB
+     flood_step         144 KiB
+     flood_run_to       144 KiB
      flood_take_back     16 KiB
      flood_arrow         16 KiB
      flood_wet_rows      16 KiB
-     flood_read_sheet   192 KiB
-     flood_meadow       320 KiB */
+     flood_read_sheet   224 KiB
+     flood_meadow       352 KiB */
 #ifndef FLOOD_H
 #define FLOOD_H
 
@@ -45,7 +45,7 @@ extern "C" {
 
 #define FLOOD_DONE 0
 #define FLOOD_REFUSED_SHAPE 1 /* shape or D out of range, an array of another size than it must have, an asked square off the grid */
-#define FLOOD_REFUSED_GROUND 2 /* mark above 2, exit off the rim, bed or roughness of a square not closed out of range */
+#define FLOOD_REFUSED_GROUND 2 /* mark above 2, exit off the rim, bed, roughness or soak rate of a square not closed out of range */
 #define FLOOD_REFUSED_WATER 3 /* depth or last leaving of a square not closed out of range */
 #define FLOOD_REFUSED_TABLE 4 /* rain or inflow: odd length, over 64 rows, a value out of range, from > to, a closed or missing square */
 #define FLOOD_REFUSED_RULES 5 /* q, step limits, U, e, edition or wet depth out of range; end not a multiple of U or out of range */
@@ -56,9 +56,10 @@ extern "C" {
 #define FLOOD_REFUSED_NONE_KEPT 10 /* no step is kept to take back or to see */
 #define FLOOD_REFUSED_RECORD 11 /* the newest record cannot be right */
 #define FLOOD_REFUSED_TEXT 12 /* sheet text, with its line */
+#define FLOOD_REFUSED_SOAKED 15 /* total soaked above 10^15 */
 
 #define FLOOD_RULES_NUMBERS 7
-#define FLOOD_RUN_NUMBERS 5
+#define FLOOD_RUN_NUMBERS 6
 #define FLOOD_STEPS_NUMBERS 1
 #define FLOOD_SPEED_NUMBERS 2
 #define FLOOD_COUNT_NUMBERS 1
@@ -72,8 +73,8 @@ extern "C" {
 #define FLOOD_DRY 102
 #define FLOOD_STILL 103
 #define FLOOD_HEADING_RULES 2
-#define FLOOD_RECORD_NUMBERS(rows, columns) (2 + 6 * (size_t)(rows) * (size_t)(columns)) /* of one record */
-#define FLOOD_STACK_BYTES (320 * 1024) /* suffice for every call */
+#define FLOOD_RECORD_NUMBERS(rows, columns) (2 + 7 * (size_t)(rows) * (size_t)(columns)) /* of one record */
+#define FLOOD_STACK_BYTES (352 * 1024) /* suffice for every call */
 
 /* A fresh run: the last leaving of squares not closed becomes 0, and the run is told. */
 uint32_t flood_fresh(size_t rows, size_t columns, const uint64_t *rules, size_t rules_numbers, const uint8_t *marks,
@@ -83,16 +84,17 @@ uint32_t flood_fresh(size_t rows, size_t columns, const uint64_t *rules, size_t 
 /* One step. */
 uint32_t flood_step(size_t rows, size_t columns, const uint64_t *rules, size_t rules_numbers, const uint8_t *marks,
     size_t marks_numbers, const uint32_t *beds, size_t beds_numbers, const uint32_t *roughness,
-    size_t roughness_numbers, const uint32_t *rain, size_t rain_numbers, const uint32_t *inflow, size_t inflow_numbers,
-    uint32_t *depths, size_t depths_numbers, uint32_t *lasts, size_t lasts_numbers, uint32_t *records,
-    size_t records_numbers, uint64_t *run, size_t run_numbers);
+    size_t roughness_numbers, const uint32_t *rates, size_t rates_numbers, const uint32_t *rain, size_t rain_numbers,
+    const uint32_t *inflow, size_t inflow_numbers, uint32_t *depths, size_t depths_numbers, uint32_t *lasts,
+    size_t lasts_numbers, uint32_t *records, size_t records_numbers, uint64_t *run, size_t run_numbers);
 
 /* Steps to an end of the clock, and how many were made. */
 uint32_t flood_run_to(size_t rows, size_t columns, const uint64_t *rules, size_t rules_numbers, uint64_t end,
     const uint8_t *marks, size_t marks_numbers, const uint32_t *beds, size_t beds_numbers, const uint32_t *roughness,
-    size_t roughness_numbers, const uint32_t *rain, size_t rain_numbers, const uint32_t *inflow, size_t inflow_numbers,
-    uint32_t *depths, size_t depths_numbers, uint32_t *lasts, size_t lasts_numbers, uint32_t *records,
-    size_t records_numbers, uint64_t *run, size_t run_numbers, uint64_t *steps, size_t steps_numbers);
+    size_t roughness_numbers, const uint32_t *rates, size_t rates_numbers, const uint32_t *rain, size_t rain_numbers,
+    const uint32_t *inflow, size_t inflow_numbers, uint32_t *depths, size_t depths_numbers, uint32_t *lasts,
+    size_t lasts_numbers, uint32_t *records, size_t records_numbers, uint64_t *run, size_t run_numbers, uint64_t *steps,
+    size_t steps_numbers);
 
 /* The newest step taken back. */
 uint32_t flood_take_back(size_t rows, size_t columns, const uint8_t *marks, size_t marks_numbers, uint32_t *depths,
@@ -111,9 +113,10 @@ uint32_t flood_wet_rows(size_t rows, size_t columns, const uint8_t *marks, size_
 
 /* Reads a sheet into rooms. */
 uint32_t flood_read_sheet(const uint8_t *text, size_t text_numbers, uint8_t *marks, size_t marks_numbers,
-    uint32_t *beds, size_t beds_numbers, uint32_t *roughness, size_t roughness_numbers, uint32_t *depths,
-    size_t depths_numbers, uint32_t *rain, size_t rain_numbers, uint32_t *inflow, size_t inflow_numbers,
-    uint64_t *heading, size_t heading_numbers, uint64_t *line, size_t line_numbers);
+    uint32_t *beds, size_t beds_numbers, uint32_t *roughness, size_t roughness_numbers, uint32_t *rates,
+    size_t rates_numbers, uint32_t *depths, size_t depths_numbers, uint32_t *rain, size_t rain_numbers,
+    uint32_t *inflow, size_t inflow_numbers, uint64_t *heading, size_t heading_numbers, uint64_t *line,
+    size_t line_numbers);
 
 /* What `meadow` prints of a text, at the start of out, and its length; 0 and nothing where out has not the room that always suffices. */
 size_t flood_meadow(const uint8_t *text, size_t text_numbers, uint8_t *out, size_t out_numbers);

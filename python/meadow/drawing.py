@@ -11,7 +11,7 @@ from .weighing import WEIGHTED
 SQUARE = 22
 MARGIN = 28
 LEGEND = 260
-LEAST_HEIGHT = 370
+LEAST_HEIGHT = 388
 EVERY = 5
 # the least depth of each step of blue, in µm, with its colour and its name in the legend
 BLUES = [
@@ -108,7 +108,7 @@ def legend(x, sheet, lowest, highest, totals, standing):
         drawn.append(words(x, y + 30, f"edition {sheet.run['edition']}: no square stands", ' class="edition"'))
     y += 70
     drawn.append(words(x, y, f"a square is {sheet.side} m by {sheet.side} m; north is up"))
-    for name, unit in (("clock", " ms"), ("steps", ""), ("out", " µm over one square")):
+    for name, unit in (("clock", " ms"), ("steps", ""), ("out", " µm over one square"), ("soak", " µm over one square")):
         if name in totals:
             y += 18
             drawn.append(words(x, y, f"{name}: {totals[name]:,}{unit}"))

@@ -26,13 +26,14 @@ SHEET_LINES = {
         Field("edge", 10_000),
         Field("edition", 1),
     ],
-    "cell": [Field("row"), Field("column"), Field("mark", "o"), Field("bed"), Field("roughness"), Field("depth", 0)],
+    "cell": [Field("row"), Field("column"), Field("mark", "o"), Field("bed"), Field("roughness"), Field("depth", 0), Field("rate", 0)],
     "rain": [Field("from"), Field("to"), Field("rate")],
     "inflow": [Field("row"), Field("column"), Field("from"), Field("to"), Field("litres")],
 }
 ANSWER_LINES = {
     "cell": [Field("row"), Field("column"), Field("depth")],
     "out": [Field("outflow")],
+    "soak": [Field("soaked")],
     "steps": [Field("steps")],
     "clock": [Field("clock")],
     "refused": [Field("number"), Field("line")],
@@ -136,6 +137,11 @@ class Answer:
     def out(self):
         """What left by the exits, in µm over one square."""
         return self.totals["out"]
+
+    @property
+    def soaked(self):
+        """What soaked into the ground, in µm over one square."""
+        return self.totals["soak"]
 
     @property
     def steps(self):

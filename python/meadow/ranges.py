@@ -1,8 +1,9 @@
-"""Document 01, "Units and ranges": the least and the most of each thing, ends included."""
+"""Document 01, "Units and ranges", with what requests of document 02 add: the least and the most of each thing, ends included."""
 
 MOST_DEPTH = 100_000_000
 LAST_CLOCK = 604_800_000
 MOST_OUTFLOW = 10**15
+MOST_SOAKED = 10**15
 MOST_ROWS_OF_A_TABLE = 64
 
 RANGES = {
@@ -13,6 +14,7 @@ RANGES = {
     "depth": (0, MOST_DEPTH),
     "last": (0, MOST_DEPTH),
     "roughness": (1, 10_000),
+    "soak rate": (0, 1_000_000),
     "mark": (0, 2),
     "tolerance": (0, 10_000),
     "shortest": (1, 60_000),
@@ -29,6 +31,7 @@ RANGES = {
     "rate": (0, 1_000_000),
     "litres": (0, 100_000),
     "outflow": (0, MOST_OUTFLOW),
+    "soaked": (0, MOST_SOAKED),
 }
 
 

@@ -1,4 +1,4 @@
-"""Document 01's table of refusals: a test for each reason, tried in the table's order by the calls."""
+"""Document 01's table of refusals, with what requests of document 02 add: a test for each reason, tried in the table's order by the calls."""
 from .ranges import LAST_CLOCK, MOST_ROWS_OF_A_TABLE, fine
 from .world import CLOSED, EXIT, INFLOW_NUMBERS, RAIN_NUMBERS, rows_of
 
@@ -33,8 +33,9 @@ def marks_wrong(m):
 
 
 def ground_wrong(m):
-    """Of 2: bed or roughness of a square not closed out of range."""
-    return any(not (fine("bed", m.beds[square]) and fine("roughness", m.roughness[square])) for square in m.ground())
+    """Of 2: bed, roughness or soak rate of a square not closed out of range."""
+    lent = (("bed", m.beds), ("roughness", m.roughness), ("soak rate", m.rates))
+    return any(not fine(name, numbers[square]) for square in m.ground() for name, numbers in lent)
 
 
 def depths_wrong(m):
@@ -86,12 +87,12 @@ def run_wrong(m):
     """6: K = 0, or a run value out of range."""
     slots = m.slots()
     in_ring = slots > 0 and m.kept <= slots and m.newest < slots
-    return not (in_ring and fine("clock", m.clock) and fine("length", m.length) and fine("outflow", m.outflow))
+    return not in_ring or any(not fine(name, getattr(m, name)) for name in ("clock", "length", "outflow", "soaked"))
 
 
 def check(m, end=None):
     """1 to 6 of a step, or of a run to an end."""
-    refuse_if(side_wrong(m) or shape_wrong(m, [m.marks, m.beds, m.roughness, m.depths, m.lasts]), 1)
+    refuse_if(side_wrong(m) or shape_wrong(m, [m.marks, m.beds, m.roughness, m.rates, m.depths, m.lasts]), 1)
     refuse_if(marks_wrong(m) or ground_wrong(m), 2)
     refuse_if(depths_wrong(m) or lasts_wrong(m), 3)
     refuse_if(rain_wrong(m) or inflow_wrong(m), 4)
@@ -99,8 +100,9 @@ def check(m, end=None):
     refuse_if(run_wrong(m), 6)
 
 
-def check_after(clock, depths, outflow):
-    """7 to 9 of a step, from the clock, the depths and the outflow that it would leave."""
+def check_after(clock, depths, outflow, soaked):
+    """7 to 9 and 15 of a step, from the clock, the depths, the outflow and the total soaked that it would leave."""
     refuse_if(clock > LAST_CLOCK, 7)
     refuse_if(any(not fine("depth", depth) for depth in depths), 8)
     refuse_if(not fine("outflow", outflow), 9)
+    refuse_if(not fine("soaked", soaked), 15)

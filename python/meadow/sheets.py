@@ -82,10 +82,10 @@ def meadow_of(sheet, records=1):
     """The meadow of a sheet, with room for so many records and a fresh run's values; nothing is checked."""
     squares = [sheet.squares[place] for place in sorted(sheet.squares)]
     marks = [MARKS[square["mark"]] for square in squares]
-    beds, roughness, depths = ([square.get(name, 0) for square in squares] for name in ("bed", "roughness", "depth"))
+    beds, roughness, rates, depths = ([square.get(name, 0) for square in squares] for name in ("bed", "roughness", "rate", "depth"))
     flat = [[number for row in rows for number in row] for rows in (sheet.rain, sheet.inflow)]
     rules = {"side": sheet.side, **{name: sheet.run[name] for name in RULES}}
-    meadow = Meadow(sheet.rows, sheet.columns, rules, marks, beds, roughness, *flat, depths, [0] * len(squares), [])
+    meadow = Meadow(sheet.rows, sheet.columns, rules, marks, beds, roughness, rates, *flat, depths, [0] * len(squares), [])
     meadow.records = [0] * (records * meadow.record_size())
     return meadow
 
@@ -113,4 +113,4 @@ def answered(text):
     except Refused as refused:
         return refused_text(refused.number, refused.line)
     depths = {divmod(square, meadow.columns): meadow.depths[square] for square in meadow.ground()}
-    return answer_text(depths, {"outflow": meadow.outflow, "steps": steps, "clock": meadow.clock})
+    return answer_text(depths, {"outflow": meadow.outflow, "soaked": meadow.soaked, "steps": steps, "clock": meadow.clock})

@@ -1,4 +1,4 @@
-"""Document 01: a fresh run, the step with its record, and a run to an end."""
+"""Document 01, with request #106's soaking: a fresh run, the step with its record, and a run to an end."""
 from .refusals import Refused, check, check_after, marks_wrong, refuse_if, rules_wrong, shape_wrong, side_wrong
 from .step_length import lasts_for, length
 from .weighing import leaving
@@ -30,12 +30,23 @@ def added(m, start, end):
     return {square: rain + poured.get(square, 0) for square in m.ground()}
 
 
-def write_record(m, lasted, leaves, came_in):
+def soak_by(rate, clock):
+    """What is due to soak by a clock, rounded down."""
+    return rate * clock // 3_600_000
+
+
+def soaked(m, leaves, start, end):
+    """What soaks into each square not closed in a step from one clock to another: the smaller of what is due and what its sides leave."""
+    due = {square: soak_by(m.rates[square], end) - soak_by(m.rates[square], start) for square in m.ground()}
+    return {square: min(due[square], m.depths[square] - sum(leaves[square])) for square in m.ground()}
+
+
+def write_record(m, lasted, leaves, came_in, sank):
     """The step's record in the slot after the newest."""
     record = [m.length, lasted]
     for square in range(m.squares()):
         if square in leaves:
-            record += leaves[square] + [m.lasts[square], came_in[square]]
+            record += leaves[square] + [m.lasts[square], came_in[square], sank[square]]
         else:
             record += [0] * WORDS_A_SQUARE
     m.newest = (m.newest + 1) % m.slots()
@@ -51,22 +62,25 @@ def inner_step(m):
     end = m.clock + lasted
     leaves = {square: leaving(m, square, lasted) for square in m.ground()}
     came_in = added(m, m.clock, end)
-    depths = {square: m.depths[square] - sum(leaves[square]) + m.came(leaves, square) + came_in[square] for square in m.ground()}
+    sank = soaked(m, leaves, m.clock, end)
+    remains = {square: m.depths[square] - sum(leaves[square]) - sank[square] for square in m.ground()}
+    depths = {square: remains[square] + m.came(leaves, square) + came_in[square] for square in m.ground()}
     outflow = m.outflow + m.off(leaves)
-    check_after(end, depths.values(), outflow)
-    write_record(m, lasted, leaves, came_in)
+    total_soaked = m.soaked + sum(sank.values())
+    check_after(end, depths.values(), outflow, total_soaked)
+    write_record(m, lasted, leaves, came_in, sank)
     for square in m.ground():
         m.depths[square], m.lasts[square] = depths[square], sum(leaves[square])
-    m.clock, m.length, m.outflow = end, held, outflow
+    m.clock, m.length, m.outflow, m.soaked = end, held, outflow, total_soaked
 
 
 def fresh(m):
-    """A fresh run: clock 0, the longest step, no outflow, nothing kept, P 0 on squares not closed."""
+    """A fresh run: clock 0, the longest step, no outflow, nothing kept, nothing soaked, P 0 on squares not closed."""
     refuse_if(side_wrong(m) or shape_wrong(m, [m.marks, m.lasts]), 1)
     refuse_if(marks_wrong(m), 2)
     refuse_if(rules_wrong(m), 5)
     refuse_if(m.slots() == 0, 6)
-    m.clock, m.length, m.outflow, m.kept, m.newest = 0, m.rules["longest"], 0, 0, m.slots() - 1
+    m.clock, m.length, m.outflow, m.kept, m.newest, m.soaked = 0, m.rules["longest"], 0, 0, m.slots() - 1, 0
     for square in m.ground():
         m.lasts[square] = 0
 

@@ -4,8 +4,8 @@
 CLOSED, EXIT = 0, 2
 # north, east, south, west; the side across from one is two further on
 SIDES = range(4)
-# the numbers of one square in a record: four leaving, P before, amount added
-LAST_WORD, ADDED_WORD, WORDS_A_SQUARE = 4, 5, 6
+# the numbers of one square in a record: four leaving, P before, amount added, amount soaked
+LAST_WORD, ADDED_WORD, SOAKED_WORD, WORDS_A_SQUARE = 4, 5, 6, 7
 HEAD_WORDS = 2
 RAIN_NUMBERS, INFLOW_NUMBERS = 3, 5
 
@@ -18,12 +18,12 @@ def across(side):
 class Meadow:
     """Shape, rules (side, tolerance, shortest, longest, update, edge, edition) and slices as they are lent, and the run value."""
 
-    def __init__(self, rows, columns, rules, marks, beds, roughness, rain, inflow, depths, lasts, records):
+    def __init__(self, rows, columns, rules, marks, beds, roughness, rates, rain, inflow, depths, lasts, records):
         self.rows, self.columns, self.rules = rows, columns, rules
-        self.marks, self.beds, self.roughness = marks, beds, roughness
+        self.marks, self.beds, self.roughness, self.rates = marks, beds, roughness, rates
         self.rain, self.inflow = rain, inflow
         self.depths, self.lasts, self.records = depths, lasts, records
-        self.clock, self.length, self.outflow, self.kept, self.newest = 0, rules["longest"], 0, 0, 0
+        self.clock, self.length, self.outflow, self.kept, self.newest, self.soaked = 0, rules["longest"], 0, 0, 0, 0
 
     def squares(self):
         """How many squares the grid has."""

@@ -27,11 +27,11 @@ use Call::*;
 pub const ON_MEADOW: [Call; 6] = [Fresh, Step, RunTo, TakeBack, Call::Arrow, WetRows];
 
 /// What each call can answer: 0, a refusal, and for an arrow 101 closed, 102 dry, 103 still. A run can never give 7: its end is in range
-/// and no step passes a multiple of the update time.
+/// and no step passes a multiple of the update time. `meadow` can never give 15: in a week less soaks into all its squares.
 pub const ANSWERS: [(Call, &[u32]); 8] = [
     (Fresh, &[0, 1, 2, 5, 6]),
-    (Step, &[0, 1, 2, 3, 4, 5, 6, 7, 8, 9]),
-    (RunTo, &[0, 1, 2, 3, 4, 5, 6, 8, 9]),
+    (Step, &[0, 1, 2, 3, 4, 5, 6, 7, 8, 9, 15]),
+    (RunTo, &[0, 1, 2, 3, 4, 5, 6, 8, 9, 15]),
     (TakeBack, &[0, 1, 2, 3, 6, 10, 11]),
     (Call::Arrow, &[0, 1, 2, 3, 6, 10, 11, 101, 102, 103]),
     (WetRows, &[0, 1, 2, 3, 5]),
@@ -154,6 +154,7 @@ fn first_difference(expected: &After, found: &After) -> String {
         ("marks", bytes(&one.marks), bytes(&other.marks)),
         ("beds", wide(&one.beds), wide(&other.beds)),
         ("roughness", wide(&one.roughness), wide(&other.roughness)),
+        ("rates", wide(&one.rates), wide(&other.rates)),
         ("rain", wide(&one.rain), wide(&other.rain)),
         ("inflow", wide(&one.inflow), wide(&other.inflow)),
         ("depths", wide(&one.depths), wide(&other.depths)),
@@ -221,7 +222,7 @@ fn sized(call: Call, lent: &Lent, after: &After) -> bool {
     }
 }
 
-/// A run to an end: a refusal by 1 to 6 leaves run and steps as they were, one by 8 or 9 tells them.
+/// A run to an end: a refusal by 1 to 6 leaves run and steps as they were, one by 8, 9 or 15 tells them.
 fn put_made(after: &mut After, made: Result<Made, u32>) {
     match made {
         Err(number) => after.number = number,

@@ -26,13 +26,13 @@ use chance::Chance;
 use declared::OUT_ROOM;
 use std::time::{Duration, Instant};
 
-const ROUNDS: u64 = 536;
+const ROUNDS: u64 = 568;
 const LONG_ROUNDS: u64 = 10 * ROUNDS;
 
 type Kind = fn(&mut Tally, &mut Chance);
 
 /// The kinds of rounds, in turn.
-const KINDS: [(&str, Kind); 17] = [
+const KINDS: [(&str, Kind); 18] = [
     ("series of steps and take-backs", steps::series),
     ("one value at or past a limit", limits::one_value),
     ("two values at or past a limit", limits::two_values),
@@ -43,8 +43,9 @@ const KINDS: [(&str, Kind); 17] = [
     ("the most through a side just whole", steps::at_whole_amounts),
     ("amounts by each side that come to the depth", steps::at_sums),
     ("exits at the edge slope's drop", steps::at_edges),
-    ("exact brims of 7, 8, 9", steps::exact_brims),
+    ("exact brims of 7, 8, 9, 15", steps::exact_brims),
     ("exact roundings of rain and inflow", steps::exact_roundings),
+    ("soaking at its roundings and at what the sides leave", steps::soakings),
     ("shapes", steps::shapes),
     ("wet rows", steps::wet_rows),
     ("sheets", texts::good_sheets),
@@ -110,7 +111,7 @@ fn print_counts(tally: &Tally) {
     for (kind, count) in &tally.by_kind {
         println!("  {:>8}  {}", count, kind);
     }
-    println!("outside: calls by answer (0 done, 1 to 12 refused; an arrow: 0 moving, 101 closed, 102 dry, 103 still)");
+    println!("outside: calls by answer (0 done, 1 to 12 and 15 refused; an arrow: 0 moving, 101 closed, 102 dry, 103 still)");
     for (call, answers) in ANSWERS {
         let counts: Vec<String> =
             answers.iter().map(|answer| format!("{}: {}", answer, tally.by_answer.get(&(call, *answer)).unwrap_or(&0))).collect();

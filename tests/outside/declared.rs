@@ -2,7 +2,7 @@
 //! tests/header.py.
 
 pub const RULES_NUMBERS: usize = 7;
-pub const RUN_NUMBERS: usize = 5;
+pub const RUN_NUMBERS: usize = 6;
 pub const STEPS_NUMBERS: usize = 1;
 pub const SPEED_NUMBERS: usize = 2;
 pub const COUNT_NUMBERS: usize = 1;
@@ -27,22 +27,23 @@ pub const REFUSED_OUTFLOW: u32 = 9;
 pub const REFUSED_NONE_KEPT: u32 = 10;
 pub const REFUSED_RECORD: u32 = 11;
 pub const REFUSED_TEXT: u32 = 12;
+pub const REFUSED_SOAKED: u32 = 15;
 
 /// The numbers of one record.
 pub const fn record_numbers(rows: usize, columns: usize) -> usize {
-    2 + 6 * rows * columns
+    2 + 7 * rows * columns
 }
 
 /// KiB of stack that suffice for each call.
 pub const STACK: [(&str, usize); 8] = [
     ("flood_fresh", 16),
-    ("flood_step", 128),
-    ("flood_run_to", 128),
+    ("flood_step", 144),
+    ("flood_run_to", 144),
     ("flood_take_back", 16),
     ("flood_arrow", 16),
     ("flood_wet_rows", 16),
-    ("flood_read_sheet", 192),
-    ("flood_meadow", 320),
+    ("flood_read_sheet", 224),
+    ("flood_meadow", 352),
 ];
 
 mod linked {
@@ -54,16 +55,17 @@ mod linked {
 
         pub fn flood_step(rows: usize, columns: usize, rules: *const u64, rules_numbers: usize, marks: *const u8,
             marks_numbers: usize, beds: *const u32, beds_numbers: usize, roughness: *const u32,
-            roughness_numbers: usize, rain: *const u32, rain_numbers: usize, inflow: *const u32,
-            inflow_numbers: usize, depths: *mut u32, depths_numbers: usize, lasts: *mut u32, lasts_numbers: usize,
-            records: *mut u32, records_numbers: usize, run: *mut u64, run_numbers: usize) -> u32;
+            roughness_numbers: usize, rates: *const u32, rates_numbers: usize, rain: *const u32, rain_numbers: usize,
+            inflow: *const u32, inflow_numbers: usize, depths: *mut u32, depths_numbers: usize, lasts: *mut u32,
+            lasts_numbers: usize, records: *mut u32, records_numbers: usize, run: *mut u64,
+            run_numbers: usize) -> u32;
 
         pub fn flood_run_to(rows: usize, columns: usize, rules: *const u64, rules_numbers: usize, end: u64,
             marks: *const u8, marks_numbers: usize, beds: *const u32, beds_numbers: usize, roughness: *const u32,
-            roughness_numbers: usize, rain: *const u32, rain_numbers: usize, inflow: *const u32,
-            inflow_numbers: usize, depths: *mut u32, depths_numbers: usize, lasts: *mut u32, lasts_numbers: usize,
-            records: *mut u32, records_numbers: usize, run: *mut u64, run_numbers: usize, steps: *mut u64,
-            steps_numbers: usize) -> u32;
+            roughness_numbers: usize, rates: *const u32, rates_numbers: usize, rain: *const u32, rain_numbers: usize,
+            inflow: *const u32, inflow_numbers: usize, depths: *mut u32, depths_numbers: usize, lasts: *mut u32,
+            lasts_numbers: usize, records: *mut u32, records_numbers: usize, run: *mut u64, run_numbers: usize,
+            steps: *mut u64, steps_numbers: usize) -> u32;
 
         pub fn flood_take_back(rows: usize, columns: usize, marks: *const u8, marks_numbers: usize, depths: *mut u32,
             depths_numbers: usize, lasts: *mut u32, lasts_numbers: usize, records: *const u32, records_numbers: usize,
@@ -78,9 +80,10 @@ mod linked {
             count_numbers: usize) -> u32;
 
         pub fn flood_read_sheet(text: *const u8, text_numbers: usize, marks: *mut u8, marks_numbers: usize,
-            beds: *mut u32, beds_numbers: usize, roughness: *mut u32, roughness_numbers: usize, depths: *mut u32,
-            depths_numbers: usize, rain: *mut u32, rain_numbers: usize, inflow: *mut u32, inflow_numbers: usize,
-            heading: *mut u64, heading_numbers: usize, line: *mut u64, line_numbers: usize) -> u32;
+            beds: *mut u32, beds_numbers: usize, roughness: *mut u32, roughness_numbers: usize, rates: *mut u32,
+            rates_numbers: usize, depths: *mut u32, depths_numbers: usize, rain: *mut u32, rain_numbers: usize,
+            inflow: *mut u32, inflow_numbers: usize, heading: *mut u64, heading_numbers: usize, line: *mut u64,
+            line_numbers: usize) -> u32;
 
         pub fn flood_meadow(text: *const u8, text_numbers: usize, out: *mut u8, out_numbers: usize) -> usize;
     }
@@ -97,24 +100,26 @@ pub fn flood_fresh(rows: usize, columns: usize, rules: &[u64], marks: &[u8], las
 
 /// One step.
 pub fn flood_step(rows: usize, columns: usize, rules: &[u64], marks: &[u8], beds: &[u32], roughness: &[u32],
-    rain: &[u32], inflow: &[u32], depths: &mut [u32], lasts: &mut [u32], records: &mut [u32], run: &mut [u64]) -> u32 {
+    rates: &[u32], rain: &[u32], inflow: &[u32], depths: &mut [u32], lasts: &mut [u32], records: &mut [u32],
+    run: &mut [u64]) -> u32 {
     unsafe {
         linked::flood_step(rows, columns, rules.as_ptr(), rules.len(), marks.as_ptr(), marks.len(), beds.as_ptr(),
-            beds.len(), roughness.as_ptr(), roughness.len(), rain.as_ptr(), rain.len(), inflow.as_ptr(), inflow.len(),
-            depths.as_mut_ptr(), depths.len(), lasts.as_mut_ptr(), lasts.len(), records.as_mut_ptr(), records.len(),
-            run.as_mut_ptr(), run.len())
+            beds.len(), roughness.as_ptr(), roughness.len(), rates.as_ptr(), rates.len(), rain.as_ptr(), rain.len(),
+            inflow.as_ptr(), inflow.len(), depths.as_mut_ptr(), depths.len(), lasts.as_mut_ptr(), lasts.len(),
+            records.as_mut_ptr(), records.len(), run.as_mut_ptr(), run.len())
     }
 }
 
 /// Steps to an end of the clock, and how many were made.
 pub fn flood_run_to(rows: usize, columns: usize, rules: &[u64], end: u64, marks: &[u8], beds: &[u32], roughness: &[u32],
-    rain: &[u32], inflow: &[u32], depths: &mut [u32], lasts: &mut [u32], records: &mut [u32], run: &mut [u64],
-    steps: &mut [u64]) -> u32 {
+    rates: &[u32], rain: &[u32], inflow: &[u32], depths: &mut [u32], lasts: &mut [u32], records: &mut [u32],
+    run: &mut [u64], steps: &mut [u64]) -> u32 {
     unsafe {
         linked::flood_run_to(rows, columns, rules.as_ptr(), rules.len(), end, marks.as_ptr(), marks.len(),
-            beds.as_ptr(), beds.len(), roughness.as_ptr(), roughness.len(), rain.as_ptr(), rain.len(),
-            inflow.as_ptr(), inflow.len(), depths.as_mut_ptr(), depths.len(), lasts.as_mut_ptr(), lasts.len(),
-            records.as_mut_ptr(), records.len(), run.as_mut_ptr(), run.len(), steps.as_mut_ptr(), steps.len())
+            beds.as_ptr(), beds.len(), roughness.as_ptr(), roughness.len(), rates.as_ptr(), rates.len(),
+            rain.as_ptr(), rain.len(), inflow.as_ptr(), inflow.len(), depths.as_mut_ptr(), depths.len(),
+            lasts.as_mut_ptr(), lasts.len(), records.as_mut_ptr(), records.len(), run.as_mut_ptr(), run.len(),
+            steps.as_mut_ptr(), steps.len())
     }
 }
 
@@ -146,13 +151,13 @@ pub fn flood_wet_rows(rows: usize, columns: usize, marks: &[u8], depths: &[u32],
 }
 
 /// Reads a sheet into rooms.
-pub fn flood_read_sheet(text: &[u8], marks: &mut [u8], beds: &mut [u32], roughness: &mut [u32], depths: &mut [u32],
-    rain: &mut [u32], inflow: &mut [u32], heading: &mut [u64], line: &mut [u64]) -> u32 {
+pub fn flood_read_sheet(text: &[u8], marks: &mut [u8], beds: &mut [u32], roughness: &mut [u32], rates: &mut [u32],
+    depths: &mut [u32], rain: &mut [u32], inflow: &mut [u32], heading: &mut [u64], line: &mut [u64]) -> u32 {
     unsafe {
         linked::flood_read_sheet(text.as_ptr(), text.len(), marks.as_mut_ptr(), marks.len(), beds.as_mut_ptr(),
-            beds.len(), roughness.as_mut_ptr(), roughness.len(), depths.as_mut_ptr(), depths.len(), rain.as_mut_ptr(),
-            rain.len(), inflow.as_mut_ptr(), inflow.len(), heading.as_mut_ptr(), heading.len(), line.as_mut_ptr(),
-            line.len())
+            beds.len(), roughness.as_mut_ptr(), roughness.len(), rates.as_mut_ptr(), rates.len(), depths.as_mut_ptr(),
+            depths.len(), rain.as_mut_ptr(), rain.len(), inflow.as_mut_ptr(), inflow.len(), heading.as_mut_ptr(),
+            heading.len(), line.as_mut_ptr(), line.len())
     }
 }
 

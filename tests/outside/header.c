@@ -17,12 +17,12 @@ static void expect(const char *what, uint64_t got, uint64_t wanted)
 int main(void)
 {
     const char *sheet = "grid\t1\t2\t1\nrun\t100\t1000\t1000\t1000\t1000\t10000\t1\n"
-                        "cell\t0\t0\to\t0\t100\t1000\ncell\t0\t1\to\t0\t100\t0\n";
-    const char *answer = "cell\t0\t0\t969\ncell\t0\t1\t31\nout\t0\nsteps\t1\nclock\t1000\n";
+                        "cell\t0\t0\to\t0\t100\t1000\t0\ncell\t0\t1\to\t0\t100\t0\t7200\n";
+    const char *answer = "cell\t0\t0\t969\ncell\t0\t1\t31\nout\t0\nsoak\t0\nsteps\t1\nclock\t1000\n";
     const uint8_t *text = (const uint8_t *)sheet;
     enum { record = FLOOD_RECORD_NUMBERS(1, 2) };
     uint8_t marks[2] = {9, 9};
-    uint32_t beds[2], roughness[2], depths[2], lasts[2] = {7, 7}, records[record] = {0};
+    uint32_t beds[2], roughness[2], rates[2], depths[2], lasts[2] = {7, 7}, records[record] = {0};
     uint32_t rain[FLOOD_RAIN_ROOM], inflow[FLOOD_INFLOW_ROOM];
     uint64_t heading[FLOOD_HEADING_NUMBERS], line[FLOOD_LINE_NUMBERS], run[FLOOD_RUN_NUMBERS], steps[FLOOD_STEPS_NUMBERS];
     const uint64_t *rules = heading + FLOOD_HEADING_RULES;
@@ -30,14 +30,15 @@ int main(void)
     double speeds[FLOOD_SPEED_NUMBERS];
     static uint8_t out[FLOOD_OUT_ROOM];
 
-    expect("read", flood_read_sheet(text, strlen(sheet), marks, 2, beds, 2, roughness, 2, depths, 2, rain, FLOOD_RAIN_ROOM, inflow, FLOOD_INFLOW_ROOM, heading, FLOOD_HEADING_NUMBERS, line, FLOOD_LINE_NUMBERS), FLOOD_DONE);
+    expect("read", flood_read_sheet(text, strlen(sheet), marks, 2, beds, 2, roughness, 2, rates, 2, depths, 2, rain, FLOOD_RAIN_ROOM, inflow, FLOOD_INFLOW_ROOM, heading, FLOOD_HEADING_NUMBERS, line, FLOOD_LINE_NUMBERS), FLOOD_DONE);
     expect("columns", heading[1], 2);
     expect("edge slope", rules[5], 10000);
     expect("edition", rules[6], 1);
+    expect("soak rate", rates[1], 7200);
     expect("end", heading[FLOOD_HEADING_RULES + FLOOD_RULES_NUMBERS], 1000);
     expect("fresh", flood_fresh(1, 2, rules, FLOOD_RULES_NUMBERS, marks, 2, lasts, 2, records, record, run, FLOOD_RUN_NUMBERS), FLOOD_DONE);
     expect("last leaving", lasts[0] + lasts[1], 0);
-    expect("step", flood_step(1, 2, rules, FLOOD_RULES_NUMBERS, marks, 2, beds, 2, roughness, 2, rain, 0, inflow, 0, depths, 2, lasts, 2, records, record, run, FLOOD_RUN_NUMBERS), FLOOD_DONE);
+    expect("step", flood_step(1, 2, rules, FLOOD_RULES_NUMBERS, marks, 2, beds, 2, roughness, 2, rates, 2, rain, 0, inflow, 0, depths, 2, lasts, 2, records, record, run, FLOOD_RUN_NUMBERS), FLOOD_DONE);
     expect("west depth", depths[0], 969);
     expect("east depth", depths[1], 31);
     expect("clock", run[0], 1000);
@@ -52,9 +53,15 @@ int main(void)
     expect("run of a wrong size", flood_fresh(1, 2, rules, FLOOD_RULES_NUMBERS, marks, 2, lasts, 2, records, record, run, FLOOD_RUN_NUMBERS - 1), FLOOD_REFUSED_SHAPE);
     expect("rules of a wrong size", flood_fresh(1, 2, rules, FLOOD_RULES_NUMBERS + 1, marks, 2, lasts, 2, records, record, run, FLOOD_RUN_NUMBERS), FLOOD_REFUSED_SHAPE);
     expect("no room for a record", flood_fresh(1, 2, rules, FLOOD_RULES_NUMBERS, marks, 2, lasts, 2, records, record - 1, run, FLOOD_RUN_NUMBERS), FLOOD_REFUSED_RUN);
-    expect("run to an end", flood_run_to(1, 2, rules, FLOOD_RULES_NUMBERS, 2000, marks, 2, beds, 2, roughness, 2, rain, 0, inflow, 0, depths, 2, lasts, 2, records, record, run, FLOOD_RUN_NUMBERS, steps, FLOOD_STEPS_NUMBERS), FLOOD_DONE);
+    expect("run to an end", flood_run_to(1, 2, rules, FLOOD_RULES_NUMBERS, 2000, marks, 2, beds, 2, roughness, 2, rates, 2, rain, 0, inflow, 0, depths, 2, lasts, 2, records, record, run, FLOOD_RUN_NUMBERS, steps, FLOOD_STEPS_NUMBERS), FLOOD_DONE);
     expect("steps", steps[0], 2);
     expect("west depth after two", depths[0], 941);
+    expect("east depth after two, 2 of it soaked", depths[1], 57);
+    expect("soaked", run[5], 2);
+    run[5] = 1;
+    expect("a total below what the record soaked", flood_take_back(1, 2, marks, 2, depths, 2, lasts, 2, records, record, run, FLOOD_RUN_NUMBERS), FLOOD_REFUSED_RECORD);
+    run[5] = 1000000000000000;
+    expect("a total soaked that is full", flood_step(1, 2, rules, FLOOD_RULES_NUMBERS, marks, 2, beds, 2, roughness, 2, rates, 2, rain, 0, inflow, 0, depths, 2, lasts, 2, records, record, run, FLOOD_RUN_NUMBERS), FLOOD_REFUSED_SOAKED);
     expect("printed", flood_meadow(text, strlen(sheet), out, sizeof out), strlen(answer));
     expect("as document 01 prints it", memcmp(out, answer, strlen(answer)), 0);
     if (!failed)

@@ -8,11 +8,12 @@ pub fn rules_numbers(rules: &Rules) -> [u64; RULES_NUMBERS] {
 }
 
 pub fn run_numbers(run: &Run) -> [u64; RUN_NUMBERS] {
-    [run.clock, run.length, run.outflow, run.kept as u64, run.newest as u64]
+    [run.clock, run.length, run.outflow, run.kept as u64, run.newest as u64, run.soaked]
 }
 
 pub fn run_of(numbers: &[u64]) -> Run {
-    Run { clock: numbers[0], length: numbers[1], outflow: numbers[2], kept: numbers[3] as usize, newest: numbers[4] as usize }
+    let (kept, newest) = (numbers[3] as usize, numbers[4] as usize);
+    Run { clock: numbers[0], length: numbers[1], outflow: numbers[2], kept, newest, soaked: numbers[5] }
 }
 
 pub fn fresh(meadow: &mut Meadow, rules: &[u64], run: &mut [u64]) -> u32 {
@@ -22,7 +23,7 @@ pub fn fresh(meadow: &mut Meadow, rules: &[u64], run: &mut [u64]) -> u32 {
 pub fn step(meadow: &mut Meadow, rules: &[u64], run: &mut [u64]) -> u32 {
     flood_step(
         meadow.rows, meadow.columns, rules,
-        &meadow.marks, &meadow.beds, &meadow.roughness, &meadow.rain, &meadow.inflow,
+        &meadow.marks, &meadow.beds, &meadow.roughness, &meadow.rates, &meadow.rain, &meadow.inflow,
         &mut meadow.depths, &mut meadow.lasts, &mut meadow.records, run,
     )
 }
@@ -30,7 +31,7 @@ pub fn step(meadow: &mut Meadow, rules: &[u64], run: &mut [u64]) -> u32 {
 pub fn run_to(meadow: &mut Meadow, rules: &[u64], end: u64, run: &mut [u64], steps: &mut [u64]) -> u32 {
     flood_run_to(
         meadow.rows, meadow.columns, rules, end,
-        &meadow.marks, &meadow.beds, &meadow.roughness, &meadow.rain, &meadow.inflow,
+        &meadow.marks, &meadow.beds, &meadow.roughness, &meadow.rates, &meadow.rain, &meadow.inflow,
         &mut meadow.depths, &mut meadow.lasts, &mut meadow.records, run, steps,
     )
 }
@@ -50,7 +51,7 @@ pub fn wet_rows(meadow: &Meadow, wet_depth: u32, wet: &mut [u64], count: &mut [u
 pub fn read_sheet(text: &[u8], rooms: &mut Meadow, heading: &mut [u64], line: &mut [u64]) -> u32 {
     flood_read_sheet(
         text,
-        &mut rooms.marks, &mut rooms.beds, &mut rooms.roughness, &mut rooms.depths, &mut rooms.rain, &mut rooms.inflow,
+        &mut rooms.marks, &mut rooms.beds, &mut rooms.roughness, &mut rooms.rates, &mut rooms.depths, &mut rooms.rain, &mut rooms.inflow,
         heading, line,
     )
 }

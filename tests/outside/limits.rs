@@ -3,8 +3,8 @@
 
 use crate::calls::{Call, Tally, ON_MEADOW};
 use crate::chance::Chance;
-use crate::meadows::{self, Lent, MOST_BED, MOST_CLOCK, MOST_DEPTH, MOST_OUTFLOW};
-use crate::reference::CLOSED;
+use crate::meadows::{self, Lent, MOST_BED, MOST_CLOCK, MOST_DEPTH, MOST_OUTFLOW, MOST_SOAKED, MOST_SOAK_RATE};
+use crate::reference::{ADDED, CLOSED, LAST, SOAKED, WORDS};
 use crate::worked::go_on;
 
 type Change = Box<dyn Fn(&mut Lent)>;
@@ -53,6 +53,7 @@ fn rules_and_run(changes: &mut Vec<Change>, base: &Lent) {
     each(changes, wide(0, MOST_CLOCK), |lent, value| lent.run.clock = value);
     each(changes, wide(1, 60_000), |lent, value| lent.run.length = value);
     each(changes, wide(0, MOST_OUTFLOW), |lent, value| lent.run.outflow = value);
+    each(changes, wide(0, MOST_SOAKED), |lent, value| lent.run.soaked = value);
     each(changes, wide(0, slots), |lent, value| lent.run.kept = value as usize);
     each(changes, wide(0, slots - 1), |lent, value| lent.run.newest = value as usize);
     each(changes, wide(0, base.meadow.rows as u64 - 1), |lent, value| lent.row = value as usize);
@@ -71,6 +72,7 @@ fn square(changes: &mut Vec<Change>, at: usize) {
     each(changes, round_limits(0, 2, 255), move |lent, value| put(&mut lent.meadow.marks, at, value as u8));
     each(changes, narrow(0, MOST_BED), move |lent, value| put(&mut lent.meadow.beds, at, value as u32));
     each(changes, narrow(1, 10_000), move |lent, value| put(&mut lent.meadow.roughness, at, value as u32));
+    each(changes, narrow(0, MOST_SOAK_RATE), move |lent, value| put(&mut lent.meadow.rates, at, value as u32));
     each(changes, narrow(0, MOST_DEPTH), move |lent, value| put(&mut lent.meadow.depths, at, value as u32));
     each(changes, narrow(0, MOST_DEPTH), move |lent, value| put(&mut lent.meadow.lasts, at, value as u32));
 }
@@ -118,6 +120,7 @@ fn sizes(changes: &mut Vec<Change>, base: &Lent) {
     each(changes, ways(), |lent, way| resized(&mut lent.meadow.marks, way));
     each(changes, ways(), |lent, way| resized(&mut lent.meadow.beds, way));
     each(changes, ways(), |lent, way| resized(&mut lent.meadow.roughness, way));
+    each(changes, ways(), |lent, way| resized(&mut lent.meadow.rates, way));
     each(changes, ways(), |lent, way| resized(&mut lent.meadow.depths, way));
     each(changes, ways(), |lent, way| resized(&mut lent.meadow.lasts, way));
     each(changes, ways(), |lent, way| resized(&mut lent.meadow.records, way));
@@ -131,7 +134,8 @@ fn sizes(changes: &mut Vec<Change>, base: &Lent) {
     }
 }
 
-/// The newest record's two times, and P before and amount added of one square.
+/// The newest record's two times, and P before, amount added and amount soaked of one square; that amount also at the total soaked, and the
+/// total at what the record says.
 fn record(changes: &mut Vec<Change>, base: &Lent, square: usize) {
     let narrow = |least, most| round_limits(least, most, MOST_32);
     let at = base.run.newest * base.meadow.record_size();
@@ -139,9 +143,15 @@ fn record(changes: &mut Vec<Change>, base: &Lent, square: usize) {
     each(changes, narrow(1, 60_000), move |lent, value| put(&mut lent.meadow.records, at, value as u32));
     each(changes, narrow(1, 60_000), move |lent, value| put(&mut lent.meadow.records, at + 1, value as u32));
     each(changes, narrow(clock, clock), move |lent, value| put(&mut lent.meadow.records, at + 1, value as u32));
-    let part = at + 2 + 6 * square;
-    each(changes, narrow(0, MOST_DEPTH), move |lent, value| put(&mut lent.meadow.records, part + 4, value as u32));
-    each(changes, narrow(0, MOST_DEPTH), move |lent, value| put(&mut lent.meadow.records, part + 5, value as u32));
+    let part = at + 2 + WORDS * square;
+    for word in [LAST, ADDED, SOAKED] {
+        each(changes, narrow(0, MOST_DEPTH), move |lent, value| put(&mut lent.meadow.records, part + word, value as u32));
+    }
+    let total = base.run.soaked.min(MOST_32);
+    each(changes, narrow(total, total), move |lent, value| put(&mut lent.meadow.records, part + SOAKED, value as u32));
+    let soaked_here = |square: &usize| base.meadow.records[at + 2 + WORDS * square + SOAKED] as u64;
+    let soaked = base.open_squares().iter().map(soaked_here).sum();
+    each(changes, round_limits(soaked, soaked, u64::MAX), |lent, value| lent.run.soaked = value);
 }
 
 /// Every change of one value, on a good input.
@@ -177,6 +187,7 @@ fn good_for_all(tally: &mut Tally, chance: &mut Chance) -> Lent {
         lent.rules.update = chance.between(1, 50);
         lent.run.clock = chance.below(1_000);
         lent.run.outflow = chance.amount(MOST_OUTFLOW / 2);
+        lent.run.soaked = chance.amount(MOST_SOAKED / 2);
         lent.end = 0;
         let after = tally.call(Call::Step, &lent);
         if after.number != 0 || lent.open_squares().is_empty() {

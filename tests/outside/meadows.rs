@@ -7,6 +7,8 @@ pub const MOST_BED: u64 = 1_000_000_000;
 pub const MOST_DEPTH: u64 = 100_000_000;
 pub const MOST_CLOCK: u64 = 604_800_000;
 pub const MOST_OUTFLOW: u64 = 1_000_000_000_000_000;
+pub const MOST_SOAKED: u64 = 1_000_000_000_000_000;
+pub const MOST_SOAK_RATE: u64 = 1_000_000;
 
 /// How many numbers more than they must have the slices for rules, run and answer have.
 #[derive(Clone, Copy, Debug, Default, PartialEq)]
@@ -162,6 +164,15 @@ fn roughness(chance: &mut Chance) -> u64 {
     }
 }
 
+/// Rates of ground that does not soak, or soaks slowly, fast or here and there.
+pub fn rates(chance: &mut Chance, meadow: &mut Meadow) {
+    let most = chance.pick(&[0, 0, 5_000, 100_000, MOST_SOAK_RATE]);
+    let firm = chance.pick(&[0, 0, 50]);
+    for square in 0..meadow.squares() {
+        meadow.rates[square] = if chance.below(100) < firm { 0 } else { chance.amount(most) } as u32;
+    }
+}
+
 /// Beds, roughness and depths of one kind of ground, so that water moves gently, fiercely or not at all.
 fn ground(chance: &mut Chance, meadow: &mut Meadow) {
     let (height, bumps) = (chance.pick(&[0, 1_000_000, 900_000_000]), chance.pick(&[1, 1_000, 100_000, 100_000_000]));
@@ -190,6 +201,7 @@ pub fn junk(chance: &mut Chance, meadow: &mut Meadow) {
         if meadow.marks[square] == CLOSED {
             meadow.beds[square] = chance.word() as u32;
             meadow.roughness[square] = chance.word() as u32;
+            meadow.rates[square] = chance.word() as u32;
             meadow.depths[square] = chance.word() as u32;
             meadow.lasts[square] = chance.word() as u32;
         }
@@ -204,6 +216,7 @@ pub fn meadow(chance: &mut Chance, (rows, columns): (usize, usize), slots: usize
         marks: vec![OPEN; squares],
         beds: vec![0; squares],
         roughness: vec![1; squares],
+        rates: vec![0; squares],
         depths: vec![0; squares],
         lasts: vec![0; squares],
         ..Meadow::default()
@@ -212,6 +225,7 @@ pub fn meadow(chance: &mut Chance, (rows, columns): (usize, usize), slots: usize
     meadow.records = (0..slots * meadow.record_size() + rest).map(|_| chance.word() as u32).collect();
     marks(chance, &mut meadow);
     ground(chance, &mut meadow);
+    rates(chance, &mut meadow);
     junk(chance, &mut meadow);
     meadow
 }
@@ -233,6 +247,7 @@ pub fn lent(chance: &mut Chance, shape: (usize, usize)) -> Lent {
         outflow: chance.amount(MOST_OUTFLOW),
         kept: chance.index(slots + 1),
         newest: chance.index(slots),
+        soaked: chance.amount(MOST_SOAKED),
     };
     Lent {
         end: end(chance, &run, &rules),

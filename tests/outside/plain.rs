@@ -3,11 +3,12 @@
 //! squares that let nothing in saves every test for the edge of the grid, and the passes that can be one are one. What it gives is compared
 //! with the reference as the library's answers are.
 
-use crate::reference::{check, Made, Meadow, Rules, Run, CLOSED, EXIT};
+use crate::reference::{check, Made, Meadow, Rules, Run, CLOSED, EXIT, WORDS};
 
 const MOST_DEPTH: u64 = 100_000_000;
 const MOST_CLOCK: u64 = 604_800_000;
 const MOST_OUTFLOW: u64 = 1_000_000_000_000_000;
+const MOST_SOAKED: u64 = 1_000_000_000_000_000;
 
 /// The greatest critical speed in µm/s, that of the deepest water.
 const GREATEST_CRITICAL: u64 = 31_320_919;
@@ -98,11 +99,13 @@ struct Ringed<'a> {
     marks: Vec<u8>,
     beds: Vec<u32>,
     roughness: Vec<u32>,
+    rates: Vec<u32>,
     depths: Vec<u32>,
     lasts: Vec<u32>,
     levels: Vec<u32>,
     flows: Vec<[u32; 4]>,
     hatched: Vec<u64>,
+    soaked: Vec<u32>,
     depths_after: Vec<u32>,
     rain: Vec<[u64; 3]>,
     hatches: Vec<Hatch>,
@@ -122,11 +125,13 @@ impl<'a> Ringed<'a> {
             marks: vec![BEYOND; size],
             beds: vec![0; size],
             roughness: vec![1; size],
+            rates: vec![0; size],
             depths: vec![0; size],
             lasts: vec![0; size],
             levels: vec![WALL; size],
             flows: vec![[0; 4]; size],
             hatched: vec![0; size],
+            soaked: vec![0; size],
             depths_after: vec![0; size],
             rain: meadow.rain.chunks(3).map(|row| [row[0] as u64, row[1] as u64, row[2] as u64]).collect(),
             hatches: Vec::new(),
@@ -139,6 +144,7 @@ impl<'a> Ringed<'a> {
                 if meadow.marks[from] != CLOSED {
                     ringed.beds[to] = meadow.beds[from];
                     ringed.roughness[to] = meadow.roughness[from];
+                    ringed.rates[to] = meadow.rates[from];
                     ringed.depths[to] = meadow.depths[from];
                     ringed.lasts[to] = meadow.lasts[from];
                     ringed.levels[to] = meadow.beds[from] + meadow.depths[from];
@@ -287,8 +293,9 @@ impl<'a> Ringed<'a> {
         run_by(&self.rain, end) / 3_600_000 - run_by(&self.rain, start) / 3_600_000
     }
 
-    /// Fills `depths_after`; false where one of them is too deep.
-    fn find_depths(&mut self, rained: u64) -> bool {
+    /// Fills `soaked` and `depths_after`, and gives what soaks into all squares; none where a depth is too deep.
+    fn find_depths(&mut self, rained: u64, start: u64, end: u64) -> Option<u64> {
+        let mut soaked = 0;
         for row in 0..self.rows {
             let from = self.at(row, 0);
             for at in from..from + self.columns {
@@ -300,23 +307,27 @@ impl<'a> Ringed<'a> {
                 let [north, east, south, west] = self.neighbours(at);
                 let come =
                     self.flows[north][2] as u64 + self.flows[east][3] as u64 + self.flows[south][0] as u64 + self.flows[west][1] as u64;
-                let depth = (self.depths[at] - left) as u64 + come + rained + self.hatched[at];
+                let stays = (self.depths[at] - left) as u64;
+                let soaks = soak_due(self.rates[at] as u64, start, end).min(stays);
+                let depth = stays - soaks + come + rained + self.hatched[at];
                 if depth > MOST_DEPTH {
-                    return false;
+                    return None;
                 }
                 self.depths_after[at] = depth as u32;
+                self.soaked[at] = soaks as u32;
+                soaked += soaks;
             }
         }
-        true
+        Some(soaked)
     }
 
     /// Writes the record, and in the same pass the last leaving and the levels for the next step.
     fn keep_record(&mut self, slot: usize, length: u64, lasted: u64, rained: u64) {
-        let size = 2 + 6 * self.rows * self.columns;
+        let size = 2 + WORDS * self.rows * self.columns;
         let record = &mut self.records[slot * size..(slot + 1) * size];
         record[0] = length as u32;
         record[1] = lasted as u32;
-        let mut squares = record[2..].chunks_exact_mut(6);
+        let mut squares = record[2..].chunks_exact_mut(WORDS);
         for row in 0..self.rows {
             let from = (row + 1) * self.width + 1;
             for at in from..from + self.columns {
@@ -329,13 +340,14 @@ impl<'a> Ringed<'a> {
                 kept[..4].copy_from_slice(&flow);
                 kept[4] = self.lasts[at];
                 kept[5] = (rained + self.hatched[at]) as u32;
+                kept[6] = self.soaked[at];
                 self.lasts[at] = flow[0] + flow[1] + flow[2] + flow[3];
                 self.levels[at] = self.beds[at] + self.depths_after[at];
             }
         }
     }
 
-    /// One step; refusals 7, 8 and 9 come before anything is written.
+    /// One step; refusals 7, 8, 9 and 15 come before anything is written.
     fn step<R: Roots>(&mut self, rules: &Rules, run: &Run) -> Result<Run, u32> {
         let into = run.clock % rules.update;
         let length = if into == 0 { self.length_afresh::<R>(rules) } else { run.length };
@@ -346,17 +358,18 @@ impl<'a> Ringed<'a> {
         }
         let outflow = run.outflow + self.find_flows::<R>(rules, lasted);
         let rained = self.find_added(rules.square_side, run.clock, clock);
-        if !self.find_depths(rained) {
-            return Err(8);
-        }
+        let soaked = run.soaked + self.find_depths(rained, run.clock, clock).ok_or(8u32)?;
         if outflow > MOST_OUTFLOW {
             return Err(9);
         }
-        let slots = self.records.len() / (2 + 6 * self.rows * self.columns);
+        if soaked > MOST_SOAKED {
+            return Err(15);
+        }
+        let slots = self.records.len() / (2 + WORDS * self.rows * self.columns);
         let newest = (run.newest + 1) % slots;
         self.keep_record(newest, run.length, lasted, rained);
         std::mem::swap(&mut self.depths, &mut self.depths_after);
-        Ok(Run { clock, length, outflow, kept: (run.kept + 1).min(slots), newest })
+        Ok(Run { clock, length, outflow, kept: (run.kept + 1).min(slots), newest, soaked })
     }
 }
 
@@ -373,6 +386,14 @@ fn speed<R: Roots>(depth: u64, manning: u64) -> u64 {
     } else {
         R::square(9_810_000 * depth)
     }
+}
+
+/// What is due to soak between two clocks; ground that does not soak is not worked.
+fn soak_due(rate: u64, start: u64, end: u64) -> u64 {
+    if rate == 0 {
+        return 0;
+    }
+    rate * end / 3_600_000 - rate * start / 3_600_000
 }
 
 /// moved·depth / side, at most the depth. It is the depth where the water moves by the whole side or more; else the product fits.

@@ -1,5 +1,5 @@
-//! Document 01 in plain Rust, in its order and its words, with requests #102, #105 and #113 of document 02, written from the documents
-//! alone: what the library is compared with.
+//! Document 01 in plain Rust, in its order and its words, with requests #102, #105, #113 and #106 of document 02, written from the
+//! documents alone: what the library is compared with.
 //! Amounts are `u128`, so that every formula stands as it is written there. The comment at each function names its sentence.
 
 pub const CLOSED: u8 = 0;
@@ -19,10 +19,19 @@ const MOST_EDITION: u128 = 3;
 const MOST_CLOCK: u128 = 604_800_000;
 const MOST_RATE: u128 = 1_000_000;
 const MOST_LITRES: u128 = 100_000;
+const MOST_SOAK_RATE: u128 = 1_000_000;
 const MOST_OUTFLOW: u128 = 1_000_000_000_000_000;
+const MOST_SOAKED: u128 = 1_000_000_000_000_000;
 const MOST_TABLE_ROWS: usize = 64;
 pub const RAIN_ROOM: usize = 192;
 pub const INFLOW_ROOM: usize = 320;
+
+/// "North, east, south, west, P before, amount added", and with #106 "the amount soaked": the numbers of a square in a record, those after
+/// the sides by their place.
+pub const WORDS: usize = 7;
+pub const LAST: usize = 4;
+pub const ADDED: usize = 5;
+pub const SOAKED: usize = 6;
 
 /// "At most 65,536 bytes from standard input", and "1 above 1,024 squares".
 const MOST_TEXT: usize = 65_536;
@@ -41,7 +50,7 @@ pub struct Rules {
     pub edition: u64,
 }
 
-/// "A run value holds: clock, step length, outflow total, kept, newest slot."
+/// "A run value holds: clock, step length, outflow total, kept, newest slot." #106: "and the run a total soaked".
 #[derive(Clone, Copy, PartialEq, Debug)]
 pub struct Run {
     pub clock: u64,
@@ -49,6 +58,7 @@ pub struct Run {
     pub outflow: u64,
     pub kept: usize,
     pub newest: usize,
+    pub soaked: u64,
 }
 
 /// Everything that a call may be lent, of any lengths.
@@ -59,6 +69,7 @@ pub struct Meadow {
     pub marks: Vec<u8>,
     pub beds: Vec<u32>,
     pub roughness: Vec<u32>,
+    pub rates: Vec<u32>,
     pub rain: Vec<u32>,
     pub inflow: Vec<u32>,
     pub depths: Vec<u32>,
@@ -107,9 +118,9 @@ impl Meadow {
         self.rows * self.columns
     }
 
-    /// "One record is 2 + 6·squares numbers."
+    /// "One record is 2 + 6·squares numbers"; #106: "A record gains a seventh number a square".
     pub fn record_size(&self) -> usize {
-        2 + 6 * self.squares()
+        2 + WORDS * self.squares()
     }
 
     /// "The record room holds K records, its length divided by that size, rounded down."
@@ -133,9 +144,9 @@ impl Meadow {
         }
     }
 
-    /// A number of the newest record: 0 to 3 what left through a side, 4 "P before", 5 "amount added".
+    /// A number of the newest record: 0 to 3 what left through a side, then P before, amount added, amount soaked.
     fn recorded(&self, run: &Run, square: usize, part: usize) -> u128 {
-        self.records[run.newest * self.record_size() + 2 + 6 * square + part] as u128
+        self.records[run.newest * self.record_size() + 2 + WORDS * square + part] as u128
     }
 
     /// "A closed square's numbers in a record are never read; it sent nothing"; nor does anything come from off the grid.
@@ -168,7 +179,8 @@ fn time_run(from: u32, to: u32, clock: u128) -> u128 {
     clock.min(to as u128).saturating_sub(from as u128)
 }
 
-/// "A fresh run: clock 0, length = the longest of the rules it starts with, outflow 0, kept 0, newest K − 1, P 0 on squares not closed."
+/// "A fresh run: clock 0, length = the longest of the rules it starts with, outflow 0, kept 0, newest K − 1, P 0 on squares not closed";
+/// #106: the total soaked is "0 when fresh".
 pub fn fresh(meadow: &mut Meadow, rules: &Rules) -> Result<Run, u32> {
     let lengths = [meadow.marks.len(), meadow.lasts.len()];
     refuse(1, shape_wrong(meadow) || side_wrong(rules.square_side) || lengths_wrong(meadow, &lengths))?;
@@ -180,7 +192,7 @@ pub fn fresh(meadow: &mut Meadow, rules: &Rules) -> Result<Run, u32> {
             meadow.lasts[square] = 0;
         }
     }
-    Ok(Run { clock: 0, length: rules.longest, outflow: 0, kept: 0, newest: meadow.slots() - 1 })
+    Ok(Run { clock: 0, length: rules.longest, outflow: 0, kept: 0, newest: meadow.slots() - 1, soaked: 0 })
 }
 
 // ---------------------------------------------------------------- The step
@@ -297,6 +309,11 @@ fn inflow_by(meadow: &Meadow, square: usize, side: u128, clock: u128) -> u128 {
     sum / (side * side)
 }
 
+/// #106: "By clock t, rate·t / 3,600,000 is due".
+fn soak_by(rate: u32, clock: u128) -> u128 {
+    rate as u128 * clock / 3_600_000
+}
+
 /// "For each square not closed with d > 0 and each side with V > q·100·D .. the candidate is 50,000·D²·k·s / (d·h). The least, held
 /// between shortest and longest; longest if there is none."
 fn length_afresh(meadow: &Meadow, rules: &Rules) -> u64 {
@@ -340,6 +357,7 @@ fn step_on(meadow: &mut Meadow, rules: &Rules, run: &Run) -> Result<Run, u32> {
     let squares = meadow.squares();
     let mut sent = vec![[0u128; 4]; squares];
     let mut added = vec![0u128; squares];
+    let mut soaked = vec![0u128; squares];
     // "What a step adds is the amount by its end less the amount by its start."
     let (end, start) = (clock as u128, run.clock as u128);
     let rained = rain_by(&meadow.rain, end) - rain_by(&meadow.rain, start);
@@ -347,6 +365,10 @@ fn step_on(meadow: &mut Meadow, rules: &Rules, run: &Run) -> Result<Run, u32> {
         if !meadow.closed(square) {
             sent[square] = leaving(meadow, rules, square, lasted as u128);
             added[square] = rained + inflow_by(meadow, square, side, end) - inflow_by(meadow, square, side, start);
+            // #106: "a step's due is the difference between its end and start. It takes the smaller of that due and the depth left after the
+            // four sides have taken theirs, before anything arrives"
+            let due = soak_by(meadow.rates[square], end) - soak_by(meadow.rates[square], start);
+            soaked[square] = due.min(meadow.depths[square] as u128 - sent[square].iter().sum::<u128>());
         }
     }
 
@@ -357,7 +379,7 @@ fn step_on(meadow: &mut Meadow, rules: &Rules, run: &Run) -> Result<Run, u32> {
         if meadow.closed(square) {
             continue;
         }
-        let mut depth = meadow.depths[square] as u128 - sent[square].iter().sum::<u128>() + added[square];
+        let mut depth = meadow.depths[square] as u128 - sent[square].iter().sum::<u128>() - soaked[square] + added[square];
         for side in 0..4 {
             match meadow.neighbour(square, side) {
                 Some(next) => depth += sent[next][opposite(side)],
@@ -368,16 +390,19 @@ fn step_on(meadow: &mut Meadow, rules: &Rules, run: &Run) -> Result<Run, u32> {
     }
     refuse(8, depths.iter().any(|depth| *depth > MOST_DEPTH))?;
     refuse(9, outflow > MOST_OUTFLOW)?;
+    // #106: "the total soaked passing its limit is 15, after 9"
+    let total_soaked = run.soaked as u128 + soaked.iter().sum::<u128>();
+    refuse(15, total_soaked > MOST_SOAKED)?;
 
     // "A step writes the slot after the newest, slot 0 after the last, and kept rises by one up to K. Other slots stay."
     let newest = (run.newest + 1) % meadow.slots();
     let mut record = vec![run.length as u32, lasted as u32];
     for square in 0..squares {
         if meadow.closed(square) {
-            record.extend([0; 6]);
+            record.extend([0; WORDS]);
         } else {
             record.extend(sent[square].map(|amount| amount as u32));
-            record.extend([meadow.lasts[square], added[square] as u32]);
+            record.extend([meadow.lasts[square], added[square] as u32, soaked[square] as u32]);
         }
     }
     let at = newest * record.len();
@@ -389,7 +414,7 @@ fn step_on(meadow: &mut Meadow, rules: &Rules, run: &Run) -> Result<Run, u32> {
             meadow.lasts[square] = sent[square].iter().sum::<u128>() as u32;
         }
     }
-    Ok(Run { clock, length, outflow: outflow as u64, kept: (run.kept + 1).min(meadow.slots()), newest })
+    Ok(Run { clock, length, outflow: outflow as u64, kept: (run.kept + 1).min(meadow.slots()), newest, soaked: total_soaked as u64 })
 }
 
 /// "A run to an end makes steps while clock < end; clock ≥ end at the start gives 0 steps. If one of its steps is refused, it gives that
@@ -410,6 +435,7 @@ pub fn run_to(meadow: &mut Meadow, rules: &Rules, run: &Run, end: u64) -> Result
 
 /// "Depth before = depth + four leaving − what neighbours sent − amount added. .. Outflow falls by what squares not closed sent off the
 /// grid. P, length, clock and outflow go back likewise; kept falls by one, newest moves back one slot; the record room is not written."
+/// #106: "Take-back returns" what soaked, to the depth and off the total.
 pub fn take_back(meadow: &mut Meadow, run: &Run) -> Result<Run, u32> {
     let lengths = [meadow.marks.len(), meadow.depths.len(), meadow.lasts.len()];
     refuse(1, shape_wrong(meadow) || lengths_wrong(meadow, &lengths))?;
@@ -423,13 +449,14 @@ pub fn take_back(meadow: &mut Meadow, run: &Run) -> Result<Run, u32> {
 
     let squares = meadow.squares();
     let (mut depths, mut lasts) = (meadow.depths.clone(), meadow.lasts.clone());
-    let mut sent_off = 0u128;
+    let (mut sent_off, mut soaked) = (0u128, 0u128);
     for square in 0..squares {
         if meadow.closed(square) {
             continue;
         }
-        let mut back = meadow.depths[square] as u128;
-        let mut gone = meadow.recorded(run, square, 5);
+        let mut back = meadow.depths[square] as u128 + meadow.recorded(run, square, SOAKED);
+        soaked += meadow.recorded(run, square, SOAKED);
+        let mut gone = meadow.recorded(run, square, ADDED);
         for side in 0..4 {
             let left = meadow.recorded(run, square, side);
             back += left;
@@ -438,18 +465,21 @@ pub fn take_back(meadow: &mut Meadow, run: &Run) -> Result<Run, u32> {
                 sent_off += left;
             }
         }
-        let last = meadow.recorded(run, square, 4);
+        let last = meadow.recorded(run, square, LAST);
         refuse(11, last > MOST_DEPTH || gone > back || back - gone > MOST_DEPTH)?;
         depths[square] = (back - gone) as u32;
         lasts[square] = last as u32;
     }
     refuse(11, sent_off > run.outflow as u128)?;
+    // #106: "a record that would take back more than the total is 11"
+    refuse(11, soaked > run.soaked as u128)?;
 
     meadow.depths = depths;
     meadow.lasts = lasts;
     let slots = meadow.slots();
     let newest = (run.newest + slots - 1) % slots;
-    Ok(Run { clock: run.clock - lasted, length, outflow: run.outflow - sent_off as u64, kept: run.kept - 1, newest })
+    let (outflow, soaked) = (run.outflow - sent_off as u64, run.soaked - soaked as u64);
+    Ok(Run { clock: run.clock - lasted, length, outflow, kept: run.kept - 1, newest, soaked })
 }
 
 // ---------------------------------------------------------------- Flow arrows and wet rows
@@ -547,8 +577,9 @@ fn refuse(number: u32, applies: bool) -> Result<(), u32> {
 
 /// Numbers 1 to 6 for a step, and for a run where there is an end.
 pub fn check(meadow: &Meadow, rules: &Rules, run: &Run, end: Option<u64>) -> Result<(), u32> {
-    let lengths = [meadow.marks.len(), meadow.beds.len(), meadow.roughness.len(), meadow.depths.len(), meadow.lasts.len()];
-    refuse(1, shape_wrong(meadow) || side_wrong(rules.square_side) || lengths_wrong(meadow, &lengths))?;
+    let grounds = [meadow.marks.len(), meadow.beds.len(), meadow.roughness.len(), meadow.rates.len()];
+    let waters = [meadow.depths.len(), meadow.lasts.len()];
+    refuse(1, shape_wrong(meadow) || side_wrong(rules.square_side) || lengths_wrong(meadow, &grounds) || lengths_wrong(meadow, &waters))?;
     refuse(2, marks_wrong(meadow) || ground_wrong(meadow))?;
     refuse(3, depths_wrong(meadow, &meadow.depths) || depths_wrong(meadow, &meadow.lasts))?;
     refuse(4, rain_wrong(&meadow.rain) || inflow_wrong(meadow))?;
@@ -579,10 +610,13 @@ fn marks_wrong(meadow: &Meadow) -> bool {
     })
 }
 
-/// 2: "bed or roughness of a square not closed out of range".
+/// 2: "bed or roughness of a square not closed out of range"; #106: "a rate above 1,000,000 on a square not closed is 2 (a closed square's
+/// is not looked at)".
 fn ground_wrong(meadow: &Meadow) -> bool {
     (0..meadow.squares()).any(|square| {
-        !meadow.closed(square) && (meadow.beds[square] as u128 > MOST_BED || !within(1, meadow.roughness[square] as u128, MOST_ROUGHNESS))
+        let bed = meadow.beds[square] as u128 > MOST_BED;
+        let roughness = !within(1, meadow.roughness[square] as u128, MOST_ROUGHNESS);
+        !meadow.closed(square) && (bed || roughness || meadow.rates[square] as u128 > MOST_SOAK_RATE)
     })
 }
 
@@ -639,6 +673,7 @@ fn run_wrong(meadow: &Meadow, run: &Run) -> bool {
         || run.clock as u128 > MOST_CLOCK
         || !within(1, run.length as u128, MOST_LENGTH)
         || run.outflow as u128 > MOST_OUTFLOW
+        || run.soaked as u128 > MOST_SOAKED
         || run.kept > meadow.slots()
         || run.newest >= meadow.slots()
 }
@@ -681,10 +716,11 @@ fn word_and_numbers(line: &[u8], word: &str, count: usize) -> Option<Vec<u32>> {
     }
 }
 
-/// A square as its line gives it: the mark, and bed, roughness and depth where it is not closed.
-type Cell = (u8, Option<[u32; 3]>);
+/// A square as its line gives it: the mark, and bed, roughness, depth and soak rate where it is not closed.
+type Cell = (u8, Option<[u32; 4]>);
 
-/// "`cell` .. row, column (from 0), mark `x`, `o` or `e`, bed, roughness, depth (an `x` line ends after its mark)."
+/// "`cell` .. row, column (from 0), mark `x`, `o` or `e`, bed, roughness, depth (an `x` line ends after its mark)"; #106: "gains the rate at
+/// its end".
 fn cell(line: &[u8], row: usize, column: usize) -> Option<Cell> {
     let fields: Vec<&[u8]> = line.split(|byte| *byte == b'\t').collect();
     if fields.len() < 4 || fields[0] != b"cell" {
@@ -695,9 +731,9 @@ fn cell(line: &[u8], row: usize, column: usize) -> Option<Cell> {
     }
     match (fields[3], fields.len()) {
         (b"x", 4) => Some((CLOSED, None)),
-        (b"o", 7) | (b"e", 7) => {
+        (b"o", 8) | (b"e", 8) => {
             let mark = if fields[3] == b"o" { OPEN } else { EXIT };
-            Some((mark, Some([number(fields[4])?, number(fields[5])?, number(fields[6])?])))
+            Some((mark, Some([number(fields[4])?, number(fields[5])?, number(fields[6])?, number(fields[7])?])))
         }
         _ => None,
     }
@@ -722,7 +758,7 @@ pub fn read_sheet(text: &[u8], rooms: &mut Meadow) -> Result<Heading, Refusal> {
     let mut read = Meadow { rows: grid[0] as usize, columns: grid[1] as usize, ..Meadow::default() };
     refuse(1, shape_wrong(&read) || side_wrong(grid[2] as u64)).map_err(refused)?;
     let squares = read.squares();
-    let least = [rooms.marks.len(), rooms.beds.len(), rooms.roughness.len(), rooms.depths.len()];
+    let least = [rooms.marks.len(), rooms.beds.len(), rooms.roughness.len(), rooms.rates.len(), rooms.depths.len()];
     refuse(1, least.iter().any(|room| *room < squares)).map_err(refused)?;
     refuse(1, rooms.rain.len() < RAIN_ROOM || rooms.inflow.len() < INFLOW_ROOM).map_err(refused)?;
 
@@ -732,10 +768,11 @@ pub fn read_sheet(text: &[u8], rooms: &mut Meadow) -> Result<Heading, Refusal> {
         let at = 2 + square;
         let (row, column) = (square / read.columns, square % read.columns);
         let (mark, held) = lines.get(at).and_then(|line| cell(line, row, column)).ok_or(bad(at))?;
-        let [bed, roughness, depth] = held.unwrap_or([0; 3]);
+        let [bed, roughness, depth, rate] = held.unwrap_or([0; 4]);
         read.marks.push(mark);
         read.beds.push(bed);
         read.roughness.push(roughness);
+        read.rates.push(rate);
         read.depths.push(depth);
     }
     let mut at = 2 + squares;
@@ -768,10 +805,11 @@ pub fn read_sheet(text: &[u8], rooms: &mut Meadow) -> Result<Heading, Refusal> {
 
     for square in 0..squares {
         rooms.marks[square] = read.marks[square];
-        // "The bed, roughness, depth .. of a closed square are neither checked nor written."
+        // "The bed, roughness, depth .. of a closed square are neither checked nor written"; nor is its rate.
         if !read.closed(square) {
             rooms.beds[square] = read.beds[square];
             rooms.roughness[square] = read.roughness[square];
+            rooms.rates[square] = read.rates[square];
             rooms.depths[square] = read.depths[square];
         }
     }
@@ -804,6 +842,7 @@ fn depths_at_end(text: &[u8], run_to: impl Fn(&mut Meadow, &Rules, &Run, u64) ->
         marks: vec![0; MOST_MEADOW_SQUARES],
         beds: room(),
         roughness: room(),
+        rates: room(),
         depths: room(),
         rain: vec![0; RAIN_ROOM],
         inflow: vec![0; INFLOW_ROOM],
@@ -816,6 +855,7 @@ fn depths_at_end(text: &[u8], run_to: impl Fn(&mut Meadow, &Rules, &Run, u64) ->
     meadow.marks.truncate(squares);
     meadow.beds.truncate(squares);
     meadow.roughness.truncate(squares);
+    meadow.rates.truncate(squares);
     meadow.depths.truncate(squares);
     meadow.rain.truncate(3 * heading.rain_rows);
     meadow.inflow.truncate(5 * heading.inflow_rows);
@@ -830,7 +870,8 @@ fn depths_at_end(text: &[u8], run_to: impl Fn(&mut Meadow, &Rules, &Run, u64) ->
     Ok((meadow, made))
 }
 
-/// "Output, whole: each square not closed with its depth, then outflow, steps made, clock."
+/// "Output, whole: each square not closed with its depth, then outflow, steps made, clock"; #106: "prints `soak` and the total on a line
+/// after `out`".
 fn printed(meadow: &Meadow, made: &Made) -> Vec<u8> {
     let mut text = String::new();
     for square in 0..meadow.squares() {
@@ -839,6 +880,6 @@ fn printed(meadow: &Meadow, made: &Made) -> Vec<u8> {
             text += &format!("cell\t{}\t{}\t{}\n", row, column, meadow.depths[square]);
         }
     }
-    text += &format!("out\t{}\nsteps\t{}\nclock\t{}\n", made.run.outflow, made.steps, made.run.clock);
+    text += &format!("out\t{}\nsoak\t{}\nsteps\t{}\nclock\t{}\n", made.run.outflow, made.run.soaked, made.steps, made.run.clock);
     text.into_bytes()
 }

@@ -16,7 +16,8 @@ pub fn written(meadow: &Meadow, rules: &Rules, end: u64) -> Vec<u8> {
             continue;
         }
         let mark = if meadow.marks[square] == OPEN { "o" } else { "e" };
-        text += &format!("{}\t{}\t{}\t{}\n", mark, meadow.beds[square], meadow.roughness[square], meadow.depths[square]);
+        let numbers = [meadow.beds[square], meadow.roughness[square], meadow.depths[square], meadow.rates[square]];
+        text += &format!("{}\t{}\n", mark, numbers.map(|number| number.to_string()).join("\t"));
     }
     for row in meadow.rain.chunks(3) {
         text += &format!("rain\t{}\t{}\t{}\n", row[0], row[1], row[2]);
@@ -43,6 +44,7 @@ pub fn overfull(chance: &mut Chance) -> Vec<u8> {
     meadow.marks[4] = OPEN;
     meadow.beds[4] = 0;
     meadow.roughness[4] = 100;
+    meadow.rates[4] = chance.pick(&[0, 1_000_000]);
     meadow.depths[4] = chance.between(0, 100_000_000) as u32;
     meadow.inflow = vec![1, 1, 0, 604_800_000, 100_000];
     let rules = Rules { square_side: 1, tolerance: 0, shortest: 250, longest: 250, update: 1_000, edge: 10_000, edition: 1 };
@@ -58,6 +60,7 @@ pub fn endless() -> Vec<u8> {
         marks: vec![EXIT; 64],
         beds: vec![0; 64],
         roughness: vec![1; 64],
+        rates: vec![0; 64],
         depths: vec![0; 64],
         ..Meadow::default()
     };
@@ -70,7 +73,7 @@ pub fn endless() -> Vec<u8> {
 
 /// Rooms filled with junk, mostly larger than `squares` need, and now and then one too small.
 pub fn rooms(chance: &mut Chance, squares: usize) -> Meadow {
-    let small = if chance.one_in(12) { chance.index(6) } else { 6 };
+    let small = if chance.one_in(12) { chance.index(7) } else { 7 };
     let mut room = |which: usize, size: usize| -> Vec<u32> {
         let size = if which == small { size.saturating_sub(1 + chance.index(3)) } else { size + chance.index(9) };
         (0..size).map(|_| chance.word() as u32).collect()
@@ -82,6 +85,7 @@ pub fn rooms(chance: &mut Chance, squares: usize) -> Meadow {
         depths: room(3, squares),
         rain: room(4, RAIN_ROOM),
         inflow: room(5, INFLOW_ROOM),
+        rates: room(6, squares),
         ..Meadow::default()
     }
 }
@@ -184,7 +188,7 @@ fn needless_zero(chance: &mut Chance, text: &mut Vec<u8>) {
 const RANGES: [(&str, &[(usize, u64, u64)]); 5] = [
     ("grid", &[(1, 1, 64), (2, 1, 64), (3, 1, 100)]),
     ("run", &[(1, 0, 10_000), (2, 1, 60_000), (3, 1, 60_000), (4, 1, 3_600_000), (5, 0, 604_800_000), (6, 0, 10_000), (7, 1, 3)]),
-    ("cell", &[(1, 0, 0), (2, 0, 0), (4, 0, 1_000_000_000), (5, 1, 10_000), (6, 0, 100_000_000)]),
+    ("cell", &[(1, 0, 0), (2, 0, 0), (4, 0, 1_000_000_000), (5, 1, 10_000), (6, 0, 100_000_000), (7, 0, 1_000_000)]),
     ("rain", &[(1, 0, 604_800_000), (2, 0, 604_800_000), (3, 0, 1_000_000)]),
     ("inflow", &[(1, 0, 63), (2, 0, 63), (3, 0, 604_800_000), (4, 0, 604_800_000), (5, 0, 100_000)]),
 ];

@@ -15,7 +15,7 @@ mod plain;
 mod reference;
 
 use chance::Chance;
-use reference::{Made, Meadow, Rules, Run, CLOSED, EXIT, OPEN};
+use reference::{Made, Meadow, Rules, Run, CLOSED, EXIT, OPEN, WORDS};
 
 const ROUNDS: usize = 9;
 const STEPS: u64 = 200;
@@ -48,11 +48,12 @@ fn open_meadow(rows: usize, columns: usize) -> Meadow {
         marks: vec![OPEN; squares],
         beds: vec![0; squares],
         roughness: vec![350; squares],
+        rates: vec![0; squares],
         rain: Vec::new(),
         inflow: Vec::new(),
         depths: vec![0; squares],
         lasts: vec![0; squares],
-        records: vec![0; SLOTS * (2 + 6 * squares)],
+        records: vec![0; SLOTS * (2 + WORDS * squares)],
     }
 }
 
@@ -67,6 +68,16 @@ fn all_wet(side: usize) -> Meadow {
         if square / side == side - 1 && square % 4 == 0 {
             meadow.marks[square] = EXIT;
         }
+    }
+    meadow
+}
+
+/// The same on ground that soaks, each square at a rate of its own.
+fn all_soaking(side: usize) -> Meadow {
+    let mut chance = Chance(3);
+    let mut meadow = all_wet(side);
+    for rate in &mut meadow.rates {
+        *rate = chance.between(1_000, 1_000_000) as u32;
     }
     meadow
 }
@@ -104,8 +115,8 @@ fn wet_squares(meadow: &Meadow) -> usize {
 /// How many squares sent water in the newest step.
 fn sending_squares(meadow: &Meadow, made: &Made) -> usize {
     let at = made.run.newest * meadow.record_size() + 2;
-    let record = &meadow.records[at..at + 6 * meadow.squares()];
-    record.chunks(6).filter(|square| square[..4] != [0; 4]).count()
+    let record = &meadow.records[at..at + WORDS * meadow.squares()];
+    record.chunks(WORDS).filter(|square| square[..4] != [0; 4]).count()
 }
 
 // ---------------------------------------------------------------- times
@@ -255,7 +266,8 @@ fn main() {
     let mut states = Vec::new();
     println!("\n| nanoseconds a step of `run_to` | {} | library / digits | library / f64 |", NAMES.join(" | "));
     println!("|---|---|---|---|---|---|");
-    for (name, meadow) in [("64 by 64, a tenth wet", tenth_wet()), ("64 by 64, all wet", all_wet(64))] {
+    let meadows = [("64 by 64, a tenth wet", tenth_wet()), ("64 by 64, all wet", all_wet(64)), ("64 by 64, all wet and soaking", all_soaking(64))];
+    for (name, meadow) in meadows {
         let (times, (end, made)) = time_run(name, &meadow);
         line(name, &times, STEPS as f64);
         states.push(format!("{}: {}.", name, state(&meadow, &end, &made)));

@@ -17,7 +17,7 @@ fn sheet(along: usize) -> Vec<u8> {
     let mut text = format!("grid\t{}\t{}\t10\nrun\t0\t100\t100\t100\t{}\t10000\t1\n", along, along, END);
     for square in 0..along * along {
         let (row, column) = (square / along, square % along);
-        writeln!(text, "cell\t{}\t{}\to\t{}\t350\t{}", row, column, square % 7 * 1000, 500_000 + square).unwrap();
+        writeln!(text, "cell\t{}\t{}\to\t{}\t350\t{}\t5000", row, column, square % 7 * 1000, 500_000 + square).unwrap();
     }
     for _ in 0..64 {
         text += "rain\t0\t1000\t100000\n";
@@ -32,11 +32,13 @@ fn read_sheet(along: usize) {
     let text = sheet(along);
     let squares = along * along;
     let mut marks = vec![0; squares];
-    let (mut beds, mut roughness, mut depths) = (vec![0; squares], vec![0; squares], vec![0; squares]);
+    let (mut beds, mut roughness) = (vec![0; squares], vec![0; squares]);
+    let (mut rates, mut depths) = (vec![0; squares], vec![0; squares]);
     let (mut rain, mut inflow) = (vec![0; RAIN_ROOM], vec![0; INFLOW_ROOM]);
     let (mut heading, mut line) = ([0; HEADING_NUMBERS], [0; LINE_NUMBERS]);
-    let number =
-        flood_read_sheet(&text, &mut marks, &mut beds, &mut roughness, &mut depths, &mut rain, &mut inflow, &mut heading, &mut line);
+    let number = flood_read_sheet(
+        &text, &mut marks, &mut beds, &mut roughness, &mut rates, &mut depths, &mut rain, &mut inflow, &mut heading, &mut line,
+    );
     assert!(number == 0, "reading gives {} at line {}", number, line[0]);
 }
 
@@ -49,7 +51,7 @@ fn meadow() {
 /// A call on a wet grid, after a step.
 fn on_grid(call: &str) {
     let squares = ALONG * ALONG;
-    let (marks, roughness) = (vec![1; squares], vec![350; squares]);
+    let (marks, roughness, rates) = (vec![1; squares], vec![350; squares], vec![5_000; squares]);
     let beds: Vec<u32> = (0..squares as u32).map(|square| square % 7 * 1000).collect();
     let mut depths: Vec<u32> = (0..squares as u32).map(|square| 500_000 + square).collect();
     let (mut lasts, mut records) = (vec![0; squares], vec![0; record_numbers(ALONG, ALONG)]);
@@ -57,16 +59,16 @@ fn on_grid(call: &str) {
     // the record of a step of 100 ms that moved nothing, and the run that it left
     records[0] = 100;
     records[1] = 100;
-    let (mut run, mut steps) = ([100, 100, 0, 1, 0], [0; STEPS_NUMBERS]);
+    let (mut run, mut steps) = ([100, 100, 0, 1, 0, 0], [0; STEPS_NUMBERS]);
     let (mut speeds, mut wet, mut count) = ([0.0; SPEED_NUMBERS], vec![0; ALONG], [0; COUNT_NUMBERS]);
     let number = match call {
         "flood_fresh" => flood_fresh(ALONG, ALONG, &RULES, &marks, &mut lasts, &records, &mut run),
         "flood_step" => flood_step(
-            ALONG, ALONG, &RULES, &marks, &beds, &roughness, &rain, &inflow, &mut depths, &mut lasts, &mut records, &mut run,
+            ALONG, ALONG, &RULES, &marks, &beds, &roughness, &rates, &rain, &inflow, &mut depths, &mut lasts, &mut records, &mut run,
         ),
         "flood_run_to" => flood_run_to(
-            ALONG, ALONG, &RULES, END, &marks, &beds, &roughness, &rain, &inflow, &mut depths, &mut lasts, &mut records, &mut run,
-            &mut steps,
+            ALONG, ALONG, &RULES, END, &marks, &beds, &roughness, &rates, &rain, &inflow, &mut depths, &mut lasts, &mut records,
+            &mut run, &mut steps,
         ),
         "flood_take_back" => flood_take_back(ALONG, ALONG, &marks, &mut depths, &mut lasts, &records, &mut run),
         "flood_arrow" => flood_arrow(ALONG, ALONG, RULES[0], &marks, &depths, &records, &run, 5, 5, &mut speeds),

@@ -3,8 +3,8 @@
 use crate::calls::{Call, Tally};
 use crate::chance::Chance;
 use crate::limits;
-use crate::meadows::{self, Lent, MOST_BED, MOST_CLOCK, MOST_DEPTH, MOST_OUTFLOW};
-use crate::reference::{Rules, CLOSED, EXIT, OPEN};
+use crate::meadows::{self, Lent, MOST_BED, MOST_CLOCK, MOST_DEPTH, MOST_OUTFLOW, MOST_SOAKED, MOST_SOAK_RATE};
+use crate::reference::{Rules, CLOSED, EXIT, OPEN, WORDS};
 use crate::worked::go_on;
 
 /// Arrows of every square of a small meadow and of some squares of a large one, and wet rows.
@@ -32,12 +32,13 @@ fn wet_depth(chance: &mut Chance, lent: &Lent) -> u32 {
     }
 }
 
-/// New rules, another edition, now and then one that there is not, new tables or roughness, as a warden may give between two calls.
+/// New rules, another edition, now and then one that there is not, new tables, rates or roughness, as a warden may give between two calls.
 fn change_rules(chance: &mut Chance, lent: &mut Lent) {
-    match chance.below(4) {
+    match chance.below(5) {
         0 => lent.rules = meadows::rules(chance),
         1 => lent.rules.edition = chance.pick(&[1, 1, 2, 2, 3, 3, 0, 4]),
         2 => meadows::tables(chance, &mut lent.meadow, lent.run.clock),
+        3 => meadows::rates(chance, &mut lent.meadow),
         _ => {
             for square in lent.open_squares() {
                 lent.meadow.roughness[square] = chance.between(1, 10_000) as u32;
@@ -102,6 +103,9 @@ fn steps_at_brim(tally: &mut Tally, chance: &mut Chance) {
         lent.run.outflow = MOST_OUTFLOW - chance.amount(1_000_000_000);
     }
     if chance.one_in(2) {
+        lent.run.soaked = MOST_SOAKED - chance.amount(10_000);
+    }
+    if chance.one_in(2) {
         lent.run.clock = MOST_CLOCK - chance.below(200_000);
         meadows::tables(chance, &mut lent.meadow, lent.run.clock);
     }
@@ -122,7 +126,7 @@ pub fn exact_brims(tally: &mut Tally, chance: &mut Chance) {
     }
 }
 
-/// A step that just passes and one that just does not, for each of 7, 8 and 9.
+/// A step that just passes and one that just does not, for each of 7, 8, 9 and 15.
 fn exact_brim(tally: &mut Tally, chance: &mut Chance) {
     let shape = meadows::small_shape(chance);
     let mut lent = meadows::lent(chance, shape);
@@ -131,17 +135,20 @@ fn exact_brim(tally: &mut Tally, chance: &mut Chance) {
     lent.run.clock = 500_000;
     lent.run.length = chance.between(2_000, 60_000);
     lent.run.outflow = 0;
-    for most in [7, 8, 9] {
+    lent.run.soaked = 0;
+    for most in [7, 8, 9, 15] {
         let mut at_brim = lent.clone();
         match most {
             7 => at_brim.run.clock = MOST_CLOCK - lent.run.length,
             8 => fill_one_square(tally, chance, &mut at_brim),
+            15 => at_brim.run.soaked = MOST_SOAKED - tally.call(Call::Step, &lent).run[5].min(MOST_SOAKED),
             _ => at_brim.run.outflow = MOST_OUTFLOW - tally.call(Call::Step, &lent).run[2].min(MOST_OUTFLOW),
         }
         tally.call(Call::Step, &at_brim);
         match most {
             7 => at_brim.run.clock += 1,
             8 => put_one_more(&mut at_brim),
+            15 => at_brim.run.soaked = (at_brim.run.soaked + 1).min(MOST_SOAKED),
             _ => at_brim.run.outflow = (at_brim.run.outflow + 1).min(MOST_OUTFLOW),
         }
         tally.call(Call::Step, &at_brim);
@@ -205,6 +212,7 @@ fn one_fall(tally: &mut Tally, chance: &mut Chance, [side, depth, roughness, dro
     lent.meadow.marks = vec![OPEN; 2];
     lent.meadow.beds = vec![bed as u32, (bed + depth - drop) as u32];
     lent.meadow.roughness = vec![roughness as u32; 2];
+    lent.meadow.rates = vec![0; 2];
     lent.meadow.depths = vec![depth as u32, 0];
     lent.meadow.lasts = vec![MOST_DEPTH as u32; 2];
     lent.meadow.rain.clear();
@@ -264,6 +272,7 @@ fn four_falls(tally: &mut Tally, chance: &mut Chance, drops: [u64; 4], [side, de
     lent.meadow.marks[CENTRE] = OPEN;
     lent.meadow.beds[CENTRE] = (MOST_BED - depth) as u32;
     lent.meadow.roughness[CENTRE] = roughness as u32;
+    lent.meadow.rates = vec![0; 9];
     lent.meadow.depths[CENTRE] = depth as u32;
     lent.meadow.lasts[CENTRE] = chance.amount(MOST_DEPTH) as u32;
     for (square, drop) in BESIDE.into_iter().zip(drops).filter(|(_, drop)| *drop > 0) {
@@ -341,6 +350,7 @@ pub fn exact_roundings(tally: &mut Tally, chance: &mut Chance) {
         lent.meadow.marks = vec![OPEN; 2];
         lent.meadow.beds = vec![0; 2];
         lent.meadow.roughness = vec![100; 2];
+        lent.meadow.rates = vec![0; 2];
         lent.meadow.depths = vec![chance.below(100) as u32; 2];
         lent.meadow.lasts = vec![0; 2];
         lent.rules.update = 3_600_000;
@@ -360,6 +370,85 @@ fn summing_up(chance: &mut Chance, clock: u64, whole: u64, place: &[u32]) -> Vec
     let amount = chance.between(1, 9);
     let rows = [(sum / amount, amount), (1, sum % amount)];
     rows.iter().flat_map(|(time, amount)| place.iter().cloned().chain([(clock - time) as u32, MOST_CLOCK as u32, *amount as u32])).collect()
+}
+
+// ---------------------------------------------------------------- soaking
+
+pub fn soakings(tally: &mut Tally, chance: &mut Chance) {
+    for _ in 0..15 {
+        at_whole_due(tally, chance);
+        at_what_is_left(tally, chance);
+    }
+}
+
+/// A meadow whose next step lasts so long from a clock on, or to the next full hour.
+fn from_clock(chance: &mut Chance, shape: (usize, usize), clock: u64, ms: u64) -> Lent {
+    let mut lent = meadows::lent(chance, shape);
+    lent.rules.update = 3_600_000;
+    lent.rules.shortest = ms;
+    lent.rules.longest = ms;
+    lent.run.clock = clock;
+    lent.run.length = ms;
+    lent.run.soaked = chance.amount(MOST_SOAKED / 2);
+    lent
+}
+
+/// A rate that has a whole number of µm due by a clock, or is one ms beside it, at the start or at the end of a step.
+fn at_whole_due(tally: &mut Tally, chance: &mut Chance) {
+    let any = chance.between(1, MOST_SOAK_RATE);
+    let rate = chance.pick(&[1, 2, 7, 900, 3_600, 360_000, 999_999, MOST_SOAK_RATE, any]);
+    let ms = chance.between(2, 60_000);
+    // the clocks by which it is whole are so far apart
+    let apart = 3_600_000 / common(rate, 3_600_000);
+    let whole = apart * chance.between(1, (MOST_CLOCK / 2 / apart).max(1));
+    let at = whole + chance.below(3) - 1;
+    let shape = meadows::small_shape(chance);
+    let clock = chance.pick(&[at, at.saturating_sub(ms)]);
+    let mut lent = from_clock(chance, shape, clock, ms);
+    for square in lent.open_squares() {
+        lent.meadow.rates[square] = chance.pick(&[rate, rate, 0]) as u32;
+        lent.meadow.depths[square] = chance.pick(&[0, 1, 50_000, 1_000_000]);
+    }
+    tally.call(Call::Step, &lent);
+}
+
+/// The greatest number that divides both.
+fn common(one: u64, other: u64) -> u64 {
+    if other == 0 {
+        one
+    } else {
+        common(other, one % other)
+    }
+}
+
+/// Rates for which what is due is about what the sides leave: that, one less, one more, or a little off.
+fn at_what_is_left(tally: &mut Tally, chance: &mut Chance) {
+    let shape = (chance.between(1, 3) as usize, chance.between(1, 3) as usize);
+    let (clock, ms) = (chance.between(0, 500_000_000), chance.between(1_000, 60_000));
+    let mut lent = from_clock(chance, shape, clock, ms);
+    let most_due = MOST_SOAK_RATE * ms / 3_600_000;
+    for square in lent.open_squares() {
+        lent.meadow.rates[square] = 0;
+        lent.meadow.depths[square] = chance.below(2 * most_due) as u32;
+    }
+    let unsoaked = tally.call(Call::Step, &lent);
+    if unsoaked.number != 0 {
+        return;
+    }
+    let newest = unsoaked.run[4] as usize * lent.meadow.record_size();
+    for square in lent.open_squares() {
+        let at = newest + 2 + WORDS * square;
+        let left = lent.meadow.depths[square] as u64 - unsoaked.meadow.records[at..at + 4].iter().map(|sent| *sent as u64).sum::<u64>();
+        let wanted = (left + chance.below(3)).saturating_sub(1);
+        let beside = chance.below(3);
+        let rate = (wanted * 3_600_000).div_ceil(ms) + beside;
+        lent.meadow.rates[square] = rate.saturating_sub(1).min(MOST_SOAK_RATE) as u32;
+    }
+    let step = tally.call(Call::Step, &lent);
+    if step.number == 0 {
+        go_on(&mut lent, &step);
+        tally.call(Call::TakeBack, &lent);
+    }
 }
 
 // ---------------------------------------------------------------- shapes and wet rows
@@ -386,10 +475,11 @@ fn out_of_shape(chance: &mut Chance, (rows, columns): (usize, usize)) -> Lent {
     lent.meadow.marks = vec![1; squares];
     lent.meadow.beds = vec![0; squares];
     lent.meadow.roughness = vec![100; squares];
+    lent.meadow.rates = vec![0; squares];
     lent.meadow.depths = vec![5; squares];
     lent.meadow.lasts = vec![0; squares];
     lent.meadow.inflow.clear();
-    lent.meadow.records = vec![1; 2 + 6 * squares];
+    lent.meadow.records = vec![1; 2 + WORDS * squares];
     lent.run.kept = 1;
     lent.run.newest = 0;
     lent.wet = vec![0; rows];

@@ -4,10 +4,10 @@ use crate::calls::{After, Call, Tally, Text};
 use crate::declared::OUT_ROOM;
 use crate::library;
 use crate::meadows::{Lent, Sizes};
-use crate::reference::{Meadow, Rules, Run, CLOSED, EXIT, OPEN};
+use crate::reference::{Meadow, Rules, Run, CLOSED, EXIT, OPEN, SOAKED, WORDS};
 
-const SHEET: &[u8] = b"grid\t1\t2\t1\nrun\t100\t1000\t1000\t1000\t1000\t10000\t1\ncell\t0\t0\to\t0\t100\t1000\ncell\t0\t1\to\t0\t100\t0\n";
-const PRINTED: &[u8] = b"cell\t0\t0\t969\ncell\t0\t1\t31\nout\t0\nsteps\t1\nclock\t1000\n";
+const SHEET: &[u8] = b"grid\t1\t2\t1\nrun\t100\t1000\t1000\t1000\t1000\t10000\t1\ncell\t0\t0\to\t0\t100\t1000\t0\ncell\t0\t1\to\t0\t100\t0\t0\n";
+const PRINTED: &[u8] = b"cell\t0\t0\t969\ncell\t0\t1\t31\nout\t0\nsoak\t0\nsteps\t1\nclock\t1000\n";
 
 /// A row of squares on flat ground, k 100, with a room for one record and a fresh run in steps of 1000 ms.
 fn flat(marks: Vec<u8>, depths: Vec<u32>) -> Lent {
@@ -19,14 +19,15 @@ fn flat(marks: Vec<u8>, depths: Vec<u32>) -> Lent {
             marks,
             beds: vec![0; squares],
             roughness: vec![100; squares],
+            rates: vec![0; squares],
             rain: Vec::new(),
             inflow: Vec::new(),
             depths,
             lasts: vec![0; squares],
-            records: vec![0; 2 + 6 * squares],
+            records: vec![0; 2 + WORDS * squares],
         },
         rules: Rules { square_side: 1, tolerance: 100, shortest: 1_000, longest: 1_000, update: 1_000, edge: 10_000, edition: 1 },
-        run: Run { clock: 0, length: 1_000, outflow: 0, kept: 0, newest: 0 },
+        run: Run { clock: 0, length: 1_000, outflow: 0, kept: 0, newest: 0, soaked: 0 },
         end: 1_000,
         row: 0,
         column: 0,
@@ -53,7 +54,7 @@ fn two_squares(tally: &mut Tally) {
     let start = flat(vec![OPEN; 2], vec![1_000, 0]);
     let mut lent = start.clone();
     let step = tally.call(Call::Step, &lent);
-    hold("the sheet's step", step.meadow.depths == [969, 31] && step.meadow.records[2..] == [0, 31, 0, 0, 0, 0, 0, 0, 0, 0, 0, 0]);
+    hold("the sheet's step", step.meadow.depths == [969, 31] && step.meadow.records[2..] == [0, 31, 0, 0, 0, 0, 0, 0, 0, 0, 0, 0, 0, 0]);
     go_on(&mut lent, &step);
 
     let arrow = tally.call(Call::Arrow, &lent);
@@ -157,7 +158,7 @@ fn least_drop(tally: &mut Tally) {
         }
         lent.rules.edition = edition;
         let step = tally.call(Call::Step, &lent);
-        hold("a least drop by its edition", step.meadow.records[26..30] == leaves && step.meadow.lasts[4] == leaves.iter().sum::<u32>());
+        hold("a least drop by its edition", step.meadow.records[2 + WORDS * 4..][..4] == leaves && step.meadow.lasts[4] == leaves.iter().sum::<u32>());
     }
 }
 
@@ -199,6 +200,123 @@ fn tables(tally: &mut Tally) {
     }
 }
 
+/// The total soaked that stands in a run.
+fn total_soaked(after: &After) -> u64 {
+    after.run[5]
+}
+
+/// One square that cannot send water anywhere: its rate, its depth, the clock and how long the step lasts, and what soaks.
+fn soaked_alone(tally: &mut Tally) {
+    const SQUARES: [(u32, u32, u64, u64, u32); 11] = [
+        // dry
+        (1_000_000, 0, 0, 1_000, 0),
+        // 3,600 an hour is 1 by 1000 ms and not by 999; then 2 by 2000
+        (3_600, 1_000, 0, 999, 0),
+        (3_600, 1_000, 0, 1_000, 1),
+        (3_600, 1_000, 999, 1, 1),
+        (3_600, 1_000, 1_000, 999, 0),
+        // half a micrometre a second: by the clock 0, then 1
+        (1_800, 1_000, 0, 1_000, 0),
+        (1_800, 1_000, 1_000, 1_000, 1),
+        // 277 in the first second, 278 in the second, or all there is
+        (1_000_000, 1_000, 0, 1_000, 277),
+        (1_000_000, 1_000, 1_000, 1_000, 278),
+        (1_000_000, 277, 1_000, 1_000, 277),
+        // the last minute of the week: 168,000,000 less 167,983,333
+        (1_000_000, 100_000_000, 604_740_000, 60_000, 16_667),
+    ];
+    for (rate, depth, clock, lasts, soaked) in SQUARES {
+        let mut lent = flat(vec![OPEN], vec![depth]);
+        lent.meadow.rates = vec![rate];
+        lent.rules = Rules { shortest: lasts, longest: lasts, update: 3_600_000, ..lent.rules };
+        lent.run.clock = clock;
+        lent.run.length = lasts;
+        let step = tally.call(Call::Step, &lent);
+        hold("a square that soaks", step.number == 0 && step.meadow.depths == [depth - soaked] && total_soaked(&step) == soaked as u64);
+        hold("its record", step.meadow.records[2..] == [0, 0, 0, 0, 0, 0, soaked] && step.meadow.lasts == [0]);
+    }
+}
+
+/// The sheet's step with sides, soaking and rain at once, and its take-back: P is what went through the sides, and neither what is sent to
+/// the dry square nor what rains on it soaks in this step.
+fn soaked_with_sides(tally: &mut Tally) {
+    let mut lent = flat(vec![OPEN; 2], vec![1_000, 0]);
+    lent.meadow.rates = vec![7_200, 1_000_000];
+    lent.meadow.rain = vec![0, 604_800_000, 3_600];
+    let step = tally.call(Call::Step, &lent);
+    hold("sides, soaking and rain", step.meadow.depths == [968, 32] && total_soaked(&step) == 2);
+    hold("the last leaving beside soaking", step.meadow.lasts == [31, 0]);
+    hold("the record's seventh number", step.meadow.records[2..] == [0, 31, 0, 0, 0, 1, 2, 0, 0, 0, 0, 0, 1, 0]);
+    go_on(&mut lent, &step);
+
+    // a drop of 936 and d 968 have h 97, s 305, v 29,585 and m 28; in the east 278 are due and 32 are there
+    let second = tally.call(Call::Step, &lent);
+    hold("its second step", second.meadow.depths == [968 - 28 - 2 + 1, 28 + 1] && total_soaked(&second) == 2 + 2 + 32);
+
+    let back = tally.call(Call::TakeBack, &lent);
+    hold("its take-back", back.meadow.depths == [1_000, 0] && back.meadow.lasts == [0, 0] && total_soaked(&back) == 0);
+    // a total of less than the record has soaked, and a record of more than the total
+    let mut less = lent.clone();
+    less.run.soaked = 1;
+    hold("a total below the record", tally.call(Call::TakeBack, &less).number == 11);
+    let mut more = lent.clone();
+    more.meadow.records[2 + SOAKED] = 3;
+    hold("a record above the total", tally.call(Call::TakeBack, &more).number == 11);
+}
+
+/// The sides leave 2,000 of the exit's water, and in edition 2 nothing.
+fn soaked_after_sides(tally: &mut Tally) {
+    for (edition, out, soaked) in [(1, 8_000, 277), (2, 10_000, 0)] {
+        let mut lent = flat(vec![EXIT], vec![10_000]);
+        lent.meadow.rates = vec![1_000_000];
+        lent.rules.edition = edition;
+        let exit = tally.call(Call::Step, &lent);
+        hold("an exit that soaks", exit.meadow.depths == [10_000 - out - soaked] && exit.run[2] == out as u64);
+        hold("what an exit soaks", total_soaked(&exit) == soaked as u64 && exit.meadow.lasts == [out]);
+    }
+}
+
+/// Rates and totals at their limits, for each call that looks at them.
+fn soak_limits(tally: &mut Tally) {
+    const MOST: u64 = 1_000_000_000_000_000;
+    let on = [Call::Step, Call::RunTo];
+    for (rate, number) in [(1_000_000, 0), (1_000_001, 2)] {
+        let mut lent = flat(vec![OPEN, CLOSED], vec![0; 2]);
+        lent.meadow.rates = vec![rate, u32::MAX];
+        hold("the greatest rate, beside a closed square's", on.iter().all(|call| tally.call(*call, &lent).number == number));
+    }
+    let mut lent = flat(vec![OPEN], vec![1_000]);
+    lent.meadow.rates.clear();
+    hold("rates of another size", on.iter().all(|call| tally.call(*call, &lent).number == 1));
+
+    // 1 soaks in each second
+    lent.meadow.rates = vec![3_600];
+    for (total, number) in [(MOST - 1, 0), (MOST, 15), (MOST + 1, 6)] {
+        lent.run.soaked = total;
+        hold("the greatest total soaked", on.iter().all(|call| tally.call(*call, &lent).number == number));
+    }
+    for call in [Call::TakeBack, Call::Arrow] {
+        hold("a total that cannot be", tally.call(call, &lent).number == 6);
+    }
+    // a run to the third second makes one step, and leaves the state before the second
+    lent.run.soaked = MOST - 1;
+    lent.end = 3_000;
+    let made = tally.call(Call::RunTo, &lent);
+    hold("a run whose second step soaks too much", made.number == 15 && made.answer == [1] && made.meadow.depths == [999]);
+    hold("the run that it leaves", made.run == [1_000, 1_000, 0, 1, 0, MOST]);
+
+    // 8 and 9 come before 15
+    let mut exit = flat(vec![EXIT], vec![10_000]);
+    exit.meadow.rates = vec![1_000_000];
+    exit.run = Run { outflow: MOST, soaked: MOST, ..exit.run };
+    hold("an outflow and a total soaked that are too much", tally.call(Call::Step, &exit).number == 9);
+    let mut deep = flat(vec![OPEN], vec![100_000_000]);
+    deep.meadow.rates = vec![3_600];
+    deep.meadow.rain = vec![0, 1_000, 7_200];
+    deep.run.soaked = MOST;
+    hold("a depth and a total soaked that are too much", tally.call(Call::Step, &deep).number == 8);
+}
+
 pub fn cases(tally: &mut Tally) {
     two_squares(tally);
     single_squares(tally);
@@ -209,6 +327,10 @@ pub fn cases(tally: &mut Tally) {
     edition_numbers(tally);
     lengths(tally);
     tables(tally);
+    soaked_alone(tally);
+    soaked_with_sides(tally);
+    soaked_after_sides(tally);
+    soak_limits(tally);
     let printed = tally.meadow(&Text(SHEET.to_vec()), OUT_ROOM).printed;
     hold("what meadow prints", printed.0 == PRINTED);
 }

@@ -78,7 +78,7 @@ module _ (s : List ℕ) {h : Heading} {c : Cells} {t u : List ℕ} (f : Reads s 
     abbrev handed : Rooms
     handed =
         record {
-          cells = cellsRooms (take n (c .marks)) (take n (c .beds)) (take n (c .roughness)) (take n (c .depths));
+          cells = cellsRooms (take n (c .marks)) (take n (c .beds)) (take n (c .roughness)) (take n (c .rates)) (take n (c .depths));
           rain = take (rainKind .width * h .«rain_rows») t;
           inflow = take (inflowKind .width * h .«inflow_rows») u;
         }

@@ -20,7 +20,7 @@ use Rattle.text.specs.Writing.{lineText, Wrote}
 use Rattle.text.proofs.ReadingLaws.{by-lt}
 use Rattle.text.proofs.WritingLaws.{fields-text-short, line-text-long, placed-none, wrote-both, wrote-length}
 use Rattle.sheet.specs.Lines.{cellWord}
-use Rattle.answer.specs.Printed.{mostRefused, refusedWord, outWord, stepsWord, clockWord, refusedText, cellText, cellsText, madeText}
+use Rattle.answer.specs.Printed.{mostRefused, refusedWord, outWord, soakWord, stepsWord, clockWord, refusedText, cellText, cellsText, madeText}
 use Rattle.answer.specs.Program.{mostPrinted, programSquares, endedText, Prints}
 
 -- ---- how long a line can get
@@ -150,6 +150,9 @@ module _ (p : Plan) (depths : List ℕ) (u : Run) (steps : ℕ) where
   abbrev outText : List ℕ
   outText = lineText outWord (u .outflow ∷ [])
 
+  abbrev soakText : List ℕ
+  soakText = lineText soakWord (u .soaked ∷ [])
+
   abbrev stepsText : List ℕ
   stepsText = lineText stepsWord (steps ∷ [])
 
@@ -157,27 +160,29 @@ module _ (p : Plan) (depths : List ℕ) (u : Run) (steps : ℕ) where
   clockText = lineText clockWord (u .clock ∷ [])
 
   made-length :
-      length (madeText p depths u steps) ≡ length (cellsText p depths) + (length outText + (length stepsText + length clockText))
+      length (madeText p depths u steps) ≡ length (cellsText p depths) + (length outText + (length soakText + (length stepsText + length clockText)))
   unfolding madeText
   made-length =
       omega (
         arith,
-        length-append (cellsText p depths) (outText ++ (stepsText ++ clockText)),
-        length-append outText (stepsText ++ clockText),
+        length-append (cellsText p depths) (outText ++ (soakText ++ (stepsText ++ clockText))),
+        length-append outText (soakText ++ (stepsText ++ clockText)),
+        length-append soakText (stepsText ++ clockText),
         length-append stepsText clockText,
       )
 
   -- the most bytes of so many squares and the totals
   pub made-short :
-      squares (p .shape) ≤ mostSquares → ((i : ℕ) → getD depths i 0 < 2 ^ 32) → u .outflow < 2 ^ 64 → steps < 2 ^ 64 → u .clock < 2 ^ 64 →
-      length (madeText p depths u steps) ≤ cellMost * squares (p .shape) + 79
+      squares (p .shape) ≤ mostSquares → ((i : ℕ) → getD depths i 0 < 2 ^ 32) → u .outflow < 2 ^ 64 → u .soaked < 2 ^ 64 → steps < 2 ^ 64 →
+      u .clock < 2 ^ 64 → length (madeText p depths u steps) ≤ cellMost * squares (p .shape) + 105
   unfolding cellsText
-  made-short few words hu hs hc =
+  made-short few words hu hk hs hc =
       omega (
         arith,
         made-length,
         joined-short (squares (p .shape)) cellMost (cellText p depths) (λ i l. cell-short p depths i (omega (arith, l, few)) (words i)),
         total-short outWord (u .outflow) hu,
+        total-short soakWord (u .soaked) hk,
         total-short stepsWord steps hs,
         total-short clockWord (u .clock) hc,
       )
@@ -197,22 +202,32 @@ module _ (p : Plan) (depths : List ℕ) (u : Run) (steps : ℕ) where
         long-b : length b ≡ length old
         long-b = wrote-length out-fits x ∙ long-a
 
-        pub steps-fit : j + length stepsText ≤ length b
-        steps-fit = omega (arith, w .next, x .next, long-b, fits, made-length)
+        pub soak-fits : j + length soakText ≤ length b
+        soak-fits = omega (arith, w .next, x .next, long-b, fits, made-length)
 
-        module _ {c : List ℕ} {k : ℕ} (y : Wrote stepsText j b c k) where
+        module _ {c : List ℕ} {k : ℕ} (s : Wrote soakText j b c k) where
           long-c : length c ≡ length old
-          long-c = wrote-length steps-fit y ∙ long-b
+          long-c = wrote-length soak-fits s ∙ long-b
 
-          pub clock-fits : k + length clockText ≤ length c
-          clock-fits = omega (arith, w .next, x .next, y .next, long-c, fits, made-length)
+          pub steps-fit : k + length stepsText ≤ length c
+          steps-fit = omega (arith, w .next, x .next, s .next, long-c, fits, made-length)
 
-          pub made-written : {d : List ℕ} {r : ℕ} → Wrote clockText k c d r → Wrote (madeText p depths u steps) at old d r
-          unfolding madeText
-          made-written v =
-              wrote-both (omega (arith, fits, made-length, length-append outText (stepsText ++ clockText), length-append stepsText clockText)) w
-              (wrote-both (omega (arith, w .next, long-a, fits, made-length, length-append stepsText clockText)) x
-              (wrote-both (omega (arith, w .next, x .next, long-b, fits, made-length)) y v))
+          module _ {d : List ℕ} {l : ℕ} (y : Wrote stepsText k c d l) where
+            long-d : length d ≡ length old
+            long-d = wrote-length steps-fit y ∙ long-c
+
+            pub clock-fits : l + length clockText ≤ length d
+            clock-fits = omega (arith, w .next, x .next, s .next, y .next, long-d, fits, made-length)
+
+            pub made-written : {e : List ℕ} {r : ℕ} → Wrote clockText l d e r → Wrote (madeText p depths u steps) at old e r
+            unfolding madeText
+            made-written v =
+                let three = length-append soakText (stepsText ++ clockText) in
+                let two = length-append stepsText clockText in
+                wrote-both (omega (arith, fits, made-length, length-append outText (soakText ++ (stepsText ++ clockText)), three, two)) w
+                (wrote-both (omega (arith, w .next, long-a, fits, made-length, three, two)) x
+                (wrote-both (omega (arith, w .next, x .next, long-b, fits, made-length, two)) s
+                (wrote-both (omega (arith, w .next, x .next, s .next, long-c, fits, made-length)) y v)))
 
 -- ---- what the program prints
 
@@ -231,9 +246,10 @@ ended-refused p steps w {old} {new} {r} d k =
 -- the room of the program holds a world of its squares
 module _
     (p : Plan) (depths : List ℕ) (u : Run) (steps : ℕ) (few : squares (p .shape) ≤ programSquares)
-    (words : (i : ℕ) → getD depths i 0 < 2 ^ 32) (hu : u .outflow < 2 ^ 64) (hs : steps < 2 ^ 64) (hc : u .clock < 2 ^ 64) where
+    (words : (i : ℕ) → getD depths i 0 < 2 ^ 32) (hu : u .outflow < 2 ^ 64) (hk : u .soaked < 2 ^ 64) (hs : steps < 2 ^ 64)
+    (hc : u .clock < 2 ^ 64) where
   pub made-fits : length (madeText p depths u steps) ≤ mostPrinted
-  made-fits = omega (arith, made-short p depths u steps (omega (arith, few)) words hu hs hc, few)
+  made-fits = omega (arith, made-short p depths u steps (omega (arith, few)) words hu hk hs hc, few)
 
   pub made-printed :
       {number : ℕ} {old new : List ℕ} {r : ℕ} (lasts records : List ℕ) → number ≡ 0 → Wrote (madeText p depths u steps) 0 old new r →

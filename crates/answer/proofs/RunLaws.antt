@@ -37,7 +37,7 @@ module _ (shape : Shape) (r : Rules) (held : Rooms) (end : ℕ) (e : checksIn sh
       let lent = every-each _ (rows .0) in
       let slots : not (eqb (roomSlots (planIn shape r held) (noRecords shape r held)) 0) ≡ true = rw (one-slot shape r held) in
       passed-refusal _ (
-        each-every _ (lent .0, (lent .1 .0, (lent .1 .1 .0, (lent .1 .1 .1 .1 .1 .1 .0, tt)))),
+        each-every _ (lent .0, (lent .1 .0, (lent .1 .1 .0, (lent .1 .1 .1 .1 .1 .1 .1 .0, tt)))),
         (every-each _ (rows .1 .0) .0, (rows .1 .1 .1 .1 .0, (slots, tt))),
       )
 

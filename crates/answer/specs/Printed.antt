@@ -16,6 +16,9 @@ use Rattle.sheet.specs.Lines.{cellWord}
 abbrev pub outWord : List ℕ
 outWord = 111 ∷ 117 ∷ 116 ∷ []
 
+abbrev pub soakWord : List ℕ
+soakWord = 115 ∷ 111 ∷ 97 ∷ 107 ∷ []
+
 abbrev pub stepsWord : List ℕ
 stepsWord = 115 ∷ 116 ∷ 101 ∷ 112 ∷ 115 ∷ []
 
@@ -41,11 +44,12 @@ cellText p depths i =
 unfoldable pub cellsText : Plan → List ℕ → List ℕ
 cellsText p depths = joined (squares (p .shape)) (cellText p depths)
 
--- "then outflow, steps made, clock"
+-- "then outflow, steps made, clock", and "`soak` and the total on a line after `out`" (document 02, #106)
 unfoldable pub madeText : Plan → List ℕ → Run → ℕ → List ℕ
 madeText p depths u steps =
     cellsText p depths
-    ++ (lineText outWord (u .outflow ∷ []) ++ (lineText stepsWord (steps ∷ []) ++ lineText clockWord (u .clock ∷ [])))
+    ++ (lineText outWord (u .outflow ∷ [])
+    ++ (lineText soakWord (u .soaked ∷ []) ++ (lineText stepsWord (steps ∷ []) ++ lineText clockWord (u .clock ∷ []))))
 
 -- ---- what the public functions give
 

@@ -73,7 +73,7 @@ fn put_total(out: &mut [u8], at: usize, word: &[u8], total: u64) -> usize
     put_line(out, at, word, &values)
 }
 
-// A world after so many steps: each square not closed with its depth, then outflow, steps made and clock.
+// A world after so many steps: each square not closed with its depth, then outflow, what soaked, steps made and clock.
 pub fn put_world(
     out: &mut [u8],
     at: usize,
@@ -89,6 +89,7 @@ pub fn put_world(
 {
     let first = put_squares(out, at, shape, marks, depths);
     let second = put_total(out, first, b"out", run.outflow);
-    let third = put_total(out, second, b"steps", steps);
-    put_total(out, third, b"clock", run.clock)
+    let third = put_total(out, second, b"soak", run.soaked);
+    let fourth = put_total(out, third, b"steps", steps);
+    put_total(out, fourth, b"clock", run.clock)
 }

@@ -56,6 +56,7 @@ fn run_sheet(
     marks: &[u8],
     beds: &[u32],
     roughness: &[u32],
+    rates: &[u32],
     rain: &[u32],
     inflow: &[u32],
     depths: &mut [u32],
@@ -63,9 +64,9 @@ fn run_sheet(
     records: &mut [u32],
 ) -> usize
     requires { ⌜ (squares (heading .shape) ≤ programSquares) × (mostPrinted ≤ length (now out)) ⌝ }
-    requires { ⌜ checksIn (heading .shape) (heading .rules) (rooms (now marks) (now beds) (now roughness) (now depths) (now rain) (now inflow)) (heading .end) ≡ 0 ⌝ }
-    requires { ⌜ (now lasts ≡ noLasts (heading .shape) (heading .rules) (rooms (now marks) (now beds) (now roughness) (now depths) (now rain) (now inflow))) × (now records ≡ noRecords (heading .shape) (heading .rules) (rooms (now marks) (now beds) (now roughness) (now depths) (now rain) (now inflow))) ⌝ }
-    ensures { λ r. ⌜ Prints (runText heading (rooms (now (marks .entry)) (now (beds .entry)) (now (roughness .entry)) (now (depths .entry)) (now (rain .entry)) (now (inflow .entry)))) (now (out .entry)) (now (out .exit)) r ⌝ }
+    requires { ⌜ checksIn (heading .shape) (heading .rules) (rooms (now marks) (now beds) (now roughness) (now rates) (now depths) (now rain) (now inflow)) (heading .end) ≡ 0 ⌝ }
+    requires { ⌜ (now lasts ≡ noLasts (heading .shape) (heading .rules) (rooms (now marks) (now beds) (now roughness) (now rates) (now depths) (now rain) (now inflow))) × (now records ≡ noRecords (heading .shape) (heading .rules) (rooms (now marks) (now beds) (now roughness) (now rates) (now depths) (now rain) (now inflow))) ⌝ }
+    ensures { λ r. ⌜ Prints (runText heading (rooms (now (marks .entry)) (now (beds .entry)) (now (roughness .entry)) (now (rates .entry)) (now (depths .entry)) (now (rain .entry)) (now (inflow .entry)))) (now (out .entry)) (now (out .exit)) r ⌝ }
 {
     let shape = heading.shape;
     let rules = heading.rules;
@@ -80,6 +81,7 @@ fn run_sheet(
                 marks,
                 beds,
                 roughness,
+                rates,
                 rain,
                 inflow,
                 depths,
@@ -101,6 +103,7 @@ pub fn meadow_of(text: &[u8], out: &mut [u8; OUT_ROOM]) -> usize
     let mut marks = [0u8; PROGRAM_SQUARES];
     let mut beds = [0u32; PROGRAM_SQUARES];
     let mut roughness = [0u32; PROGRAM_SQUARES];
+    let mut rates = [0u32; PROGRAM_SQUARES];
     let mut depths = [0u32; PROGRAM_SQUARES];
     let mut rain = [0u32; RAIN_ROOM];
     let mut inflow = [0u32; INFLOW_ROOM];
@@ -109,6 +112,7 @@ pub fn meadow_of(text: &[u8], out: &mut [u8; OUT_ROOM]) -> usize
         &mut marks,
         &mut beds,
         &mut roughness,
+        &mut rates,
         &mut depths,
         &mut rain,
         &mut inflow,
@@ -128,6 +132,7 @@ pub fn meadow_of(text: &[u8], out: &mut [u8; OUT_ROOM]) -> usize
                 &marks[..squares],
                 &beds[..squares],
                 &roughness[..squares],
+                &rates[..squares],
                 &rain[..rain_end],
                 &inflow[..inflow_end],
                 &mut depths[..squares],

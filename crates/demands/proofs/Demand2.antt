@@ -12,7 +12,7 @@ use lib.ListN.{length, getD, List·getD-eq-default}
 use Rattle.reckon.specs.Tests.{pick, allBelow, refusal}
 use Rattle.reckon.specs.Lists.{filled}
 use Rattle.reckon.specs.Ranges.{mostDepth, waterFine}
-use Rattle.reckon.proofs.TestLaws.{pick-both, all-ext, refusal-both}
+use Rattle.reckon.proofs.TestLaws.{pick-true, pick-both, all-ext, refusal-both}
 use Rattle.reckon.proofs.RootLaws.{root-right}
 use Rattle.reckon.proofs.ListLaws.{getD-tabulate, length-filled, filled-in, filled-skipped, joined-ext, sum-ext}
 use Rattle.trials.specs.Ring.{slotsIn, slotAfter}
@@ -25,14 +25,13 @@ use Rattle.grid.proofs.SquareLaws.{opposite-small}
 use Rattle.grid.proofs.MarkLaws.{unless-closed}
 use Rattle.rule.specs.Drops.{dropOff}
 use Rattle.rule.specs.Length.{durationFor}
-use Rattle.rule.specs.Rules.{groundFine}
 use Rattle.rule.specs.Weighing.{heightOf, slopeOf, criticalSpeed}
 use Rattle.rule.proofs.WeighingLaws.{weighed-weighted, weighed-directed, weighed-unlimited}
 use Rattle.rule.specs.declared.rules.Rules.{Rules}
 use Rattle.ledger.specs.Runs.{Plan, World, world, Seen, seenOf}
-use Rattle.ledger.specs.Flows.{shut, gone, sent, came, offSide, offSquare, offGrid}
-use Rattle.ledger.specs.Record.{squareWords, recordSize, wordPlace, newestRecord, leavesIn, lastIn, addedIn, squareRecord, recordOf, roomSlots, ringOf}
-use Rattle.ledger.specs.After.{Moves, remains, newDepth, depthsFit, newOutflow, lateRefusals, stepRecord, worldAfter}
+use Rattle.ledger.specs.Flows.{shut, gone, sent, came, offSide, offSquare, offGrid, soakedSquare, soakedGrid}
+use Rattle.ledger.specs.Record.{squareWords, recordSize, wordPlace, newestRecord, leavesIn, lastIn, addedIn, soakedIn, squareRecord, recordOf, roomSlots, ringOf}
+use Rattle.ledger.specs.After.{Moves, remains, newDepth, depthsFit, newOutflow, newSoaked, lateRefusals, stepRecord, worldAfter}
 use Rattle.ledger.specs.Checks.{oneEach, watersFine, timesFine}
 use Rattle.ledger.specs.TakeBack.{heldAndGone, cameAndAdded, depthBefore, squareRestorable, restorable, worldBefore, backRefusals, backNumber, takenBack, earlyRefusals}
 use Rattle.ledger.specs.Walls.{Walled, Untouched}
@@ -41,13 +40,13 @@ use Rattle.ledger.proofs.Walls.{goes-where, walls-stay-dry, after-untouched, ba
 use Rattle.ledger.specs.declared.runs.Run.{Run}
 use Rattle.moves.specs.Given.{Given, ground, given}
 use Rattle.moves.specs.Drops.{sideDrop, dropsOf}
-use Rattle.moves.specs.Moves.{squareCandidates, candidates, leavesFor, addedFor, stepLength, stepDuration, stepMoves}
+use Rattle.moves.specs.Moves.{squareCandidates, candidates, leavesFor, soakedFor, addedFor, stepLength, stepDuration, stepMoves}
 use Rattle.flood.specs.Refusals.{groundsFine, checkRefusals, stepChecks, runChecks}
 use Rattle.flood.specs.Step.{stepNumber, stepped}
 use Rattle.flood.specs.Run.{Ended, ended, goOn, runFrom, runTo, freshRefusals, freshNumber, freshRun, freshLasts}
 use Rattle.sight.proofs.Alike.{AlikeDepths, AlikeRecords, arrow-alike, wet-alike}
 use Rattle.flood.proofs.CheckLaws.{checks-named, ready, ring-is}
-use Rattle.moves.proofs.MoveLaws.{leaves-open, covered, flood-walled, off-none}
+use Rattle.moves.proofs.MoveLaws.{leaves-open, soaked-open, lost-covered, flood-walled, off-none}
 use Rattle.flood.proofs.RunToLaws.{made-is, refused-is}
 use Rattle.demands.specs.Closed.{SameOpen, SameGiven, SameRecord, SameRoom, SameWorld, SameEnd}
 use Rattle.demands.specs.Demand2.{RootsAre, StepGives, NoneDepends, NoneAltered, WallRule, Demand2}
@@ -155,22 +154,37 @@ module _ (p : Plan) where
     unfolding dropsOf
     drops-same i e = rw (drop-same i 0 e, drop-same i 1 e, drop-same i 2 e, drop-same i 3 e)
 
-    module _ {rough rough′ : List ℕ} (K : SameOpen p rough rough′) where
-      candidates-same : candidates p (ground r beds rough) depths ≡ candidates p (ground r beds′ rough′) depths′
+    module _ {rough rough′ rates rates′ : List ℕ} (K : SameOpen p rough rough′) (S : SameOpen p rates rates′) where
+      candidates-same : candidates p (ground r beds rough rates) depths ≡ candidates p (ground r beds′ rough′ rates′) depths′
       unfolding candidates squareCandidates
       candidates-same =
           joined-ext (squares (p .shape)) _ _
           (λ i h. unless-closed (p .marks) i [] (λ e. rw (D .alike .at i e, K .alike .at i e, drops-same i e)))
 
       leaves-same : {lasts lasts′ : List ℕ} → SameOpen p lasts lasts′ → (ms i side : ℕ) →
-          leavesFor p (ground r beds rough) depths lasts ms i side ≡ leavesFor p (ground r beds′ rough′) depths′ lasts′ ms i side
+          leavesFor p (ground r beds rough rates) depths lasts ms i side ≡ leavesFor p (ground r beds′ rough′ rates′) depths′ lasts′ ms i side
       unfolding leavesFor
       leaves-same L ms i side =
           unless-closed (p .marks) i 0 (λ e. rw (D .alike .at i e, L .alike .at i e, K .alike .at i e, drops-same i e))
 
-      grounds-same : groundsFine p (ground r beds rough) ≡ groundsFine p (ground r beds′ rough′)
+      soaked-same : {lasts lasts′ : List ℕ} → SameOpen p lasts lasts′ → (start ms i : ℕ) →
+          soakedFor p (ground r beds rough rates) depths lasts start ms i ≡ soakedFor p (ground r beds′ rough′ rates′) depths′ lasts′ start ms i
+      unfolding soakedFor gone
+      soaked-same L start ms i =
+          unless-closed (p .marks) i 0
+          (λ e.
+          rw (
+            D .alike .at i e,
+            S .alike .at i e,
+            leaves-same L ms i 0,
+            leaves-same L ms i 1,
+            leaves-same L ms i 2,
+            leaves-same L ms i 3,
+          ))
+
+      grounds-same : groundsFine p (ground r beds rough rates) ≡ groundsFine p (ground r beds′ rough′ rates′)
       unfolding groundsFine
-      grounds-same = all-ext _ _ _ (λ i h. or-ext (shut p i) (λ e. ap₂ groundFine (B .alike .at i e) (K .alike .at i e)))
+      grounds-same = all-ext _ _ _ (λ i h. or-ext (shut p i) (λ e. rw (B .alike .at i e, K .alike .at i e, S .alike .at i e)))
 
   -- a step whose amounts are known
   module _ (m : Moves) (w : World) {depths′ lasts′ records′ : List ℕ} (D : SameOpen p (w .depths) depths′) (L : SameOpen p (w .lasts) lasts′)
@@ -187,7 +201,7 @@ module _ (p : Plan) where
     fits-same = all-ext _ _ _ (λ i h. or-ext (shut p i) (λ e. ap (λ (d : ℕ). leb d mostDepth) (new-same i e)))
 
     late-same : lateRefusals p m w ≡ lateRefusals p m other
-    unfolding lateRefusals newOutflow
+    unfolding lateRefusals newOutflow newSoaked
     late-same = rw fits-same
 
     record-same : stepRecord p m w ≡ stepRecord p m other
@@ -197,7 +211,7 @@ module _ (p : Plan) where
         (joined-ext (squares (p .shape)) _ _ (λ i h. unless-closed (p .marks) i _ (λ e. rw (L .alike .at i e))))
 
     after-same : 0 < roomSlots p (w .records) → SameWorld p (worldAfter p m w) (worldAfter p m other)
-    unfolding worldAfter newOutflow
+    unfolding worldAfter newOutflow newSoaked
     after-same some =
         rw (← slots-same R, ← record-same)
         (record {
@@ -225,10 +239,10 @@ module _ (p : Plan) where
         (read-stored (recordSize p) (omega arith) (w .records) (slotAfter (roomSlots p (w .records)) (w .run .newest))
         (stepRecord p (stepMoves p g (seenOf w)) w) (step-long p (stepMoves p g (seenOf w)) w) (ring-after ring .newest-below))
 
-  module _ (g : Given) (w : World) {beds′ rough′ depths′ lasts′ records′ : List ℕ} (B : SameOpen p (g .lie .beds) beds′)
-      (K : SameOpen p (g .lie .roughness) rough′) (D : SameOpen p (w .depths) depths′) (L : SameOpen p (w .lasts) lasts′) (R : SameRoom p (w .records) records′) where
+  module _ (g : Given) (w : World) {beds′ rough′ rates′ depths′ lasts′ records′ : List ℕ} (B : SameOpen p (g .lie .beds) beds′)
+      (K : SameOpen p (g .lie .roughness) rough′) (S : SameOpen p (g .lie .rates) rates′) (D : SameOpen p (w .depths) depths′) (L : SameOpen p (w .lasts) lasts′) (R : SameRoom p (w .records) records′) where
     abbrev g′ : Given
-    g′ = given (ground (g .lie .rules) beds′ rough′) (g .rain) (g .inflow)
+    g′ = given (ground (g .lie .rules) beds′ rough′ rates′) (g .rain) (g .inflow)
 
     abbrev w′ : World
     w′ = world depths′ lasts′ records′ (w .run)
@@ -239,16 +253,17 @@ module _ (p : Plan) where
         rw (
           one-each-same B,
           one-each-same K,
+          one-each-same S,
           one-each-same D,
           one-each-same L,
-          grounds-same (g .lie .rules) B D K,
+          grounds-same (g .lie .rules) B D K S,
           waters-same D L,
           slots-same R,
         )
 
     length-same : stepLength p g (seenOf w) ≡ stepLength p g′ (seenOf w′)
     unfolding stepLength
-    length-same = rw (candidates-same (g .lie .rules) B D K)
+    length-same = rw (candidates-same (g .lie .rules) B D K S)
 
     lasts-same : stepDuration p g (seenOf w) ≡ stepDuration p g′ (seenOf w′)
     unfolding stepDuration
@@ -261,14 +276,20 @@ module _ (p : Plan) where
         record {
           leaves = λ i side. leaving i side j;
           added = addedFor p g (w .run .clock) (w .run .clock + lasts-same j);
+          soaked = λ i. soaking i j;
           duration = lasts-same j;
           length = length-same j;
         }
       where
         leaving : (i side : ℕ) → stepMoves p g (seenOf w) .leaves i side ≡ stepMoves p g′ (seenOf w′) .leaves i side
         leaving i side =
-            leaves-same (g .lie .rules) B D K L (stepDuration p g (seenOf w)) i side
+            leaves-same (g .lie .rules) B D K S L (stepDuration p g (seenOf w)) i side
             ∙ ap (λ (ms : ℕ). leavesFor p (g′ .lie) depths′ lasts′ ms i side) lasts-same
+
+        soaking : (i : ℕ) → stepMoves p g (seenOf w) .soaked i ≡ stepMoves p g′ (seenOf w′) .soaked i
+        soaking i =
+            soaked-same (g .lie .rules) B D K S L (w .run .clock) (stepDuration p g (seenOf w)) i
+            ∙ ap (λ (ms : ℕ). soakedFor p (g′ .lie) depths′ lasts′ (w .run .clock) ms i) lasts-same
 
     number-same : stepNumber p g w ≡ stepNumber p g′ w′
     unfolding stepNumber
@@ -303,31 +324,31 @@ module _ (p : Plan) where
   -- what holds of the one put beside the other holds of both
   module _ {g h : Given} {w v : World} (G : SameGiven p g h) (W : SameWorld p w v) (P : Given → World → Type 0) where
     abbrev mixed : Given
-    mixed = given (ground (g .lie .rules) (h .lie .beds) (h .lie .roughness)) (g .rain) (g .inflow)
+    mixed = given (ground (g .lie .rules) (h .lie .beds) (h .lie .roughness) (h .lie .rates)) (g .rain) (g .inflow)
 
     beside-other : P mixed (world (v .depths) (v .lasts) (v .records) (w .run)) → P h v
     beside-other x =
         subst (λ (k : Given). P k v)
-        (λ j. given (ground (G .rules j) (h .lie .beds) (h .lie .roughness)) (G .rain j) (G .inflow j))
+        (λ j. given (ground (G .rules j) (h .lie .beds) (h .lie .roughness) (h .lie .rates)) (G .rain j) (G .inflow j))
         (subst (λ (u : World). P mixed u) (λ j. world (v .depths) (v .lasts) (v .records) (W .run j)) x)
 
   module _ (g h : Given) where
     step-same : (w v : World) → SameGiven p g h → SameWorld p w v → (stepNumber p g w ≡ stepNumber p h v) × SameWorld p (stepped p g w) (stepped p h v)
     step-same w v G W =
         beside-other G W (λ k u. (stepNumber p g w ≡ stepNumber p k u) × SameWorld p (stepped p g w) (stepped p k u)) (
-          number-same g w (G .beds) (G .roughness) (W .depths) (W .lasts) (W .records),
-          stepped-same g w (G .beds) (G .roughness) (W .depths) (W .lasts) (W .records),
+          number-same g w (G .beds) (G .roughness) (G .rates) (W .depths) (W .lasts) (W .records),
+          stepped-same g w (G .beds) (G .roughness) (G .rates) (W .depths) (W .lasts) (W .records),
         )
 
     both-written : (w v : World) → SameGiven p g h → SameWorld p w v → stepNumber p g w ≡ 0 → newestRecord p (stepped p g w) ≡ newestRecord p (stepped p h v)
     both-written w v G W z =
         beside-other G W (λ k u. newestRecord p (stepped p g w) ≡ newestRecord p (stepped p k u))
-        (written-same g w (G .beds) (G .roughness) (W .depths) (W .lasts) (W .records) z)
+        (written-same g w (G .beds) (G .roughness) (G .rates) (W .depths) (W .lasts) (W .records) z)
 
     check-same : (end : ℕ) (w v : World) → SameGiven p g h → SameWorld p w v → refusal (runChecks p g end w) ≡ refusal (runChecks p h end v)
     check-same end w v G W =
         beside-other G W (λ k u. refusal (runChecks p g end w) ≡ refusal (runChecks p k end u))
-        (run-checks-same g w (G .beds) (G .roughness) (W .depths) (W .lasts) (W .records) end)
+        (run-checks-same g w (G .beds) (G .roughness) (G .rates) (W .depths) (W .lasts) (W .records) end)
 
   -- a run: step by step
   module _ (g h : Given) (end : ℕ) (G : SameGiven p g h) where
@@ -391,10 +412,18 @@ module _ (p : Plan) where
     unfolding addedIn
     added-same i e = R .words i 5 e (omega arith)
 
+    soaked-in-same : (i : ℕ) → shut p i ≡ false → soakedIn a i ≡ soakedIn b i
+    unfolding soakedIn
+    soaked-in-same i e = R .words i 6 e (omega arith)
+
+    soaked-grid-same : soakedGrid p (soakedIn a) ≡ soakedGrid p (soakedIn b)
+    unfolding soakedGrid soakedSquare
+    soaked-grid-same = sum-ext (squares (p .shape)) _ _ (λ i h. unless-closed (p .marks) i 0 (soaked-in-same i))
+
     module _ {w v : World} (W : SameWorld p w v) where
       held-same : (i : ℕ) → shut p i ≡ false → heldAndGone p w a i ≡ heldAndGone p v b i
       unfolding heldAndGone
-      held-same i e = ap₂ _+_ (W .depths .alike .at i e) (gone-same i e)
+      held-same i e = ap₂ _+_ (W .depths .alike .at i e) (ap₂ _+_ (gone-same i e) (soaked-in-same i e))
 
       coming-same : (i : ℕ) → shut p i ≡ false → cameAndAdded p w a i ≡ cameAndAdded p v b i
       unfolding cameAndAdded
@@ -410,7 +439,17 @@ module _ (p : Plan) where
 
       restorable-same : restorable p w a ≡ restorable p v b
       unfolding restorable timesFine
-      restorable-same = rw (squares-same, R .held, R .lasted, off-same, ap (λ (u : Run). u .clock) (W .run), ap (λ (u : Run). u .outflow) (W .run))
+      restorable-same =
+          rw (
+            squares-same,
+            R .held,
+            R .lasted,
+            off-same,
+            soaked-grid-same,
+            ap (λ (u : Run). u .clock) (W .run),
+            ap (λ (u : Run). u .outflow) (W .run),
+            ap (λ (u : Run). u .soaked) (W .run),
+          )
 
       world-same : SameWorld p (worldBefore p w a) (worldBefore p v b)
       unfolding worldBefore
@@ -419,7 +458,7 @@ module _ (p : Plan) where
             depths = filled-same (squares (p .shape)) _ _ (W .depths) before-same;
             lasts = filled-same (squares (p .shape)) _ _ (W .lasts) last-same;
             records = W .records;
-            run = rw (R .held, R .lasted, W .run, off-same, slots-same (W .records));
+            run = rw (R .held, R .lasted, W .run, off-same, soaked-grid-same, slots-same (W .records));
           }
 
   module _ (w v : World) (W : SameWorld p w v) where
@@ -518,7 +557,7 @@ module _ (p : Plan) where
   module _ (g : Given) (w : World) (made : stepNumber p g w ≡ 0) where
     -- it gives what the rule gives
     step-gives : StepGives p g w
-    unfolding worldAfter newDepth remains newOutflow stepLength stepDuration stepRecord
+    unfolding worldAfter newDepth remains newOutflow newSoaked stepLength stepDuration stepRecord
     step-gives =
         let flows = ready p g (ringOf p w) (seenOf w) (checked g w made) .flows in
         let depths-long : length (w .depths) ≡ squares (p .shape) = flows .lies .sited .depths-long in
@@ -529,19 +568,21 @@ module _ (p : Plan) where
           weighted = λ is i side e. through i side e ∙ ap (λ (l : List ℕ). getD l side 0) (weighed-weighted (g .lie .rules) _ _ _ _ _ is);
           directed = λ is i side e. through i side e ∙ ap (λ (l : List ℕ). getD l side 0) (weighed-directed (g .lie .rules) _ _ _ _ _ is);
           unlimited = λ is i side e. through i side e ∙ ap (λ (l : List ℕ). getD l side 0) (weighed-unlimited (g .lie .rules) _ _ _ _ _ is);
+          soaking = λ i e. soaked-open p (g .lie) (w .depths) (w .lasts) (stepDuration p g (seenOf w)) i (w .run .clock) e;
           depths = λ i h e. ap (λ (u : World). getD (u .depths) i 0) (made-is p g w made) ∙ filled-in _ _ _ (w .depths) i (omega arith) h e;
           lasts = λ i h e. ap (λ (u : World). getD (u .lasts) i 0) (made-is p g w made) ∙ filled-in _ _ _ (w .lasts) i (omega arith) h e;
           outflow = ap (λ (u : World). u .run .outflow) (made-is p g w made);
+          soaked = ap (λ (u : World). u .run .soaked) (made-is p g w made);
           length-is = ap (λ (u : World). u .run .length) (made-is p g w made);
           duration-is = ap (λ (u : World). durationFor (g .lie .rules) (w .run .clock) (u .run .length)) (sym (made-is p g w made));
           clock = ap (λ (u : World). u .run .clock) (made-is p g w made);
-          covered = λ i e. covered p (g .lie) (w .depths) (w .lasts) (stepDuration p g (seenOf w)) i e;
+          covered = λ i e. lost-covered p (g .lie) (w .depths) (w .lasts) (stepDuration p g (seenOf w)) i (w .run .clock) e;
           record-is = newest-written g w made;
         }
 
     slot-zeros : (i word : ℕ) → i < squares (p .shape) → shut p i ≡ true → word < squareWords → getD (newestRecord p (stepped p g w)) (wordPlace i word) 0 ≡ 0
     unfolding stepRecord
-    slot-zeros i word l e h = ap (λ (rec : List ℕ). getD rec (wordPlace i word) 0) (newest-written g w made) ∙ closed-read p _ _ _ _ _ i l e word h
+    slot-zeros i word l e h = ap (λ (rec : List ℕ). getD rec (wordPlace i word) 0) (newest-written g w made) ∙ closed-read p _ _ _ _ _ _ i l e word h
 
   fresh-untouched : (r : Rules) (lasts records : List ℕ) (i : ℕ) → shut p i ≡ true → getD (freshLasts p r lasts records) i 0 ≡ getD lasts i 0
   unfolding freshLasts
@@ -566,11 +607,16 @@ module _ (p : Plan) where
         slot = slot-zeros;
       }
 
+  none-soaks : (g : Given) (v : Seen) (i : ℕ) → shut p i ≡ true → stepMoves p g v .soaked i ≡ 0
+  unfolding soakedFor
+  none-soaks g v i e = pick-true _ _ e
+
   wall-rule : WallRule p
   wall-rule =
       record {
         walled = walled;
         goes = λ g v i side h l. goes-where p _ i side h l (walled g v);
+        none-soaks = none-soaks;
         walls-stay-dry = λ g v. walls-stay-dry p _ (walled g v);
       }
     where

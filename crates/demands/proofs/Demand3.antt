@@ -256,6 +256,7 @@ module _ (p : Plan) where
           same-clock = ap (λ (v : Seen). v .clock) seen;
           same-length = ap (λ (v : Seen). v .length) seen;
           same-outflow = ap (λ (v : Seen). v .outflow) seen;
+          same-soaked = ap (λ (v : Seen). v .soaked) seen;
           same-next = λ g. same-next g (D .alone) (x .at) (alone p (x .standing) f) (A .state-is) (D .same-next g);
           same-newest = D .same-newest ∙ ap (λ (s : State E). s .newest) (A .state-is);
           same-records = λ j h. D .same-records j h ∙ ap (λ (s : State E). E .read (s .room) _) (A .state-is);
@@ -384,6 +385,7 @@ module _ (p : Plan) where
           length-from = omega arith;
           length-to = omega arith;
           outflow-to = omega arith;
+          soaked-to = omega arith;
         }
 
     fresh-ten : length depths ≡ squares (p .shape) → ((i : ℕ) → i < squares (p .shape) → shut p i ≡ false → getD depths i 0 ≤ mostDepth) →

@@ -88,8 +88,10 @@ reckon-determined =
       copy-into = λ from old at. exactly;
       water-fine = λ depth last. exactly;
       side-fine = λ side. exactly;
+      rate-fine = λ rate. exactly;
       square-root = λ n a b. root-unique;
       cube-root = λ n a b. root-unique;
+      soak-due = λ rate start end. exactly;
       rain-by = λ rows t. exactly;
       inflow-by = λ rows r c side t. exactly;
       rain-added = λ rows start end. exactly;
@@ -152,12 +154,13 @@ ledger-determined =
       leaving = λ rec square side. exactly;
       last-before = λ rec square. exactly;
       added-by = λ rec square. exactly;
+      soaked-by = λ rec square. exactly;
       gone-from = λ rec square. exactly;
       sent-to = λ p rec square side. exactly;
       came-to = λ p rec square. exactly;
       off-from = λ p rec square. exactly;
       put-head = λ rec held lasts. exactly;
-      put-square = λ rec square leaves last added. exactly;
+      put-square = λ rec square leaves last added soaked. exactly;
       put-closed = λ rec square. exactly;
       run-fine = λ k u. exactly;
       one-each = λ s numbers. exactly;
@@ -175,7 +178,7 @@ moves-determined =
           λ p g start end old a b x y.
           let same = x .fits-is ∙ sym (y .fits-is) in
           (same, λ t. x .stored t ∙ sym (y .stored (sym same ∙ t)));
-      fill = λ p o depths lasts added held ms. exactly;
+      fill = λ p o depths lasts added held start ms. exactly;
     }
 
 flood-determined : FloodDetermined

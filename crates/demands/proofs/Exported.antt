@@ -102,8 +102,9 @@ run-back (a ∷ []) e = absurd (omega (arith, e))
 run-back (a ∷ (b ∷ [])) e = absurd (omega (arith, e))
 run-back (a ∷ (b ∷ (c ∷ []))) e = absurd (omega (arith, e))
 run-back (a ∷ (b ∷ (c ∷ (d ∷ [])))) e = absurd (omega (arith, e))
-run-back (a ∷ (b ∷ (c ∷ (d ∷ (f ∷ []))))) e = refl
-run-back (a ∷ (b ∷ (c ∷ (d ∷ (f ∷ (g ∷ l)))))) e = absurd (omega (arith, e))
+run-back (a ∷ (b ∷ (c ∷ (d ∷ (f ∷ []))))) e = absurd (omega (arith, e))
+run-back (a ∷ (b ∷ (c ∷ (d ∷ (f ∷ (g ∷ [])))))) e = refl
+run-back (a ∷ (b ∷ (c ∷ (d ∷ (f ∷ (g ∷ (h ∷ l))))))) e = absurd (omega (arith, e))
 
 module _ (p : Plan) (g : Given) (end : ℕ) (w : World) (rules old oldSteps : List ℕ) (number : ℕ) (depths lasts records run steps : List ℕ)
     (x : ExportsRun p g end w rules old oldSteps number depths lasts records run steps) where

@@ -233,12 +233,13 @@ module _ (s : List ℕ) (before after : Rooms) (h : Heading) (R : Reads s before
       record {
         beds = left-alone _ (before .cells .beds) _ (ap (λ (z : Rooms). z .cells .beds) (R .rooms-are));
         roughness = left-alone _ (before .cells .roughness) _ (ap (λ (z : Rooms). z .cells .roughness) (R .rooms-are));
+        rates = left-alone _ (before .cells .rates) _ (ap (λ (z : Rooms). z .cells .rates) (R .rooms-are));
         depths = left-alone _ (before .cells .depths) _ (ap (λ (z : Rooms). z .cells .depths) (R .rooms-are));
       }
 
 pub sheet-alike : (s : List ℕ) (a b : Rooms) → AsLong a b → sheetOf s a ≡ sheetOf s b
 unfolding sheetOf roomsFine
-sheet-alike s a b l = rw (l .marks, l .beds, l .roughness, l .depths, l .rain, l .inflow)
+sheet-alike s a b l = rw (l .marks, l .beds, l .roughness, l .rates, l .depths, l .rain, l .inflow)
 
 pub loader-walls : LoaderWalls
 loader-walls = record { letters = marks-are-letters; none-altered = closed-left; none-depends = sheet-alike }

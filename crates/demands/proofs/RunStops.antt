@@ -22,13 +22,17 @@ use Rattle.flood.proofs.RunToLaws.{Valid, still-valid, clock-on, whole, run-end
 use Rattle.flood.specs.Run.{stepsOn}
 use Rattle.demands.specs.Demand1.{StopsBefore}
 
--- the number of rows 7, 8 and 9
-late-row : (a b c : Bool) → (refusal (7 unless a ∷ 8 unless b ∷ 9 unless c ∷ []) ≡ 0 → ⊥) → lastCheck < refusal (7 unless a ∷ 8 unless b ∷ 9 unless c ∷ [])
+-- the number of rows 7, 8, 9 and 15
+abbrev late : Bool → Bool → Bool → Bool → ℕ
+late a b c e = refusal (7 unless a ∷ 8 unless b ∷ 9 unless c ∷ 15 unless e ∷ [])
+
+late-row : (a b c e : Bool) → (late a b c e ≡ 0 → ⊥) → lastCheck < late a b c e
 unfolding refusal pick
-late-row false b c d = omega arith
-late-row true false c d = omega arith
-late-row true true false d = omega arith
-late-row true true true d = absurd (d refl)
+late-row false b c e d = omega arith
+late-row true false c e d = omega arith
+late-row true true false e d = omega arith
+late-row true true true false d = omega arith
+late-row true true true true d = absurd (d refl)
 
 module _ (p : Plan) (g : Given) (end : ℕ) (w : World) where
   -- a step whose checks pass is refused by none of their numbers
@@ -36,7 +40,7 @@ module _ (p : Plan) (g : Given) (end : ℕ) (w : World) where
   unfolding stepNumber lateRefusals
   late-number now v d =
       let e = refusal-second (stepChecks p g (ringOf p now) (seenOf now)) (lateRefusals p (stepMoves p g (seenOf now)) now) (checks-named p g (ringOf p now) (seenOf now)) v in
-      rw e (late-row _ _ _ (λ z. d (e ∙ z)))
+      rw e (late-row _ _ _ _ (λ z. d (e ∙ z)))
 
   -- where a run has come to after some steps, all made and each before the end
   record Before (made : ℕ) (now : World) : Type 0 where

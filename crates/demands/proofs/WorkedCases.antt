@@ -1,11 +1,13 @@
 -- The worked cases marked P hold: each is computed, from the sheet's text where there is one.
 -- Assumes nothing.
-use mathlib.Core.Path.{_≡_, refl}
+use mathlib.Core.Path.{_≡_, refl, sym, subst}
+use mathlib.Core.List.{[], _∷_}
 use lib.Ieee as Ieee
 use Rattle.reckon.specs.Tests.{pick, every, allBelow, firstFailing, refusal}
 use Rattle.reckon.specs.Lists.{tabulate, filled, joined, placed, sumBelow}
-use Rattle.reckon.specs.Ranges.{waterFine, sideFine}
+use Rattle.reckon.specs.Ranges.{waterFine, sideFine, rateFine}
 use Rattle.reckon.specs.Roots.{rootFrom, rootOf}
+use Rattle.reckon.specs.Soaking.{soakBy, soakDue}
 use Rattle.reckon.specs.Tables.{rowGives, tableGives, rainBy, onSquare, inflowBy, rowFine, tableFine}
 use Rattle.trials.specs.Ring.{slotAfter, slotBefore, ringFine}
 use Rattle.trials.specs.Room.{recordIn}
@@ -14,22 +16,23 @@ use Rattle.grid.specs.Marks.{closed, exit, markFine, marksFine, inflowSquareFin
 use Rattle.rule.specs.Drops.{dropOff}
 use Rattle.rule.specs.Length.{candidate, counts, sideCandidates, candidatesOf, leastFrom, heldBetween, freshLength, isUpdate, lengthAt, durationFor}
 use Rattle.rule.specs.Rules.{groundFine, rulesFine}
+use Rattle.rule.specs.declared.rules.Rules.{Rules}
 use Rattle.rule.specs.Weighing.{lesserPositive, leastDrop, greatestDrop, dropSum, heightOf, slopeOf, criticalSpeed, manningSpeed, speedOf, mostThrough, totalOf, throughSides, nothingUnless, weightedSides, directedAmount, directedAmounts, scaledTo, directedSides, unlimitedTotal, unlimitedSides, weighed}
 use Rattle.ledger.specs.Runs.{runFine, runValuesFine}
-use Rattle.ledger.specs.Flows.{gone, sent, came, offSide, offSquare, offGrid}
-use Rattle.ledger.specs.Record.{leavesIn, lastIn, addedIn, squareRecord, recordOf, roomSlots, newestRecord}
-use Rattle.ledger.specs.After.{remains, newDepth, depthsFit, newOutflow, lateRefusals, stepRecord, worldAfter}
+use Rattle.ledger.specs.Flows.{gone, sent, came, offSide, offSquare, offGrid, soakedSquare, soakedGrid}
+use Rattle.ledger.specs.Record.{leavesIn, lastIn, addedIn, soakedIn, squareRecord, recordOf, roomSlots, newestRecord}
+use Rattle.ledger.specs.After.{remains, newDepth, depthsFit, newOutflow, newSoaked, lateRefusals, stepRecord, worldAfter}
 use Rattle.ledger.specs.Checks.{oneEach, watersFine, timesFine}
 use Rattle.ledger.specs.TakeBack.{heldAndGone, cameAndAdded, depthBefore, squareRestorable, restorable, worldBefore, backRefusals, backNumber, takenBack, earlyRefusals}
 use Rattle.moves.specs.Drops.{sideDrop, dropsOf}
-use Rattle.moves.specs.Moves.{squareCandidates, candidates, leavesFor, addedFor, stepLength, stepDuration}
-use Rattle.flood.specs.Refusals.{groundsFine, endFine, checkRefusals}
+use Rattle.moves.specs.Moves.{squareCandidates, candidates, leavesFor, soakedFor, addedFor, stepLength, stepDuration}
+use Rattle.flood.specs.Refusals.{squareGroundFine, groundsFine, endFine, checkRefusals}
 use Rattle.flood.specs.Step.{stepNumber, stepped}
 use Rattle.flood.specs.Run.{goOn, runFrom, runTo, freshRun}
 use Rattle.text.specs.Reading.{isByte, wordAt, isDigit, digitsOf, valueFrom, wellFormed, numberFrom, numberAt, fieldAt, before, readFields, lineEnded, readRest, readLine, padded, asFields, lineLength, nextLine, lineFrom}
 use Rattle.text.specs.Writing.{digitsIn, decimal, fieldText, fieldsText, restText, lineText}
 use Rattle.sheet.specs.Lines.{asGrid, gridLine, asRun, runLine, noCell, closedCell, asOpen, openCell, markedCell, placedCell, cellLine}
-use Rattle.sheet.specs.Sheet.{cellsRead, rowsRead, tableRows, badLine, cellsFilled, roomsFilled, roomsFine, checksIn, headingOf, judged, sheetOf}
+use Rattle.sheet.specs.Sheet.{rooms, cellsRead, rowsRead, tableRows, badLine, cellsFilled, roomsFilled, roomsFine, checksIn, headingOf, judged, sheetOf}
 use Rattle.answer.specs.Printed.{refusedText, cellText, cellsText, madeText}
 use Rattle.answer.specs.Program.{endedText, runText, meadowText}
 use Rattle.answer.specs.Program.{sheetText}
@@ -37,38 +40,74 @@ use Rattle.sight.specs.Refusals.{depthsFine, sharedRefusals}
 use Rattle.sight.specs.Speeds.{quotientOf}
 use Rattle.sight.specs.Speeds as Speeds
 use Rattle.sight.specs.Arrows.{outThrough, nearDepth, throughSide, allStill, arrowBy, sighted, seenBy, askedFine, arrowEarlyRefusals, arrowRefusals, arrowNumber, seenAt}
-use Rattle.demands.specs.Worked.{documentSheet, documentOutput, FirstStep, SecondStep, BackAndArrow, SheetCases, OtherSheetCases, NumberCases, EditionCases, ProvedCases}
+use Rattle.demands.specs.Worked.{documentSheet, documentOutput, exitSheet, levelSheet, soakSheet, Told, told, SheetCases, ExitCases, LevelCases, NumberCases, EditionCases, SoakCases, ProvedCases}
 use Rattle.text.specs.Bytes.{bytesOf}
 
--- the definitions of every crate, opened together: the cases are worked by computing
-unfoldable opened : Unit {0}
-unfolding pick every allBelow firstFailing refusal tabulate filled joined placed sumBelow waterFine rootFrom rootOf rowGives tableGives rainBy onSquare inflowBy rowFine tableFine slotAfter slotBefore ringFine recordIn beside opposite onRim shapeFine closed exit markFine marksFine inflowSquareFine inflowSquaresFine dropOff candidate counts sideCandidates candidatesOf leastFrom heldBetween freshLength isUpdate lengthAt durationFor sideFine groundFine rulesFine lesserPositive leastDrop greatestDrop dropSum heightOf slopeOf criticalSpeed manningSpeed speedOf mostThrough totalOf throughSides nothingUnless weightedSides weighed runValuesFine runFine gone sent came offSide offSquare offGrid leavesIn lastIn addedIn squareRecord recordOf roomSlots newestRecord remains newDepth depthsFit newOutflow lateRefusals stepRecord worldAfter oneEach watersFine timesFine heldAndGone cameAndAdded depthBefore squareRestorable restorable worldBefore earlyRefusals backRefusals backNumber takenBack sideDrop dropsOf squareCandidates candidates leavesFor addedFor stepLength stepDuration groundsFine endFine checkRefusals stepNumber stepped goOn runFrom runTo freshRun isByte wordAt isDigit digitsOf valueFrom wellFormed numberFrom numberAt fieldAt before readFields lineEnded readRest readLine padded asFields lineLength nextLine lineFrom digitsIn decimal fieldText fieldsText restText lineText asGrid gridLine asRun runLine noCell closedCell asOpen openCell markedCell placedCell cellLine cellsRead rowsRead tableRows badLine cellsFilled roomsFilled roomsFine checksIn headingOf judged sheetOf refusedText cellText cellsText madeText endedText runText sheetText meadowText depthsFine sharedRefusals quotientOf Speeds.sideSpeed outThrough nearDepth throughSide allStill arrowBy sighted seenBy askedFine arrowEarlyRefusals arrowRefusals arrowNumber seenAt Ieee.sub bytesOf
-opened = tt
+-- ---- what the texts say
 
-printed : meadowText (bytesOf documentSheet) ≡ bytesOf documentOutput
-unfolding opened
-printed = refl
+abbrev rules : Rules
+rules = record { «square_side» = 1; tolerance = 100; shortest = 1_000; longest = 1_000; update = 1_000; edge = 10_000; edition = 1 }
 
-first-step : FirstStep
-unfolding opened
-first-step = record { first-drops = refl; first-workings = refl; first-east = refl; first-record = refl }
-
-second-step : SecondStep
-unfolding opened
-second-step =
+-- of two squares, or of one
+abbrev documentTold : Told
+documentTold =
     record {
+      shape = record { rows = 1; columns = 2 };
+      rules = rules;
+      held = rooms (1 ∷ 1 ∷ []) (0 ∷ 0 ∷ []) (100 ∷ 100 ∷ []) (0 ∷ 0 ∷ []) (1_000 ∷ 0 ∷ []) [] [];
+    }
+
+abbrev exitTold : Told
+exitTold =
+    record {
+      shape = record { rows = 1; columns = 1 };
+      rules = rules;
+      held = rooms (2 ∷ []) (0 ∷ []) (100 ∷ []) (0 ∷ []) (10_000 ∷ []) [] [];
+    }
+
+abbrev levelTold : Told
+levelTold =
+    record {
+      shape = record { rows = 1; columns = 2 };
+      rules = rules;
+      held = rooms (1 ∷ 1 ∷ []) (0 ∷ 0 ∷ []) (100 ∷ 100 ∷ []) (0 ∷ 0 ∷ []) (500 ∷ 500 ∷ []) [] [];
+    }
+
+abbrev soakTold : Told
+soakTold =
+    record {
+      shape = record { rows = 1; columns = 2 };
+      rules = rules;
+      held = rooms (1 ∷ 1 ∷ []) (0 ∷ 0 ∷ []) (100 ∷ 100 ∷ []) (1_800 ∷ 1_000_000 ∷ []) (1_000 ∷ 0 ∷ []) [] [];
+    }
+
+-- the texts are read apart from the steps on them, so that no step reads a text again
+record Texts : Type 0 where
+  document : told documentSheet ≡ documentTold
+  exit : told exitSheet ≡ exitTold
+  level : told levelSheet ≡ levelTold
+  soak : told soakSheet ≡ soakTold
+
+texts : Texts
+unfolding pick every allBelow firstFailing refusal tabulate filled joined placed isByte wordAt isDigit digitsOf valueFrom wellFormed numberFrom numberAt fieldAt before readFields lineEnded readRest readLine padded asFields lineLength nextLine lineFrom asGrid gridLine asRun runLine noCell closedCell asOpen openCell markedCell placedCell cellLine cellsRead rowsRead tableRows cellsFilled bytesOf
+texts = record { document = refl; exit = refl; level = refl; soak = refl }
+
+-- ---- the steps
+
+sheet-cases : SheetCases documentTold
+unfolding pick every allBelow refusal tabulate filled joined placed sumBelow waterFine rootFrom rootOf rowGives tableGives rainBy onSquare inflowBy rowFine tableFine slotAfter slotBefore ringFine recordIn beside opposite onRim shapeFine closed exit markFine marksFine inflowSquareFine inflowSquaresFine dropOff candidate counts sideCandidates candidatesOf leastFrom heldBetween freshLength isUpdate lengthAt durationFor sideFine rateFine groundFine rulesFine lesserPositive leastDrop greatestDrop dropSum heightOf slopeOf criticalSpeed manningSpeed speedOf mostThrough totalOf throughSides nothingUnless weightedSides weighed runValuesFine runFine gone sent came offSide offSquare offGrid soakedSquare soakedGrid leavesIn lastIn addedIn soakedIn squareRecord recordOf roomSlots newestRecord remains newDepth depthsFit newOutflow newSoaked lateRefusals stepRecord worldAfter oneEach watersFine timesFine heldAndGone cameAndAdded depthBefore squareRestorable restorable worldBefore earlyRefusals backRefusals backNumber takenBack sideDrop dropsOf squareCandidates candidates leavesFor soakedFor soakBy soakDue addedFor stepLength stepDuration squareGroundFine groundsFine checkRefusals stepNumber stepped freshRun depthsFine sharedRefusals quotientOf Speeds.sideSpeed outThrough nearDepth throughSide allStill arrowBy sighted seenBy askedFine arrowEarlyRefusals arrowRefusals arrowNumber seenAt Ieee.sub
+sheet-cases =
+    record {
+      first-drops = refl;
+      first-workings = refl;
+      first-east = refl;
+      first-record = refl;
       second-made = refl;
       second-duration = refl;
       second-drops = refl;
       second-workings = refl;
       second-depths = refl;
       second-record = refl;
-    }
-
-back-and-arrow : BackAndArrow
-unfolding opened
-back-and-arrow =
-    record {
       back-made = refl;
       back-depths = refl;
       back-lasts = refl;
@@ -77,20 +116,31 @@ back-and-arrow =
       arrow-quotient = refl;
     }
 
-sheet-cases : SheetCases
-sheet-cases = record { printed = printed; first = first-step; second = second-step; back-and-arrow = back-and-arrow }
+-- an exit alone, two equal levels, and a sheet that soaks
+record Others : Type 0 where
+  exit : ExitCases exitTold
+  level : LevelCases levelTold
+  soak : SoakCases soakTold
 
-other-sheet-cases : OtherSheetCases
-unfolding opened
-other-sheet-cases =
+others : Others
+unfolding pick every allBelow refusal tabulate filled joined placed sumBelow waterFine rootFrom rootOf rowGives tableGives rainBy onSquare inflowBy rowFine tableFine slotAfter slotBefore ringFine recordIn beside opposite onRim shapeFine closed exit markFine marksFine inflowSquareFine inflowSquaresFine dropOff candidate counts sideCandidates candidatesOf leastFrom heldBetween freshLength isUpdate lengthAt durationFor sideFine rateFine groundFine rulesFine lesserPositive leastDrop greatestDrop dropSum heightOf slopeOf criticalSpeed manningSpeed speedOf mostThrough totalOf throughSides nothingUnless weightedSides weighed runValuesFine runFine gone sent came offSide offSquare offGrid soakedSquare soakedGrid leavesIn lastIn addedIn soakedIn squareRecord recordOf roomSlots newestRecord remains newDepth depthsFit newOutflow newSoaked lateRefusals stepRecord worldAfter oneEach watersFine timesFine heldAndGone cameAndAdded depthBefore squareRestorable restorable worldBefore earlyRefusals backRefusals backNumber takenBack sideDrop dropsOf squareCandidates candidates leavesFor soakedFor soakBy soakDue addedFor stepLength stepDuration squareGroundFine groundsFine checkRefusals stepNumber stepped freshRun depthsFine sharedRefusals quotientOf Speeds.sideSpeed outThrough nearDepth throughSide allStill arrowBy sighted seenBy askedFine arrowEarlyRefusals arrowRefusals arrowNumber seenAt Ieee.sub
+others =
     record {
-      exit-drops = refl;
-      exit-workings = refl;
-      exit-record = refl;
-      exit-depth = refl;
-      exit-outflow = refl;
-      level-made = refl;
-      level-depths = refl;
+      exit = record { exit-drops = refl; exit-workings = refl; exit-record = refl; exit-depth = refl; exit-outflow = refl };
+      level = record { level-made = refl; level-depths = refl };
+      soak =
+          record {
+            first-due = refl;
+            second-due = refl;
+            first-depths = refl;
+            first-soaked = refl;
+            second-depths = refl;
+            second-record = refl;
+            second-soaked = refl;
+            second-lasts = refl;
+            back-depths = refl;
+            back-soaked = refl;
+          };
     }
 
 number-cases : NumberCases
@@ -108,9 +158,24 @@ number-cases =
       inflow-by = refl;
     }
 
+-- ---- what `meadow` prints
+
+printed : meadowText (bytesOf documentSheet) ≡ bytesOf documentOutput
+unfolding pick every allBelow firstFailing refusal tabulate filled joined placed sumBelow waterFine rootFrom rootOf rowGives tableGives rainBy onSquare inflowBy rowFine tableFine slotAfter slotBefore ringFine recordIn beside opposite onRim shapeFine closed exit markFine marksFine inflowSquareFine inflowSquaresFine dropOff candidate counts sideCandidates candidatesOf leastFrom heldBetween freshLength isUpdate lengthAt durationFor sideFine rateFine groundFine rulesFine lesserPositive leastDrop greatestDrop dropSum heightOf slopeOf criticalSpeed manningSpeed speedOf mostThrough totalOf throughSides nothingUnless weightedSides weighed runValuesFine runFine gone sent came offSide offSquare offGrid soakedSquare soakedGrid leavesIn lastIn addedIn soakedIn squareRecord recordOf roomSlots newestRecord remains newDepth depthsFit newOutflow newSoaked lateRefusals stepRecord worldAfter oneEach watersFine timesFine heldAndGone cameAndAdded depthBefore squareRestorable restorable worldBefore earlyRefusals backRefusals backNumber takenBack sideDrop dropsOf squareCandidates candidates leavesFor soakedFor soakBy soakDue addedFor stepLength stepDuration squareGroundFine groundsFine endFine checkRefusals stepNumber stepped goOn runFrom runTo freshRun isByte wordAt isDigit digitsOf valueFrom wellFormed numberFrom numberAt fieldAt before readFields lineEnded readRest readLine padded asFields lineLength nextLine lineFrom digitsIn decimal fieldText fieldsText restText lineText asGrid gridLine asRun runLine noCell closedCell asOpen openCell markedCell placedCell cellLine cellsRead rowsRead tableRows badLine cellsFilled roomsFilled roomsFine checksIn headingOf judged sheetOf refusedText cellText cellsText madeText endedText runText sheetText meadowText depthsFine sharedRefusals quotientOf Speeds.sideSpeed outThrough nearDepth throughSide allStill arrowBy sighted seenBy askedFine arrowEarlyRefusals arrowRefusals arrowNumber seenAt Ieee.sub bytesOf
+printed = refl
+
 edition-cases : EditionCases
 unfolding pick rootFrom rootOf heightOf slopeOf lesserPositive leastDrop greatestDrop dropSum criticalSpeed manningSpeed speedOf mostThrough totalOf throughSides nothingUnless weightedSides directedAmount directedAmounts scaledTo directedSides unlimitedTotal unlimitedSides weighed
 edition-cases = record { directed-alone = refl; directed-scaled = refl; limited = refl; unlimited = refl }
 
 pub proved-cases : ProvedCases
-proved-cases = record { sheet = sheet-cases; other-sheets = other-sheet-cases; numbers = number-cases; editions = edition-cases }
+proved-cases =
+    record {
+      printed = printed;
+      sheet = subst SheetCases (sym (texts .document)) sheet-cases;
+      exit = subst ExitCases (sym (texts .exit)) (others .exit);
+      level = subst LevelCases (sym (texts .level)) (others .level);
+      numbers = number-cases;
+      editions = edition-cases;
+      soaking = subst SoakCases (sym (texts .soak)) (others .soak);
+    }

@@ -19,10 +19,11 @@ module _ (p : Plan) where
     pub long : length a ≡ length b
     pub alike : Alike (p .marks) a b
 
-  -- heights, roughness, rules and tables
+  -- heights, roughness, soak rates, rules and tables
   pub record SameGiven (g h : Given) : Type 0 where
     pub beds : SameOpen (g .lie .beds) (h .lie .beds)
     pub roughness : SameOpen (g .lie .roughness) (h .lie .roughness)
+    pub rates : SameOpen (g .lie .rates) (h .lie .rates)
     pub rules : g .lie .rules ≡ h .lie .rules
     pub rain : g .rain ≡ h .rain
     pub inflow : g .inflow ≡ h .inflow

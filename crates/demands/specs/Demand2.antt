@@ -4,18 +4,19 @@
 use mathlib.Core.Path.{_≡_}
 use mathlib.Core.Bool.{true, false}
 use mathlib.Core.List.{List}
-use Prim.Native.Nat.{ℕ, _+_, _-_, _*_, _/_, _≤_, _<_}
+use Prim.Native.Nat.{ℕ, _+_, _-_, _*_, _/_, _≤_, _<_, min}
 use lib.ListN.{length, getD}
 use Rattle.reckon.specs.Tests.{refusal}
 use Rattle.reckon.specs.Ranges.{mostDepth}
 use Rattle.reckon.specs.Roots.{Root}
+use Rattle.reckon.specs.Soaking.{soakDue}
 use Rattle.grid.specs.Squares.{squares, sides}
 use Rattle.rule.specs.Length.{lengthAt, durationFor}
 use Rattle.rule.specs.Weighing.{heightOf, slopeOf, criticalSpeed, weightedSides, directedSides, unlimitedSides}
 use Rattle.rule.specs.inner.InRange.{mostDrop}
 use Rattle.rule.specs.declared.rules.Rules.{Rules}
 use Rattle.ledger.specs.Runs.{Plan, World, Seen, seenOf}
-use Rattle.ledger.specs.Flows.{Leaves, shut, gone, came, offGrid}
+use Rattle.ledger.specs.Flows.{Leaves, shut, gone, came, offGrid, soakedGrid}
 use Rattle.ledger.specs.Record.{squareWords, wordPlace, newestRecord, recordOf, roomSlots}
 use Rattle.ledger.specs.TakeBack.{backNumber, takenBack}
 use Rattle.ledger.specs.Walls.{Walled, reaches, drains, intoWalls, Untouched}
@@ -50,6 +51,9 @@ module _ (p : Plan) where
     abbrev duration : ℕ
     duration = stepMoves p g (seenOf w) .duration
 
+    abbrev soaks : ℕ → ℕ
+    soaks = stepMoves p g (seenOf w) .soaked
+
     -- of a square before the step: its depth, last leaving, roughness and drops
     abbrev depthAt : ℕ → ℕ
     depthAt i = getD (w .depths) i 0
@@ -74,25 +78,31 @@ module _ (p : Plan) where
           amounts i side ≡ getD (directedSides (g .lie .rules) (depthAt i) (roughnessAt i) duration (dropsAt i)) side 0
       pub unlimited : g .lie .rules .edition ≡ 3 → (i side : ℕ) → shut p i ≡ false →
           amounts i side ≡ getD (unlimitedSides (g .lie .rules) (depthAt i) (roughnessAt i) duration (dropsAt i)) side 0
-      -- "New depth = old − four leaving + what neighbours send + what is added"
+      -- document 02, #106: "It takes the smaller of that due and the depth left after the four sides have taken theirs", by the clocks of
+      -- its start and its end
+      pub soaking : (i : ℕ) → shut p i ≡ false →
+          soaks i ≡ min (soakDue (getD (g .lie .rates) i 0) (w .run .clock) (w .run .clock + duration)) (getD (w .depths) i 0 - gone amounts i)
+      -- "New depth = old − four leaving + what neighbours send + what is added", what soaks taken "before anything arrives"
       pub depths : (i : ℕ) → i < squares (p .shape) → shut p i ≡ false →
           getD (stepped p g w .depths) i 0
-          ≡ getD (w .depths) i 0 - gone amounts i + came p amounts i + addedFor p g (w .run .clock) (w .run .clock + duration) i
+          ≡ getD (w .depths) i 0 - gone amounts i - soaks i + came p amounts i + addedFor p g (w .run .clock) (w .run .clock + duration) i
       -- "P is then the sum of the four"
       pub lasts : (i : ℕ) → i < squares (p .shape) → shut p i ≡ false → getD (stepped p g w .lasts) i 0 ≡ gone amounts i
       -- "Water leaving the grid joins the outflow total"
       pub outflow : stepped p g w .run .outflow ≡ w .run .outflow + offGrid p amounts
+      -- "the run a total soaked"
+      pub soaked : stepped p g w .run .soaked ≡ w .run .soaked + soakedGrid p soaks
       -- "when the clock is a multiple of U it is worked afresh .. the run holds it until the next such clock"
       pub length-is : stepped p g w .run .length ≡ lengthAt (g .lie .rules) (w .run .clock) (w .run .length) (candidates p (g .lie) (w .depths))
       -- "The step lasts the smaller of that length and the time to the next multiple of U"
       pub duration-is : duration ≡ durationFor (g .lie .rules) (w .run .clock) (stepped p g w .run .length)
       pub clock : stepped p g w .run .clock ≡ w .run .clock + duration
-      -- no square sends more than it holds, so that "old − four leaving" is not cut off at 0
-      pub covered : (i : ℕ) → shut p i ≡ false → gone amounts i ≤ getD (w .depths) i 0
+      -- no square sends and soaks more than it holds, so that "old − four leaving" is not cut off at 0, nor is what remains
+      pub covered : (i : ℕ) → shut p i ≡ false → gone amounts i + soaks i ≤ getD (w .depths) i 0
       -- the transfers as a caller reads them: "length held before the step, how long the step lasted, then for each square north, east,
-      -- south, west, P before, amount added"
+      -- south, west, P before, amount added", and "the amount soaked"
       pub record-is : newestRecord p (stepped p g w)
-          ≡ recordOf p (w .run .length) duration amounts (λ i. getD (w .lasts) i 0) (addedFor p g (w .run .clock) (w .run .clock + duration))
+          ≡ recordOf p (w .run .length) duration amounts (λ i. getD (w .lasts) i 0) (addedFor p g (w .run .clock) (w .run .clock + duration)) soaks
 
   -- ---- "no answer depends on it"
 
@@ -117,14 +127,14 @@ module _ (p : Plan) where
     pub wet-rows : (depths others : List ℕ) (least : ℕ) (old : List ℕ) (a : Wet) (rows : List ℕ) → SameOpen p depths others →
         WetRowed p depths least old a rows → WetRowed p others least old a rows
 
-  -- ---- "What a closed square holds is not altered": bed and roughness are lent to no call for writing
+  -- ---- "What a closed square holds is not altered": bed, roughness and soak rate are lent to no step for writing
 
   pub record NoneAltered : Type 0 where
     pub step : (g : Given) (w : World) → Untouched p w (stepped p g w)
     pub run-to : (g : Given) (end : ℕ) (w : World) → Untouched p w (runTo p g end w .world)
     pub take-back : (w : World) → Untouched p w (takenBack p w)
     pub fresh : (r : Rules) (lasts records : List ℕ) (i : ℕ) → shut p i ≡ true → getD (freshLasts p r lasts records) i 0 ≡ getD lasts i 0
-    -- in the slot that a step writes: "A closed square gets six zeros"
+    -- in the slot that a step writes: "A closed square gets" seven "zeros"
     pub slot : (g : Given) (w : World) → stepNumber p g w ≡ 0 → (i word : ℕ) → i < squares (p .shape) → shut p i ≡ true → word < squareWords →
         getD (newestRecord p (stepped p g w)) (wordPlace i word) 0 ≡ 0
 
@@ -137,6 +147,8 @@ module _ (p : Plan) where
     -- so all that leaves a square comes to a neighbour that is not closed, or leaves the grid from an exit
     pub goes : (g : Given) (v : Seen) (i side : ℕ) → i < squares (p .shape) → side < sides →
         stepMoves p g v .leaves i side ≡ reaches p (stepMoves p g v .leaves) i side + drains p (stepMoves p g v .leaves) i side
+    -- nothing soaks into a closed square, whatever its rate
+    pub none-soaks : (g : Given) (v : Seen) (i : ℕ) → shut p i ≡ true → stepMoves p g v .soaked i ≡ 0
     -- and the sum of all that arrives in closed squares is 0
     pub walls-stay-dry : (g : Given) (v : Seen) → intoWalls p (stepMoves p g v .leaves) ≡ 0
 

@@ -84,6 +84,8 @@ module _ (p : Plan) where
     pub same-clock : x .at .run .clock ≡ alone (x .standing) f .run .clock
     pub same-length : x .at .run .length ≡ alone (x .standing) f .run .length
     pub same-outflow : x .at .run .outflow ≡ alone (x .standing) f .run .outflow
+    -- and the total soaked: "demand 3 names the total" (document 02, #106)
+    pub same-soaked : x .at .run .soaked ≡ alone (x .standing) f .run .soaked
     -- whatever step comes next is made or refused alike
     pub same-next : (g : Given) → stepNumber p g (x .at) ≡ stepNumber p g (alone (x .standing) f)
     -- "The records still kept equal those of the fresh run", each in its slot

@@ -6,8 +6,9 @@ use Prim.Native.Nat.{ℕ}
 use lib.Ieee.{Float}
 use Rattle.reckon.specs.Numbers.{Lesser, Greater, PartOf}
 use Rattle.reckon.specs.Numbers as Numbers
-use Rattle.reckon.specs.Ranges.{WaterJudged, SideJudged}
+use Rattle.reckon.specs.Ranges.{WaterJudged, SideJudged, RateJudged}
 use Rattle.reckon.specs.Roots.{Root}
+use Rattle.reckon.specs.Soaking.{SoakDue}
 use Rattle.reckon.specs.Tables.{RainBy, InflowBy, RainAdded, InflowAdded, RainJudged, InflowJudged}
 use Rattle.trials.specs.Ring.{SlotsIn, SlotStart, SlotAfter, SlotBefore, KeptAfter, RingJudged}
 use Rattle.grid.specs.Squares.{ShapeJudged, SquaresOf, SquareFound, NextColumn, BesideOn, OppositeOf, RimJudged}
@@ -20,7 +21,7 @@ use Rattle.rule.specs.Rules.{RulesJudged, GroundJudged}
 use Rattle.rule.specs.Weighing.{Weighs}
 use Rattle.rule.specs.declared.rules.Rules.{Rules}
 use Rattle.ledger.specs.Runs.{Plan, World, world, RunJudged}
-use Rattle.ledger.specs.Record.{SizeOf, HeldBefore, Lasted, Leaving, LastBefore, AddedBy, GoneFrom, SentTo, CameTo, OffFrom, HeadPut, SquarePut, ClosedPut}
+use Rattle.ledger.specs.Record.{SizeOf, HeldBefore, Lasted, Leaving, LastBefore, AddedBy, SoakedBy, GoneFrom, SentTo, CameTo, OffFrom, HeadPut, SquarePut, ClosedPut}
 use Rattle.ledger.specs.inner.Settle.{SettlesTo}
 use Rattle.ledger.specs.Checks.{OneEach, WatersJudged, TimesJudged}
 use Rattle.ledger.specs.TakeBack.{TakesBack}
@@ -66,8 +67,10 @@ pub record ReckonDetermined : Type 0 where
   pub copy-into : (from old : List ℕ) (at : ℕ) → One (Copied from old at)
   pub water-fine : (depth last : ℕ) → One (WaterJudged depth last)
   pub side-fine : (side : ℕ) → One (SideJudged side)
+  pub rate-fine : (rate : ℕ) → One (RateJudged rate)
   pub square-root : (n : ℕ) → One (Root 2 n)
   pub cube-root : (n : ℕ) → One (Root 3 n)
+  pub soak-due : (rate start end : ℕ) → One (SoakDue rate start end)
   pub rain-by : (rows : List ℕ) (t : ℕ) → One (RainBy rows t)
   pub inflow-by : (rows : List ℕ) (r c side t : ℕ) → One (InflowBy rows r c side t)
   pub rain-added : (rows : List ℕ) (start end : ℕ) → One (RainAdded rows start end)
@@ -119,12 +122,13 @@ pub record LedgerDetermined : Type 0 where
   pub leaving : (rec : List ℕ) (square side : ℕ) → One (Leaving rec square side)
   pub last-before : (rec : List ℕ) (square : ℕ) → One (LastBefore rec square)
   pub added-by : (rec : List ℕ) (square : ℕ) → One (AddedBy rec square)
+  pub soaked-by : (rec : List ℕ) (square : ℕ) → One (SoakedBy rec square)
   pub gone-from : (rec : List ℕ) (square : ℕ) → One (GoneFrom rec square)
   pub sent-to : (p : Plan) (rec : List ℕ) (square side : ℕ) → One (SentTo p rec square side)
   pub came-to : (p : Plan) (rec : List ℕ) (square : ℕ) → One (CameTo p rec square)
   pub off-from : (p : Plan) (rec : List ℕ) (square : ℕ) → One (OffFrom p rec square)
   pub put-head : (rec : List ℕ) (held lasts : ℕ) → One (HeadPut rec held lasts)
-  pub put-square : (rec : List ℕ) (square : ℕ) (leaves : List ℕ) (last added : ℕ) → One (SquarePut rec square leaves last added)
+  pub put-square : (rec : List ℕ) (square : ℕ) (leaves : List ℕ) (last added soaked : ℕ) → One (SquarePut rec square leaves last added soaked)
   pub put-closed : (rec : List ℕ) (square : ℕ) → One (ClosedPut rec square)
   pub run-fine : (k : ℕ) (u : Run) → One (RunJudged k u)
   pub one-each : (s : Shape) (numbers : ℕ) → One (OneEach s numbers)
@@ -139,7 +143,7 @@ pub record MovesDetermined : Type 0 where
   pub step-length : (p : Plan) (o : Ground) (depths : List ℕ) (clock held : ℕ) → One (LengthWorked p o depths clock held)
   pub add-water : (p : Plan) (g : Given) (start end : ℕ) (old : List ℕ) (a b : Bool × List ℕ) →
       WaterAdded p g start end old (a .0) (a .1) → WaterAdded p g start end old (b .0) (b .1) → (a .0 ≡ b .0) × (a .0 ≡ true → a .1 ≡ b .1)
-  pub fill : (p : Plan) (o : Ground) (depths lasts added : List ℕ) (held ms : ℕ) → One (RecordFilled p o depths lasts added held ms)
+  pub fill : (p : Plan) (o : Ground) (depths lasts added : List ℕ) (held start ms : ℕ) → One (RecordFilled p o depths lasts added held start ms)
 
 pub record FloodDetermined : Type 0 where
   pub check : (p : Plan) (g : Given) (end : ℕ) (w : World) → One (Checks p g end w)
@@ -171,7 +175,7 @@ pub record TextDetermined : Type 0 where
   pub put-fields : (values : List ℕ) (at : ℕ) (room : List ℕ) → One {Out = ℕ × List ℕ} (λ o. PutFields values at room (o .1) (o .0))
   pub put-line : (word values : List ℕ) (at : ℕ) (room : List ℕ) → One {Out = ℕ × List ℕ} (λ o. PutLine word values at room (o .1) (o .0))
 
--- what `read` leaves in its six rooms stands together
+-- what `read` leaves in its seven rooms stands together
 pub record SheetDetermined : Type 0 where
   pub read : (text : List ℕ) (before : Rooms) → One {Out = Sheet × Rooms} (λ o. Reads text before (o .0) (o .1))
 

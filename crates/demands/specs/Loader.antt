@@ -82,6 +82,7 @@ pub record MarksAreLetters (s : List ℕ) (shape : Shape) (marks : List ℕ) : T
 pub record ClosedLeft (before after : Cells) : Type 0 where
   pub beds : (i : ℕ) → closed (after .marks) i ≡ true → getD (after .beds) i 0 ≡ getD (before .beds) i 0
   pub roughness : (i : ℕ) → closed (after .marks) i ≡ true → getD (after .roughness) i 0 ≡ getD (before .roughness) i 0
+  pub rates : (i : ℕ) → closed (after .marks) i ≡ true → getD (after .rates) i 0 ≡ getD (before .rates) i 0
   pub depths : (i : ℕ) → closed (after .marks) i ≡ true → getD (after .depths) i 0 ≡ getD (before .depths) i 0
 
 -- two sets of rooms, each as long as the other's
@@ -89,6 +90,7 @@ pub record AsLong (a b : Rooms) : Type 0 where
   pub marks : length (a .cells .marks) ≡ length (b .cells .marks)
   pub beds : length (a .cells .beds) ≡ length (b .cells .beds)
   pub roughness : length (a .cells .roughness) ≡ length (b .cells .roughness)
+  pub rates : length (a .cells .rates) ≡ length (b .cells .rates)
   pub depths : length (a .cells .depths) ≡ length (b .cells .depths)
   pub rain : length (a .rain) ≡ length (b .rain)
   pub inflow : length (a .inflow) ≡ length (b .inflow)

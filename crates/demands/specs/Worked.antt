@@ -9,8 +9,10 @@ use Prim.Native.String.{String}
 use lib.ListN.{getD}
 use lib.IntN.{negsuc}
 use lib.Ieee.{Float, fin}
+use Rattle.reckon.specs.Soaking.{soakDue}
 use Rattle.reckon.specs.Tables.{rainBy, inflowBy}
 use Rattle.grid.specs.Squares.{east}
+use Rattle.grid.specs.declared.squares.Shape.{Shape}
 use Rattle.rule.specs.declared.rules.Rules.{Rules}
 use Rattle.rule.specs.Weighing.{greatestDrop, heightOf, slopeOf, criticalSpeed, manningSpeed, speedOf, mostThrough, totalOf, weighed}
 use Rattle.rule.specs.Length.{candidatesOf}
@@ -24,49 +26,62 @@ use Rattle.sight.specs.Speeds.{zero64, quotientOf}
 use Rattle.sight.specs.Arrows.{view, seenAt}
 use Rattle.sight.specs.declared.arrows.Sight.the-variants.{Moving}
 use Rattle.text.specs.Bytes.{bytesOf}
-use Rattle.sheet.specs.Sheet.{shapeOf, lineTwo, said, planIn, givenIn, startIn}
+use Rattle.sheet.specs.Sheet.{Rooms, shapeOf, lineTwo, said, planIn, givenIn, startIn}
 use Rattle.answer.specs.Program.{meadowText}
 
 -- ---- texts
 
 -- document 01's sheet, and what `meadow` prints of it
 abbrev pub documentSheet : String
-documentSheet = "grid\t1\t2\t1\nrun\t100\t1000\t1000\t1000\t1000\t10000\t1\ncell\t0\t0\to\t0\t100\t1000\ncell\t0\t1\to\t0\t100\t0\n"
+documentSheet = "grid\t1\t2\t1\nrun\t100\t1000\t1000\t1000\t1000\t10000\t1\ncell\t0\t0\to\t0\t100\t1000\t0\ncell\t0\t1\to\t0\t100\t0\t0\n"
 
 abbrev pub documentOutput : String
-documentOutput = "cell\t0\t0\t969\ncell\t0\t1\t31\nout\t0\nsteps\t1\nclock\t1000\n"
+documentOutput = "cell\t0\t0\t969\ncell\t0\t1\t31\nout\t0\nsoak\t0\nsteps\t1\nclock\t1000\n"
 
 -- "one exit square, D 1, k 100, depth 10,000"; "two equal levels"
 abbrev pub exitSheet : String
-exitSheet = "grid\t1\t1\t1\nrun\t100\t1000\t1000\t1000\t1000\t10000\t1\ncell\t0\t0\te\t0\t100\t10000\n"
+exitSheet = "grid\t1\t1\t1\nrun\t100\t1000\t1000\t1000\t1000\t10000\t1\ncell\t0\t0\te\t0\t100\t10000\t0\n"
 
 abbrev pub levelSheet : String
-levelSheet = "grid\t1\t2\t1\nrun\t100\t1000\t1000\t1000\t1000\t10000\t1\ncell\t0\t0\to\t0\t100\t500\ncell\t0\t1\to\t0\t100\t500\n"
+levelSheet = "grid\t1\t2\t1\nrun\t100\t1000\t1000\t1000\t1000\t10000\t1\ncell\t0\t0\to\t0\t100\t500\t0\ncell\t0\t1\to\t0\t100\t500\t0\n"
+
+-- document 02, #106: document 01's sheet on ground that soaks half a micrometre a step in the west, and 277 in the east
+abbrev pub soakSheet : String
+soakSheet = "grid\t1\t2\t1\nrun\t100\t1000\t1000\t1000\t1000\t10000\t1\ncell\t0\t0\to\t0\t100\t1000\t1800\ncell\t0\t1\to\t0\t100\t0\t1000000\n"
 
 -- ---- what a text says, and steps on it
 
-module _ (text : String) where
-  abbrev rules : Rules
-  rules = lineTwo (bytesOf text) .rules
+pub record Told : Type 0 where
+  pub shape : Shape
+  pub rules : Rules
+  pub held : Rooms
 
+abbrev pub told : String → Told
+told text = record { shape = shapeOf (bytesOf text); rules = lineTwo (bytesOf text) .rules; held = said (bytesOf text) }
+
+module _ (t : Told) where
   abbrev onPlan : Plan
-  onPlan = planIn (shapeOf (bytesOf text)) rules (said (bytesOf text))
+  onPlan = planIn (t .shape) (t .rules) (t .held)
 
   abbrev byGiven : Given
-  byGiven = givenIn (shapeOf (bytesOf text)) rules (said (bytesOf text))
+  byGiven = givenIn (t .shape) (t .rules) (t .held)
 
-  abbrev start : World
-  start = startIn (shapeOf (bytesOf text)) rules (said (bytesOf text))
+  -- the world before the first step, after it, and after the second
+  abbrev before : World
+  before = startIn (t .shape) (t .rules) (t .held)
 
-  abbrev next : World → World
-  next w = stepped onPlan byGiven w
+  abbrev once : World
+  once = stepped onPlan byGiven before
+
+  abbrev twice : World
+  twice = stepped onPlan byGiven once
 
   -- of square 0 before a step: its depth, its drops, the greatest; how long the step lasts
   abbrev depth : World → ℕ
   depth w = getD (w .depths) 0 0
 
   abbrev drops : World → List ℕ
-  drops w = dropsOf onPlan rules (byGiven .lie .beds) (w .depths) 0
+  drops w = dropsOf onPlan (t .rules) (byGiven .lie .beds) (w .depths) 0
 
   abbrev steepest : World → ℕ
   steepest w = greatestDrop (drops w)
@@ -78,12 +93,12 @@ module _ (text : String) where
   abbrev workings : World → List ℕ
   workings w =
       heightOf (depth w)
-      ∷ slopeOf rules (steepest w)
+      ∷ slopeOf (t .rules) (steepest w)
       ∷ criticalSpeed (depth w)
-      ∷ manningSpeed rules (depth w) 100 (steepest w)
-      ∷ speedOf rules (depth w) 100 (steepest w)
-      ∷ mostThrough rules (depth w) 100 (duration w) (steepest w)
-      ∷ totalOf rules (depth w) (getD (w .lasts) 0 0) 100 (duration w) (drops w)
+      ∷ manningSpeed (t .rules) (depth w) 100 (steepest w)
+      ∷ speedOf (t .rules) (depth w) 100 (steepest w)
+      ∷ mostThrough (t .rules) (depth w) 100 (duration w) (steepest w)
+      ∷ totalOf (t .rules) (depth w) (getD (w .lasts) 0 0) 100 (duration w) (drops w)
       ∷ []
 
 -- D 10 and a tolerance
@@ -98,66 +113,46 @@ narrow edition = record { «square_side» = 1; tolerance = 0; shortest = 1; long
 abbrev eastSpeed : Float
 eastSpeed = fin false 1_116_892_707_587_883 (negsuc 53)
 
--- the sheet's world before its first step, after it, and after its second
-abbrev before : World
-before = start documentSheet
-
-abbrev once : World
-once = next documentSheet before
-
-abbrev twice : World
-twice = next documentSheet once
-
 -- ---- the cases
 
--- of the sheet: its first step
-pub record FirstStep : Type 0 where
+-- of the sheet, by what it says
+pub record SheetCases (t : Told) : Type 0 where
   -- "the sheet above: h 100, s 316, .. m 31, total 62, through east 31"; by #105 the speeds are 99,045 and 31,600
-  pub first-drops : drops documentSheet before ≡ 0 ∷ 1_000 ∷ 0 ∷ 0 ∷ []
-  pub first-workings : workings documentSheet before ≡ 100 ∷ 316 ∷ 99_045 ∷ 31_600 ∷ 31_600 ∷ 31 ∷ 62 ∷ []
-  pub first-east : stepMoves (onPlan documentSheet) (byGiven documentSheet) (seenOf before) .leaves 0 east ≡ 31
-  pub first-record : once .records ≡ 1_000 ∷ 1_000 ∷ 0 ∷ 31 ∷ 0 ∷ 0 ∷ 0 ∷ 0 ∷ 0 ∷ 0 ∷ 0 ∷ 0 ∷ 0 ∷ 0 ∷ []
-
--- its second step
-pub record SecondStep : Type 0 where
+  pub first-drops : drops t (before t) ≡ 0 ∷ 1_000 ∷ 0 ∷ 0 ∷ []
+  pub first-workings : workings t (before t) ≡ 100 ∷ 316 ∷ 99_045 ∷ 31_600 ∷ 31_600 ∷ 31 ∷ 62 ∷ []
+  pub first-east : stepMoves (onPlan t) (byGiven t) (seenOf (before t)) .leaves 0 east ≡ 31
+  pub first-record : once t .records ≡ 1_000 ∷ 1_000 ∷ 0 ∷ 31 ∷ 0 ∷ 0 ∷ 0 ∷ 0 ∷ 0 ∷ 0 ∷ 0 ∷ 0 ∷ 0 ∷ 0 ∷ 0 ∷ 0 ∷ []
   -- "its second step (1000 ms): drop 938, h 97, s 306, .. m 28, total 56; depths 941 and 59"; by #105 the speed is 29,682
-  pub second-made : stepNumber (onPlan documentSheet) (byGiven documentSheet) once ≡ 0
-  pub second-duration : duration documentSheet once ≡ 1_000
-  pub second-drops : drops documentSheet once ≡ 0 ∷ 938 ∷ 0 ∷ 0 ∷ []
-  pub second-workings : workings documentSheet once ≡ 97 ∷ 306 ∷ 97_498 ∷ 29_682 ∷ 29_682 ∷ 28 ∷ 56 ∷ []
-  pub second-depths : twice .depths ≡ 941 ∷ 59 ∷ []
-  pub second-record : twice .records ≡ 1_000 ∷ 1_000 ∷ 0 ∷ 28 ∷ 0 ∷ 0 ∷ 31 ∷ 0 ∷ 0 ∷ 0 ∷ 0 ∷ 0 ∷ 0 ∷ 0 ∷ []
-
--- the take-back of the first, and the arrow after it
-pub record BackAndArrow : Type 0 where
+  pub second-made : stepNumber (onPlan t) (byGiven t) (once t) ≡ 0
+  pub second-duration : duration t (once t) ≡ 1_000
+  pub second-drops : drops t (once t) ≡ 0 ∷ 938 ∷ 0 ∷ 0 ∷ []
+  pub second-workings : workings t (once t) ≡ 97 ∷ 306 ∷ 97_498 ∷ 29_682 ∷ 29_682 ∷ 28 ∷ 56 ∷ []
+  pub second-depths : twice t .depths ≡ 941 ∷ 59 ∷ []
+  pub second-record : twice t .records ≡ 1_000 ∷ 1_000 ∷ 0 ∷ 28 ∷ 0 ∷ 0 ∷ 31 ∷ 0 ∷ 0 ∷ 0 ∷ 0 ∷ 0 ∷ 0 ∷ 0 ∷ 0 ∷ 0 ∷ []
   -- "take-back of the first step: depths 1000 and 0, P 0, clock 0"
-  pub back-made : backNumber (onPlan documentSheet) once ≡ 0
-  pub back-depths : takenBack (onPlan documentSheet) once .depths ≡ 1_000 ∷ 0 ∷ []
-  pub back-lasts : takenBack (onPlan documentSheet) once .lasts ≡ 0 ∷ 0 ∷ []
-  pub back-clock : takenBack (onPlan documentSheet) once .run .clock ≡ 0
+  pub back-made : backNumber (onPlan t) (once t) ≡ 0
+  pub back-depths : takenBack (onPlan t) (once t) .depths ≡ 1_000 ∷ 0 ∷ []
+  pub back-lasts : takenBack (onPlan t) (once t) .lasts ≡ 0 ∷ 0 ∷ []
+  pub back-clock : takenBack (onPlan t) (once t) .run .clock ≡ 0
   -- "arrow of square 0 0 after it: east is 62,000 / 1,000,000 rounded once, north 0"
-  pub arrow : seenAt (onPlan documentSheet) 1 (view (once .depths) (once .records) (once .run)) 0 0 ≡ Moving (record { east = eastSpeed; north = zero64 })
+  pub arrow : seenAt (onPlan t) 1 (view (once t .depths) (once t .records) (once t .run)) 0 0 ≡ Moving (record { east = eastSpeed; north = zero64 })
   pub arrow-quotient : quotientOf 62_000 1_000_000 ≡ eastSpeed
 
--- all of the sheet, and its output, whole
-pub record SheetCases : Type 0 where
-  pub printed : meadowText (bytesOf documentSheet) ≡ bytesOf documentOutput
-  pub first : FirstStep
-  pub second : SecondStep
-  pub back-and-arrow : BackAndArrow
-
--- of an exit alone, and of two equal levels
-pub record OtherSheetCases : Type 0 where
+-- of an exit alone
+pub record ExitCases (t : Told) : Type 0 where
   -- "one exit square, D 1, k 100, depth 10,000, 1000 ms: .. total 10,000, each side 2,000; depth 2,000, outflow 8,000"; by #105 v is
   -- 313,209 and m 3,132
-  pub exit-drops : drops exitSheet (start exitSheet) ≡ 10_000 ∷ 10_000 ∷ 10_000 ∷ 10_000 ∷ []
-  pub exit-workings : workings exitSheet (start exitSheet) ≡ 464 ∷ 1_000 ∷ 313_209 ∷ 464_000 ∷ 313_209 ∷ 3_132 ∷ 10_000 ∷ []
-  pub exit-record : next exitSheet (start exitSheet) .records ≡ 1_000 ∷ 1_000 ∷ 2_000 ∷ 2_000 ∷ 2_000 ∷ 2_000 ∷ 0 ∷ 0 ∷ []
-  pub exit-depth : next exitSheet (start exitSheet) .depths ≡ 2_000 ∷ []
-  pub exit-outflow : next exitSheet (start exitSheet) .run .outflow ≡ 8_000
+  pub exit-drops : drops t (before t) ≡ 10_000 ∷ 10_000 ∷ 10_000 ∷ 10_000 ∷ []
+  pub exit-workings : workings t (before t) ≡ 464 ∷ 1_000 ∷ 313_209 ∷ 464_000 ∷ 313_209 ∷ 3_132 ∷ 10_000 ∷ []
+  pub exit-record : once t .records ≡ 1_000 ∷ 1_000 ∷ 2_000 ∷ 2_000 ∷ 2_000 ∷ 2_000 ∷ 0 ∷ 0 ∷ 0 ∷ []
+  pub exit-depth : once t .depths ≡ 2_000 ∷ []
+  pub exit-outflow : once t .run .outflow ≡ 8_000
+
+-- and of two equal levels
+pub record LevelCases (t : Told) : Type 0 where
   -- "two equal levels: nothing moves"
-  pub level-made : stepNumber (onPlan levelSheet) (byGiven levelSheet) (start levelSheet) ≡ 0
-  pub level-depths : next levelSheet (start levelSheet) .depths ≡ 500 ∷ 500 ∷ []
+  pub level-made : stepNumber (onPlan t) (byGiven t) (before t) ≡ 0
+  pub level-depths : once t .depths ≡ 500 ∷ 500 ∷ []
 
 -- of one square, and of a table
 pub record NumberCases : Type 0 where
@@ -185,9 +180,31 @@ pub record EditionCases : Type 0 where
   pub limited : weighed (narrow 1) 5_000_000 0 100 1_000 (3 ∷ 40_000 ∷ 50_000 ∷ 60_000 ∷ []) ≡ 0 ∷ 0 ∷ 0 ∷ 1 ∷ []
   pub unlimited : weighed (narrow 3) 5_000_000 0 100 1_000 (3 ∷ 40_000 ∷ 50_000 ∷ 60_000 ∷ []) ≡ 99 ∷ 1_333_280 ∷ 1_666_600 ∷ 1_999_920 ∷ []
 
--- all cases marked P, and those of the editions
+-- document 02, #106, worked by hand: what is due by the clock, and two steps of a sheet that soaks
+pub record SoakCases (t : Told) : Type 0 where
+  -- 1,800 µm/h: half a micrometre by 1000 ms, one by 2000; so the second step's due is 1, and of its own duration it would be 0
+  pub first-due : soakDue 1_800 0 1_000 ≡ 0
+  pub second-due : soakDue 1_800 1_000 2_000 ≡ 1
+  -- the dry square's due of 277 is lost, and the 31 that come to it are not soaked in their step
+  pub first-depths : once t .depths ≡ 969 ∷ 31 ∷ []
+  pub first-soaked : once t .run .soaked ≡ 0
+  -- then 1 of the 941 that remain in the west soaks, and of a due of 278 all 31 in the east, before 28 more arrive
+  pub second-depths : twice t .depths ≡ 940 ∷ 28 ∷ []
+  pub second-record : twice t .records ≡ 1_000 ∷ 1_000 ∷ 0 ∷ 28 ∷ 0 ∷ 0 ∷ 31 ∷ 0 ∷ 1 ∷ 0 ∷ 0 ∷ 0 ∷ 0 ∷ 0 ∷ 0 ∷ 31 ∷ []
+  pub second-soaked : twice t .run .soaked ≡ 32
+  -- "P is then the sum of the four": what soaked is not in it
+  pub second-lasts : twice t .lasts ≡ 28 ∷ 0 ∷ []
+  -- "Take-back returns it"
+  pub back-depths : takenBack (onPlan t) (twice t) .depths ≡ 969 ∷ 31 ∷ []
+  pub back-soaked : takenBack (onPlan t) (twice t) .run .soaked ≡ 0
+
+-- all cases marked P, those of the editions and those of soaking
 pub record ProvedCases : Type 0 where
-  pub sheet : SheetCases
-  pub other-sheets : OtherSheetCases
+  -- the sheet's output, whole
+  pub printed : meadowText (bytesOf documentSheet) ≡ bytesOf documentOutput
+  pub sheet : SheetCases (told documentSheet)
+  pub exit : ExitCases (told exitSheet)
+  pub level : LevelCases (told levelSheet)
   pub numbers : NumberCases
   pub editions : EditionCases
+  pub soaking : SoakCases (told soakSheet)

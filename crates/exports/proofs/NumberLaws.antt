@@ -7,8 +7,7 @@ use Rattle.grid.specs.declared.squares.Shape.{Shape}
 use Rattle.rule.specs.declared.rules.Rules.{Rules}
 use Rattle.ledger.specs.declared.runs.Run.{Run}
 use Rattle.ledger.specs.Runs.{plan, world}
-use Rattle.moves.specs.Given.{ground}
-use Rattle.moves.specs.Given.{given}
+use Rattle.moves.specs.Given.{ground, given}
 use Rattle.exports.specs.Numbers.{rulesFrom, rulesNumbers, runNumbers, runValueFrom}
 
 -- ---- the array that came out of one call goes into the next
@@ -25,9 +24,9 @@ pub plan-of : {s t : Shape} {marks : List ℕ} → s ≡ t → plan s marks ≡ 
 plan-of {s} {t} {marks} e = ap (λ (x : Shape). plan x marks) e
 
 pub given-of :
-    {r t : Rules} {beds roughness rain inflow : List ℕ} → r ≡ t →
-    given (ground r beds roughness) rain inflow ≡ given (ground t beds roughness) rain inflow
-given-of {r} {t} {beds} {roughness} {rain} {inflow} e = ap (λ (x : Rules). given (ground x beds roughness) rain inflow) e
+    {r t : Rules} {beds roughness rates rain inflow : List ℕ} → r ≡ t →
+    given (ground r beds roughness rates) rain inflow ≡ given (ground t beds roughness rates) rain inflow
+given-of {r} {t} {beds} {roughness} {rates} {rain} {inflow} e = ap (λ (x : Rules). given (ground x beds roughness rates) rain inflow) e
 
 pub world-of : {u v : Run} {depths lasts records : List ℕ} → u ≡ v → world depths lasts records u ≡ world depths lasts records v
 world-of {u} {v} {depths} {lasts} {records} e = ap (λ (x : Run). world depths lasts records x) e

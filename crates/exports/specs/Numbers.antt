@@ -22,12 +22,13 @@ rulesFrom l =
 abbrev pub rulesNumbers : Rules → List ℕ
 rulesNumbers r = r .«square_side» ∷ r .tolerance ∷ r .shortest ∷ r .longest ∷ r .update ∷ r .edge ∷ r .edition ∷ []
 
--- "A run value holds: clock, step length .., outflow total, kept .., newest slot": in this order
+-- "A run value holds: clock, step length .., outflow total, kept .., newest slot", and "a total soaked" (document 02, #106): in this order
 abbrev pub runValueFrom : List ℕ → Run
-runValueFrom l = record { clock = getD l 0 0; length = getD l 1 0; outflow = getD l 2 0; kept = getD l 3 0; newest = getD l 4 0 }
+runValueFrom l =
+    record { clock = getD l 0 0; length = getD l 1 0; outflow = getD l 2 0; kept = getD l 3 0; newest = getD l 4 0; soaked = getD l 5 0 }
 
 abbrev pub runNumbers : Run → List ℕ
-runNumbers u = u .clock ∷ u .length ∷ u .outflow ∷ u .kept ∷ u .newest ∷ []
+runNumbers u = u .clock ∷ u .length ∷ u .outflow ∷ u .kept ∷ u .newest ∷ u .soaked ∷ []
 
 -- "`grid` rows columns D", "`run` q shortest longest U end", and how many `rain` and `inflow` lines there are
 abbrev pub headingNumbers : Heading → List ℕ
@@ -42,7 +43,7 @@ abbrev pub rulesSize : ℕ
 rulesSize = 7
 
 abbrev pub runSize : ℕ
-runSize = 5
+runSize = 6
 
 abbrev pub stepsSize : ℕ
 stepsSize = 1

@@ -5,7 +5,7 @@ ghost use mathlib.Core.Path.{_≡_};
 ghost use lib.ListN.{length};
 ghost use Rattle.exports.specs.Numbers.{headingNumbers, headingSize, runNumbers, runSize};
 
-// Puts a run into its five places.
+// Puts a run into its six places.
 pub(crate) fn put_run(run: Run, room: &mut [u64])
     requires { ⌜ length (now room) ≡ runSize ⌝ }
     ensures { λ _. ⌜ now (room .exit) ≡ runNumbers run ⌝ }
@@ -15,6 +15,7 @@ pub(crate) fn put_run(run: Run, room: &mut [u64])
     room[2] = run.outflow;
     room[3] = run.kept as u64;
     room[4] = run.newest as u64;
+    room[5] = run.soaked;
 }
 
 // Puts a sheet's heading into its twelve places.

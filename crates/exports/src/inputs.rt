@@ -40,5 +40,6 @@ pub(crate) fn run_from(numbers: &[u64]) -> Run
         outflow: numbers[2],
         kept: numbers[3] as usize,
         newest: numbers[4] as usize,
+        soaked: numbers[5],
     }
 }

@@ -40,13 +40,14 @@ pub extern "C" fn flood_read_sheet(
     marks: &mut [u8],
     beds: &mut [u32],
     roughness: &mut [u32],
+    rates: &mut [u32],
     depths: &mut [u32],
     rain: &mut [u32],
     inflow: &mut [u32],
     heading: &mut [u64],
     line: &mut [u64],
 ) -> u32
-    ensures { λ r. ⌜ ExportsRead (now (text .entry)) (rooms (now (marks .entry)) (now (beds .entry)) (now (roughness .entry)) (now (depths .entry)) (now (rain .entry)) (now (inflow .entry))) (now (heading .entry)) (now (line .entry)) r (rooms (now (marks .exit)) (now (beds .exit)) (now (roughness .exit)) (now (depths .exit)) (now (rain .exit)) (now (inflow .exit))) (now (heading .exit)) (now (line .exit)) ⌝ }
+    ensures { λ r. ⌜ ExportsRead (now (text .entry)) (rooms (now (marks .entry)) (now (beds .entry)) (now (roughness .entry)) (now (rates .entry)) (now (depths .entry)) (now (rain .entry)) (now (inflow .entry))) (now (heading .entry)) (now (line .entry)) r (rooms (now (marks .exit)) (now (beds .exit)) (now (roughness .exit)) (now (rates .exit)) (now (depths .exit)) (now (rain .exit)) (now (inflow .exit))) (now (heading .exit)) (now (line .exit)) ⌝ }
 {
     if heading.len() != HEADING_NUMBERS {
         return NOT_ITS_SIZE;
@@ -54,7 +55,7 @@ pub extern "C" fn flood_read_sheet(
     if line.len() != LINE_NUMBERS {
         return NOT_ITS_SIZE;
     }
-    let sheet = read(text, marks, beds, roughness, depths, rain, inflow);
+    let sheet = read(text, marks, beds, roughness, rates, depths, rain, inflow);
     tell_sheet(sheet, heading, line)
 }
 

@@ -1,7 +1,7 @@
 // How many numbers a slice has that is lent for rules, a run or an answer.
 pub(crate) const RULES_NUMBERS: usize = 7;
 
-pub(crate) const RUN_NUMBERS: usize = 5;
+pub(crate) const RUN_NUMBERS: usize = 6;
 
 pub(crate) const STEPS_NUMBERS: usize = 1;
 

@@ -95,6 +95,7 @@ pub extern "C" fn flood_step(
     marks: &[u8],
     beds: &[u32],
     roughness: &[u32],
+    rates: &[u32],
     rain: &[u32],
     inflow: &[u32],
     depths: &mut [u32],
@@ -102,7 +103,7 @@ pub extern "C" fn flood_step(
     records: &mut [u32],
     run: &mut [u64],
 ) -> u32
-    ensures { λ r. ⌜ ExportsStep (plan (shapeFrom rows columns) (now (marks .entry))) (given (ground (rulesFrom (now (rules .entry))) (now (beds .entry)) (now (roughness .entry))) (now (rain .entry)) (now (inflow .entry))) (world (now (depths .entry)) (now (lasts .entry)) (now (records .entry)) (runValueFrom (now (run .entry)))) (now (rules .entry)) (now (run .entry)) r (now (depths .exit)) (now (lasts .exit)) (now (records .exit)) (now (run .exit)) ⌝ }
+    ensures { λ r. ⌜ ExportsStep (plan (shapeFrom rows columns) (now (marks .entry))) (given (ground (rulesFrom (now (rules .entry))) (now (beds .entry)) (now (roughness .entry)) (now (rates .entry))) (now (rain .entry)) (now (inflow .entry))) (world (now (depths .entry)) (now (lasts .entry)) (now (records .entry)) (runValueFrom (now (run .entry)))) (now (rules .entry)) (now (run .entry)) r (now (depths .exit)) (now (lasts .exit)) (now (records .exit)) (now (run .exit)) ⌝ }
 {
     if rules.len() != RULES_NUMBERS {
         return NOT_ITS_SIZE;
@@ -117,6 +118,7 @@ pub extern "C" fn flood_step(
         marks,
         beds,
         roughness,
+        rates,
         rain,
         inflow,
         depths,
@@ -136,6 +138,7 @@ pub extern "C" fn flood_run_to(
     marks: &[u8],
     beds: &[u32],
     roughness: &[u32],
+    rates: &[u32],
     rain: &[u32],
     inflow: &[u32],
     depths: &mut [u32],
@@ -144,7 +147,7 @@ pub extern "C" fn flood_run_to(
     run: &mut [u64],
     steps: &mut [u64],
 ) -> u32
-    ensures { λ r. ⌜ ExportsRun (plan (shapeFrom rows columns) (now (marks .entry))) (given (ground (rulesFrom (now (rules .entry))) (now (beds .entry)) (now (roughness .entry))) (now (rain .entry)) (now (inflow .entry))) end (world (now (depths .entry)) (now (lasts .entry)) (now (records .entry)) (runValueFrom (now (run .entry)))) (now (rules .entry)) (now (run .entry)) (now (steps .entry)) r (now (depths .exit)) (now (lasts .exit)) (now (records .exit)) (now (run .exit)) (now (steps .exit)) ⌝ }
+    ensures { λ r. ⌜ ExportsRun (plan (shapeFrom rows columns) (now (marks .entry))) (given (ground (rulesFrom (now (rules .entry))) (now (beds .entry)) (now (roughness .entry)) (now (rates .entry))) (now (rain .entry)) (now (inflow .entry))) end (world (now (depths .entry)) (now (lasts .entry)) (now (records .entry)) (runValueFrom (now (run .entry)))) (now (rules .entry)) (now (run .entry)) (now (steps .entry)) r (now (depths .exit)) (now (lasts .exit)) (now (records .exit)) (now (run .exit)) (now (steps .exit)) ⌝ }
 {
     if rules.len() != RULES_NUMBERS {
         return NOT_ITS_SIZE;
@@ -163,6 +166,7 @@ pub extern "C" fn flood_run_to(
         marks,
         beds,
         roughness,
+        rates,
         rain,
         inflow,
         depths,

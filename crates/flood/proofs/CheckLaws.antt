@@ -8,14 +8,14 @@ use lib.Dec.{T, leb}
 use lib.ListN.{length, getD}
 use borrow.Author.Tests.{leb-true, le-leb, eqb-true, eq-eqb, not-true, not-false}
 use Rattle.reckon.specs.Tests.{every, numbered, refusal}
-use Rattle.reckon.specs.Ranges.{mostDepth, mostLength, lastClock, mostOutflow, waterFine, sideFine}
+use Rattle.reckon.specs.Ranges.{mostDepth, mostLength, lastClock, mostOutflow, mostSoakRate, mostSoaked, waterFine, sideFine, rateFine}
 use Rattle.reckon.specs.Tables.{rainKind, inflowKind, tableFine}
 use Rattle.reckon.proofs.TestLaws.{Each, or-right, or-of, every-each, each-every, every-fails, all-at, all-of, refusal-passed, passed-refusal}
 use Rattle.grid.specs.declared.squares.Shape.{Shape}
 use Rattle.grid.specs.Squares.{ShapeInRange, squares, shapeFine}
 use Rattle.grid.specs.Marks.{Marked, marksFine, inflowSquaresFine}
 use Rattle.grid.proofs.SquareLaws.{ranges-of-fine}
-use Rattle.rule.specs.Rules.{rulesFine}
+use Rattle.rule.specs.Rules.{groundFine, rulesFine}
 use Rattle.rule.specs.declared.rules.Rules.{Rules}
 use Rattle.rule.proofs.RuleLaws.{rules-are, ground-is}
 use Rattle.ledger.specs.Runs.{Plan, World, plan, runValuesFine, runFine, Seen, seenOf}
@@ -24,9 +24,9 @@ use Rattle.ledger.specs.Record.{ringOf}
 use Rattle.ledger.specs.Checks.{WaterLent, oneEach, watersFine}
 use Rattle.ledger.specs.TakeBack.{earlyRefusals}
 use Rattle.ledger.specs.declared.runs.Run.{Run}
-use Rattle.moves.specs.Given.{Given}
+use Rattle.moves.specs.Given.{Ground, Given}
 use Rattle.moves.specs.inner.Ready.{Ready}
-use Rattle.flood.specs.Refusals.{groundsFine, endFine, checkRefusals, stepChecks, runChecks}
+use Rattle.flood.specs.Refusals.{squareGroundFine, groundsFine, endFine, checkRefusals, stepChecks, runChecks}
 
 -- ---- what a call's answer says of the test that it is
 
@@ -59,6 +59,7 @@ record GivenFine (p : Plan) (g : Given) : Type 0 where
   marks-each : oneEach p (p .marks) ≡ true
   beds-each : oneEach p (g .lie .beds) ≡ true
   roughness-each : oneEach p (g .lie .roughness) ≡ true
+  rates-each : oneEach p (g .lie .rates) ≡ true
   marks-fine : marksFine (p .shape) (p .marks) ≡ true
   grounds-fine : groundsFine p (g .lie) ≡ true
   rain-fine : tableFine rainKind (g .rain) ≡ true
@@ -74,6 +75,7 @@ record SeenFine (p : Plan) (v : Seen) : Type 0 where
   length-from : leb 1 (v .length) ≡ true
   length-to : leb (v .length) mostLength ≡ true
   outflow-to : leb (v .outflow) mostOutflow ≡ true
+  soaked-to : leb (v .soaked) mostSoaked ≡ true
 
 record Tested (p : Plan) (g : Given) (five ring : Bool) (v : Seen) : Type 0 where
   given-fine : GivenFine p g
@@ -102,6 +104,7 @@ module _ (p : Plan) (g : Given) (five ring : Bool) (v : Seen) where
               marks-each = lent .1 .1 .0;
               beds-each = lent .1 .1 .1 .0;
               roughness-each = lent .1 .1 .1 .1 .0;
+              rates-each = lent .1 .1 .1 .1 .1 .0;
               marks-fine = lie .0;
               grounds-fine = lie .1 .0;
               rain-fine = tables .0;
@@ -110,24 +113,25 @@ module _ (p : Plan) (g : Given) (five ring : Bool) (v : Seen) where
             };
         seen-fine =
             record {
-              depths-each = lent .1 .1 .1 .1 .1 .0;
-              lasts-each = lent .1 .1 .1 .1 .1 .1 .0;
+              depths-each = lent .1 .1 .1 .1 .1 .1 .0;
+              lasts-each = lent .1 .1 .1 .1 .1 .1 .1 .0;
               waters-fine = rows .1 .1 .0;
               clock-to = run .1 .0;
               length-from = run .1 .1 .0;
               length-to = run .1 .1 .1 .0;
               outflow-to = run .1 .1 .1 .1 .0;
+              soaked-to = run .1 .1 .1 .1 .1 .0;
             };
         five-fine = rows .1 .1 .1 .1 .0;
         ring-fine = run .0;
       }
 
   module _ (t : Tested p g five ring v) where
-    run-fine : runValuesFine ring (v .clock) (v .length) (v .outflow) ≡ true
+    run-fine : runValuesFine ring (v .clock) (v .length) (v .outflow) (v .soaked) ≡ true
     unfolding runValuesFine
     run-fine =
         let s = t .seen-fine in
-        each-every _ (t .ring-fine, (s .clock-to, (s .length-from, (s .length-to, (s .outflow-to, tt)))))
+        each-every _ (t .ring-fine, (s .clock-to, (s .length-from, (s .length-to, (s .outflow-to, (s .soaked-to, tt))))))
 
     passes : refusal (checkRefusals p g five ring v) ≡ 0
     unfolding checkRefusals
@@ -137,7 +141,7 @@ module _ (p : Plan) (g : Given) (five ring : Bool) (v : Seen) where
         passed-refusal _ (
           each-every _ (
             q .shape-fine,
-            (q .side-fine, (q .marks-each, (q .beds-each, (q .roughness-each, (s .depths-each, (s .lasts-each, tt)))))),
+            (q .side-fine, (q .marks-each, (q .beds-each, (q .roughness-each, (q .rates-each, (s .depths-each, (s .lasts-each, tt))))))),
           ),
           (
             each-every _ (q .marks-fine, (q .grounds-fine, tt)),
@@ -169,6 +173,12 @@ module _ (p : Plan) where
   unfolding oneEach
   long-each l e = eq-eqb _ _ e
 
+  ground-at :
+      (o : Ground) → groundsFine p o ≡ true → (i : ℕ) → i < squares (p .shape) → shut p i ≡ false →
+      (groundFine (getD (o .beds) i 0) (getD (o .roughness) i 0) ≡ true) × (getD (o .rates) i 0 ≤ mostSoakRate)
+  unfolding groundsFine squareGroundFine rateFine
+  ground-at o e i l s = let both = every-each _ (or-right (shut p i) _ (all-at _ _ e i l) s) in (both .0, leb-true _ _ (both .1 .0))
+
   module _ (depths lasts : List ℕ) where
     water-at :
         watersFine p depths lasts ≡ true → (i : ℕ) → i < squares (p .shape) → shut p i ≡ false →
@@ -186,7 +196,7 @@ module _ (p : Plan) where
         all-of _ _ (λ i h. or-of (shut p i) _ (λ s. each-every _ (le-leb _ _ (d i h s), (le-leb _ _ (l i h s), tt))))
 
 -- row 1, for the calls that are lent everything
-module _ (s : Shape) (marks : List ℕ) (D : ℕ) (beds roughness depths lasts : List ℕ) where
+module _ (s : Shape) (marks : List ℕ) (D : ℕ) (beds roughness rates depths lasts : List ℕ) where
   abbrev pub lentTests : List Bool
   lentTests =
       shapeFine s
@@ -194,6 +204,7 @@ module _ (s : Shape) (marks : List ℕ) (D : ℕ) (beds roughness depths lasts :
       ∷ oneEach (plan s marks) marks
       ∷ oneEach (plan s marks) beds
       ∷ oneEach (plan s marks) roughness
+      ∷ oneEach (plan s marks) rates
       ∷ oneEach (plan s marks) depths
       ∷ oneEach (plan s marks) lasts
       ∷ []
@@ -205,10 +216,14 @@ module _ (s : Shape) (marks : List ℕ) (D : ℕ) (beds roughness depths lasts :
     pub lent-marked : Marked s marks
     lent-marked = record { fine = lent-fine; whole = each-long (plan s marks) _ (every-each _ e .1 .1 .0) }
 
-    pub lent-ground : (Marked s marks) × (length beds ≡ squares s) × (length roughness ≡ squares s)
+    pub lent-ground : (Marked s marks) × (length beds ≡ squares s) × (length roughness ≡ squares s) × (length rates ≡ squares s)
     lent-ground =
-        let t = every-each _ e in
-        (lent-marked, each-long (plan s marks) _ (t .1 .1 .1 .0), each-long (plan s marks) _ (t .1 .1 .1 .1 .0))
+        let t = every-each _ e in (
+          lent-marked,
+          each-long (plan s marks) _ (t .1 .1 .1 .0),
+          each-long (plan s marks) _ (t .1 .1 .1 .1 .0),
+          each-long (plan s marks) _ (t .1 .1 .1 .1 .1 .0),
+        )
 
     pub lent-water : WaterLent (plan s marks) depths lasts
     lent-water =
@@ -216,8 +231,8 @@ module _ (s : Shape) (marks : List ℕ) (D : ℕ) (beds roughness depths lasts :
         record {
           fine = lent-fine;
           marks-long = lent-marked .whole;
-          depths-long = each-long (plan s marks) _ (t .1 .1 .1 .1 .1 .0);
-          lasts-long = each-long (plan s marks) _ (t .1 .1 .1 .1 .1 .1 .0);
+          depths-long = each-long (plan s marks) _ (t .1 .1 .1 .1 .1 .1 .0);
+          lasts-long = each-long (plan s marks) _ (t .1 .1 .1 .1 .1 .1 .1 .0);
         }
 
 -- row 6, where K is known by another name
@@ -243,7 +258,6 @@ module _ (p : Plan) (g : Given) (ring : Bool) (v : Seen) where
     all-tests = tested p g (rulesFine (g .lie .rules)) ring v e
 
     pub ready : Ready p g v
-    unfolding groundsFine
     ready =
         let t = all-tests .given-fine in
         let s = all-tests .seen-fine in
@@ -264,12 +278,13 @@ module _ (p : Plan) (g : Given) (ring : Bool) (v : Seen) where
                           };
                       roughness-long = each-long p _ (t .roughness-each);
                       rules = rules;
-                      grounds =
-                          λ i l h. ground-is _ _ (or-right (shut p i) _ (all-at _ _ (t .grounds-fine) i l) h);
+                      grounds = λ i l h. ground-is _ _ (ground-at p (g .lie) (t .grounds-fine) i l h .0);
                       depths-to = λ i l h. water-at p _ _ (s .waters-fine) i l h .0;
                     };
                 lasts-long = each-long p _ (s .lasts-each);
                 lasts-to = λ i l h. water-at p _ _ (s .waters-fine) i l h .1;
+                rates-long = each-long p _ (t .rates-each);
+                rates-to = λ i l h. ground-at p (g .lie) (t .grounds-fine) i l h .1;
               };
           waters =
               record {
@@ -284,6 +299,7 @@ module _ (p : Plan) (g : Given) (ring : Bool) (v : Seen) where
           length-from = leb-true _ _ (s .length-from);
           length-to = leb-true _ _ (s .length-to);
           outflow-to = leb-true _ _ (s .outflow-to);
+          soaked-to = leb-true _ _ (s .soaked-to);
         }
 
     -- K, kept and newest are in range
@@ -325,6 +341,7 @@ pub record StillFine (p : Plan) (v : Seen) : Type 0 where
   pub length-from : 1 ≤ v .length
   pub length-to : v .length ≤ mostLength
   pub outflow-to : v .outflow ≤ mostOutflow
+  pub soaked-to : v .soaked ≤ mostSoaked
 
 pub checks-after :
     (p : Plan) (g : Given) (ring ring′ : Bool) (v v′ : Seen) → refusal (stepChecks p g ring v) ≡ 0 → ring′ ≡ true → StillFine p v′ →
@@ -343,6 +360,7 @@ checks-after p g ring ring′ v v′ e r s =
             length-from = le-leb _ _ (s .length-from);
             length-to = le-leb _ _ (s .length-to);
             outflow-to = le-leb _ _ (s .outflow-to);
+            soaked-to = le-leb _ _ (s .soaked-to);
           };
       five-fine = t .five-fine;
       ring-fine = r;

@@ -79,6 +79,7 @@ module _ (p : Plan) (g : Given) (w : World) where
           length-from = seen .length-from;
           length-to = seen .length-to;
           outflow-to = seen .outflow-to;
+          soaked-to = seen .soaked-to;
         }))
 
     -- the clock goes on

@@ -22,7 +22,7 @@ use Rattle.ledger.specs.Record.{roomSlots, ringOf, mostRecord, SizeOf}
 use Rattle.ledger.specs.After.{Moves, newDepth, depthsFit, lateRefusals, stepRecord, worldAfter, worldWith}
 use Rattle.ledger.specs.inner.Settle.{movesIn, settleNumber, settled, Settles, SettlesTo}
 use Rattle.grid.specs.declared.squares.Shape.{Shape}
-use Rattle.ledger.proofs.ReadBack.{step-long, step-lasted, step-gone, settled-is, late-settled}
+use Rattle.ledger.proofs.ReadBack.{step-long, step-lasted, step-gone, step-soaked, settled-is, late-settled}
 use Rattle.moves.specs.Given.{Given}
 use Rattle.moves.specs.Moves.{stepLength, stepDuration, stepMoves}
 use Rattle.moves.specs.inner.Added.{addedFits}
@@ -33,7 +33,7 @@ use Rattle.ledger.proofs.RunLaws.{answered-done, answered-refused}
 use Rattle.flood.specs.Refusals.{checkRefusals, stepChecks}
 use Rattle.flood.specs.Step.{stepNumber, stepped, Steps, MakesStep, Passes}
 use Rattle.flood.proofs.CheckLaws.{ready, ring-is, checks-named}
-use Rattle.moves.proofs.MoveLaws.{covered, step-length-to}
+use Rattle.moves.proofs.MoveLaws.{lost-covered, step-length-to}
 
 module _ (p : Plan) (g : Given) (w : World) (passed : refusal (stepChecks p g (ringOf p w) (seenOf w)) ≡ 0) where
   abbrev v : Seen
@@ -97,10 +97,13 @@ module _ (p : Plan) (g : Given) (w : World) (passed : refusal (stepChecks p g (r
           record-long = step-long p m w;
           newest-in = ring .newest-below;
           outflow-to = r .outflow-to;
+          soaked-to = r .soaked-to;
           clock-to = rw (step-lasted p m w) timely;
           length-to = step-length-to p g v r;
           depths-to = r .flows .lies .depths-to;
-          covered = λ i h s. rw (step-gone p m w i h s) (covered p (g .lie) (w .depths) (w .lasts) (stepDuration p g v) i s);
+          covered =
+              λ i h s.
+              rw (step-gone p m w i h s, step-soaked p m w i h s) (lost-covered p (g .lie) (w .depths) (w .lasts) (stepDuration p g v) i clock s);
         })
 
     pub step-settled :

@@ -7,9 +7,7 @@ use Prim.Native.Nat.{ℕ, _%_}
 use lib.Dec.{eqb, leb}
 use lib.ListN.{getD}
 use Rattle.reckon.specs.Tests.{every, allBelow, Row, _unless_, refusal}
-use Rattle.reckon.specs.Ranges.{lastClock}
-use Rattle.reckon.specs.Tests.{every, allBelow, Row, _unless_, refusal}
-use Rattle.reckon.specs.Ranges.{lastClock, sideFine}
+use Rattle.reckon.specs.Ranges.{lastClock, sideFine, rateFine}
 use Rattle.reckon.specs.Tables.{rainKind, inflowKind, tableFine}
 use Rattle.grid.specs.Squares.{squares, shapeFine}
 use Rattle.grid.specs.Marks.{marksFine, inflowSquaresFine}
@@ -21,9 +19,13 @@ use Rattle.ledger.specs.Record.{ringOf}
 use Rattle.ledger.specs.Checks.{oneEach, watersFine}
 use Rattle.moves.specs.Given.{Ground, Given}
 
--- 2: "bed or roughness of a square not closed out of range"
+-- 2: "bed or roughness of a square not closed out of range", "a rate above 1,000,000" (document 02, #106)
+unfoldable pub squareGroundFine : ℕ → ℕ → ℕ → Bool
+squareGroundFine bed k rate = every (groundFine bed k ∷ rateFine rate ∷ [])
+
 unfoldable pub groundsFine : Plan → Ground → Bool
-groundsFine p o = allBelow (squares (p .shape)) (λ i. shut p i || groundFine (getD (o .beds) i 0) (getD (o .roughness) i 0))
+groundsFine p o =
+    allBelow (squares (p .shape)) (λ i. shut p i || squareGroundFine (getD (o .beds) i 0) (getD (o .roughness) i 0) (getD (o .rates) i 0))
 
 -- 5: "end not a multiple of U or out of range"
 unfoldable pub endFine : Rules → ℕ → Bool
@@ -41,10 +43,11 @@ module _ (p : Plan) (g : Given) where
       ∷ oneEach p (p .marks)
       ∷ oneEach p (g .lie .beds)
       ∷ oneEach p (g .lie .roughness)
+      ∷ oneEach p (g .lie .rates)
       ∷ oneEach p (v .depths)
       ∷ oneEach p (v .lasts)
       ∷ [])
-      -- "mark above 2, exit off the rim, bed or roughness of a square not closed out of range"
+      -- "mark above 2, exit off the rim, bed or roughness of a square not closed out of range", and its soak rate
       ∷ 2 unless every (marksFine (p .shape) (p .marks) ∷ groundsFine p (g .lie) ∷ [])
       -- "depth or P of a square not closed out of range"
       ∷ 3 unless watersFine p (v .depths) (v .lasts)
@@ -54,7 +57,7 @@ module _ (p : Plan) (g : Given) where
       -- "q, step limits, U .. out of range; end not a multiple of U or out of range"
       ∷ 5 unless five
       -- "K = 0, or a run value out of range"
-      ∷ 6 unless runValuesFine ring (v .clock) (v .length) (v .outflow)
+      ∷ 6 unless runValuesFine ring (v .clock) (v .length) (v .outflow) (v .soaked)
       ∷ []
 
   -- a step's rows 1 to 6

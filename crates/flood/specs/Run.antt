@@ -58,9 +58,10 @@ stepsOn p g (suc n) w = stepped p g (stepsOn p g n w)
 
 -- ---- a fresh run
 
--- "A fresh run: clock 0, length = the longest of the rules it starts with, outflow 0, kept 0, newest K − 1"
+-- "A fresh run: clock 0, length = the longest of the rules it starts with, outflow 0, kept 0, newest K − 1", and the total soaked "0
+-- when fresh" (document 02, #106)
 unfoldable pub freshRun : Rules → ℕ → Run
-freshRun r k = record { clock = 0; length = r .longest; outflow = 0; kept = 0; newest = k - 1 }
+freshRun r k = record { clock = 0; length = r .longest; outflow = 0; kept = 0; newest = k - 1; soaked = 0 }
 
 module _ (p : Plan) (r : Rules) (lasts records : List ℕ) where
   -- it is lent shape, rules, marks, last leaving and the record room, and checks those

@@ -11,6 +11,7 @@ use ledger::record::record_size;
 use ledger::runs::Run;
 use ledger::runs::run_fine;
 use reckon::ranges::LAST_CLOCK;
+use reckon::ranges::rate_fine;
 use reckon::ranges::side_fine;
 use reckon::tables::inflow_fine;
 use reckon::tables::rain_fine;
@@ -26,35 +27,44 @@ ghost use Rattle.reckon.specs.Tests.{every, refusal};
 ghost use Rattle.reckon.specs.Tables.{rainKind, inflowKind, tableFine};
 ghost use Rattle.grid.specs.Squares.{ShapeInRange, shapeFine, squares};
 ghost use Rattle.grid.specs.Marks.{Marked, closed, inflowSquaresFine};
-ghost use Rattle.rule.specs.Rules.{groundFine, rulesFine};
+ghost use Rattle.rule.specs.Rules.{rulesFine};
 ghost use Rattle.reckon.specs.Ranges.{sideFine};
 ghost use Rattle.rule.specs.declared.rules.Rules as Declared;
 ghost use Rattle.ledger.specs.Runs.{plan, world, seenOf};
 ghost use Rattle.ledger.specs.Record.{roomSlots, ringOf};
 ghost use Rattle.ledger.specs.Checks.{oneEach};
 ghost use Rattle.moves.specs.Given.{ground, given};
-ghost use Rattle.flood.specs.Refusals.{Checks, checkRefusals, endFine, groundsFine};
+ghost use Rattle.flood.specs.Refusals.{Checks, checkRefusals, endFine, groundsFine, squareGroundFine};
 
 // Refusal 2 for the ground of one square.
-fn ground_at_fine(marks: &[u8], beds: &[u32], roughness: &[u32], square: usize) -> bool
-    requires { ⌜ (square < length (now marks)) × (square < length (now beds)) × (square < length (now roughness)) ⌝ }
-    ensures { λ r. ⌜ r ≡ (closed (now (marks .entry)) square || groundFine (getD (now (beds .entry)) square 0) (getD (now (roughness .entry)) square 0)) ⌝ }
+fn ground_at_fine(
+    marks: &[u8],
+    beds: &[u32],
+    roughness: &[u32],
+    rates: &[u32],
+    square: usize,
+) -> bool
+    requires { ⌜ (square < length (now marks)) × (square < length (now beds)) × (square < length (now roughness)) × (square < length (now rates)) ⌝ }
+    ensures { λ r. ⌜ r ≡ (closed (now (marks .entry)) square || squareGroundFine (getD (now (beds .entry)) square 0) (getD (now (roughness .entry)) square 0) (getD (now (rates .entry)) square 0)) ⌝ }
 {
     if is_closed(marks, square) {
         return true;
     }
-    ground_fine(beds[square], roughness[square])
+    if !ground_fine(beds[square], roughness[square]) {
+        return false;
+    }
+    rate_fine(rates[square])
 }
 
-// Refusal 2: bed and roughness of every square not closed are in range.
-fn grounds_fine(shape: Shape, marks: &[u8], beds: &[u32], roughness: &[u32]) -> bool
-    requires { ⌜ (Marked shape (now marks)) × (length (now beds) ≡ squares shape) × (length (now roughness) ≡ squares shape) ⌝ }
-    ensures { λ r. ⌜ ((rules : Declared.Rules) → r ≡ groundsFine (plan shape (now (marks .entry))) (ground rules (now (beds .entry)) (now (roughness .entry)))) ⌝ }
+// Refusal 2: bed, roughness and soak rate of every square not closed are in range.
+fn grounds_fine(shape: Shape, marks: &[u8], beds: &[u32], roughness: &[u32], rates: &[u32]) -> bool
+    requires { ⌜ (Marked shape (now marks)) × (length (now beds) ≡ squares shape) × (length (now roughness) ≡ squares shape) × (length (now rates) ≡ squares shape) ⌝ }
+    ensures { λ r. ⌜ ((rules : Declared.Rules) → r ≡ groundsFine (plan shape (now (marks .entry))) (ground rules (now (beds .entry)) (now (roughness .entry)) (now (rates .entry)))) ⌝ }
 {
     let squares = squares_of(shape);
     let mut square = 0;
     while square < squares {
-        if !ground_at_fine(marks, beds, roughness, square) {
+        if !ground_at_fine(marks, beds, roughness, rates, square) {
             return false;
         }
         square += 1;
@@ -69,10 +79,11 @@ fn lent_fine(
     marks: &[u8],
     beds: &[u32],
     roughness: &[u32],
+    rates: &[u32],
     depths: &[u32],
     lasts: &[u32],
 ) -> bool
-    ensures { λ r. ⌜ r ≡ every (shapeFine shape ∷ sideFine (rules .«square_side») ∷ oneEach (plan shape (now (marks .entry))) (now (marks .entry)) ∷ oneEach (plan shape (now (marks .entry))) (now (beds .entry)) ∷ oneEach (plan shape (now (marks .entry))) (now (roughness .entry)) ∷ oneEach (plan shape (now (marks .entry))) (now (depths .entry)) ∷ oneEach (plan shape (now (marks .entry))) (now (lasts .entry)) ∷ []) ⌝ }
+    ensures { λ r. ⌜ r ≡ every (shapeFine shape ∷ sideFine (rules .«square_side») ∷ oneEach (plan shape (now (marks .entry))) (now (marks .entry)) ∷ oneEach (plan shape (now (marks .entry))) (now (beds .entry)) ∷ oneEach (plan shape (now (marks .entry))) (now (roughness .entry)) ∷ oneEach (plan shape (now (marks .entry))) (now (rates .entry)) ∷ oneEach (plan shape (now (marks .entry))) (now (depths .entry)) ∷ oneEach (plan shape (now (marks .entry))) (now (lasts .entry)) ∷ []) ⌝ }
 {
     if !shape_fine(shape) {
         return false;
@@ -87,6 +98,9 @@ fn lent_fine(
         return false;
     }
     if !one_each(shape, roughness.len()) {
+        return false;
+    }
+    if !one_each(shape, rates.len()) {
         return false;
     }
     if !one_each(shape, depths.len()) {
@@ -147,21 +161,22 @@ pub(crate) fn checked(
     marks: &[u8],
     beds: &[u32],
     roughness: &[u32],
+    rates: &[u32],
     rain: &[u32],
     inflow: &[u32],
     depths: &[u32],
     lasts: &[u32],
     records: &[u32],
 ) -> u32
-    ensures { λ r. ⌜ r ≡ refusal (checkRefusals (plan shape (now (marks .entry))) (given (ground rules (now (beds .entry)) (now (roughness .entry))) (now (rain .entry)) (now (inflow .entry))) five (ringOf (plan shape (now (marks .entry))) (world (now (depths .entry)) (now (lasts .entry)) (now (records .entry)) run)) (seenOf (world (now (depths .entry)) (now (lasts .entry)) (now (records .entry)) run))) ⌝ }
+    ensures { λ r. ⌜ r ≡ refusal (checkRefusals (plan shape (now (marks .entry))) (given (ground rules (now (beds .entry)) (now (roughness .entry)) (now (rates .entry))) (now (rain .entry)) (now (inflow .entry))) five (ringOf (plan shape (now (marks .entry))) (world (now (depths .entry)) (now (lasts .entry)) (now (records .entry)) run)) (seenOf (world (now (depths .entry)) (now (lasts .entry)) (now (records .entry)) run))) ⌝ }
 {
-    if !lent_fine(shape, rules, marks, beds, roughness, depths, lasts) {
+    if !lent_fine(shape, rules, marks, beds, roughness, rates, depths, lasts) {
         return 1;
     }
     if !marks_fine(shape, marks) {
         return 2;
     }
-    if !grounds_fine(shape, marks, beds, roughness) {
+    if !grounds_fine(shape, marks, beds, roughness, rates) {
         return 2;
     }
     if !waters_fine(shape, marks, depths, lasts) {
@@ -188,13 +203,14 @@ pub fn check(
     marks: &[u8],
     beds: &[u32],
     roughness: &[u32],
+    rates: &[u32],
     rain: &[u32],
     inflow: &[u32],
     depths: &[u32],
     lasts: &[u32],
     records: &[u32],
 ) -> u32
-    ensures { λ r. ⌜ Checks (plan shape (now (marks .entry))) (given (ground rules (now (beds .entry)) (now (roughness .entry))) (now (rain .entry)) (now (inflow .entry))) end (world (now (depths .entry)) (now (lasts .entry)) (now (records .entry)) run) r ⌝ }
+    ensures { λ r. ⌜ Checks (plan shape (now (marks .entry))) (given (ground rules (now (beds .entry)) (now (roughness .entry)) (now (rates .entry))) (now (rain .entry)) (now (inflow .entry))) end (world (now (depths .entry)) (now (lasts .entry)) (now (records .entry)) run) r ⌝ }
 {
     checked(
         shape,
@@ -204,6 +220,7 @@ pub fn check(
         marks,
         beds,
         roughness,
+        rates,
         rain,
         inflow,
         depths,

@@ -94,6 +94,7 @@ pub fn fresh_run(rules: Rules, slots: usize) -> Run
         outflow: 0,
         kept: 0,
         newest: slots - 1,
+        soaked: 0,
     }
 }
 

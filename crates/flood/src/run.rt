@@ -36,6 +36,7 @@ fn run_on(
     marks: &[u8],
     beds: &[u32],
     roughness: &[u32],
+    rates: &[u32],
     rain: &[u32],
     inflow: &[u32],
     depths: &mut [u32],
@@ -44,9 +45,9 @@ fn run_on(
     rec: &mut [u32],
     room: &mut [u32],
 ) -> Ran
-    requires { ⌜ Passes (plan shape (now marks)) (given (ground rules (now beds) (now roughness)) (now rain) (now inflow)) (world (now depths) (now lasts) (now records) run) ⌝ }
+    requires { ⌜ Passes (plan shape (now marks)) (given (ground rules (now beds) (now roughness) (now rates)) (now rain) (now inflow)) (world (now depths) (now lasts) (now records) run) ⌝ }
     requires { ⌜ (length (now rec) ≡ recordSize (plan shape (now marks))) × (length (now room) ≡ squares shape) × (end ≤ lastClock) ⌝ }
-    ensures { λ r. ⌜ RunsOn (plan shape (now (marks .entry))) (given (ground rules (now (beds .entry)) (now (roughness .entry))) (now (rain .entry)) (now (inflow .entry))) end (world (now (depths .entry)) (now (lasts .entry)) (now (records .entry)) run) r (now (depths .exit)) (now (lasts .exit)) (now (records .exit)) ⌝ }
+    ensures { λ r. ⌜ RunsOn (plan shape (now (marks .entry))) (given (ground rules (now (beds .entry)) (now (roughness .entry)) (now (rates .entry))) (now (rain .entry)) (now (inflow .entry))) end (world (now (depths .entry)) (now (lasts .entry)) (now (records .entry)) run) r (now (depths .exit)) (now (lasts .exit)) (now (records .exit)) ⌝ }
 {
     let mut at = run;
     let mut steps: u64 = 0;
@@ -58,6 +59,7 @@ fn run_on(
             marks,
             beds,
             roughness,
+            rates,
             rain,
             inflow,
             depths,
@@ -94,13 +96,14 @@ pub fn run_to(
     marks: &[u8],
     beds: &[u32],
     roughness: &[u32],
+    rates: &[u32],
     rain: &[u32],
     inflow: &[u32],
     depths: &mut [u32],
     lasts: &mut [u32],
     records: &mut [u32],
 ) -> Ran
-    ensures { λ r. ⌜ RunsTo (plan shape (now (marks .entry))) (given (ground rules (now (beds .entry)) (now (roughness .entry))) (now (rain .entry)) (now (inflow .entry))) end (world (now (depths .entry)) (now (lasts .entry)) (now (records .entry)) run) r (now (depths .exit)) (now (lasts .exit)) (now (records .exit)) ⌝ }
+    ensures { λ r. ⌜ RunsTo (plan shape (now (marks .entry))) (given (ground rules (now (beds .entry)) (now (roughness .entry)) (now (rates .entry))) (now (rain .entry)) (now (inflow .entry))) end (world (now (depths .entry)) (now (lasts .entry)) (now (records .entry)) run) r (now (depths .exit)) (now (lasts .exit)) (now (records .exit)) ⌝ }
 {
     let number = check(
         shape,
@@ -110,6 +113,7 @@ pub fn run_to(
         marks,
         beds,
         roughness,
+        rates,
         rain,
         inflow,
         depths,
@@ -135,6 +139,7 @@ pub fn run_to(
         marks,
         beds,
         roughness,
+        rates,
         rain,
         inflow,
         depths,

@@ -32,6 +32,7 @@ pub(crate) fn make_step(
     marks: &[u8],
     beds: &[u32],
     roughness: &[u32],
+    rates: &[u32],
     rain: &[u32],
     inflow: &[u32],
     depths: &mut [u32],
@@ -40,9 +41,9 @@ pub(crate) fn make_step(
     rec: &mut [u32],
     room: &mut [u32],
 ) -> Settled
-    requires { ⌜ Passes (plan shape (now marks)) (given (ground rules (now beds) (now roughness)) (now rain) (now inflow)) (world (now depths) (now lasts) (now records) run) ⌝ }
+    requires { ⌜ Passes (plan shape (now marks)) (given (ground rules (now beds) (now roughness) (now rates)) (now rain) (now inflow)) (world (now depths) (now lasts) (now records) run) ⌝ }
     requires { ⌜ (length (now rec) ≡ recordSize (plan shape (now marks))) × (length (now room) ≡ squares shape) ⌝ }
-    ensures { λ r. ⌜ MakesStep (plan shape (now (marks .entry))) (given (ground rules (now (beds .entry)) (now (roughness .entry))) (now (rain .entry)) (now (inflow .entry))) (world (now (depths .entry)) (now (lasts .entry)) (now (records .entry)) run) (r .refused) (world (now (depths .exit)) (now (lasts .exit)) (now (records .exit)) (r .run)) ⌝ }
+    ensures { λ r. ⌜ MakesStep (plan shape (now (marks .entry))) (given (ground rules (now (beds .entry)) (now (roughness .entry)) (now (rates .entry))) (now (rain .entry)) (now (inflow .entry))) (world (now (depths .entry)) (now (lasts .entry)) (now (records .entry)) run) (r .refused) (world (now (depths .exit)) (now (lasts .exit)) (now (records .exit)) (r .run)) ⌝ }
 {
     let length = step_length(
         shape,
@@ -74,17 +75,19 @@ pub(crate) fn make_step(
         marks,
         beds,
         roughness,
+        rates,
         depths,
         lasts,
         room,
         run.length,
+        run.clock,
         duration,
         rec,
     );
     settle(shape, marks, rec, length, run, depths, lasts, records, room)
 }
 
-// The inner step, for calls that have made the checks: refused by 7, 8 or 9, or made.
+// The inner step, for calls that have made the checks: refused by 7, 8, 9 or 15, or made.
 pub fn step_on(
     shape: Shape,
     rules: Rules,
@@ -92,14 +95,15 @@ pub fn step_on(
     marks: &[u8],
     beds: &[u32],
     roughness: &[u32],
+    rates: &[u32],
     rain: &[u32],
     inflow: &[u32],
     depths: &mut [u32],
     lasts: &mut [u32],
     records: &mut [u32],
 ) -> Settled
-    requires { ⌜ Passes (plan shape (now marks)) (given (ground rules (now beds) (now roughness)) (now rain) (now inflow)) (world (now depths) (now lasts) (now records) run) ⌝ }
-    ensures { λ r. ⌜ MakesStep (plan shape (now (marks .entry))) (given (ground rules (now (beds .entry)) (now (roughness .entry))) (now (rain .entry)) (now (inflow .entry))) (world (now (depths .entry)) (now (lasts .entry)) (now (records .entry)) run) (r .refused) (world (now (depths .exit)) (now (lasts .exit)) (now (records .exit)) (r .run)) ⌝ }
+    requires { ⌜ Passes (plan shape (now marks)) (given (ground rules (now beds) (now roughness) (now rates)) (now rain) (now inflow)) (world (now depths) (now lasts) (now records) run) ⌝ }
+    ensures { λ r. ⌜ MakesStep (plan shape (now (marks .entry))) (given (ground rules (now (beds .entry)) (now (roughness .entry)) (now (rates .entry))) (now (rain .entry)) (now (inflow .entry))) (world (now (depths .entry)) (now (lasts .entry)) (now (records .entry)) run) (r .refused) (world (now (depths .exit)) (now (lasts .exit)) (now (records .exit)) (r .run)) ⌝ }
 {
     let size = record_size(shape);
     let squares = squares_of(shape);
@@ -112,6 +116,7 @@ pub fn step_on(
         marks,
         beds,
         roughness,
+        rates,
         rain,
         inflow,
         depths,
@@ -130,13 +135,14 @@ pub fn step(
     marks: &[u8],
     beds: &[u32],
     roughness: &[u32],
+    rates: &[u32],
     rain: &[u32],
     inflow: &[u32],
     depths: &mut [u32],
     lasts: &mut [u32],
     records: &mut [u32],
 ) -> Answer
-    ensures { λ r. ⌜ Steps (plan shape (now (marks .entry))) (given (ground rules (now (beds .entry)) (now (roughness .entry))) (now (rain .entry)) (now (inflow .entry))) (world (now (depths .entry)) (now (lasts .entry)) (now (records .entry)) run) r (now (depths .exit)) (now (lasts .exit)) (now (records .exit)) ⌝ }
+    ensures { λ r. ⌜ Steps (plan shape (now (marks .entry))) (given (ground rules (now (beds .entry)) (now (roughness .entry)) (now (rates .entry))) (now (rain .entry)) (now (inflow .entry))) (world (now (depths .entry)) (now (lasts .entry)) (now (records .entry)) run) r (now (depths .exit)) (now (lasts .exit)) (now (records .exit)) ⌝ }
 {
     let number = checked(
         shape,
@@ -146,6 +152,7 @@ pub fn step(
         marks,
         beds,
         roughness,
+        rates,
         rain,
         inflow,
         depths,
@@ -162,6 +169,7 @@ pub fn step(
         marks,
         beds,
         roughness,
+        rates,
         rain,
         inflow,
         depths,

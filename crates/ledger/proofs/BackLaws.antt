@@ -18,8 +18,8 @@ use Rattle.grid.specs.Squares.{squares, shapeFine}
 use Rattle.grid.specs.Marks.{marksFine}
 use Rattle.grid.proofs.SquareLaws.{ranges-of-fine, fine-of-ranges}
 use Rattle.ledger.specs.Runs.{Plan, World, world, ofDepths, runFine, answered}
-use Rattle.ledger.specs.Flows.{shut, gone, came, offGrid}
-use Rattle.ledger.specs.Record.{recordSize, lastedIn, leavesIn, lastIn, addedIn, roomSlots, newestRecord}
+use Rattle.ledger.specs.Flows.{shut, gone, came, offGrid, soakedGrid}
+use Rattle.ledger.specs.Record.{recordSize, lastedIn, leavesIn, lastIn, addedIn, soakedIn, roomSlots, newestRecord}
 use Rattle.ledger.specs.Checks.{oneEach, watersFine, timesFine, WaterLent}
 use Rattle.ledger.specs.TakeBack.{heldAndGone, cameAndAdded, depthBefore, squareRestorable, restorable, worldBefore, backRefusals, backNumber, takenBack, TakesBack, earlyRefusals, runBefore}
 use Rattle.ledger.specs.inner.TakeBack.{Kept, EarlyRefused, RecordAndDepths, Restores}
@@ -43,20 +43,24 @@ module _ (p : Plan) (rec depths : List ℕ) (i : ℕ) where
     unfolding squareRestorable
     restorable-last q h = rw e (sym (every-fails _ 0 (lt-leb (lastIn rec i) mostDepth (omega arith))))
 
-    module _ {more less : ℕ} (q : more ≡ getD depths i 0 + gone (leavesIn rec) i) (r : less ≡ came p (leavesIn rec) i + addedIn rec i) where
+    module _ {more less : ℕ} (q : more ≡ getD depths i 0 + (gone (leavesIn rec) i + soakedIn rec i)) (r : less ≡ came p (leavesIn rec) i + addedIn rec i) where
       pub restorable-short : more < less → false ≡ squareRestorable p (ofDepths depths) rec i
       unfolding squareRestorable heldAndGone cameAndAdded
       restorable-short h =
-          rw e (sym (every-fails _ 1 (lt-leb (came p (leavesIn rec) i + addedIn rec i) (getD depths i 0 + gone (leavesIn rec) i) (omega arith))))
+          rw e (sym (every-fails _ 1 (lt-leb (came p (leavesIn rec) i + addedIn rec i) (getD depths i 0 + (gone (leavesIn rec) i + soakedIn rec i)) (omega arith))))
 
       pub restorable-decides : {l : ℕ} → l ≡ lastIn rec i → l ≤ mostDepth → less ≤ more → leb (more - less) mostDepth ≡ squareRestorable p (ofDepths depths) rec i
       unfolding squareRestorable depthBefore heldAndGone cameAndAdded
       restorable-decides s h g =
           rw (e, q, r)
           (every-decides
-          (leb (lastIn rec i) mostDepth ∷ leb (came p (leavesIn rec) i + addedIn rec i) (getD depths i 0 + gone (leavesIn rec) i) ∷ [])
-          (leb (getD depths i 0 + gone (leavesIn rec) i - (came p (leavesIn rec) i + addedIn rec i)) mostDepth)
-          (le-leb (lastIn rec i) mostDepth (omega arith), (le-leb (came p (leavesIn rec) i + addedIn rec i) (getD depths i 0 + gone (leavesIn rec) i) (omega arith), tt)))
+          (leb (lastIn rec i) mostDepth
+          ∷ leb (came p (leavesIn rec) i + addedIn rec i) (getD depths i 0 + (gone (leavesIn rec) i + soakedIn rec i))
+          ∷ [])
+          (leb (getD depths i 0 + (gone (leavesIn rec) i + soakedIn rec i) - (came p (leavesIn rec) i + addedIn rec i)) mostDepth) (
+            le-leb (lastIn rec i) mostDepth (omega arith),
+            (le-leb (came p (leavesIn rec) i + addedIn rec i) (getD depths i 0 + (gone (leavesIn rec) i + soakedIn rec i)) (omega arith), tt),
+          ))
 
     -- what a square that passed may rely on
     pub restores-of : squareRestorable p (ofDepths depths) rec i ≡ true → Restores p rec depths i
@@ -80,15 +84,17 @@ module _ (p : Plan) (w : World) (rec : List ℕ) where
   abbrev tests : List Bool
   tests =
       timesFine rec ∷ leb (lastedIn rec) (w .run .clock) ∷ allBelow (squares (p .shape)) (squareRestorable p w rec)
-      ∷ leb (offGrid p (leavesIn rec)) (w .run .outflow) ∷ []
+      ∷ leb (offGrid p (leavesIn rec)) (w .run .outflow) ∷ leb (soakedGrid p (soakedIn rec)) (w .run .soaked) ∷ []
 
-  pub record-unfit : (k : ℕ) → getD tests k true ≡ false → Walked p rec (restorable p w rec) (record { fits = false; off = 0 })
+  pub record-unfit : (k : ℕ) → getD tests k true ≡ false → Walked p rec (restorable p w rec) (record { fits = false; off = 0; soaked = 0 })
   unfolding restorable
   record-unfit k e = walked-unfit p rec (every-fails tests k e)
 
-  pub record-fit : {found : Found} → found .fits ≡ true → found .off ≡ offGrid p (leavesIn rec) → Each tests → Walked p rec (restorable p w rec) found
+  pub record-fit :
+      {found : Found} → found .fits ≡ true → found .off ≡ offGrid p (leavesIn rec) → found .soaked ≡ soakedGrid p (soakedIn rec) →
+      Each tests → Walked p rec (restorable p w rec) found
   unfolding restorable
-  record-fit f o h = record { fits-is = f ∙ sym (each-every tests h); off-is = λ z. o }
+  record-fit f o s h = record { fits-is = f ∙ sym (each-every tests h); off-is = λ z. o; soaked-is = λ z. s }
 
 -- what a record that passed may rely on, and that it passes by depths and run alone
 module _ (p : Plan) (w : World) (rec : List ℕ) where
@@ -110,6 +116,9 @@ module _ (p : Plan) (w : World) (rec : List ℕ) where
 
     pub outflow-covers : offGrid p (leavesIn rec) ≤ w .run .outflow
     outflow-covers = leb-true _ _ (each .1 .1 .1 .0)
+
+    pub soaked-covers : soakedGrid p (soakedIn rec) ≤ w .run .soaked
+    soaked-covers = leb-true _ _ (each .1 .1 .1 .1 .0)
 
 -- ---- refusals before 11
 
@@ -199,15 +208,16 @@ module _ (p : Plan) (w : World) where
         as-it-was (λ z. omega arith) (sym (late k ∙ refusal-here 11 [] (ap (restorable p w) (sym q) ∙ (sym (alone p w rec) ∙ e))))
 
     pub takes-back :
-        restorable p (world (w .depths) [] [] (w .run)) rec ≡ true → {u : Run} {d l : List ℕ} {slots off : ℕ} →
-        slots ≡ roomSlots p (w .records) → off ≡ offGrid p (leavesIn rec) → u ≡ runBefore slots (w .run) rec off →
+        restorable p (world (w .depths) [] [] (w .run)) rec ≡ true → {u : Run} {d l : List ℕ} {slots off soaked : ℕ} →
+        slots ≡ roomSlots p (w .records) → off ≡ offGrid p (leavesIn rec) → soaked ≡ soakedGrid p (soakedIn rec) →
+        u ≡ runBefore slots (w .run) rec off soaked →
         d ≡ filled (squares (p .shape)) (shut p) (depthBefore p (ofDepths (w .depths)) rec) (w .depths) →
         l ≡ filled (squares (p .shape)) (shut p) (lastIn rec) (w .lasts) → TakesBack p w (Done u) d l
     unfolding takenBack worldBefore depthBefore heldAndGone cameAndAdded
-    takes-back e {u} {d} {l} {slots} {off} s o r g h =
+    takes-back e {u} s o t r g h =
         let z : backNumber p w ≡ 0 = late k ∙ passed-refusal _ (ap (restorable p w) (sym q) ∙ (sym (alone p w rec) ∙ e), tt) in
         let back : takenBack p w ≡ worldBefore p w rec = pick-true _ _ (eq-eqb (backNumber p w) 0 z) ∙ ap (worldBefore p w) (sym q) in
-        let run-is : u ≡ worldBefore p w rec .run = rw (r, s, o) in
+        let run-is : u ≡ worldBefore p w rec .run = rw (r, s, o, t) in
         record {
           answer = ap Done (run-is ∙ ap (λ (v : World). v .run) (sym back)) ∙ answered-done (takenBack p w .run) z;
           depths-are = g ∙ ap (λ (v : World). v .depths) (sym back);

@@ -14,7 +14,7 @@ use Rattle.trials.specs.Series.{Outcome, Engine, State, refused, done, andThen,
 use Rattle.trials.proofs.StepLaws.{not-done}
 use Rattle.ledger.specs.Runs.{Plan, World, Seen, seenOf}
 use Rattle.ledger.specs.Record.{roomSlots, newestRecord, ringOf}
-use Rattle.ledger.specs.After.{Moves, remains, newDepth, depthsFit, newOutflow, lateRefusals, stepRecord, worldAfter}
+use Rattle.ledger.specs.After.{Moves, remains, newDepth, depthsFit, newOutflow, newSoaked, lateRefusals, stepRecord, worldAfter}
 use Rattle.ledger.specs.TakeBack.{restorable, worldBefore, backRefusals, backNumber, takenBack, earlyRefusals}
 use Rattle.ledger.specs.inner.Engine.{bare, StepRule, outcome, madeNumber, engine, stateOf}
 use Rattle.ledger.proofs.EngineLaws.{restorable-bare, before-bare}
@@ -136,7 +136,7 @@ module _ (p : Plan) (w : World) where
         step (engine p rule) g (stateOf p rule w)
         ≡ outcome (refusal (rule .checks (ringOf p w) g (seenOf w) ++ lateRefusals p (rule .moves g (seenOf w)) w))
         (stateOf p rule (worldAfter p (rule .moves g (seenOf w)) w))
-    unfolding step worldAfter stepRecord lateRefusals depthsFit newDepth remains newOutflow
+    unfolding step worldAfter stepRecord lateRefusals depthsFit newDepth remains newOutflow newSoaked
     step-bridge g =
         let m : Moves = rule .moves g (seenOf w) in
         outcome-then (madeNumber p rule (ringOf p w) g (seenOf w)) (seenOf (worldAfter p m (bare (seenOf w))), stepRecord p m (bare (seenOf w))) (stepped E K s)

@@ -10,7 +10,7 @@ use lib.Seq.{ext-getD}
 use borrow.Author.Tests.{leb-true, eqb-true, le-leb, eq-eqb}
 use Rattle.reckon.specs.Tests.{refusal}
 use Rattle.reckon.specs.Lists.{filled}
-use Rattle.reckon.specs.Ranges.{mostDepth, mostLength, lastClock, mostOutflow, waterFine}
+use Rattle.reckon.specs.Ranges.{mostDepth, mostLength, lastClock, mostOutflow, mostSoaked, waterFine}
 use Rattle.reckon.proofs.TestLaws.{or-right, or-of, every-each, each-every, all-at, all-of, refusal-passed, passed-refusal, refusal-both, pick-true}
 use Rattle.reckon.proofs.ListLaws.{length-filled, filled-in, filled-skipped}
 use Rattle.trials.specs.Series.{done}
@@ -20,13 +20,13 @@ use Rattle.trials.proofs.StepLaws.{not-done}
 use Rattle.grid.specs.Squares.{squares, shapeFine}
 use Rattle.grid.specs.Marks.{marksFine}
 use Rattle.ledger.specs.Runs.{Plan, World, Seen, seenOf, runValuesFine}
-use Rattle.ledger.specs.Flows.{shut, gone, came, offGrid}
-use Rattle.ledger.specs.Record.{recordSize, lastedIn, leavesIn, lastIn, roomSlots}
-use Rattle.ledger.specs.After.{Moves, remains, newDepth, depthsFit, newOutflow, lateRefusals, stepRecord, worldAfter}
+use Rattle.ledger.specs.Flows.{shut, gone, came, offGrid, soakedGrid}
+use Rattle.ledger.specs.Record.{recordSize, lastedIn, leavesIn, lastIn, soakedIn, roomSlots}
+use Rattle.ledger.specs.After.{Moves, remains, newDepth, depthsFit, newOutflow, newSoaked, lateRefusals, stepRecord, worldAfter}
 use Rattle.ledger.specs.Checks.{oneEach, watersFine, timesFine}
 use Rattle.ledger.specs.TakeBack.{heldAndGone, cameAndAdded, depthBefore, squareRestorable, restorable, worldBefore, earlyRefusals}
 use Rattle.ledger.specs.inner.Engine.{bare, StepRule, outcome, madeNumber, engine, Owed}
-use Rattle.ledger.proofs.ReadBack.{step-long, step-held, step-lasted, step-off, step-came, step-gone, step-last, step-added}
+use Rattle.ledger.proofs.ReadBack.{step-long, step-held, step-lasted, step-off, step-came, step-gone, step-last, step-added, step-soaked, step-soaked-grid}
 
 -- a room filled in part, and then in the same places with the old numbers, is as it was
 refilled :
@@ -69,6 +69,7 @@ module _ (p : Plan) where
     pub length-from : 1 ≤ v .length
     pub length-to : v .length ≤ mostLength
     pub outflow-to : v .outflow ≤ mostOutflow
+    pub soaked-to : v .soaked ≤ mostSoaked
 
   module _ (ring : Bool) (v : Seen) where
     waters-at : watersFine p (v .depths) (v .lasts) ≡ true → (i : ℕ) → i < squares (p .shape) → shut p i ≡ false →
@@ -97,6 +98,7 @@ module _ (p : Plan) where
           length-from = leb-true _ _ (run .1 .1 .0);
           length-to = leb-true _ _ (run .1 .1 .1 .0);
           outflow-to = leb-true _ _ (run .1 .1 .1 .1 .0);
+          soaked-to = leb-true _ _ (run .1 .1 .1 .1 .1 .0);
         }
 
     waters-of : Looks ring v → watersFine p (v .depths) (v .lasts) ≡ true
@@ -119,7 +121,7 @@ module _ (p : Plan) where
     lasts-to : m .duration ≤ mostLength
     length-from : 1 ≤ m .length
     length-to : m .length ≤ mostLength
-    covered : (i : ℕ) → i < squares (p .shape) → shut p i ≡ false → gone (m .leaves) i ≤ getD (v .depths) i 0
+    covered : (i : ℕ) → i < squares (p .shape) → shut p i ≡ false → gone (m .leaves) i + m .soaked i ≤ getD (v .depths) i 0
 
   module _ (m : Moves) (w : World) (L : Looks true (seenOf w)) (B : Bounded m (seenOf w)) (late : refusal (lateRefusals p m w) ≡ 0) where
     abbrev nextWorld : World
@@ -141,6 +143,10 @@ module _ (p : Plan) where
     unfolding lateRefusals
     outflow-fits = leb-true _ _ (refusal-passed (lateRefusals p m w) tt late .1 .1 .0)
 
+    soaked-fits : newSoaked p m w ≤ mostSoaked
+    unfolding lateRefusals
+    soaked-fits = leb-true _ _ (refusal-passed (lateRefusals p m w) tt late .1 .1 .1 .0)
+
     -- a square that is not closed
     module _ (i : ℕ) (inside : i < squares (p .shape)) (not-closed : shut p i ≡ false) where
       depth-after : getD (nextWorld .depths) i 0 ≡ newDepth p m w i
@@ -151,9 +157,9 @@ module _ (p : Plan) where
       unfolding worldAfter
       last-after = filled-in (squares (p .shape)) (shut p) (gone (m .leaves)) (w .lasts) i (omega (arith, L .lasts-long)) inside not-closed
 
-      held-is : heldAndGone p nextWorld nextRecord i ≡ newDepth p m w i + gone (m .leaves) i
+      held-is : heldAndGone p nextWorld nextRecord i ≡ newDepth p m w i + (gone (m .leaves) i + m .soaked i)
       unfolding heldAndGone
-      held-is = rw (depth-after, step-gone p m w i inside not-closed)
+      held-is = rw (depth-after, step-gone p m w i inside not-closed, step-soaked p m w i inside not-closed)
 
       came-is : cameAndAdded p nextWorld nextRecord i ≡ came p (m .leaves) i + m .added i
       unfolding cameAndAdded
@@ -163,7 +169,7 @@ module _ (p : Plan) where
       unfolding newDepth remains
       came-fits = omega (arith, held-is, came-is)
 
-      -- what went is no more than what was there, so that adding it again gives what was there
+      -- what went and soaked is no more than what was there, so that adding it again gives what was there
       depth-back : depthBefore p nextWorld nextRecord i ≡ getD (w .depths) i 0
       unfolding depthBefore newDepth remains
       depth-back = omega (arith, held-is, came-is, B .covered i inside not-closed)
@@ -184,6 +190,7 @@ module _ (p : Plan) where
           length-from = B .length-from;
           length-to = B .length-to;
           outflow-to = outflow-fits;
+          soaked-to = soaked-fits;
         }
 
     square-back : (i : ℕ) → i < squares (p .shape) → squareRestorable p nextWorld nextRecord i ≡ true
@@ -199,15 +206,17 @@ module _ (p : Plan) where
     times-back = each-every _ (omega (arith, le-leb, step-held p m w, step-lasted p m w))
 
     restorable-after : restorable p nextWorld nextRecord ≡ true
-    unfolding restorable worldAfter newOutflow
+    unfolding restorable worldAfter newOutflow newSoaked
     restorable-after =
         let in-time : lastedIn nextRecord ≤ w .run .clock + m .duration = omega (arith, step-lasted p m w) in
         let in-total : offGrid p (leavesIn nextRecord) ≤ w .run .outflow + offGrid p (m .leaves) = omega (arith, step-off p m w) in
-        each-every _ (times-back, (le-leb _ _ in-time, (all-of (squares (p .shape)) _ square-back, (le-leb _ _ in-total, tt))))
+        let in-soaked : soakedGrid p (soakedIn nextRecord) ≤ w .run .soaked + soakedGrid p (m .soaked) = omega (arith, step-soaked-grid p m w) in
+        each-every _ (times-back, (le-leb _ _ in-time, (all-of (squares (p .shape)) _ square-back, (le-leb _ _ in-total, (le-leb _ _ in-soaked, tt)))))
 
     before-after : seenOf (worldBefore p nextWorld nextRecord) ≡ seenOf w
-    unfolding worldBefore worldAfter newOutflow
-    before-after = λ j. record { depths = depths j; lasts = lasts j; clock = clock j; length = step-held p m w j; outflow = outflow j }
+    unfolding worldBefore worldAfter newOutflow newSoaked
+    before-after =
+        λ j. record { depths = depths j; lasts = lasts j; clock = clock j; length = step-held p m w j; outflow = outflow j; soaked = soaked j }
       where
         depths : filled (squares (p .shape)) (shut p) (depthBefore p nextWorld nextRecord) (nextWorld .depths) ≡ w .depths
         depths = refilled (squares (p .shape)) (shut p) (depthBefore p nextWorld nextRecord) (newDepth p m w) (w .depths) (L .depths-long) depth-back
@@ -220,6 +229,9 @@ module _ (p : Plan) where
 
         outflow : w .run .outflow + offGrid p (m .leaves) - offGrid p (leavesIn nextRecord) ≡ w .run .outflow
         outflow = omega (arith, step-off p m w)
+
+        soaked : w .run .soaked + soakedGrid p (m .soaked) - soakedGrid p (soakedIn nextRecord) ≡ w .run .soaked
+        soaked = omega (arith, step-soaked-grid p m w)
 
   -- ---- what is seen needs no record room
 

@@ -16,8 +16,8 @@ use Rattle.grid.specs.Squares.{north, east, south, west, sides, mostSquares, sq
 use Rattle.grid.proofs.SquareLaws.{each-within, north-is, east-is, south-is, west-is}
 use Rattle.grid.proofs.MarkLaws.{closed-past}
 use Rattle.ledger.specs.Runs.{Plan}
-use Rattle.ledger.specs.Flows.{Leaves, fourSides, shut, gone, sent, came, offSide, offSquare, offGrid}
-use Rattle.ledger.specs.Record.{wordPlace, addedWord, leavesIn, addedIn}
+use Rattle.ledger.specs.Flows.{Leaves, fourSides, shut, gone, sent, came, offSide, offSquare, offGrid, soakedSquare, soakedGrid}
+use Rattle.ledger.specs.Record.{wordPlace, addedWord, soakedWord, leavesIn, addedIn, soakedIn}
 
 pub four-sides : (f : ℕ → ℕ) {a b c d : ℕ} → a ≡ f north → b ≡ f east → c ≡ f south → d ≡ f west → a + b + c + d ≡ fourSides f
 four-sides f p q r s = rw (p, q, r, s)
@@ -88,6 +88,10 @@ module _ (rec : List ℕ) (words : (k : ℕ) → getD rec k 0 < 4294967296) wher
   unfolding addedIn
   added-small i = omega (arith, words (wordPlace i addedWord))
 
+  pub soaked-small : (i : ℕ) → soakedIn rec i ≤ word
+  unfolding soakedIn
+  soaked-small i = omega (arith, words (wordPlace i soakedWord))
+
   pub gone-small : (i : ℕ) → gone (leavesIn rec) i ≤ fourWords
   unfolding gone
   gone-small i = four-small (leavesIn rec i) (leaving-small i)
@@ -115,3 +119,19 @@ module _ (rec : List ℕ) (words : (k : ℕ) → getD rec k 0 < 4294967296) wher
     pub off-grid-small : ShapeInRange (p .shape) → offGrid p (leavesIn rec) ≤ mostSquares * fourWords
     unfolding offGrid
     off-grid-small f = omega (arith, off-sum-small (squares (p .shape)), mul-le-mul-right fourWords (f .few))
+
+    -- what soaked of a square not closed, as the code finds it
+    pub soaked-made : (i : ℕ) {x : ℕ} → x ≡ pick (shut p i) 0 (soakedIn rec i) → x ≡ soakedSquare p (soakedIn rec) i
+    unfolding soakedSquare
+    soaked-made i e = e
+
+    pub soaked-square-small : (i : ℕ) → soakedSquare p (soakedIn rec) i ≤ word
+    unfolding soakedSquare
+    soaked-square-small i = pick-both (λ (k : ℕ). k ≤ word) _ (omega arith) (soaked-small i)
+
+    pub soaked-sum-small : (n : ℕ) → sumBelow n (soakedSquare p (soakedIn rec)) ≤ n * word
+    soaked-sum-small n = sum-le n word (soakedSquare p (soakedIn rec)) (λ i l. soaked-square-small i)
+
+    pub soaked-grid-small : ShapeInRange (p .shape) → soakedGrid p (soakedIn rec) ≤ mostSquares * word
+    unfolding soakedGrid
+    soaked-grid-small f = omega (arith, soaked-sum-small (squares (p .shape)), mul-le-mul-right word (f .few))

@@ -1,4 +1,4 @@
--- A written record is read back, for each square has its own six places; so a step settled by its record is the step.
+-- A written record is read back, for each square has its own seven places; so a step settled by its record is the step.
 -- Assumes nothing.
 use mathlib.Core.Path.{_≡_, refl, ap, _∙_}
 use mathlib.Core.Bool.{Bool, true, false, _||_}
@@ -8,18 +8,18 @@ use native.Mathlib.Omega.{arith}
 use lib.Dec.{leb}
 use lib.ListN.{length, getD, getD-replicate}
 use lib.Seq.{getD-append-add}
-use Rattle.reckon.specs.Tests.{_unless_, refusal}
+use Rattle.reckon.specs.Tests.{Row, _unless_, refusal}
 use Rattle.reckon.specs.Lists.{joined}
-use Rattle.reckon.specs.Ranges.{mostDepth, lastClock, mostOutflow}
+use Rattle.reckon.specs.Ranges.{mostDepth, lastClock, mostOutflow, mostSoaked}
 use Rattle.reckon.proofs.TestLaws.{pick-true, pick-false, pick-both, all-ext, refusal-later}
 use Rattle.reckon.proofs.ListLaws.{filled-ext, length-joined, getD-joined, sum-ext}
 use Rattle.grid.specs.Squares.{north, east, south, west, sides, squares, beside, opposite}
 use Rattle.grid.proofs.SquareLaws.{opposite-small}
 use Rattle.grid.proofs.MarkLaws.{marked, unless-closed}
 use Rattle.ledger.specs.Runs.{Plan, World}
-use Rattle.ledger.specs.Flows.{Leaves, fourSides, shut, gone, sent, came, offSide, offSquare, offGrid}
-use Rattle.ledger.specs.Record.{squareWords, lastWord, addedWord, recordSize, heldIn, lastedIn, wordPlace, leavesIn, lastIn, addedIn, squareRecord, recordOf}
-use Rattle.ledger.specs.After.{Moves, remains, newDepth, depthsFit, newOutflow, lateRefusals, stepRecord, worldAfter, worldWith}
+use Rattle.ledger.specs.Flows.{Leaves, fourSides, shut, gone, sent, came, offSide, offSquare, offGrid, soakedSquare, soakedGrid}
+use Rattle.ledger.specs.Record.{squareWords, lastWord, addedWord, soakedWord, recordSize, heldIn, lastedIn, wordPlace, leavesIn, lastIn, addedIn, soakedIn, squareRecord, recordOf}
+use Rattle.ledger.specs.After.{Moves, remains, newDepth, depthsFit, newOutflow, newSoaked, lateRefusals, stepRecord, worldAfter, worldWith}
 use Rattle.ledger.specs.inner.Settle.{movesIn, settleRefusals, settleNumber}
 
 -- what is the same of each side is the same of the four
@@ -28,17 +28,17 @@ four-same h = rw (h north (omega arith), h east (omega arith), h south (omega ar
 
 -- ---- the words of a record
 
-module _ (p : Plan) (held lasted : ℕ) (out : Leaves) (last added : ℕ → ℕ) where
+module _ (p : Plan) (held lasted : ℕ) (out : Leaves) (last added soaked : ℕ → ℕ) where
   abbrev rec : List ℕ
-  rec = recordOf p held lasted out last added
+  rec = recordOf p held lasted out last added soaked
 
-  square-long : (i : ℕ) → length (squareRecord p out last added i) ≡ squareWords
+  square-long : (i : ℕ) → length (squareRecord p out last added soaked i) ≡ squareWords
   unfolding squareRecord
   square-long i = pick-both (λ (l : List ℕ). length l ≡ squareWords) (shut p i) refl refl
 
   pub record-long : length rec ≡ recordSize p
   unfolding recordOf
-  record-long = omega (arith, length-joined (squares (p .shape)) squareWords (squareRecord p out last added) square-long)
+  record-long = omega (arith, length-joined (squares (p .shape)) squareWords (squareRecord p out last added soaked) square-long)
 
   pub held-read : heldIn rec ≡ held
   unfolding recordOf
@@ -49,13 +49,13 @@ module _ (p : Plan) (held lasted : ℕ) (out : Leaves) (last added : ℕ → ℕ
   lasted-read = refl
 
   module _ (i : ℕ) (inside : i < squares (p .shape)) where
-    word-read : (word : ℕ) → word < squareWords → getD rec (wordPlace i word) 0 ≡ getD (squareRecord p out last added i) word 0
+    word-read : (word : ℕ) → word < squareWords → getD rec (wordPlace i word) 0 ≡ getD (squareRecord p out last added soaked i) word 0
     unfolding recordOf
     word-read word h =
-        getD-append-add (held ∷ lasted ∷ []) (joined (squares (p .shape)) (squareRecord p out last added)) (squareWords * i + word) 0
-        ∙ getD-joined (squares (p .shape)) squareWords (squareRecord p out last added) square-long i word inside h
+        getD-append-add (held ∷ lasted ∷ []) (joined (squares (p .shape)) (squareRecord p out last added soaked)) (squareWords * i + word) 0
+        ∙ getD-joined (squares (p .shape)) squareWords (squareRecord p out last added soaked) square-long i word inside h
 
-    -- "A closed square gets six zeros"
+    -- "A closed square gets" seven "zeros"
     pub closed-read : shut p i ≡ true → (word : ℕ) → word < squareWords → getD rec (wordPlace i word) 0 ≡ 0
     unfolding squareRecord
     closed-read e word h =
@@ -63,7 +63,7 @@ module _ (p : Plan) (held lasted : ℕ) (out : Leaves) (last added : ℕ → ℕ
 
     module _ (not-closed : shut p i ≡ false) where
       abbrev words : List ℕ
-      words = out i north ∷ out i east ∷ out i south ∷ out i west ∷ last i ∷ added i ∷ []
+      words = out i north ∷ out i east ∷ out i south ∷ out i west ∷ last i ∷ added i ∷ soaked i ∷ []
 
       open-read : (word : ℕ) → word < squareWords → getD rec (wordPlace i word) 0 ≡ getD words word 0
       unfolding squareRecord
@@ -88,6 +88,10 @@ module _ (p : Plan) (held lasted : ℕ) (out : Leaves) (last added : ℕ → ℕ
       unfolding addedIn
       added-read = open-read addedWord (omega arith)
 
+      pub soaked-read : soakedIn rec i ≡ soaked i
+      unfolding soakedIn
+      soaked-read = open-read soakedWord (omega arith)
+
       pub gone-read : gone (leavesIn rec) i ≡ gone out i
       unfolding gone
       gone-read = four-same leaves-read
@@ -107,6 +111,15 @@ module _ (p : Plan) (held lasted : ℕ) (out : Leaves) (last added : ℕ → ℕ
   pub off-read : offGrid p (leavesIn rec) ≡ offGrid p out
   unfolding offGrid
   off-read = sum-ext (squares (p .shape)) _ _ off-square-read
+
+  -- and what soaked into them
+  soaked-square-read : (i : ℕ) → i < squares (p .shape) → soakedSquare p (soakedIn rec) i ≡ soakedSquare p soaked i
+  unfolding soakedSquare
+  soaked-square-read i inside = unless-closed (p .marks) i 0 (λ e. soaked-read i inside e)
+
+  pub soaked-grid-read : soakedGrid p (soakedIn rec) ≡ soakedGrid p soaked
+  unfolding soakedGrid
+  soaked-grid-read = sum-ext (squares (p .shape)) _ _ soaked-square-read
 
   -- nor are they asked what they sent to a neighbour
   module _ (marks-long : length (p .marks) ≡ squares (p .shape)) where
@@ -128,36 +141,44 @@ module _ (p : Plan) (m : Moves) (w : World) where
 
   pub step-long : length (stepRecord p m w) ≡ recordSize p
   unfolding stepRecord
-  step-long = record-long p (w .run .length) (m .duration) (m .leaves) lastBefore (m .added)
+  step-long = record-long p (w .run .length) (m .duration) (m .leaves) lastBefore (m .added) (m .soaked)
 
   pub step-held : heldIn (stepRecord p m w) ≡ w .run .length
   unfolding stepRecord
-  step-held = held-read p (w .run .length) (m .duration) (m .leaves) lastBefore (m .added)
+  step-held = held-read p (w .run .length) (m .duration) (m .leaves) lastBefore (m .added) (m .soaked)
 
   pub step-lasted : lastedIn (stepRecord p m w) ≡ m .duration
   unfolding stepRecord
-  step-lasted = lasted-read p (w .run .length) (m .duration) (m .leaves) lastBefore (m .added)
+  step-lasted = lasted-read p (w .run .length) (m .duration) (m .leaves) lastBefore (m .added) (m .soaked)
 
   pub step-off : offGrid p (leavesIn (stepRecord p m w)) ≡ offGrid p (m .leaves)
   unfolding stepRecord
-  step-off = off-read p (w .run .length) (m .duration) (m .leaves) lastBefore (m .added)
+  step-off = off-read p (w .run .length) (m .duration) (m .leaves) lastBefore (m .added) (m .soaked)
+
+  pub step-soaked-grid : soakedGrid p (soakedIn (stepRecord p m w)) ≡ soakedGrid p (m .soaked)
+  unfolding stepRecord
+  step-soaked-grid = soaked-grid-read p (w .run .length) (m .duration) (m .leaves) lastBefore (m .added) (m .soaked)
 
   pub step-came : length (p .marks) ≡ squares (p .shape) → (i : ℕ) → came p (leavesIn (stepRecord p m w)) i ≡ came p (m .leaves) i
   unfolding stepRecord
-  step-came marks-long i = came-read p (w .run .length) (m .duration) (m .leaves) lastBefore (m .added) marks-long i
+  step-came marks-long i = came-read p (w .run .length) (m .duration) (m .leaves) lastBefore (m .added) (m .soaked) marks-long i
 
   module _ (i : ℕ) (inside : i < squares (p .shape)) (not-closed : shut p i ≡ false) where
     pub step-gone : gone (leavesIn (stepRecord p m w)) i ≡ gone (m .leaves) i
     unfolding stepRecord
-    step-gone = gone-read p (w .run .length) (m .duration) (m .leaves) lastBefore (m .added) i inside not-closed
+    step-gone = gone-read p (w .run .length) (m .duration) (m .leaves) lastBefore (m .added) (m .soaked) i inside not-closed
 
     pub step-last : lastIn (stepRecord p m w) i ≡ getD (w .lasts) i 0
     unfolding stepRecord
-    step-last = last-read p (w .run .length) (m .duration) (m .leaves) lastBefore (m .added) i inside not-closed
+    step-last = last-read p (w .run .length) (m .duration) (m .leaves) lastBefore (m .added) (m .soaked) i inside not-closed
 
     pub step-added : addedIn (stepRecord p m w) i ≡ m .added i
     unfolding stepRecord
-    step-added = added-read p (w .run .length) (m .duration) (m .leaves) lastBefore (m .added) i inside not-closed
+    step-added = added-read p (w .run .length) (m .duration) (m .leaves) lastBefore (m .added) (m .soaked) i inside not-closed
+
+    pub step-soaked : soakedIn (stepRecord p m w) i ≡ m .soaked i
+    unfolding stepRecord
+    step-soaked = soaked-read p (w .run .length) (m .duration) (m .leaves) lastBefore (m .added) (m .soaked) i inside not-closed
 
 -- ---- a step settled by its record
 
@@ -167,11 +188,15 @@ module _ (p : Plan) (m : Moves) (w : World) (marks-long : length (p .marks) ≡ 
 
   depth-read : (i : ℕ) → i < squares (p .shape) → shut p i ≡ false → newDepth p moved w i ≡ newDepth p m w i
   unfolding newDepth remains
-  depth-read i inside e = rw (step-gone p m w i inside e, step-came p m w marks-long i, step-added p m w i inside e)
+  depth-read i inside e = rw (step-gone p m w i inside e, step-soaked p m w i inside e, step-came p m w marks-long i, step-added p m w i inside e)
 
   outflow-read : newOutflow p moved w ≡ newOutflow p m w
   unfolding newOutflow
   outflow-read = rw (step-off p m w)
+
+  soaked-total-read : newSoaked p moved w ≡ newSoaked p m w
+  unfolding newSoaked
+  soaked-total-read = rw (step-soaked-grid p m w)
 
   fit-read : depthsFit p moved w ≡ depthsFit p m w
   unfolding depthsFit
@@ -188,12 +213,14 @@ module _ (p : Plan) (m : Moves) (w : World) (marks-long : length (p .marks) ≡ 
   settled-is =
       let depths = filled-ext (squares (p .shape)) (shut p) (newDepth p moved w) (newDepth p m w) (w .depths) depth-read in
       let lasts = filled-ext (squares (p .shape)) (shut p) (gone (moved .leaves)) (gone (m .leaves)) (w .lasts) (step-gone p m w) in
-      rw (depths, lasts, outflow-read, step-lasted p m w)
+      rw (depths, lasts, outflow-read, soaked-total-read, step-lasted p m w)
 
-  -- what is refused where 7 is not: 8 or 9, by the record
+  abbrev rows : List Row
+  rows = 8 unless depthsFit p m w ∷ 9 unless leb (newOutflow p m w) mostOutflow ∷ 15 unless leb (newSoaked p m w) mostSoaked ∷ []
+
+  -- what is refused where 7 is not: 8, 9 or 15, by the record
   pub late-settled : leb (w .run .clock + m .duration) lastClock ≡ true → refusal (lateRefusals p m w) ≡ settleNumber p (stepRecord p m w) (m .length) w
   unfolding lateRefusals settleNumber settleRefusals
   late-settled e =
-      let same : refusal (8 unless depthsFit p m w ∷ 9 unless leb (newOutflow p m w) mostOutflow ∷ []) ≡ settleNumber p (stepRecord p m w) (m .length) w
-      = rw (fit-read, outflow-read) in
-      refusal-later 7 (8 unless depthsFit p m w ∷ 9 unless leb (newOutflow p m w) mostOutflow ∷ []) e ∙ same
+      let same : refusal rows ≡ settleNumber p (stepRecord p m w) (m .length) w = rw (fit-read, outflow-read, soaked-total-read) in
+      refusal-later 7 rows e ∙ same

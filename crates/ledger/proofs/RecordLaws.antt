@@ -38,13 +38,13 @@ take-placed l a v h =
 -- ---- a record, square by square
 
 -- the head and the first i squares stand
-pub record Begun (p : Plan) (held lasted : ℕ) (out : Leaves) (last added : ℕ → ℕ) (i : ℕ) (rec : List ℕ) : Type 0 where
+pub record Begun (p : Plan) (held lasted : ℕ) (out : Leaves) (last added soaked : ℕ → ℕ) (i : ℕ) (rec : List ℕ) : Type 0 where
   pub long : length rec ≡ recordSize p
-  pub so-far : take (wordPlace i north) rec ≡ held ∷ lasted ∷ joined i (squareRecord p out last added)
+  pub so-far : take (wordPlace i north) rec ≡ held ∷ lasted ∷ joined i (squareRecord p out last added soaked)
 
-module _ {p : Plan} {held lasted : ℕ} {out : Leaves} {last added : ℕ → ℕ} where
+module _ {p : Plan} {held lasted : ℕ} {out : Leaves} {last added soaked : ℕ → ℕ} where
   -- the head is put
-  pub begun-none : (old : List ℕ) {rec : List ℕ} → length old ≡ recordSize p → HeadPut old held lasted rec → Begun p held lasted out last added 0 rec
+  pub begun-none : (old : List ℕ) {rec : List ℕ} → length old ≡ recordSize p → HeadPut old held lasted rec → Begun p held lasted out last added soaked 0 rec
   begun-none old l e =
       let fits : 0 + length (held ∷ lasted ∷ []) ≤ length old = omega arith in
       record {
@@ -52,44 +52,44 @@ module _ {p : Plan} {held lasted : ℕ} {out : Leaves} {last added : ℕ → ℕ
         so-far =
             ap (take headWords) e
             ∙ (take-placed old 0 (held ∷ lasted ∷ []) fits
-            ∙ ap (λ (r : List ℕ). held ∷ lasted ∷ r) (sym (joined-none (squareRecord p out last added))));
+            ∙ ap (λ (r : List ℕ). held ∷ lasted ∷ r) (sym (joined-none (squareRecord p out last added soaked))));
       }
 
-  -- the next square's six words are put
+  -- the next square's seven words are put
   begun-next :
-      {i : ℕ} {old new : List ℕ} (six : List ℕ) → i < squares (p .shape) → length six ≡ squareWords → six ≡ squareRecord p out last added i →
-      new ≡ placed old (wordPlace i north) six → Begun p held lasted out last added i old → Begun p held lasted out last added (i + 1) new
-  begun-next {i} {old} six h l s e b =
-      let fits : wordPlace i north + length six ≤ length old = omega (arith, b .long) in
-      let next : wordPlace (i + 1) north ≡ wordPlace i north + length six = omega arith in
+      {i : ℕ} {old new : List ℕ} (seven : List ℕ) → i < squares (p .shape) → length seven ≡ squareWords → seven ≡ squareRecord p out last added soaked i →
+      new ≡ placed old (wordPlace i north) seven → Begun p held lasted out last added soaked i old → Begun p held lasted out last added soaked (i + 1) new
+  begun-next {i} {old} seven h l s e b =
+      let fits : wordPlace i north + length seven ≤ length old = omega (arith, b .long) in
+      let next : wordPlace (i + 1) north ≡ wordPlace i north + length seven = omega arith in
       record {
-        long = ap length e ∙ (length-placed old (wordPlace i north) six fits ∙ b .long);
+        long = ap length e ∙ (length-placed old (wordPlace i north) seven fits ∙ b .long);
         so-far =
-            rw (next, e) (take-placed old (wordPlace i north) six fits)
-            ∙ (ap (λ (r : List ℕ). r ++ six) (b .so-far)
-            ∙ ap (λ (r : List ℕ). held ∷ lasted ∷ r) (ap (λ (r : List ℕ). joined i (squareRecord p out last added) ++ r) s ∙ sym (joined-more i (squareRecord p out last added))));
+            rw (next, e) (take-placed old (wordPlace i north) seven fits)
+            ∙ (ap (λ (r : List ℕ). r ++ seven) (b .so-far)
+            ∙ ap (λ (r : List ℕ). held ∷ lasted ∷ r) (ap (λ (r : List ℕ). joined i (squareRecord p out last added soaked) ++ r) s ∙ sym (joined-more i (squareRecord p out last added soaked))));
       }
 
-  module _ {i : ℕ} (h : i < squares (p .shape)) {old new : List ℕ} (b : Begun p held lasted out last added i old) where
+  module _ {i : ℕ} (h : i < squares (p .shape)) {old new : List ℕ} (b : Begun p held lasted out last added soaked i old) where
     pub begun-open :
-        shut p i ≡ false → (leaves : List ℕ) {l a : ℕ} → ((side : ℕ) → side < sides → getD leaves side 0 ≡ out i side) → l ≡ last i → a ≡ added i →
-        SquarePut old i leaves l a new → Begun p held lasted out last added (i + 1) new
+        shut p i ≡ false → (leaves : List ℕ) {l a k : ℕ} → ((side : ℕ) → side < sides → getD leaves side 0 ≡ out i side) → l ≡ last i → a ≡ added i → k ≡ soaked i →
+        SquarePut old i leaves l a k new → Begun p held lasted out last added soaked (i + 1) new
     unfolding squareRecord
-    begun-open c leaves f q r e =
+    begun-open c leaves f q r t e =
         begun-next _ h refl
-        (rw (f north (omega arith), f east (omega arith), f south (omega arith), f west (omega arith), q, r) (sym (pick-false _ _ c)))
+        (rw (f north (omega arith), f east (omega arith), f south (omega arith), f west (omega arith), q, r, t) (sym (pick-false _ _ c)))
         e b
 
-    pub begun-closed : shut p i ≡ true → ClosedPut old i new → Begun p held lasted out last added (i + 1) new
+    pub begun-closed : shut p i ≡ true → ClosedPut old i new → Begun p held lasted out last added soaked (i + 1) new
     unfolding squareRecord
     begun-closed c e = begun-next _ h refl (sym (pick-true _ _ c)) e b
 
   -- all squares are put
-  pub begun-whole : {i : ℕ} {rec : List ℕ} → i ≡ squares (p .shape) → Begun p held lasted out last added i rec → rec ≡ recordOf p held lasted out last added
+  pub begun-whole : {i : ℕ} {rec : List ℕ} → i ≡ squares (p .shape) → Begun p held lasted out last added soaked i rec → rec ≡ recordOf p held lasted out last added soaked
   unfolding recordOf
   begun-whole {i} {rec} e b =
       sym (take-all (wordPlace i north) rec (omega (arith, b .long)))
-      ∙ (b .so-far ∙ ap (λ (k : ℕ). held ∷ lasted ∷ joined k (squareRecord p out last added)) e)
+      ∙ (b .so-far ∙ ap (λ (k : ℕ). held ∷ lasted ∷ joined k (squareRecord p out last added soaked)) e)
 
 -- ---- the slots of a room
 

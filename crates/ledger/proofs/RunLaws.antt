@@ -7,7 +7,7 @@ use Prim.Native.Nat.{ℕ, zero, suc, _≤_}
 use lib.Dec.{leb}
 use borrow.Author.Tests.{le-leb}
 use Rattle.reckon.specs.Tests.{every}
-use Rattle.reckon.specs.Ranges.{mostLength, lastClock, mostOutflow}
+use Rattle.reckon.specs.Ranges.{mostLength, lastClock, mostOutflow, mostSoaked}
 use Rattle.reckon.proofs.TestLaws.{Each, every-each, and-true}
 use Rattle.trials.specs.Ring.{ringFine}
 use Rattle.trials.proofs.RingLaws.{Ring, fine-ring}
@@ -20,13 +20,14 @@ unfolding every
 every-decides [] b h = sym (and-true b)
 every-decides (a ∷ bs) b h = rw (h .0) (every-decides bs b (h .1))
 
-pub outflow-decides :
+pub soaked-decides :
     (K : ℕ) (u : Run) → ringFine K (u .kept) (u .newest) ≡ true → u .clock ≤ lastClock → 1 ≤ u .length → u .length ≤ mostLength →
-    leb (u .outflow) mostOutflow ≡ runFine K u
+    u .outflow ≤ mostOutflow → leb (u .soaked) mostSoaked ≡ runFine K u
 unfolding runFine runValuesFine
-outflow-decides K u r a b c =
-    every-decides (ringFine K (u .kept) (u .newest) ∷ leb (u .clock) lastClock ∷ leb 1 (u .length) ∷ leb (u .length) mostLength ∷ [])
-    (leb (u .outflow) mostOutflow) (r, (le-leb _ _ a, (le-leb _ _ b, (le-leb _ _ c, tt))))
+soaked-decides K u r a b c d =
+    every-decides
+    (ringFine K (u .kept) (u .newest) ∷ leb (u .clock) lastClock ∷ leb 1 (u .length) ∷ leb (u .length) mostLength ∷ leb (u .outflow) mostOutflow ∷ [])
+    (leb (u .soaked) mostSoaked) (r, (le-leb _ _ a, (le-leb _ _ b, (le-leb _ _ c, (le-leb _ _ d, tt)))))
 
 pub run-ring : (K : ℕ) (u : Run) → runFine K u ≡ true → Ring K (u .kept) (u .newest)
 unfolding runFine runValuesFine

@@ -1,4 +1,4 @@
--- Laws of settling: a square's new depth is the world's, whatever else the world holds; 8 comes before 9; and parts written make a world.
+-- Laws of settling: a square's new depth is the world's, whatever else the world holds; 8 comes before 9, and 9 before 15; and parts written make a world.
 -- Assumes nothing.
 use mathlib.Core.Path.{_≡_, refl, sym, ap, _∙_}
 use mathlib.Core.Bool.{Bool, true, false, _||_}
@@ -10,16 +10,16 @@ use lib.ListN.{length, getD, set}
 use borrow.Author.Tests.{le-leb, lt-leb, eq-eqb, ne-eqb}
 use Rattle.reckon.specs.Tests.{pick, allBelow}
 use Rattle.reckon.specs.Lists.{filled, placed, sumBelow}
-use Rattle.reckon.specs.Ranges.{mostDepth, mostOutflow}
+use Rattle.reckon.specs.Ranges.{mostDepth, mostOutflow, mostSoaked}
 use Rattle.reckon.proofs.TestLaws.{not-both, pick-true, pick-false, all-fails, all-whole, refusal-here, refusal-later, passed-refusal}
 use Rattle.reckon.proofs.ListLaws.{filled-in, filled-skipped, length-filled}
 use Rattle.trials.specs.Ring.{slotsIn, slotStart, slotAfter, keptAfter}
 use Rattle.trials.proofs.RingLaws.{after-below}
 use Rattle.grid.specs.Squares.{squares}
 use Rattle.ledger.specs.Runs.{Plan, World, world, ofDepths}
-use Rattle.ledger.specs.Flows.{shut, gone, offSquare, offGrid}
-use Rattle.ledger.specs.Record.{recordSize, lastedIn, leavesIn, roomSlots, Recorded}
-use Rattle.ledger.specs.After.{remains, newDepth, depthsFit, newOutflow, worldWith}
+use Rattle.ledger.specs.Flows.{shut, gone, offSquare, offGrid, soakedSquare, soakedGrid}
+use Rattle.ledger.specs.Record.{recordSize, lastedIn, leavesIn, soakedIn, roomSlots, Recorded}
+use Rattle.ledger.specs.After.{remains, newDepth, depthsFit, newOutflow, newSoaked, worldWith}
 use Rattle.ledger.specs.inner.Settle.{movesIn, settleRefusals, settleNumber, settled, Settles, SettlesTo, depthBy, depthsBy, Gathers, GatheredOne, GatheredAll, SmallLeaving}
 use Rattle.ledger.proofs.RecordLaws.{slots-of, slot-fits}
 use Rattle.ledger.proofs.WalkLaws.{nothing, copied, walked-unfit, walked-fit}
@@ -56,20 +56,21 @@ module _ (p : Plan) (rec depths : List ℕ) where
       go true e = pick-true _ _ e ∙ sym (filled-skipped (squares (p .shape)) (shut p) (depthBy p rec depths) depths i (omega arith) e)
       go false e = pick-false _ _ e ∙ sym (filled-in (squares (p .shape)) (shut p) (depthBy p rec depths) depths i (omega arith) h e)
 
-  pub gathered-unfit : {i : ℕ} {new : List ℕ} → i < squares (p .shape) → fits i ≡ false → GatheredAll p rec depths (record { fits = false; off = 0 }) new
+  pub gathered-unfit : {i : ℕ} {new : List ℕ} → i < squares (p .shape) → fits i ≡ false → GatheredAll p rec depths (record { fits = false; off = 0; soaked = 0 }) new
   unfolding depthsFit
   gathered-unfit {i} h e =
       record { found = walked-unfit p rec (all-fails (squares (p .shape)) fits i h e); stored = λ z. not-both z refl }
 
   pub gathered-fit :
-      {n off : ℕ} (old : List ℕ) {new : List ℕ} → length depths ≡ squares (p .shape) → length old ≡ squares (p .shape) → n ≡ squares (p .shape) →
-      allBelow n fits ≡ true → off ≡ sumBelow n (offSquare p (leavesIn rec)) → new ≡ filled n nothing (λ k. getD (depthsBy p rec depths) k 0) old →
-      GatheredAll p rec depths (record { fits = true; off = off }) new
+      {n off soaked : ℕ} (old : List ℕ) {new : List ℕ} → length depths ≡ squares (p .shape) → length old ≡ squares (p .shape) → n ≡ squares (p .shape) →
+      allBelow n fits ≡ true → off ≡ sumBelow n (offSquare p (leavesIn rec)) → soaked ≡ sumBelow n (soakedSquare p (soakedIn rec)) →
+      new ≡ filled n nothing (λ k. getD (depthsBy p rec depths) k 0) old →
+      GatheredAll p rec depths (record { fits = true; off = off; soaked = soaked }) new
   unfolding depthsFit
-  gathered-fit old l m h a s q =
+  gathered-fit old l m h a s t q =
       let long : length (depthsBy p rec depths) ≡ squares (p .shape) = length-filled (squares (p .shape)) (shut p) (depthBy p rec depths) depths ∙ l in
       record {
-        found = walked-fit p rec (all-whole fits a h) s h;
+        found = walked-fit p rec (all-whole fits a h) s t h;
         stored = λ z. copied (depthsBy p rec depths) old (m ∙ sym long) (omega arith) q;
       }
 
@@ -108,26 +109,43 @@ module _ (p : Plan) (rec : List ℕ) (held : ℕ) (w : World) where
         as-it-was (λ z. omega arith)
         (refusal-later 8 _ (fit-is ∙ e) ∙ refusal-here 9 _ (lt-leb (newOutflow p (movesIn rec held) w) mostOutflow (omega arith)))
 
-    pub settles-written : {after : World} → o ≤ mostOutflow → after ≡ worldWith p (movesIn rec held) w rec → SettlesTo p rec held w 0 after
-    unfolding settleNumber settleRefusals settled
-    settles-written h q =
-        let z : settleNumber p rec held w ≡ 0 =
-        passed-refusal (settleRefusals p rec held w) (fit-is ∙ e, (le-leb (newOutflow p (movesIn rec held) w) mostOutflow (omega arith), tt)) in
-        record { number = sym z; world-is = q ∙ sym (pick-true _ _ (eq-eqb _ 0 z)) }
+    module _ (h : o ≤ mostOutflow) {k : ℕ} (g : k ≡ newSoaked p (movesIn rec held) w) where
+      outflow-fits : leb (newOutflow p (movesIn rec held) w) mostOutflow ≡ true
+      outflow-fits = le-leb (newOutflow p (movesIn rec held) w) mostOutflow (omega arith)
+
+      pub settles-soaked : mostSoaked < k → SettlesTo p rec held w 15 w
+      unfolding settleNumber settleRefusals
+      settles-soaked l =
+          as-it-was (λ z. omega arith)
+          (refusal-later 8 _ (fit-is ∙ e)
+          ∙ (refusal-later 9 _ outflow-fits ∙ refusal-here 15 _ (lt-leb (newSoaked p (movesIn rec held) w) mostSoaked (omega arith))))
+
+      pub settles-written : {after : World} → k ≤ mostSoaked → after ≡ worldWith p (movesIn rec held) w rec → SettlesTo p rec held w 0 after
+      unfolding settleNumber settleRefusals settled
+      settles-written l q =
+          let soaked-fits : leb (newSoaked p (movesIn rec held) w) mostSoaked ≡ true = le-leb (newSoaked p (movesIn rec held) w) mostSoaked (omega arith) in
+          let z : settleNumber p rec held w ≡ 0 = passed-refusal (settleRefusals p rec held w) (fit-is ∙ e, (outflow-fits, (soaked-fits, tt))) in
+          record { number = sym z; world-is = q ∙ sym (pick-true _ _ (eq-eqb _ 0 z)) }
 
   pub outflow-by : {off : ℕ} → off ≡ offGrid p (leavesIn rec) → w .run .outflow + off ≡ newOutflow p (movesIn rec held) w
   unfolding newOutflow
   outflow-by e = ap (λ (k : ℕ). w .run .outflow + k) e
 
+  pub soaked-by : {soaked : ℕ} → soaked ≡ soakedGrid p (soakedIn rec) → w .run .soaked + soaked ≡ newSoaked p (movesIn rec held) w
+  unfolding newSoaked
+  soaked-by e = ap (λ (k : ℕ). w .run .soaked + k) e
+
   -- the parts, as they are written
   pub written-is :
-      {d l r : List ℕ} {slots slot at clock outflow kept : ℕ} → slots ≡ roomSlots p (w .records) → slot ≡ slotAfter slots (w .run .newest) →
+      {d l r : List ℕ} {slots slot at clock outflow kept soaked : ℕ} → slots ≡ roomSlots p (w .records) → slot ≡ slotAfter slots (w .run .newest) →
       d ≡ depthsBy p rec (w .depths) → l ≡ filled (squares (p .shape)) (shut p) (gone (leavesIn rec)) (w .lasts) →
       at ≡ slotStart (recordSize p) slot → r ≡ placed (w .records) at rec →
       clock ≡ w .run .clock + lastedIn rec → outflow ≡ newOutflow p (movesIn rec held) w → kept ≡ keptAfter slots (w .run .kept) →
-      world d l r (record { clock = clock; length = held; outflow = outflow; kept = kept; newest = slot }) ≡ worldWith p (movesIn rec held) w rec
+      soaked ≡ newSoaked p (movesIn rec held) w →
+      world d l r (record { clock = clock; length = held; outflow = outflow; kept = kept; newest = slot; soaked = soaked })
+      ≡ worldWith p (movesIn rec held) w rec
   unfolding newDepth remains
-  written-is s t d l a r c o k = rw (d, l, r, a, c, o, k, t, s)
+  written-is s t d l a r c o k f = rw (d, l, r, a, c, o, k, f, t, s)
 
 -- the slot that is written lies in the room
 pub next-fits :

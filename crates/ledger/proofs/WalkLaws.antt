@@ -1,4 +1,4 @@
--- Laws of walks over the squares: a walk carries the column; a room is filled square by square; what left the grid is summed.
+-- Laws of walks over the squares: a walk carries the column; a room is filled square by square; what left the grid and what soaked is summed.
 -- Assumes nothing.
 use mathlib.Core.Path.{_≡_, refl, sym, ap, _∙_}
 use mathlib.Core.Bool.{Bool, true, false}
@@ -16,8 +16,8 @@ use Rattle.grid.specs.declared.squares.Shape.{Shape}
 use Rattle.grid.specs.Squares.{squares, ShapeInRange, OnSquare, NextColumn}
 use Rattle.grid.proofs.SquareLaws.{carried, column-within}
 use Rattle.ledger.specs.Runs.{Plan}
-use Rattle.ledger.specs.Flows.{offSquare, offGrid}
-use Rattle.ledger.specs.Record.{leavesIn}
+use Rattle.ledger.specs.Flows.{offSquare, offGrid, soakedSquare, soakedGrid}
+use Rattle.ledger.specs.Record.{leavesIn, soakedIn}
 use Rattle.ledger.specs.inner.Walks.{Walked}
 
 -- ---- where a walk stands
@@ -80,9 +80,11 @@ copied from old {n} e h q =
 -- ---- what a walk finds
 
 module _ (p : Plan) (rec : List ℕ) {test : Bool} where
-  pub walked-unfit : test ≡ false → Walked p rec test (record { fits = false; off = 0 })
-  walked-unfit e = record { fits-is = sym e; off-is = λ z. not-both z refl }
+  pub walked-unfit : test ≡ false → Walked p rec test (record { fits = false; off = 0; soaked = 0 })
+  walked-unfit e = record { fits-is = sym e; off-is = λ z. not-both z refl; soaked-is = λ z. not-both z refl }
 
-  pub walked-fit : test ≡ true → {n off : ℕ} → off ≡ sumBelow n (offSquare p (leavesIn rec)) → n ≡ squares (p .shape) → Walked p rec test (record { fits = true; off = off })
-  unfolding offGrid
-  walked-fit e s h = record { fits-is = sym e; off-is = λ z. sum-whole _ s h }
+  pub walked-fit :
+      test ≡ true → {n off soaked : ℕ} → off ≡ sumBelow n (offSquare p (leavesIn rec)) → soaked ≡ sumBelow n (soakedSquare p (soakedIn rec)) →
+      n ≡ squares (p .shape) → Walked p rec test (record { fits = true; off = off; soaked = soaked })
+  unfolding offGrid soakedGrid
+  walked-fit e s t h = record { fits-is = sym e; off-is = λ z. sum-whole _ s h; soaked-is = λ z. sum-whole _ t h }

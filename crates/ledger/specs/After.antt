@@ -8,25 +8,27 @@ use lib.Dec.{leb}
 use lib.ListN.{getD}
 use Rattle.reckon.specs.Tests.{allBelow, Row, _unless_}
 use Rattle.reckon.specs.Lists.{filled}
-use Rattle.reckon.specs.Ranges.{mostDepth, lastClock, mostOutflow}
+use Rattle.reckon.specs.Ranges.{mostDepth, lastClock, mostOutflow, mostSoaked}
 use Rattle.trials.specs.Ring.{slotAfter, keptAfter}
 use Rattle.trials.specs.Room.{storedIn}
 use Rattle.grid.specs.Squares.{squares}
 use Rattle.ledger.specs.Runs.{Plan, World}
-use Rattle.ledger.specs.Flows.{Leaves, shut, gone, came, offGrid}
+use Rattle.ledger.specs.Flows.{Leaves, shut, gone, came, offGrid, soakedGrid}
 use Rattle.ledger.specs.Record.{recordSize, roomSlots, recordOf}
 
--- What a step moves: the amounts through the sides, what is added to each square, how long it lasts (ms), the length it leaves held.
+-- What a step moves: the amounts through the sides, what is added to each square and what soaks there, how long it lasts (ms), the
+-- length it leaves held.
 pub record Moves : Type 0 where
   pub leaves : Leaves
   pub added : ℕ → ℕ
+  pub soaked : ℕ → ℕ
   pub duration : ℕ
   pub length : ℕ
 
 module _ (p : Plan) (m : Moves) (w : World) where
-  -- "old − four leaving"
+  -- "old − four leaving", and what soaks "after the four sides have taken theirs, before anything arrives" (document 02, #106)
   unfoldable pub remains : ℕ → ℕ
-  remains i = getD (w .depths) i 0 - gone (m .leaves) i
+  remains i = getD (w .depths) i 0 - gone (m .leaves) i - m .soaked i
 
   -- "New depth = old − four leaving + what neighbours send + what is added"
   unfoldable pub newDepth : ℕ → ℕ
@@ -40,17 +42,22 @@ module _ (p : Plan) (m : Moves) (w : World) where
   unfoldable pub newOutflow : ℕ
   newOutflow = w .run .outflow + offGrid p (m .leaves)
 
-  -- refusals 7, 8 and 9, in the table's order
+  -- "the run a total soaked" (document 02, #106)
+  unfoldable pub newSoaked : ℕ
+  newSoaked = w .run .soaked + soakedGrid p (m .soaked)
+
+  -- refusals 7, 8 and 9, in the table's order; "the total soaked passing its limit is 15, after 9" (document 02, #106)
   unfoldable pub lateRefusals : List Row
   lateRefusals =
       7 unless leb (w .run .clock + m .duration) lastClock
       ∷ 8 unless depthsFit
       ∷ 9 unless leb newOutflow mostOutflow
+      ∷ 15 unless leb newSoaked mostSoaked
       ∷ []
 
   -- "length held before the step, how long the step lasted, then for each square .."
   unfoldable pub stepRecord : List ℕ
-  stepRecord = recordOf p (w .run .length) (m .duration) (m .leaves) (λ i. getD (w .lasts) i 0) (m .added)
+  stepRecord = recordOf p (w .run .length) (m .duration) (m .leaves) (λ i. getD (w .lasts) i 0) (m .added) (m .soaked)
 
   -- "P is then the sum of the four"; "A step writes the slot after the newest .. and kept rises by one up to K": with a record as written
   abbrev pub worldWith : List ℕ → World
@@ -66,6 +73,7 @@ module _ (p : Plan) (m : Moves) (w : World) where
               outflow = newOutflow;
               kept = keptAfter (roomSlots p (w .records)) (w .run .kept);
               newest = slotAfter (roomSlots p (w .records)) (w .run .newest);
+              soaked = newSoaked;
             };
       }
 

@@ -1,4 +1,4 @@
--- Document 01, "The step" and "The record": amounts by square and side, and what goes, comes and leaves the grid by them. The step, the
+-- Document 01, "The step" and "The record": amounts by square and side, and what goes, comes, leaves the grid and soaks by them. The step, the
 -- take-back and the arrows all speak of amounts by these.
 -- Assumes nothing.
 use mathlib.Core.Bool.{Bool}
@@ -43,3 +43,10 @@ module _ (p : Plan) where
 
   unfoldable pub offGrid : Leaves → ℕ
   offGrid out = sumBelow (squares (p .shape)) (offSquare out)
+
+  -- document 02, #106, "the amount soaked": of a square not closed, and of all
+  unfoldable pub soakedSquare : (ℕ → ℕ) → ℕ → ℕ
+  soakedSquare soaked i = pick (shut i) 0 (soaked i)
+
+  unfoldable pub soakedGrid : (ℕ → ℕ) → ℕ
+  soakedGrid soaked = sumBelow (squares (p .shape)) (soakedSquare soaked)

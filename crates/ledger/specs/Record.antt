@@ -15,19 +15,23 @@ use Rattle.grid.specs.Squares.{north, east, south, west, squares, mostSquares, 
 use Rattle.ledger.specs.Runs.{Plan, World, plan}
 use Rattle.ledger.specs.Flows.{Leaves, shut, gone, sent, came, offSquare}
 
--- "One record is 2 + 6·squares numbers": the words before the squares, and those of a square
+-- "One record is 2 + 6·squares numbers", and "a seventh number a square" (document 02, #106): the words before the squares, and those
+-- of a square
 abbrev pub headWords : ℕ
 headWords = 2
 
 abbrev pub squareWords : ℕ
-squareWords = 6
+squareWords = 7
 
--- after the four sides: "P before, amount added"
+-- after the four sides: "P before, amount added", and "the amount soaked"
 abbrev pub lastWord : ℕ
 lastWord = 4
 
 abbrev pub addedWord : ℕ
 addedWord = 5
+
+abbrev pub soakedWord : ℕ
+soakedWord = 6
 
 abbrev pub recordSize : Plan → ℕ
 recordSize p = headWords + squareWords * squares (p .shape)
@@ -45,7 +49,7 @@ heldIn rec = getD rec 0 0
 abbrev pub lastedIn : List ℕ → ℕ
 lastedIn rec = getD rec 1 0
 
--- "then for each square north, east, south, west, P before, amount added"
+-- "then for each square north, east, south, west, P before, amount added", and last the amount soaked
 abbrev pub wordPlace : ℕ → ℕ → ℕ
 wordPlace i word = headWords + (squareWords * i + word)
 
@@ -58,15 +62,18 @@ lastIn rec i = getD rec (wordPlace i lastWord) 0
 unfoldable pub addedIn : List ℕ → ℕ → ℕ
 addedIn rec i = getD rec (wordPlace i addedWord) 0
 
+unfoldable pub soakedIn : List ℕ → ℕ → ℕ
+soakedIn rec i = getD rec (wordPlace i soakedWord) 0
+
 -- ---- a record written
 
--- "A closed square gets six zeros"
-unfoldable pub squareRecord : Plan → Leaves → (ℕ → ℕ) → (ℕ → ℕ) → ℕ → List ℕ
-squareRecord p out last added i =
-    pick (shut p i) (replicate squareWords 0) (out i north ∷ out i east ∷ out i south ∷ out i west ∷ last i ∷ added i ∷ [])
+-- "A closed square gets" seven "zeros"
+unfoldable pub squareRecord : Plan → Leaves → (ℕ → ℕ) → (ℕ → ℕ) → (ℕ → ℕ) → ℕ → List ℕ
+squareRecord p out last added soaked i =
+    pick (shut p i) (replicate squareWords 0) (out i north ∷ out i east ∷ out i south ∷ out i west ∷ last i ∷ added i ∷ soaked i ∷ [])
 
-unfoldable pub recordOf : Plan → ℕ → ℕ → Leaves → (ℕ → ℕ) → (ℕ → ℕ) → List ℕ
-recordOf p held lasted out last added = held ∷ lasted ∷ joined (squares (p .shape)) (squareRecord p out last added)
+unfoldable pub recordOf : Plan → ℕ → ℕ → Leaves → (ℕ → ℕ) → (ℕ → ℕ) → (ℕ → ℕ) → List ℕ
+recordOf p held lasted out last added soaked = held ∷ lasted ∷ joined (squares (p .shape)) (squareRecord p out last added soaked)
 
 -- ---- the record room
 
@@ -108,6 +115,9 @@ LastBefore rec i r = r ≡ lastIn rec i
 abbrev pub AddedBy : List ℕ → ℕ → ℕ → Type 0
 AddedBy rec i r = r ≡ addedIn rec i
 
+abbrev pub SoakedBy : List ℕ → ℕ → ℕ → Type 0
+SoakedBy rec i r = r ≡ soakedIn rec i
+
 abbrev pub GoneFrom : List ℕ → ℕ → ℕ → Type 0
 GoneFrom rec i r = r ≡ gone (leavesIn rec) i
 
@@ -124,10 +134,11 @@ OffFrom p rec i r = r ≡ offSquare p (leavesIn rec) i
 abbrev pub HeadPut : List ℕ → ℕ → ℕ → List ℕ → Type 0
 HeadPut old held lasted new = new ≡ placed old 0 (held ∷ lasted ∷ [])
 
-abbrev pub SquarePut : List ℕ → ℕ → List ℕ → ℕ → ℕ → List ℕ → Type 0
-SquarePut old i leaves last added new =
+abbrev pub SquarePut : List ℕ → ℕ → List ℕ → ℕ → ℕ → ℕ → List ℕ → Type 0
+SquarePut old i leaves last added soaked new =
     new ≡
-    placed old (wordPlace i north) (getD leaves north 0 ∷ getD leaves east 0 ∷ getD leaves south 0 ∷ getD leaves west 0 ∷ last ∷ added ∷ [])
+    placed old (wordPlace i north)
+    (getD leaves north 0 ∷ getD leaves east 0 ∷ getD leaves south 0 ∷ getD leaves west 0 ∷ last ∷ added ∷ soaked ∷ [])
 
 abbrev pub ClosedPut : List ℕ → ℕ → List ℕ → Type 0
 ClosedPut old i new = new ≡ placed old (wordPlace i north) (replicate squareWords 0)

@@ -7,7 +7,7 @@ use mathlib.Core.List.{List, [], _∷_}
 use Prim.Native.Nat.{ℕ, zero, suc}
 use lib.Dec.{leb}
 use Rattle.reckon.specs.Tests.{every}
-use Rattle.reckon.specs.Ranges.{mostLength, lastClock, mostOutflow}
+use Rattle.reckon.specs.Ranges.{mostLength, lastClock, mostOutflow, mostSoaked}
 use Rattle.trials.specs.Ring.{ringFine}
 use Rattle.grid.specs.declared.squares.Shape.{Shape}
 use Rattle.ledger.specs.declared.runs.Run.{Run}
@@ -34,27 +34,36 @@ world d p r u = record { depths = d; lasts = p; records = r; run = u }
 
 -- depths alone as a world, for what goes by nothing else of it
 abbrev pub ofDepths : List ℕ → World
-ofDepths d = world d [] [] (record { clock = 0; length = 0; outflow = 0; kept = 0; newest = 0 })
+ofDepths d = world d [] [] (record { clock = 0; length = 0; outflow = 0; kept = 0; newest = 0; soaked = 0 })
 
--- demand 3: "depths, the total last to leave each square, clock, step length and outflow"
+-- demand 3: "depths, the total last to leave each square, clock, step length and outflow", and "the total" soaked (document 02, #106)
 pub record Seen : Type 0 where
   pub depths : List ℕ
   pub lasts : List ℕ
   pub clock : ℕ
   pub length : ℕ
   pub outflow : ℕ
+  pub soaked : ℕ
 
 abbrev pub seenOf : World → Seen
-seenOf w = record { depths = w .depths; lasts = w .lasts; clock = w .run .clock; length = w .run .length; outflow = w .run .outflow }
+seenOf w =
+    record {
+      depths = w .depths;
+      lasts = w .lasts;
+      clock = w .run .clock;
+      length = w .run .length;
+      outflow = w .run .outflow;
+      soaked = w .run .soaked;
+    }
 
--- refusal 6: "K = 0, or a run value out of range": whether K, kept and newest are in range, then clock, length and outflow
-unfoldable pub runValuesFine : Bool → ℕ → ℕ → ℕ → Bool
-runValuesFine ring clock length outflow =
-    every (ring ∷ leb clock lastClock ∷ leb 1 length ∷ leb length mostLength ∷ leb outflow mostOutflow ∷ [])
+-- refusal 6: "K = 0, or a run value out of range": whether K, kept and newest are in range, then clock, length, outflow and soaked
+unfoldable pub runValuesFine : Bool → ℕ → ℕ → ℕ → ℕ → Bool
+runValuesFine ring clock length outflow soaked =
+    every (ring ∷ leb clock lastClock ∷ leb 1 length ∷ leb length mostLength ∷ leb outflow mostOutflow ∷ leb soaked mostSoaked ∷ [])
 
 -- the same of a run value and K
 unfoldable pub runFine : ℕ → Run → Bool
-runFine K u = runValuesFine (ringFine K (u .kept) (u .newest)) (u .clock) (u .length) (u .outflow)
+runFine K u = runValuesFine (ringFine K (u .kept) (u .newest)) (u .clock) (u .length) (u .outflow) (u .soaked)
 
 -- Refusal's number and run value as an answer: 0 is no refusal, so that a refusal is never taken for a run.
 unfoldable pub answered : ℕ → Run → Answer

@@ -13,27 +13,30 @@ use Rattle.trials.specs.Ring.{slotBefore}
 use Rattle.grid.specs.Squares.{squares, shapeFine}
 use Rattle.grid.specs.Marks.{marksFine}
 use Rattle.ledger.specs.Runs.{Plan, World, Seen, seenOf, runValuesFine, answered}
-use Rattle.ledger.specs.Flows.{shut, gone, came, offGrid}
-use Rattle.ledger.specs.Record.{heldIn, lastedIn, leavesIn, lastIn, addedIn, roomSlots, ringOf, newestRecord}
+use Rattle.ledger.specs.Flows.{shut, gone, came, offGrid, soakedGrid}
+use Rattle.ledger.specs.Record.{heldIn, lastedIn, leavesIn, lastIn, addedIn, soakedIn, roomSlots, ringOf, newestRecord}
 use Rattle.ledger.specs.Checks.{oneEach, watersFine, timesFine}
 use Rattle.ledger.specs.declared.runs.Run.{Run}
 use Rattle.ledger.specs.declared.runs.Answer.{Answer}
 
--- "kept falls by one, newest moves back one slot": the run before the step of a record that sent an amount off the grid
-abbrev pub runBefore : ℕ → Run → List ℕ → ℕ → Run
-runBefore slots u rec off =
+-- "kept falls by one, newest moves back one slot": the run before the step of a record that sent one amount off the grid and soaked
+-- another
+abbrev pub runBefore : ℕ → Run → List ℕ → ℕ → ℕ → Run
+runBefore slots u rec off soaked =
     record {
       clock = u .clock - lastedIn rec;
       length = heldIn rec;
       outflow = u .outflow - off;
       kept = u .kept - 1;
       newest = slotBefore slots (u .newest);
+      soaked = u .soaked - soaked;
     }
 
 module _ (p : Plan) (w : World) (rec : List ℕ) where
-  -- "Depth before = depth + four leaving − what neighbours sent − amount added": what is put together, and what is taken off it
+  -- "Depth before = depth + four leaving − what neighbours sent − amount added", and "Take-back returns" what soaked (document 02,
+  -- #106): what is put together, and what is taken off it
   unfoldable pub heldAndGone : ℕ → ℕ
-  heldAndGone i = getD (w .depths) i 0 + gone (leavesIn rec) i
+  heldAndGone i = getD (w .depths) i 0 + (gone (leavesIn rec) i + soakedIn rec i)
 
   unfoldable pub cameAndAdded : ℕ → ℕ
   cameAndAdded i = came p (leavesIn rec) i + addedIn rec i
@@ -46,7 +49,8 @@ module _ (p : Plan) (w : World) (rec : List ℕ) where
   squareRestorable i =
       shut p i || every (leb (lastIn rec i) mostDepth ∷ leb (cameAndAdded i) (heldAndGone i) ∷ leb (depthBefore i) mostDepth ∷ [])
 
-  -- 11: ".. also lasted > clock, P or depth restored out of range, more outflow than the total"
+  -- 11: ".. also lasted > clock, P or depth restored out of range, more outflow than the total", "a record that would take back more
+  -- than the total" soaked (document 02, #106)
   unfoldable pub restorable : Bool
   restorable =
       every
@@ -54,6 +58,7 @@ module _ (p : Plan) (w : World) (rec : List ℕ) where
       ∷ leb (lastedIn rec) (w .run .clock)
       ∷ allBelow (squares (p .shape)) squareRestorable
       ∷ leb (offGrid p (leavesIn rec)) (w .run .outflow)
+      ∷ leb (soakedGrid p (soakedIn rec)) (w .run .soaked)
       ∷ [])
 
   -- "P, length, clock and outflow go back likewise; .. the record room is not written"
@@ -63,7 +68,7 @@ module _ (p : Plan) (w : World) (rec : List ℕ) where
         depths = filled (squares (p .shape)) (shut p) depthBefore (w .depths);
         lasts = filled (squares (p .shape)) (shut p) (lastIn rec) (w .lasts);
         records = w .records;
-        run = runBefore (roomSlots p (w .records)) (w .run) rec (offGrid p (leavesIn rec));
+        run = runBefore (roomSlots p (w .records)) (w .run) rec (offGrid p (leavesIn rec)) (soakedGrid p (soakedIn rec));
       }
 
 module _ (p : Plan) where
@@ -74,7 +79,7 @@ module _ (p : Plan) where
       1 unless every (shapeFine (p .shape) ∷ oneEach p (p .marks) ∷ oneEach p (v .depths) ∷ oneEach p (v .lasts) ∷ [])
       ∷ 2 unless marksFine (p .shape) (p .marks)
       ∷ 3 unless watersFine p (v .depths) (v .lasts)
-      ∷ 6 unless runValuesFine ring (v .clock) (v .length) (v .outflow)
+      ∷ 6 unless runValuesFine ring (v .clock) (v .length) (v .outflow) (v .soaked)
       ∷ []
 
 module _ (p : Plan) (w : World) where

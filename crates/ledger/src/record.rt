@@ -1,15 +1,15 @@
 // The record of a step: its words read and written by name, and the amounts that they give. Only this file knows a word's place.
 ghost use mathlib.Core.Path.{_≡_};
 ghost use mathlib.Core.Bool.{false};
-ghost use Prim.Native.Nat.{_<_, _^_, _≤_};
+ghost use Prim.Native.Nat.{_+_, _<_, _^_, _≤_};
 ghost use lib.ListN.{getD, length};
 ghost use Rattle.reckon.specs.Tests.{pick};
 ghost use Rattle.reckon.specs.Ranges.{mostLength};
 ghost use Rattle.grid.specs.Squares.{ShapeInRange, OnSquare, east, north, onRim, sides, south, squares, west};
 ghost use Rattle.grid.specs.Marks.{closed};
 ghost use Rattle.ledger.specs.Runs.{plan};
-ghost use Rattle.ledger.specs.Flows.{offSide};
-ghost use Rattle.ledger.specs.Record.{AddedBy, CameTo, ClosedPut, GoneFrom, HeadPut, HeldBefore, LastBefore, Lasted, Leaving, OffFrom, Recorded, SentTo, SizeOf, SquarePut, addedWord, headWords, lastWord, leavesIn, squareWords, wordPlace};
+ghost use Rattle.ledger.specs.Flows.{gone, offSide};
+ghost use Rattle.ledger.specs.Record.{AddedBy, CameTo, ClosedPut, GoneFrom, HeadPut, HeldBefore, LastBefore, Lasted, Leaving, OffFrom, Recorded, SentTo, SizeOf, SoakedBy, SquarePut, addedWord, headWords, lastWord, leavesIn, soakedIn, soakedWord, squareWords, wordPlace};
 use grid::marks::is_closed;
 use grid::squares::EAST;
 use grid::squares::MOST_SQUARES;
@@ -24,28 +24,32 @@ use grid::squares::squares_of;
 use reckon::copying::copy_into;
 use reckon::numbers::number;
 
-// The words before the squares, and those of a square: its four sides, then these two.
+// The words before the squares, and those of a square: its four sides, then these three.
 pub const HEAD_WORDS: usize = 2;
 
-pub const SQUARE_WORDS: usize = 6;
+pub const SQUARE_WORDS: usize = 7;
 
 const LAST_WORD: usize = 4;
 
 const ADDED_WORD: usize = 5;
 
+const SOAKED_WORD: usize = 6;
+
 // The words of the largest record: a room for one record is this long.
 pub const MOST_RECORD: usize = HEAD_WORDS + SQUARE_WORDS * MOST_SQUARES;
 
-// What a walk over the squares finds: whether each passes its test, and if so what left the grid.
+// What a walk over the squares finds: whether each passes its test, and if so what left the grid and what soaked.
 pub(crate) struct Found {
     pub(crate) fits: bool,
     pub(crate) off: u64,
+    pub(crate) soaked: u64,
 }
 
 // Found where a square fails.
 pub(crate) const UNFIT: Found = Found {
     fits: false,
     off: 0,
+    soaked: 0,
 };
 
 // The words of a record.
@@ -105,6 +109,14 @@ pub fn added_by(rec: &[u32], square: usize) -> u64
     number(rec, word_place(square, ADDED_WORD))
 }
 
+// What soaked into a square's ground.
+pub fn soaked_by(rec: &[u32], square: usize) -> u64
+    requires { ⌜ wordPlace square soakedWord < length (now rec) ⌝ }
+    ensures { λ r. ⌜ SoakedBy (now (rec .entry)) square r ⌝ }
+{
+    number(rec, word_place(square, SOAKED_WORD))
+}
+
 // What left a square through its four sides.
 pub fn gone_from(rec: &[u32], square: usize) -> u64
     requires { ⌜ wordPlace square west < length (now rec) ⌝ }
@@ -114,6 +126,25 @@ pub fn gone_from(rec: &[u32], square: usize) -> u64
         + leaving(rec, square, EAST)
         + leaving(rec, square, SOUTH)
         + leaving(rec, square, WEST)
+}
+
+// What a square has lost: what left it, and what soaked.
+pub(crate) fn lost_from(rec: &[u32], square: usize) -> u64
+    requires { ⌜ wordPlace square soakedWord < length (now rec) ⌝ }
+    ensures { λ r. ⌜ r ≡ gone (leavesIn (now (rec .entry))) square + soakedIn (now (rec .entry)) square ⌝ }
+{
+    gone_from(rec, square) + soaked_by(rec, square)
+}
+
+// What soaked into a square's ground: nothing where it is closed.
+pub(crate) fn soaked_from(marks: &[u8], rec: &[u32], square: usize) -> u64
+    requires { ⌜ (square < length (now marks)) × (wordPlace square soakedWord < length (now rec)) ⌝ }
+    ensures { λ r. ⌜ r ≡ pick (closed (now (marks .entry)) square) 0 (soakedIn (now (rec .entry)) square) ⌝ }
+{
+    if is_closed(marks, square) {
+        return 0;
+    }
+    soaked_by(rec, square)
 }
 
 // What the square at a place sent through a side: nothing where it is closed.
@@ -224,11 +255,18 @@ pub fn put_head(rec: &mut [u32], held: u64, lasts: u64)
     rec[1] = lasts as u32;
 }
 
-// Writes a square: what leaves through its sides, its last leaving before, what is added.
-pub fn put_square(rec: &mut [u32], square: usize, leaves: [u64; 4], last: u32, added: u32)
+// Writes a square: what leaves through its sides, its last leaving before, what is added, what soaks.
+pub fn put_square(
+    rec: &mut [u32],
+    square: usize,
+    leaves: [u64; 4],
+    last: u32,
+    added: u32,
+    soaked: u64,
+)
     requires { ⌜ wordPlace square squareWords ≤ length (now rec) ⌝ }
-    requires { ⌜ (getD leaves north 0 < 2 ^ 32) × (getD leaves east 0 < 2 ^ 32) × (getD leaves south 0 < 2 ^ 32) × (getD leaves west 0 < 2 ^ 32) ⌝ }
-    ensures { λ _. ⌜ SquarePut (now (rec .entry)) square leaves last added (now (rec .exit)) ⌝ }
+    requires { ⌜ (getD leaves north 0 < 2 ^ 32) × (getD leaves east 0 < 2 ^ 32) × (getD leaves south 0 < 2 ^ 32) × (getD leaves west 0 < 2 ^ 32) × (soaked < 2 ^ 32) ⌝ }
+    ensures { λ _. ⌜ SquarePut (now (rec .entry)) square leaves last added soaked (now (rec .exit)) ⌝ }
 {
     let words: [u32; SQUARE_WORDS] = [
         leaves[0] as u32,
@@ -237,6 +275,7 @@ pub fn put_square(rec: &mut [u32], square: usize, leaves: [u64; 4], last: u32, a
         leaves[3] as u32,
         last,
         added,
+        soaked as u32,
     ];
     copy_into(&words, rec, word_place(square, NORTH));
 }

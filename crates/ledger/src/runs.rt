@@ -1,13 +1,14 @@
 // The run value, and the answer of a call that gives one.
 ghost use Rattle.ledger.specs.Runs.{RunJudged};
 
-// clock and length are in ms; outflow is in µm over one square; kept and newest are of the ring of records.
+// clock and length are in ms; outflow and soaked are in µm over one square; kept and newest are of the ring of records.
 pub struct Run {
     pub clock: u64,
     pub length: u64,
     pub outflow: u64,
     pub kept: usize,
     pub newest: usize,
+    pub soaked: u64,
 }
 
 pub enum Answer {
@@ -31,5 +32,8 @@ pub fn run_fine(k: usize, run: Run) -> bool
     if reckon::ranges::MOST_LENGTH < run.length {
         return false;
     }
-    run.outflow <= reckon::ranges::MOST_OUTFLOW
+    if reckon::ranges::MOST_OUTFLOW < run.outflow {
+        return false;
+    }
+    run.soaked <= reckon::ranges::MOST_SOAKED
 }

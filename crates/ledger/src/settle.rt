@@ -1,5 +1,5 @@
-// A step whose record is worked out, settled: refused by 8 or 9, or written to depths, last leaving, record room and run.
-// Nothing lent but the working room is written before both are decided.
+// A step whose record is worked out, settled: refused by 8, 9 or 15, or written to depths, last leaving, record room and run.
+// Nothing lent but the working room is written before all three are decided.
 ghost use mathlib.Core.Path.{_≡_};
 ghost use mathlib.Core.Bool.{false};
 ghost use Prim.Native.Nat.{_+_, _<_};
@@ -11,7 +11,7 @@ ghost use Rattle.grid.specs.Marks.{closed};
 ghost use Rattle.ledger.specs.Runs.{plan, world};
 ghost use Rattle.ledger.specs.Flows.{came, gone};
 ghost use Rattle.ledger.specs.Record.{Recorded, addedIn, leavesIn, wordPlace};
-ghost use Rattle.ledger.specs.After.{newOutflow, worldWith};
+ghost use Rattle.ledger.specs.After.{newOutflow, newSoaked, worldWith};
 ghost use Rattle.ledger.specs.inner.Settle.{GatheredAll, GatheredOne, Gathers, Settles, SettlesTo, SmallLeaving, SmallSquare, depthBy, depthsBy, movesIn};
 use crate::record::Found;
 use crate::record::UNFIT;
@@ -20,8 +20,10 @@ use crate::record::came_to;
 use crate::record::came_within;
 use crate::record::gone_from;
 use crate::record::lasted;
+use crate::record::lost_from;
 use crate::record::off_from;
 use crate::record::record_size;
+use crate::record::soaked_from;
 use crate::runs::Run;
 use grid::marks::is_closed;
 use grid::squares::Shape;
@@ -32,6 +34,7 @@ use reckon::copying::copy_into;
 use reckon::numbers::number;
 use reckon::ranges::MOST_DEPTH;
 use reckon::ranges::MOST_OUTFLOW;
+use reckon::ranges::MOST_SOAKED;
 
 // The refusal's number, 0 for none, and the run afterwards.
 pub struct Settled {
@@ -51,7 +54,7 @@ fn gains(shape: Shape, marks: &[u8], rec: &[u32], square: usize, column: usize) 
     came_within(shape, marks, rec, square) + added_by(rec, square)
 }
 
-// A square's new depth. A dry square has sent nothing.
+// A square's new depth. A dry square has sent nothing, and nothing has soaked.
 fn new_depth(
     shape: Shape,
     marks: &[u8],
@@ -69,7 +72,7 @@ fn new_depth(
     if depth == 0 {
         return gained;
     }
-    let remains = depth - gone_from(rec, square);
+    let remains = depth - lost_from(rec, square);
     remains + gained
 }
 
@@ -99,7 +102,7 @@ fn gather_square(
     true
 }
 
-// Gathers every square's new depth, and what leaves the grid.
+// Gathers every square's new depth, what leaves the grid and what soaks.
 fn gather(shape: Shape, marks: &[u8], rec: &[u32], depths: &[u32], working: &mut [u32]) -> Found
     requires { ⌜ Gathers (plan shape (now marks)) (now rec) (now depths) ⌝ }
     requires { ⌜ length (now working) ≡ squares shape ⌝ }
@@ -107,6 +110,7 @@ fn gather(shape: Shape, marks: &[u8], rec: &[u32], depths: &[u32], working: &mut
 {
     let squares = squares_of(shape);
     let mut off: u64 = 0;
+    let mut soaked: u64 = 0;
     let mut square = 0;
     let mut column = 0;
     while square < squares {
@@ -114,12 +118,14 @@ fn gather(shape: Shape, marks: &[u8], rec: &[u32], depths: &[u32], working: &mut
             return UNFIT;
         }
         off += off_from(shape, marks, rec, square, column);
+        soaked += soaked_from(marks, rec, square);
         square += 1;
         column = next_column(shape, column);
     }
     Found {
         fits: true,
         off: off,
+        soaked: soaked,
     }
 }
 
@@ -160,6 +166,7 @@ fn write(
     rec: &[u32],
     held: u64,
     outflow: u64,
+    soaked: u64,
     run: Run,
     working: &[u32],
     depths: &mut [u32],
@@ -169,6 +176,7 @@ fn write(
     requires { ⌜ Settles (plan shape (now marks)) (now rec) held (world (now depths) (now lasts) (now records) run) ⌝ }
     requires { ⌜ now working ≡ depthsBy (plan shape (now marks)) (now rec) (now depths) ⌝ }
     requires { ⌜ outflow ≡ newOutflow (plan shape (now marks)) (movesIn (now rec) held) (world (now depths) (now lasts) (now records) run) ⌝ }
+    requires { ⌜ soaked ≡ newSoaked (plan shape (now marks)) (movesIn (now rec) held) (world (now depths) (now lasts) (now records) run) ⌝ }
     ensures { λ r. ⌜ world (now (depths .exit)) (now (lasts .exit)) (now (records .exit)) r ≡ worldWith (plan shape (now (marks .entry))) (movesIn (now (rec .entry)) held) (world (now (depths .entry)) (now (lasts .entry)) (now (records .entry)) run) (now (rec .entry)) ⌝ }
 {
     let size = record_size(shape);
@@ -183,6 +191,7 @@ fn write(
         outflow: outflow,
         kept: trials::kept_after(slots, run.kept),
         newest: slot,
+        soaked: soaked,
     }
 }
 
@@ -216,12 +225,20 @@ pub fn settle(
             run: run,
         };
     }
+    let soaked = run.soaked + found.soaked;
+    if MOST_SOAKED < soaked {
+        return Settled {
+            refused: 15,
+            run: run,
+        };
+    }
     let after = write(
         shape,
         marks,
         rec,
         held,
         outflow,
+        soaked,
         run,
         working,
         depths,

@@ -7,11 +7,11 @@ ghost use Prim.Native.Nat.{_+_, _<_, _≤_};
 ghost use lib.ListN.{getD, length, set};
 ghost use Rattle.reckon.specs.Tests.{allBelow, every, pick};
 ghost use Rattle.reckon.specs.Lists.{filled};
-ghost use Rattle.grid.specs.Squares.{OnSquare, shapeFine, squares, west};
+ghost use Rattle.grid.specs.Squares.{OnSquare, shapeFine, squares};
 ghost use Rattle.grid.specs.Marks.{closed};
 ghost use Rattle.ledger.specs.Runs.{ofDepths, plan, world};
 ghost use Rattle.ledger.specs.Flows.{came, gone};
-ghost use Rattle.ledger.specs.Record.{Recorded, addedIn, headWords, lastIn, lastWord, lastedIn, leavesIn, wordPlace};
+ghost use Rattle.ledger.specs.Record.{Recorded, addedIn, headWords, lastIn, lastWord, lastedIn, leavesIn, soakedIn, soakedWord, wordPlace};
 ghost use Rattle.ledger.specs.Checks.{oneEach};
 ghost use Rattle.ledger.specs.TakeBack.{TakesBack, depthBefore, restorable, runBefore, squareRestorable};
 ghost use Rattle.ledger.specs.inner.TakeBack.{RecordAndDepths, EarlyRefused, Restores};
@@ -23,12 +23,13 @@ use crate::record::Found;
 use crate::record::UNFIT;
 use crate::record::added_by;
 use crate::record::came_to;
-use crate::record::gone_from;
 use crate::record::held_before;
 use crate::record::last_before;
 use crate::record::lasted;
+use crate::record::lost_from;
 use crate::record::off_from;
 use crate::record::record_size;
+use crate::record::soaked_from;
 use crate::runs::Answer;
 use crate::runs::Run;
 use crate::runs::run_fine;
@@ -86,12 +87,12 @@ fn early_refusal(
     0
 }
 
-// A square's depth and what left it: what its depth before is taken from.
+// A square's depth and what it has lost: what its depth before is taken from.
 fn held_and_gone(rec: &[u32], depths: &[u32], square: usize) -> u64
-    requires { ⌜ (square < length (now depths)) × (wordPlace square west < length (now rec)) ⌝ }
-    ensures { λ r. ⌜ r ≡ getD (now (depths .entry)) square 0 + gone (leavesIn (now (rec .entry))) square ⌝ }
+    requires { ⌜ (square < length (now depths)) × (wordPlace square soakedWord < length (now rec)) ⌝ }
+    ensures { λ r. ⌜ r ≡ getD (now (depths .entry)) square 0 + (gone (leavesIn (now (rec .entry))) square + soakedIn (now (rec .entry)) square) ⌝ }
 {
-    number(depths, square) + gone_from(rec, square)
+    number(depths, square) + lost_from(rec, square)
 }
 
 // What came to a square and what was added: what is taken off that.
@@ -130,13 +131,14 @@ fn square_restorable(
     more - less <= (MOST_DEPTH as u64)
 }
 
-// Whether every square can be restored, and what left the grid.
+// Whether every square can be restored, what left the grid and what soaked.
 fn try_squares(shape: Shape, marks: &[u8], rec: &[u32], depths: &[u32]) -> Found
     requires { ⌜ RecordAndDepths (plan shape (now marks)) (now rec) (now depths) ⌝ }
     ensures { λ r. ⌜ Walked (plan shape (now (marks .entry))) (now (rec .entry)) (allBelow (squares shape) (squareRestorable (plan shape (now (marks .entry))) (ofDepths (now (depths .entry))) (now (rec .entry)))) r ⌝ }
 {
     let squares = squares_of(shape);
     let mut off: u64 = 0;
+    let mut soaked: u64 = 0;
     let mut square = 0;
     let mut column = 0;
     while square < squares {
@@ -144,16 +146,18 @@ fn try_squares(shape: Shape, marks: &[u8], rec: &[u32], depths: &[u32]) -> Found
             return UNFIT;
         }
         off += off_from(shape, marks, rec, square, column);
+        soaked += soaked_from(marks, rec, square);
         square += 1;
         column = next_column(shape, column);
     }
     Found {
         fits: true,
         off: off,
+        soaked: soaked,
     }
 }
 
-// Refusal 11: whether a record can be taken back, and what left the grid.
+// Refusal 11: whether a record can be taken back, what left the grid and what soaked.
 fn try_record(shape: Shape, run: Run, marks: &[u8], rec: &[u32], depths: &[u32]) -> Found
     requires { ⌜ RecordAndDepths (plan shape (now marks)) (now rec) (now depths) ⌝ }
     ensures { λ r. ⌜ Walked (plan shape (now (marks .entry))) (now (rec .entry)) (restorable (plan shape (now (marks .entry))) (world (now (depths .entry)) [] [] run) (now (rec .entry))) r ⌝ }
@@ -169,6 +173,9 @@ fn try_record(shape: Shape, run: Run, marks: &[u8], rec: &[u32], depths: &[u32])
         return UNFIT;
     }
     if run.outflow < found.off {
+        return UNFIT;
+    }
+    if run.soaked < found.soaked {
         return UNFIT;
     }
     found
@@ -235,11 +242,11 @@ fn restore_lasts(shape: Shape, marks: &[u8], rec: &[u32], lasts: &mut [u32])
     }
 }
 
-// The run before the step of a record that sent an amount off the grid.
-fn run_before(run: Run, slots: usize, rec: &[u32], off: u64) -> Run
+// The run before the step of a record that sent one amount off the grid and soaked another.
+fn run_before(run: Run, slots: usize, rec: &[u32], off: u64, soaked: u64) -> Run
     requires { ⌜ (headWords ≤ length (now rec)) × (run .newest < slots) × (1 ≤ run .kept) ⌝ }
-    requires { ⌜ (lastedIn (now rec) ≤ run .clock) × (off ≤ run .outflow) ⌝ }
-    ensures { λ r. ⌜ r ≡ runBefore slots run (now (rec .entry)) off ⌝ }
+    requires { ⌜ (lastedIn (now rec) ≤ run .clock) × (off ≤ run .outflow) × (soaked ≤ run .soaked) ⌝ }
+    ensures { λ r. ⌜ r ≡ runBefore slots run (now (rec .entry)) off soaked ⌝ }
 {
     Run {
         clock: run.clock - lasted(rec),
@@ -247,6 +254,7 @@ fn run_before(run: Run, slots: usize, rec: &[u32], off: u64) -> Run
         outflow: run.outflow - off,
         kept: run.kept - 1,
         newest: trials::slot_before(slots, run.newest),
+        soaked: run.soaked - soaked,
     }
 }
 
@@ -276,5 +284,5 @@ pub fn take_back(
     }
     restore_depths(shape, marks, rec, depths);
     restore_lasts(shape, marks, rec, lasts);
-    Answer::Done(run_before(run, slots, rec, found.off))
+    Answer::Done(run_before(run, slots, rec, found.off, found.soaked))
 }

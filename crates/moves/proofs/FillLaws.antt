@@ -3,91 +3,133 @@
 use mathlib.Core.Path.{_≡_, refl, sym, ap, _∙_}
 use mathlib.Core.Bool.{Bool, true, false}
 use mathlib.Core.List.{List, [], _∷_}
-use Prim.Native.Nat.{ℕ, _+_, _^_, _≤_, _<_}
+use Prim.Native.Nat.{ℕ, _+_, _-_, _^_, _≤_, _<_, min}
 use native.Mathlib.Omega.{arith}
 use lib.ListN.{length, getD}
 use Rattle.reckon.specs.Ranges.{mostDepth}
+use Rattle.reckon.specs.Soaking.{soakDue}
 use Rattle.reckon.proofs.ListLaws.{filled-in, joined-ext}
 use Rattle.grid.specs.Squares.{north, east, south, west, squares}
 use Rattle.grid.proofs.MarkLaws.{unless-closed}
 use Rattle.rule.specs.Weighing.{weighed}
-use Rattle.rule.specs.Length.{lengthAt, durationFor}
+use Rattle.rule.specs.Length.{durationFor}
 use Rattle.rule.specs.declared.rules.Rules.{Rules}
 use Rattle.rule.proofs.WeighingLaws.{weighed-dry, weighed-le}
 use Rattle.ledger.specs.Runs.{Plan, World, seenOf}
-use Rattle.ledger.specs.Flows.{Leaves, shut}
+use Rattle.ledger.specs.Flows.{Leaves, fourSides, shut, gone}
 use Rattle.ledger.specs.Record.{squareRecord, recordOf, SquarePut}
 use Rattle.ledger.specs.After.{stepRecord}
 use Rattle.ledger.proofs.RecordLaws.{Begun, begun-open, begun-closed}
 use Rattle.moves.specs.Given.{Ground, Given}
 use Rattle.moves.specs.Drops.{dropsOf}
-use Rattle.moves.specs.Moves.{candidates, leavesFor, addedFor, stepLength, stepDuration, stepMoves}
+use Rattle.moves.specs.Moves.{squareCandidates, candidates, leavesFor, soakedFor, addedFor, stepLength, stepDuration, stepMoves}
 use Rattle.moves.specs.inner.Added.{tables, addedFits, WaterAdded}
-use Rattle.moves.specs.inner.Fill.{FilledOne}
-use Rattle.moves.proofs.MoveLaws.{leaves-open}
+use Rattle.moves.specs.inner.Fill.{firm, LengthWorked, FilledOne}
+use Rattle.moves.specs.inner.Ready.{MeadowInRange}
+use Rattle.moves.proofs.MoveLaws.{weights, leaves-open, covered, soaked-open}
 
 -- a record goes by what is added to squares not closed alone
 pub record-same :
-    (p : Plan) (held lasts : ℕ) (out : Leaves) (last a b : ℕ → ℕ) → ((i : ℕ) → i < squares (p .shape) → shut p i ≡ false → a i ≡ b i) →
-    recordOf p held lasts out last a ≡ recordOf p held lasts out last b
+    (p : Plan) (held lasts : ℕ) (out : Leaves) (last a b soaked : ℕ → ℕ) → ((i : ℕ) → i < squares (p .shape) → shut p i ≡ false → a i ≡ b i) →
+    recordOf p held lasts out last a soaked ≡ recordOf p held lasts out last b soaked
 unfolding recordOf squareRecord
-record-same p held lasts out last a b h =
+record-same p held lasts out last a b soaked h =
     ap (λ (l : List ℕ). held ∷ lasts ∷ l)
-    (joined-ext (squares (p .shape)) (squareRecord p out last a) (squareRecord p out last b)
-    (λ i l. unless-closed (p .marks) i _ (λ e. ap (λ (x : ℕ). out i north ∷ out i east ∷ out i south ∷ out i west ∷ last i ∷ x ∷ []) (h i l e))))
+    (joined-ext (squares (p .shape)) (squareRecord p out last a soaked) (squareRecord p out last b soaked)
+    (λ i l. unless-closed (p .marks) i _ (λ e. ap (λ (x : ℕ). out i north ∷ out i east ∷ out i south ∷ out i west ∷ last i ∷ x ∷ soaked i ∷ []) (h i l e))))
 
 -- ---- one square
 
 module _ (r : Rules) (q k ms : ℕ) (v : List ℕ) where
   -- a dry square sends nothing
   pub put-dry :
-      {d : ℕ} (old : List ℕ) (i last added : ℕ) {new : List ℕ} → d ≡ 0 → SquarePut old i (0 ∷ 0 ∷ 0 ∷ 0 ∷ []) last added new →
-      SquarePut old i (weighed r d q k ms v) last added new
-  put-dry {d} old i last added e h = rw (weighed-dry r d q k ms v e) h
+      {d : ℕ} (old : List ℕ) (i last added : ℕ) {s s′ : ℕ} {new : List ℕ} → d ≡ 0 → s ≡ s′ → SquarePut old i (0 ∷ 0 ∷ 0 ∷ 0 ∷ []) last added s new →
+      SquarePut old i (weighed r d q k ms v) last added s′ new
+  put-dry {d} old i last added e t h = rw (weighed-dry r d q k ms v e, sym t) h
 
   -- the weighing as the code names its parts
-  pub put-wet :
-      {d d′ q′ k′ : ℕ} {v′ leaves : List ℕ} (old : List ℕ) (i last added : ℕ) {new : List ℕ} →
-      d′ ≡ d → q′ ≡ q → k′ ≡ k → v′ ≡ v → leaves ≡ weighed r d′ q′ k′ ms v′ → SquarePut old i leaves last added new →
-      SquarePut old i (weighed r d q k ms v) last added new
-  put-wet {d} {leaves = leaves} old i last added a b c e l h =
-      let same : leaves ≡ weighed r d q k ms v = l ∙ ap₄ a b c e in
-      rw (sym same) h
+  pub weighed-made :
+      {d d′ q′ k′ : ℕ} {v′ leaves : List ℕ} → d′ ≡ d → q′ ≡ q → k′ ≡ k → v′ ≡ v → leaves ≡ weighed r d′ q′ k′ ms v′ → leaves ≡ weighed r d q k ms v
+  weighed-made {d} a b c e l = l ∙ same a b c e
     where
-      ap₄ : {d d′ q′ k′ : ℕ} {v′ : List ℕ} → d′ ≡ d → q′ ≡ q → k′ ≡ k → v′ ≡ v → weighed r d′ q′ k′ ms v′ ≡ weighed r d q k ms v
-      ap₄ a b c e = rw (a, b, c, e)
+      same : {d′ q′ k′ : ℕ} {v′ : List ℕ} → d′ ≡ d → q′ ≡ q → k′ ≡ k → v′ ≡ v → weighed r d′ q′ k′ ms v′ ≡ weighed r d q k ms v
+      same a b c e = rw (a, b, c, e)
 
-  -- each of the four fits a word
+  pub put-wet :
+      (d : ℕ) {leaves : List ℕ} (old : List ℕ) (i last added : ℕ) {s s′ : ℕ} {new : List ℕ} →
+      leaves ≡ weighed r d q k ms v → s ≡ s′ → SquarePut old i leaves last added s new → SquarePut old i (weighed r d q k ms v) last added s′ new
+  put-wet d old i last added l t h = rw (sym l, sym t) h
+
+  -- each of the four fits a word, and so does what soaks
   pub words-fit :
-      {d : ℕ} {leaves : List ℕ} → d ≤ mostDepth → leaves ≡ weighed r d q k ms v →
-      (getD leaves 0 0 < 2 ^ 32) × (getD leaves 1 0 < 2 ^ 32) × (getD leaves 2 0 < 2 ^ 32) × (getD leaves 3 0 < 2 ^ 32)
-  words-fit {d} h e = rw e (let l = weighed-le r d q k ms v in omega arith)
+      {d s : ℕ} {leaves : List ℕ} → d ≤ mostDepth → s ≤ d → leaves ≡ weighed r d q k ms v →
+      (getD leaves 0 0 < 2 ^ 32) × (getD leaves 1 0 < 2 ^ 32) × (getD leaves 2 0 < 2 ^ 32) × (getD leaves 3 0 < 2 ^ 32) × (s < 2 ^ 32)
+  words-fit {d} h t e = rw e (let l = weighed-le r d q k ms v in omega arith)
+
+-- what soaks, as the code names its parts
+module _ (p : Plan) (o : Ground) (depths lasts : List ℕ) (start ms i : ℕ) (e : shut p i ≡ false) where
+  pub soaked-dry : getD depths i 0 ≡ 0 → 0 ≡ soakedFor p o depths lasts start ms i
+  soaked-dry d = omega (arith, soaked-open p o depths lasts ms i start e)
+
+  gone-made :
+      {leaves : List ℕ} → leaves ≡ weights p o depths lasts ms i → fourSides (λ side. getD leaves side 0) ≡ gone (leavesFor p o depths lasts ms) i
+  unfolding gone
+  gone-made l =
+      let at : (side : ℕ) → leavesFor p o depths lasts ms i side ≡ getD (weights p o depths lasts ms i) side 0
+      = λ side. leaves-open p o depths lasts ms i side e in
+      rw (l, at north, at east, at south, at west)
+
+  pub left-over : {leaves : List ℕ} {d : ℕ} → leaves ≡ weights p o depths lasts ms i → d ≡ getD depths i 0 → fourSides (λ side. getD leaves side 0) ≤ d
+  left-over l d = omega (arith, gone-made l, covered p o depths lasts ms i e)
+
+  pub soaked-made :
+      {rate d s : ℕ} {leaves : List ℕ} → rate ≡ getD (o .rates) i 0 → d ≡ getD depths i 0 → leaves ≡ weights p o depths lasts ms i →
+      s ≡ min (soakDue rate start (start + ms)) (d - fourSides (λ side. getD leaves side 0)) → s ≡ soakedFor p o depths lasts start ms i
+  soaked-made {rate} {d} {leaves = leaves} a b l s =
+      let four : fourSides (λ side. getD leaves side 0) ≡ gone (leavesFor p o depths lasts ms) i = gone-made l in
+      let same : min (soakDue rate start (start + ms)) (d - fourSides (λ side. getD leaves side 0))
+      ≡ min (soakDue (getD (o .rates) i 0) start (start + ms)) (getD depths i 0 - gone (leavesFor p o depths lasts ms) i) = rw (a, b, four) in
+      s ∙ (same ∙ sym (soaked-open p o depths lasts ms i start e))
 
 -- a turn of the loop over squares
 pub fill-turn :
-    (p : Plan) (o : Ground) (depths lasts added : List ℕ) (held ms i : ℕ) {old new : List ℕ} → i < squares (p .shape) →
-    Begun p held ms (leavesFor p o depths lasts ms) (λ k. getD lasts k 0) (λ k. getD added k 0) i old →
-    FilledOne p o depths lasts added ms i old new →
-    Begun p held ms (leavesFor p o depths lasts ms) (λ k. getD lasts k 0) (λ k. getD added k 0) (i + 1) new
-fill-turn p o depths lasts added held ms i {old} {new} h b f = go (shut p i) refl
+    (p : Plan) (o : Ground) (depths lasts added : List ℕ) (held start ms i : ℕ) {old new : List ℕ} → i < squares (p .shape) →
+    Begun p held ms (leavesFor p o depths lasts ms) (λ k. getD lasts k 0) (λ k. getD added k 0) (soakedFor p o depths lasts start ms) i old →
+    FilledOne p o depths lasts added start ms i old new →
+    Begun p held ms (leavesFor p o depths lasts ms) (λ k. getD lasts k 0) (λ k. getD added k 0) (soakedFor p o depths lasts start ms) (i + 1) new
+fill-turn p o depths lasts added held start ms i {old} {new} h b f = go (shut p i) refl
   where
-    go : (c : Bool) → shut p i ≡ c → Begun p held ms (leavesFor p o depths lasts ms) (λ k. getD lasts k 0) (λ k. getD added k 0) (i + 1) new
+    go : (c : Bool) → shut p i ≡ c → Begun p held ms (leavesFor p o depths lasts ms) (λ k. getD lasts k 0) (λ k. getD added k 0) (soakedFor p o depths lasts start ms) (i + 1) new
     go true c = begun-closed h b c (f .closed-put c)
     go false c =
         begun-open h b c
         (weighed (o .rules) (getD depths i 0) (getD lasts i 0) (getD (o .roughness) i 0) ms (dropsOf p (o .rules) (o .beds) depths i))
-        (λ side l. sym (leaves-open p o depths lasts ms i side c)) refl refl (f .open-put c)
+        (λ side l. sym (leaves-open p o depths lasts ms i side c)) refl refl refl (f .open-put c)
 
 -- ---- the step's own times and record, from what the code finds
 
 module _ (p : Plan) (g : Given) (w : World) where
+  -- the length goes by the ground without its soak rates
+  abbrev pub firmly : Ground
+  firmly = firm (g .lie .rules) (g .lie .beds) (g .lie .roughness)
+
+  pub lies-firmly : MeadowInRange p (g .lie) (w .depths) → MeadowInRange p firmly (w .depths)
+  lies-firmly l =
+      record {
+        sited = l .sited;
+        roughness-long = l .roughness-long;
+        rules = l .rules;
+        grounds = l .grounds;
+        depths-to = l .depths-to;
+      }
+
   pub length-made :
-      {len : ℕ} → len ≡ lengthAt (g .lie .rules) (w .run .clock) (w .run .length) (candidates p (g .lie) (w .depths)) → len ≡ stepLength p g (seenOf w)
-  unfolding stepLength
+      {len : ℕ} → LengthWorked p firmly (w .depths) (w .run .clock) (w .run .length) len → len ≡ stepLength p g (seenOf w)
+  unfolding stepLength candidates squareCandidates
   length-made e = e
 
   pub lasts-made :
-      {len ms : ℕ} → len ≡ lengthAt (g .lie .rules) (w .run .clock) (w .run .length) (candidates p (g .lie) (w .depths)) →
+      {len ms : ℕ} → LengthWorked p firmly (w .depths) (w .run .clock) (w .run .length) len →
       ms ≡ durationFor (g .lie .rules) (w .run .clock) len → ms ≡ stepDuration p g (seenOf w)
   unfolding stepDuration
   lasts-made l e = e ∙ ap (durationFor (g .lie .rules) (w .run .clock)) (length-made l)
@@ -104,15 +146,17 @@ module _ (p : Plan) (g : Given) (w : World) where
   pub record-made :
       {ms end : ℕ} {old room rec : List ℕ} {fits : Bool} → ms ≡ stepDuration p g (seenOf w) → end ≡ w .run .clock + ms → length old ≡ squares (p .shape) →
       WaterAdded p (tables (g .lie .rules) (g .rain) (g .inflow)) (w .run .clock) end old fits room → fits ≡ true →
-      rec ≡ recordOf p (w .run .length) ms (leavesFor p (g .lie) (w .depths) (w .lasts) ms) (λ i. getD (w .lasts) i 0) (λ i. getD room i 0) →
+      rec ≡ recordOf p (w .run .length) ms (leavesFor p (g .lie) (w .depths) (w .lasts) ms) (λ i. getD (w .lasts) i 0) (λ i. getD room i 0)
+      (soakedFor p (g .lie) (w .depths) (w .lasts) (w .run .clock) ms) →
       rec ≡ stepRecord p (stepMoves p g (seenOf w)) w
   unfolding stepRecord
   record-made {ms} {end} {old} {room} e n o t f q =
       q
-      ∙ (record-same p (w .run .length) ms (leavesFor p (g .lie) (w .depths) (w .lasts) ms) (λ i. getD (w .lasts) i 0) (λ i. getD room i 0) (addedFor p g (w .run .clock) (w .run .clock + ms)) at
+      ∙ (record-same p (w .run .length) ms (leavesFor p (g .lie) (w .depths) (w .lasts) ms) (λ i. getD (w .lasts) i 0) (λ i. getD room i 0) (addedFor p g (w .run .clock) (w .run .clock + ms)) (soakedFor p (g .lie) (w .depths) (w .lasts) (w .run .clock) ms) at
       ∙ ap
       (λ (x : ℕ).
-      recordOf p (w .run .length) x (leavesFor p (g .lie) (w .depths) (w .lasts) x) (λ i. getD (w .lasts) i 0) (addedFor p g (w .run .clock) (w .run .clock + x)))
+      recordOf p (w .run .length) x (leavesFor p (g .lie) (w .depths) (w .lasts) x) (λ i. getD (w .lasts) i 0) (addedFor p g (w .run .clock) (w .run .clock + x))
+      (soakedFor p (g .lie) (w .depths) (w .lasts) (w .run .clock) x))
       e)
     where
       at : (i : ℕ) → i < squares (p .shape) → shut p i ≡ false → getD room i 0 ≡ addedFor p g (w .run .clock) (w .run .clock + ms) i

@@ -1,16 +1,17 @@
--- Laws of what a step moves: no square sends more than it holds, nothing goes through a wall, off the grid only from an exit, and
+-- Laws of what a step moves: no square sends and soaks more than it holds, nothing goes through a wall, off the grid only from an exit, and
 -- times stay in range. All of it follows from the weighing's own two laws and from the drops.
 -- Assumes nothing.
 use mathlib.Core.Path.{_≡_, refl, _∙_}
 use mathlib.Core.Bool.{Bool, true, false}
 use mathlib.Core.List.{List}
-use Prim.Native.Nat.{ℕ, zero, suc, _≤_, _<_}
+use Prim.Native.Nat.{ℕ, zero, suc, _+_, _-_, _≤_, _<_, min}
 use native.Mathlib.Nat.{le-trans}
 use native.Mathlib.Omega.{arith}
 use lib.ListN.{getD}
 use borrow.Author.Tests.{ltb-true, ltb-false}
 use Rattle.reckon.specs.Tests.{pick}
 use Rattle.reckon.specs.Ranges.{mostLength}
+use Rattle.reckon.specs.Soaking.{soakDue}
 use Rattle.reckon.proofs.TestLaws.{pick-true, pick-false, pick-both}
 use Rattle.reckon.proofs.ListLaws.{sum-zero}
 use Rattle.grid.specs.Squares.{north, east, south, west, sides, squares, within, beside}
@@ -24,14 +25,14 @@ use Rattle.ledger.specs.Flows.{Leaves, shut, gone, offSide, offSquare, offGrid}
 use Rattle.ledger.specs.Walls.{Walled}
 use Rattle.moves.specs.Given.{Ground, Given}
 use Rattle.moves.specs.Drops.{sideDrop, dropsOf}
-use Rattle.moves.specs.Moves.{candidates, leavesFor, stepLength, stepDuration}
+use Rattle.moves.specs.Moves.{candidates, leavesFor, soakedFor, stepLength, stepDuration}
 use Rattle.moves.specs.inner.Ready.{Ready}
 use Rattle.moves.proofs.DropLaws.{drop-closed, drop-exit, drop-rim}
 
 -- ---- what leaves a square
 
 module _ (p : Plan) (o : Ground) (depths lasts : List ℕ) (ms i : ℕ) where
-  abbrev weights : List ℕ
+  abbrev pub weights : List ℕ
   weights = weighed (o .rules) (getD depths i 0) (getD lasts i 0) (getD (o .roughness) i 0) ms (dropsOf p (o .rules) (o .beds) depths i)
 
   pub leaves-open : (side : ℕ) → shut p i ≡ false → leavesFor p o depths lasts ms i side ≡ getD weights side 0
@@ -48,6 +49,17 @@ module _ (p : Plan) (o : Ground) (depths lasts : List ℕ) (ms i : ℕ) where
   covered e =
       rw (leaves-open north e, leaves-open east e, leaves-open south e, leaves-open west e)
       (weighed-le (o .rules) (getD depths i 0) (getD lasts i 0) (getD (o .roughness) i 0) ms (dropsOf p (o .rules) (o .beds) depths i))
+
+  -- nor sends and soaks more
+  pub soaked-open :
+      (start : ℕ) → shut p i ≡ false →
+      soakedFor p o depths lasts start ms i
+      ≡ min (soakDue (getD (o .rates) i 0) start (start + ms)) (getD depths i 0 - gone (leavesFor p o depths lasts ms) i)
+  unfolding soakedFor
+  soaked-open start e = pick-false _ _ e
+
+  pub lost-covered : (start : ℕ) → shut p i ≡ false → gone (leavesFor p o depths lasts ms) i + soakedFor p o depths lasts start ms i ≤ getD depths i 0
+  lost-covered start e = omega (arith, soaked-open start e, covered e)
 
   -- a side without a drop sends nothing
   drop-at : (side : ℕ) → side < sides → getD (dropsOf p (o .rules) (o .beds) depths i) side 0 ≡ sideDrop p (o .rules) (o .beds) depths i side

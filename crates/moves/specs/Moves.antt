@@ -1,16 +1,17 @@
 -- Document 01, "The step": what a step moves. "All amounts are worked from the state before the step."
 -- Assumes nothing.
 use mathlib.Core.List.{List, []}
-use Prim.Native.Nat.{ℕ, _+_, _/_, _%_}
+use Prim.Native.Nat.{ℕ, _+_, _-_, _/_, _%_, min}
 use lib.ListN.{getD}
 use Rattle.reckon.specs.Tests.{pick}
 use Rattle.reckon.specs.Lists.{joined}
+use Rattle.reckon.specs.Soaking.{soakDue}
 use Rattle.reckon.specs.Tables.{rainAdded, inflowAdded}
 use Rattle.grid.specs.Squares.{squares}
 use Rattle.rule.specs.Weighing.{weighed}
 use Rattle.rule.specs.Length.{candidatesOf, lengthAt, durationFor}
 use Rattle.ledger.specs.Runs.{Plan, Seen}
-use Rattle.ledger.specs.Flows.{Leaves, shut}
+use Rattle.ledger.specs.Flows.{Leaves, shut, gone}
 use Rattle.ledger.specs.After.{Moves}
 use Rattle.moves.specs.Given.{Ground, Given}
 use Rattle.moves.specs.Drops.{dropsOf}
@@ -29,6 +30,12 @@ module _ (p : Plan) (o : Ground) (depths : List ℕ) where
   unfoldable pub leavesFor : List ℕ → ℕ → Leaves
   leavesFor lasts ms i side =
       pick (shut p i) 0 (getD (weighed (o .rules) (getD depths i 0) (getD lasts i 0) (getD (o .roughness) i 0) ms (dropsOf p (o .rules) (o .beds) depths i)) side 0)
+
+  -- "It takes the smaller of that due and the depth left after the four sides have taken theirs" (document 02, #106): what soaks into a
+  -- square not closed in a step from a clock on
+  unfoldable pub soakedFor : List ℕ → ℕ → ℕ → ℕ → ℕ
+  soakedFor lasts start ms i =
+      pick (shut p i) 0 (min (soakDue (getD (o .rates) i 0) start (start + ms)) (getD depths i 0 - gone (leavesFor lasts ms) i))
 
 -- "What a step adds is the amount by its end less the amount by its start": rain on every square, inflow on the square's own rows
 unfoldable pub addedFor : Plan → Given → ℕ → ℕ → ℕ → ℕ
@@ -52,6 +59,7 @@ module _ (p : Plan) (g : Given) (v : Seen) where
       record {
         leaves = leavesFor p (g .lie) (v .depths) (v .lasts) stepDuration;
         added = addedFor p g (v .clock) (v .clock + stepDuration);
+        soaked = soakedFor p (g .lie) (v .depths) (v .lasts) (v .clock) stepDuration;
         duration = stepDuration;
         length = stepLength;
       }

@@ -13,9 +13,8 @@ ghost use mathlib.Core.Path.{_≡_};
 ghost use Rattle.grid.specs.Squares.{OnSquare};
 ghost use Rattle.rule.specs.Length.{leastFrom};
 ghost use Rattle.ledger.specs.Runs.{plan};
-ghost use Rattle.moves.specs.Given.{ground};
 ghost use Rattle.moves.specs.Moves.{candidates, squareCandidates};
-ghost use Rattle.moves.specs.inner.Fill.{LengthWorked};
+ghost use Rattle.moves.specs.inner.Fill.{LengthWorked, firm};
 ghost use Rattle.moves.specs.inner.Ready.{MeadowInRange};
 
 // The least of best and the candidates of one square.
@@ -30,8 +29,8 @@ fn shorter_by(
     square: usize,
     column: usize,
 ) -> u64
-    requires { ⌜ (MeadowInRange (plan shape (now marks)) (ground rules (now beds) (now roughness)) (now depths)) × (OnSquare shape square column) ⌝ }
-    ensures { λ r. ⌜ r ≡ leastFrom best (squareCandidates (plan shape (now (marks .entry))) (ground rules (now (beds .entry)) (now (roughness .entry))) (now (depths .entry)) square) ⌝ }
+    requires { ⌜ (MeadowInRange (plan shape (now marks)) (firm rules (now beds) (now roughness)) (now depths)) × (OnSquare shape square column) ⌝ }
+    ensures { λ r. ⌜ r ≡ leastFrom best (squareCandidates (plan shape (now (marks .entry))) (firm rules (now (beds .entry)) (now (roughness .entry))) (now (depths .entry)) square) ⌝ }
 {
     if is_closed(marks, square) {
         return best;
@@ -53,8 +52,8 @@ fn least_candidate(
     roughness: &[u32],
     depths: &[u32],
 ) -> u64
-    requires { ⌜ MeadowInRange (plan shape (now marks)) (ground rules (now beds) (now roughness)) (now depths) ⌝ }
-    ensures { λ r. ⌜ r ≡ leastFrom (rules .longest) (candidates (plan shape (now (marks .entry))) (ground rules (now (beds .entry)) (now (roughness .entry))) (now (depths .entry))) ⌝ }
+    requires { ⌜ MeadowInRange (plan shape (now marks)) (firm rules (now beds) (now roughness)) (now depths) ⌝ }
+    ensures { λ r. ⌜ r ≡ leastFrom (rules .longest) (candidates (plan shape (now (marks .entry))) (firm rules (now (beds .entry)) (now (roughness .entry))) (now (depths .entry))) ⌝ }
 {
     let squares = squares_of(shape);
     let mut best = rules.longest;
@@ -89,8 +88,8 @@ pub fn step_length(
     clock: u64,
     held: u64,
 ) -> u64
-    requires { ⌜ MeadowInRange (plan shape (now marks)) (ground rules (now beds) (now roughness)) (now depths) ⌝ }
-    ensures { λ r. ⌜ LengthWorked (plan shape (now (marks .entry))) (ground rules (now (beds .entry)) (now (roughness .entry))) (now (depths .entry)) clock held r ⌝ }
+    requires { ⌜ MeadowInRange (plan shape (now marks)) (firm rules (now beds) (now roughness)) (now depths) ⌝ }
+    ensures { λ r. ⌜ LengthWorked (plan shape (now (marks .entry))) (firm rules (now (beds .entry)) (now (roughness .entry))) (now (depths .entry)) clock held r ⌝ }
 {
     if is_update(rules, clock) {
         return held_length(

@@ -3,6 +3,7 @@ pub mod Lists
 pub mod Numbers
 pub mod Ranges
 pub mod Roots
+pub mod Soaking
 pub mod Tables
 pub mod Tests
 pub mod inner

@@ -59,6 +59,14 @@ mostLitres = 100_000
 abbrev pub mostOutflow : ℕ
 mostOutflow = 1_000_000_000_000_000
 
+-- document 02, #106: "a soak rate in µm per hour", "a rate above 1,000,000 on a square not closed is 2"
+abbrev pub mostSoakRate : ℕ
+mostSoakRate = 1_000_000
+
+-- document 02, #106: "a total soaked up to 10^15"
+abbrev pub mostSoaked : ℕ
+mostSoaked = 1_000_000_000_000_000
+
 -- "At most 64 rows of each"
 abbrev pub mostTableRows : ℕ
 mostTableRows = 64
@@ -66,6 +74,10 @@ mostTableRows = 64
 -- refusal 1: "D out of range"
 unfoldable pub sideFine : ℕ → Bool
 sideFine D = every (leb 1 D ∷ leb D mostSide ∷ [])
+
+-- refusal 2: "a rate above 1,000,000 on a square not closed" (document 02, #106)
+unfoldable pub rateFine : ℕ → Bool
+rateFine rate = leb rate mostSoakRate
 
 -- refusal 3: "depth or P of a square not closed out of range"
 unfoldable pub waterFine : ℕ → ℕ → Bool
@@ -75,6 +87,9 @@ waterFine d p = every (leb d mostDepth ∷ leb p mostDepth ∷ [])
 
 abbrev pub SideJudged : ℕ → Bool → Type 0
 SideJudged D r = r ≡ sideFine D
+
+abbrev pub RateJudged : ℕ → Bool → Type 0
+RateJudged rate r = r ≡ rateFine rate
 
 abbrev pub WaterJudged : ℕ → ℕ → Bool → Type 0
 WaterJudged d p r = r ≡ waterFine d p

@@ -1,5 +1,6 @@
-// The ends of document 01's ranges, and the tests that several crates share: of the side D, and of a depth and a last leaving.
-ghost use Rattle.reckon.specs.Ranges.{SideJudged, WaterJudged};
+// The ends of document 01's ranges, and the tests that several crates share: of the side D, of a soak rate, and of a
+// depth and a last leaving.
+ghost use Rattle.reckon.specs.Ranges.{RateJudged, SideJudged, WaterJudged};
 
 pub const MOST_SIDE: u64 = 100;
 
@@ -27,6 +28,10 @@ pub const MOST_LITRES: u64 = 100_000;
 
 pub const MOST_OUTFLOW: u64 = 1_000_000_000_000_000;
 
+pub const MOST_SOAK_RATE: u32 = 1_000_000;
+
+pub const MOST_SOAKED: u64 = 1_000_000_000_000_000;
+
 pub const MOST_TABLE_ROWS: usize = 64;
 
 // Refusal 1: the side D is in range.
@@ -37,6 +42,13 @@ pub fn side_fine(side: u64) -> bool
         return false;
     }
     side <= MOST_SIDE
+}
+
+// Refusal 2: the soak rate of a square not closed is in range.
+pub fn rate_fine(rate: u32) -> bool
+    ensures { λ r. ⌜ RateJudged rate r ⌝ }
+{
+    rate <= MOST_SOAK_RATE
 }
 
 // Refusal 3: depth and last leaving of a square not closed are in range.

@@ -46,7 +46,8 @@ const INFLOW: Kind = Kind {
     most: MOST_LITRES,
 };
 
-const HOUR: u64 = 3_600_000;
+// The ms of an hour.
+pub(crate) const HOUR: u64 = 3_600_000;
 
 // How long a row has run by clock t.
 fn row_ran(from: u64, to: u64, t: u64) -> u64

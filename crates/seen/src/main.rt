@@ -35,11 +35,14 @@ const BEDS: [u32; 9] = [0, 0, 0, 0, 1_000_000, 0, 20_000, 10_000, 0];
 
 const ROUGHNESS: [u32; 9] = [100, 100, 0, 50, 100, 100, 200, 100, 0];
 
+// Nothing soaks here, whatever the closed squares' rates say.
+const RATES: [u32; 9] = [0, 0, 1_000_001, 0, 0, 0, 0, 0, 5];
+
 // The closed squares hold water as well: it must never be seen.
 const DEPTHS: [u32; 9] = [30_000, 10_000, 9, 20_000, 0, 500, 7000, 400, 77];
 
 // Two records of this meadow.
-const ROOM: usize = 112;
+const ROOM: usize = 130;
 
 fn words(text: &[u8]) {
     io::write_all(1, text);
@@ -138,6 +141,7 @@ fn stepped(run: Run, depths: &mut [u32], lasts: &mut [u32], records: &mut [u32])
     let marks = MARKS;
     let beds = BEDS;
     let roughness = ROUGHNESS;
+    let rates = RATES;
     let none: [u32; 0] = [];
     let answer = step(
         SHAPE,
@@ -146,6 +150,7 @@ fn stepped(run: Run, depths: &mut [u32], lasts: &mut [u32], records: &mut [u32])
         &marks,
         &beds,
         &roughness,
+        &rates,
         &none,
         &none,
         depths,
@@ -237,6 +242,7 @@ fn main() {
         outflow: 0,
         kept: 0,
         newest: 0,
+        soaked: 0,
     };
     let mut run = run_after(fresh(SHAPE, RULES, &marks, &mut lasts, &records), before);
     tell_all(b"fresh\n", run, &depths, &records);

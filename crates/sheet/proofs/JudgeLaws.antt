@@ -206,10 +206,11 @@ module _ (n : ℕ) (skipped : ℕ → Bool) (f : ℕ → ℕ) (m : ℕ) (h : n �
 -- the first numbers of rooms of zeros that were filled are what the sheet says
 pub said-from :
     (s : List ℕ) (size : ℕ) {n : ℕ} {c : Cells} → n ≡ squares (shapeOf s) → squares (shapeOf s) ≤ size → c ≡ allCells s (noCells size) →
-    cellsRooms (take n (c .marks)) (take n (c .beds)) (take n (c .roughness)) (take n (c .depths)) ≡ said s .cells
+    cellsRooms (take n (c .marks)) (take n (c .beds)) (take n (c .roughness)) (take n (c .rates)) (take n (c .depths)) ≡ said s .cells
 unfolding cellsFilled
 said-from s size {n} {c} e h g =
-    cells-same (part (λ r. r .marks) _ _ refl) (part (λ r. r .beds) _ _ refl) (part (λ r. r .roughness) _ _ refl) (part (λ r. r .depths) _ _ refl)
+    cells-same (part (λ r. r .marks) _ _ refl) (part (λ r. r .beds) _ _ refl) (part (λ r. r .roughness) _ _ refl) (part (λ r. r .rates) _ _ refl)
+    (part (λ r. r .depths) _ _ refl)
   where
     part :
         (room : Cells → List ℕ) (skipped : ℕ → Bool) (f : ℕ → ℕ) →

@@ -9,7 +9,7 @@ use native.Mathlib.Omega.{arith}
 use lib.ListN.{length, replicate, length-replicate}
 use borrow.Author.Tests.{eq-eqb, le-leb, leb-true}
 use Rattle.reckon.specs.Tests.{pick, every, _unless_, refusal}
-use Rattle.reckon.specs.Ranges.{lastClock, mostOutflow, sideFine}
+use Rattle.reckon.specs.Ranges.{lastClock, mostOutflow, mostSoaked, sideFine}
 use Rattle.reckon.proofs.TestLaws.{not-both, every-each, each-every}
 use Rattle.reckon.proofs.ListLaws.{length-filled}
 use Rattle.grid.specs.Squares.{squares, shapeFine}
@@ -67,6 +67,7 @@ module _ (s : List ℕ) (lent : Rooms) (f : roomsFine (shapeOf s) (lineOne s .si
       ∷ oneEach (planIn (shapeOf s) (lineTwo s .rules) (said s)) (said s .cells .marks)
       ∷ oneEach (planIn (shapeOf s) (lineTwo s .rules) (said s)) (said s .cells .beds)
       ∷ oneEach (planIn (shapeOf s) (lineTwo s .rules) (said s)) (said s .cells .roughness)
+      ∷ oneEach (planIn (shapeOf s) (lineTwo s .rules) (said s)) (said s .cells .rates)
       ∷ oneEach (planIn (shapeOf s) (lineTwo s .rules) (said s)) (said s .cells .depths)
       ∷ oneEach (planIn (shapeOf s) (lineTwo s .rules) (said s)) (replicate (squares (shapeOf s)) 0)
       ∷ []
@@ -84,7 +85,7 @@ module _ (s : List ℕ) (lent : Rooms) (f : roomsFine (shapeOf s) (lineOne s .si
               room-fine _ (length-filled _ _ _ _ ∙ zeros),
               (
                 room-fine _ (length-filled _ _ _ _ ∙ zeros),
-                (room-fine _ (length-filled _ _ _ _ ∙ zeros), (room-fine _ zeros, tt)),
+                (room-fine _ (length-filled _ _ _ _ ∙ zeros), (room-fine _ (length-filled _ _ _ _ ∙ zeros), (room-fine _ zeros, tt))),
               ),
             ),
           ),
@@ -109,7 +110,7 @@ module _ (s : List ℕ) (lent : Rooms) (f : roomsFine (shapeOf s) (lineOne s .si
         ring-fresh K (omega (arith, one)),
         (
           le-leb 0 lastClock (omega arith),
-          (le-leb 1 (lineTwo s .rules .longest) (omega (arith, low, high)), (rules .1 .1 .1 .0, (le-leb 0 mostOutflow (omega arith), tt))),
+          (le-leb 1 (lineTwo s .rules .longest) (omega (arith, low, high)), (rules .1 .1 .1 .0, (le-leb 0 mostOutflow (omega arith), (le-leb 0 mostSoaked (omega arith), tt)))),
         ),
       ))
       (both .1)

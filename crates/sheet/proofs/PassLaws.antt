@@ -67,7 +67,8 @@ module _ (s : List ℕ) (before : Rooms) (h : Heading) (w : Well s before h) (la
       (runChecks (plan (shapeOf s) m)
       (given
       (ground (lineTwo s .rules) (take (squares (shapeOf s)) (roomsFilled s before .cells .beds))
-      (take (squares (shapeOf s)) (roomsFilled s before .cells .roughness))) t u)
+      (take (squares (shapeOf s)) (roomsFilled s before .cells .roughness))
+      (take (squares (shapeOf s)) (roomsFilled s before .cells .rates))) t u)
       (lineTwo s .end)
       (world (take (squares (shapeOf s)) (roomsFilled s before .cells .depths)) lasts records
       (freshRun (lineTwo s .rules) (roomSlots (plan (shapeOf s) m) records)))) ≡ 0
@@ -91,15 +92,17 @@ module _ (s : List ℕ) (before : Rooms) (h : Heading) (w : Well s before h) (la
       let n : ℕ = squares (shapeOf s) in
       let cells = rooms-cells (shapeOf s) (lineOne s .side) before (w .fine) in
       let zeros : length (replicate {A = ℕ} n 0) ≡ n = length-replicate n 0 in
-      run-passes (shapeOf s) (lineTwo s .rules) (said s) (lineTwo s .end) (w .checks) _ _ _ lasts records
+      run-passes (shapeOf s) (lineTwo s .rules) (said s) (lineTwo s .end) (w .checks) _ _ _ _ lasts records
       (record {
         beds-long = room-long n _ _ (before .cells .beds) (cells .1);
         roughness-long = room-long n _ _ (before .cells .roughness) (cells .2);
-        depths-long = room-long n _ _ (before .cells .depths) (cells .3);
+        rates-long = room-long n _ _ (before .cells .rates) (cells .3);
+        depths-long = room-long n _ _ (before .cells .depths) (cells .4);
         lasts-long = long;
         beds-alike = λ i k. let o = not-closed i k in room-alike n _ _ (before .cells .beds) (replicate n 0) i (o .0) (o .1) (cells .1) (omega (arith, zeros));
         roughness-alike = λ i k. let o = not-closed i k in room-alike n _ _ (before .cells .roughness) (replicate n 0) i (o .0) (o .1) (cells .2) (omega (arith, zeros));
-        depths-alike = λ i k. let o = not-closed i k in room-alike n _ _ (before .cells .depths) (replicate n 0) i (o .0) (o .1) (cells .3) (omega (arith, zeros));
+        rates-alike = λ i k. let o = not-closed i k in room-alike n _ _ (before .cells .rates) (replicate n 0) i (o .0) (o .1) (cells .3) (omega (arith, zeros));
+        depths-alike = λ i k. let o = not-closed i k in room-alike n _ _ (before .cells .depths) (replicate n 0) i (o .0) (o .1) (cells .4) (omega (arith, zeros));
         lasts-none = none;
         room-one = one;
       })

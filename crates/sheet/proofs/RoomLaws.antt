@@ -66,22 +66,23 @@ module _ (skipped : ℕ → Bool) (f : ℕ → ℕ) (old : List ℕ) (i : ℕ) w
 
 -- rooms that hold the same numbers
 pub cells-same :
-    {x y : Cells} → x .marks ≡ y .marks → x .beds ≡ y .beds → x .roughness ≡ y .roughness → x .depths ≡ y .depths → x ≡ y
-cells-same e f g h = go e f g h
+    {x y : Cells} → x .marks ≡ y .marks → x .beds ≡ y .beds → x .roughness ≡ y .roughness → x .rates ≡ y .rates → x .depths ≡ y .depths → x ≡ y
+cells-same e f g r h = go e f g r h
   where
-    go : {m m′ b b′ k k′ d d′ : List ℕ} → m ≡ m′ → b ≡ b′ → k ≡ k′ → d ≡ d′ → cellsRooms m b k d ≡ cellsRooms m′ b′ k′ d′
-    go e f g h = cc
+    go : {m m′ b b′ k k′ s s′ d d′ : List ℕ} → m ≡ m′ → b ≡ b′ → k ≡ k′ → s ≡ s′ → d ≡ d′ → cellsRooms m b k s d ≡ cellsRooms m′ b′ k′ s′ d′
+    go e f g r h = cc
 
 -- the first squares' lines were read, and the rooms are filled with them
 pub record Filling (s : List ℕ) (p columns next i : ℕ) (old new : Cells) : Type 0 where
   pub lines : Passed s p (λ k. cellFrom s p columns k .found) next i
   pub rooms-are : new ≡ cellsFilled s p columns i old
 
--- a line's numbers are stored, its bed, roughness and depth where it is not closed
+-- a line's numbers are stored, its bed, roughness, rate and depth where it is not closed
 pub record Stored (c : CellLine) (i : ℕ) (old new : Cells) : Type 0 where
   pub marks : new .marks ≡ set (old .marks) i (c .mark)
   pub beds : new .beds ≡ pick (eqb (c .mark) 0) (old .beds) (set (old .beds) i (c .bed))
   pub roughness : new .roughness ≡ pick (eqb (c .mark) 0) (old .roughness) (set (old .roughness) i (c .roughness))
+  pub rates : new .rates ≡ pick (eqb (c .mark) 0) (old .rates) (set (old .rates) i (c .rate))
   pub depths : new .depths ≡ pick (eqb (c .mark) 0) (old .depths) (set (old .depths) i (c .depth))
 
 -- a square of each room
@@ -89,6 +90,7 @@ pub record Within (i : ℕ) (lent : Cells) : Type 0 where
   pub marks : i < length (lent .marks)
   pub beds : i < length (lent .beds)
   pub roughness : i < length (lent .roughness)
+  pub rates : i < length (lent .rates)
   pub depths : i < length (lent .depths)
 
 pub filling-none : (s : List ℕ) (p columns : ℕ) (old : Cells) → Filling s p columns p 0 old old
@@ -96,7 +98,7 @@ unfolding cellsFilled
 filling-none s p columns old =
     record {
       lines = passed-none s p (λ j. cellFrom s p columns j .found);
-      rooms-are = cells-same (filled-none _ _ _) (filled-none _ _ _) (filled-none _ _ _) (filled-none _ _ _);
+      rooms-are = cells-same (filled-none _ _ _) (filled-none _ _ _) (filled-none _ _ _) (filled-none _ _ _) (filled-none _ _ _);
     }
 
 module _ (s : List ℕ) (p columns : ℕ) {next i : ℕ} {old new : Cells} (a : Filling s p columns next i old new) where
@@ -118,6 +120,10 @@ module _ (s : List ℕ) (p columns : ℕ) {next i : ℕ} {old new : Cells} (a : 
   pub long-roughness : length (new .roughness) ≡ length (old .roughness)
   unfolding cellsFilled
   long-roughness = long (λ r. r .roughness) _ _ refl
+
+  pub long-rates : length (new .rates) ≡ length (old .rates)
+  unfolding cellsFilled
+  long-rates = long (λ r. r .rates) _ _ refl
 
   pub long-depths : length (new .depths) ≡ length (old .depths)
   unfolding cellsFilled
@@ -142,6 +148,7 @@ module _ (s : List ℕ) (p columns : ℕ) {next i : ℕ} {old new : Cells} (a : 
               (ap (λ (r : Cells). r .marks) (a .rooms-are)) (ap (λ (z : CellLine). z .mark) this) refl (w .marks ∙ sym (pick-false _ _ refl)))
               (kept (λ z. z .bed) _ (in-old .beds) (ap (λ (r : Cells). r .beds) (a .rooms-are)) (w .beds))
               (kept (λ z. z .roughness) _ (in-old .roughness) (ap (λ (r : Cells). r .roughness) (a .rooms-are)) (w .roughness))
+              (kept (λ z. z .rate) _ (in-old .rates) (ap (λ (r : Cells). r .rates) (a .rooms-are)) (w .rates))
               (kept (λ z. z .depth) _ (in-old .depths) (ap (λ (r : Cells). r .depths) (a .rooms-are)) (w .depths));
         }
       where

@@ -38,17 +38,17 @@ module _ (shape : Shape) (D : ℕ) (lent : Rooms) (f : roomsFine shape D lent �
 
   pub rooms-cells :
       (squares shape ≤ length (lent .cells .marks)) × (squares shape ≤ length (lent .cells .beds)) × (squares shape ≤ length (lent .cells .roughness)) ×
-      (squares shape ≤ length (lent .cells .depths))
+      (squares shape ≤ length (lent .cells .rates)) × (squares shape ≤ length (lent .cells .depths))
   unfolding roomsFine
   rooms-cells =
       let t = every-each _ f in
-      (leb-true _ _ (t .1 .1 .0), leb-true _ _ (t .1 .1 .1 .0), leb-true _ _ (t .1 .1 .1 .1 .0), leb-true _ _ (t .1 .1 .1 .1 .1 .0))
+      (leb-true _ _ (t .1 .1 .0), leb-true _ _ (t .1 .1 .1 .0), leb-true _ _ (t .1 .1 .1 .1 .0), leb-true _ _ (t .1 .1 .1 .1 .1 .0), leb-true _ _ (t .1 .1 .1 .1 .1 .1 .0))
 
   pub rooms-tables : (tableRoom rainKind ≤ length (lent .rain)) × (tableRoom inflowKind ≤ length (lent .inflow))
   unfolding roomsFine
   rooms-tables =
       let t = every-each _ f in
-      (leb-true (tableRoom rainKind) (length (lent .rain)) (t .1 .1 .1 .1 .1 .1 .0), leb-true (tableRoom inflowKind) (length (lent .inflow)) (t .1 .1 .1 .1 .1 .1 .1 .0))
+      (leb-true (tableRoom rainKind) (length (lent .rain)) (t .1 .1 .1 .1 .1 .1 .1 .0), leb-true (tableRoom inflowKind) (length (lent .inflow)) (t .1 .1 .1 .1 .1 .1 .1 .1 .0))
 
 rows-few :
     (s : List ℕ) (p : ℕ) (word : List ℕ) (width rows lead most : ℕ) → width ≤ mostFields → 0 < width →

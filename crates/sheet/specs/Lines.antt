@@ -72,16 +72,16 @@ runLine s p D = asRun D (lineOf s p runWord runFields)
 
 -- a line that is no square's
 unfoldable pub noCell : CellLine
-noCell = record { found = false; mark = 0; bed = 0; roughness = 0; depth = 0; next = 0 }
+noCell = record { found = false; mark = 0; bed = 0; roughness = 0; depth = 0; rate = 0; next = 0 }
 
 -- "an `x` line ends after its mark"
 unfoldable pub closedCell : List ℕ → ℕ → CellLine
 closedCell s p =
-    pick (isByte s p newline) (record { found = true; mark = 0; bed = 0; roughness = 0; depth = 0; next = p + 1 }) noCell
+    pick (isByte s p newline) (record { found = true; mark = 0; bed = 0; roughness = 0; depth = 0; rate = 0; next = p + 1 }) noCell
 
--- "bed, roughness, depth"
+-- "bed, roughness, depth", and "the rate at its end" (document 02, #106)
 abbrev pub openFields : ℕ
-openFields = 3
+openFields = 4
 
 unfoldable pub asOpen : ℕ → Fields → CellLine
 asOpen mark f =
@@ -91,6 +91,7 @@ asOpen mark f =
       bed = getD (f .values) 0 0;
       roughness = getD (f .values) 1 0;
       depth = getD (f .values) 2 0;
+      rate = getD (f .values) 3 0;
       next = f .next;
     }
 
@@ -124,7 +125,7 @@ placedCell s row column f =
     (pick (eqb (getD (f .values) 0 0) row) (pick (eqb (getD (f .values) 1 0) column) (markedCell s (f .next)) noCell) noCell)
     noCell
 
--- "`cell` .. row, column (from 0), mark, bed, roughness, depth"
+-- "`cell` .. row, column (from 0), mark, bed, roughness, depth", and the soak rate
 unfoldable pub cellLine : List ℕ → ℕ → ℕ → ℕ → CellLine
 cellLine s p row column =
     pick (wordAt s p cellWord) (placedCell s row column (fieldsAt s (p + length cellWord) placeFields)) noCell

@@ -109,14 +109,15 @@ pub record Cells : Type 0 where
   pub marks : List ℕ
   pub beds : List ℕ
   pub roughness : List ℕ
+  pub rates : List ℕ
   pub depths : List ℕ
 
-abbrev pub cellsRooms : List ℕ → List ℕ → List ℕ → List ℕ → Cells
-cellsRooms m b k d = record { marks = m; beds = b; roughness = k; depths = d }
+abbrev pub cellsRooms : List ℕ → List ℕ → List ℕ → List ℕ → List ℕ → Cells
+cellsRooms m b k s d = record { marks = m; beds = b; roughness = k; rates = s; depths = d }
 
 -- n zeros in each
 abbrev pub noCells : ℕ → Cells
-noCells n = cellsRooms (replicate n 0) (replicate n 0) (replicate n 0) (replicate n 0)
+noCells n = cellsRooms (replicate n 0) (replicate n 0) (replicate n 0) (replicate n 0) (replicate n 0)
 
 -- these and those of the tables
 pub record Rooms : Type 0 where
@@ -124,10 +125,11 @@ pub record Rooms : Type 0 where
   pub rain : List ℕ
   pub inflow : List ℕ
 
-abbrev pub rooms : List ℕ → List ℕ → List ℕ → List ℕ → List ℕ → List ℕ → Rooms
-rooms m b k d r f = record { cells = cellsRooms m b k d; rain = r; inflow = f }
+abbrev pub rooms : List ℕ → List ℕ → List ℕ → List ℕ → List ℕ → List ℕ → List ℕ → Rooms
+rooms m b k s d r f = record { cells = cellsRooms m b k s d; rain = r; inflow = f }
 
--- "Each room is filled from its start; the rest of it stays": n squares' lines at p, the bed, roughness and depth of a closed square left
+-- "Each room is filled from its start; the rest of it stays": n squares' lines at p, the bed, roughness, rate and depth of a closed square
+-- left
 module _ (s : List ℕ) (p columns : ℕ) where
   abbrev pub closedFrom : ℕ → Bool
   closedFrom i = eqb (cellFrom s p columns i .mark) 0
@@ -138,6 +140,7 @@ module _ (s : List ℕ) (p columns : ℕ) where
         marks = filled n (λ i. false) (λ i. cellFrom s p columns i .mark) (old .marks);
         beds = filled n closedFrom (λ i. cellFrom s p columns i .bed) (old .beds);
         roughness = filled n closedFrom (λ i. cellFrom s p columns i .roughness) (old .roughness);
+        rates = filled n closedFrom (λ i. cellFrom s p columns i .rate) (old .rates);
         depths = filled n closedFrom (λ i. cellFrom s p columns i .depth) (old .depths);
       }
 
@@ -162,6 +165,7 @@ roomsFine shape D lent =
     ∷ leb (squares shape) (length (lent .cells .marks))
     ∷ leb (squares shape) (length (lent .cells .beds))
     ∷ leb (squares shape) (length (lent .cells .roughness))
+    ∷ leb (squares shape) (length (lent .cells .rates))
     ∷ leb (squares shape) (length (lent .cells .depths))
     ∷ leb (tableRoom rainKind) (length (lent .rain))
     ∷ leb (tableRoom inflowKind) (length (lent .inflow))
@@ -175,7 +179,7 @@ module _ (shape : Shape) (r : Rules) (held : Rooms) where
   planIn = plan shape (held .cells .marks)
 
   abbrev pub givenIn : Given
-  givenIn = given (ground r (held .cells .beds) (held .cells .roughness)) (held .rain) (held .inflow)
+  givenIn = given (ground r (held .cells .beds) (held .cells .roughness) (held .cells .rates)) (held .rain) (held .inflow)
 
   abbrev pub noLasts : List ℕ
   noLasts = replicate (squares shape) 0

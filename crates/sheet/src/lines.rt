@@ -35,13 +35,14 @@ pub(crate) struct RunLine {
     pub(crate) next: usize,
 }
 
-// A square's line. A closed square has no bed, roughness or depth: 0 stands for each.
+// A square's line. A closed square has no bed, roughness, depth or soak rate: 0 stands for each.
 pub(crate) struct CellLine {
     pub(crate) found: bool,
     pub(crate) mark: u8,
     pub(crate) bed: u32,
     pub(crate) roughness: u32,
     pub(crate) depth: u32,
+    pub(crate) rate: u32,
     pub(crate) next: usize,
 }
 
@@ -98,6 +99,7 @@ fn no_cell() -> CellLine
         bed: 0,
         roughness: 0,
         depth: 0,
+        rate: 0,
         next: 0,
     }
 }
@@ -115,12 +117,13 @@ fn closed_cell(text: &[u8], at: usize) -> CellLine
         bed: 0,
         roughness: 0,
         depth: 0,
+        rate: 0,
         next: at + 1,
     }
 }
 
-// After the mark of a square not closed: bed, roughness, depth, and the end of the line.
-const OPEN_FIELDS: usize = 3;
+// After the mark of a square not closed: bed, roughness, depth, soak rate, and the end of the line.
+const OPEN_FIELDS: usize = 4;
 
 fn open_cell(text: &[u8], at: usize, mark: u8) -> CellLine
     ensures { λ r. ⌜ r ≡ openCell (now (text .entry)) at mark ⌝ }
@@ -133,6 +136,7 @@ fn open_cell(text: &[u8], at: usize, mark: u8) -> CellLine
         bed: values[0],
         roughness: values[1],
         depth: values[2],
+        rate: values[3],
         next: rest.next,
     }
 }
@@ -156,7 +160,7 @@ fn marked_cell(text: &[u8], at: usize) -> CellLine
     no_cell()
 }
 
-// `cell` row column mark bed roughness depth, for the square in a row and a column; an `x` line ends after its mark.
+// `cell` row column mark bed roughness depth rate, for the square in a row and a column; an `x` line ends after its mark.
 const PLACE_FIELDS: usize = 2;
 
 pub(crate) fn cell_line(text: &[u8], at: usize, row: usize, column: usize) -> CellLine

@@ -77,6 +77,7 @@ pub(crate) struct Sizes {
     pub(crate) marks: usize,
     pub(crate) beds: usize,
     pub(crate) roughness: usize,
+    pub(crate) rates: usize,
     pub(crate) depths: usize,
     pub(crate) rain: usize,
     pub(crate) inflow: usize,
@@ -84,7 +85,7 @@ pub(crate) struct Sizes {
 
 // Refusal 1: shape and D are in range, and every room is large enough.
 fn rooms_fine(shape: Shape, side: u64, lent: Sizes) -> bool
-    ensures { λ r. ⌜ r ≡ every (shapeFine shape ∷ sideFine side ∷ leb (squares shape) (lent .marks) ∷ leb (squares shape) (lent .beds) ∷ leb (squares shape) (lent .roughness) ∷ leb (squares shape) (lent .depths) ∷ leb (tableRoom rainKind) (lent .rain) ∷ leb (tableRoom inflowKind) (lent .inflow) ∷ []) ⌝ }
+    ensures { λ r. ⌜ r ≡ every (shapeFine shape ∷ sideFine side ∷ leb (squares shape) (lent .marks) ∷ leb (squares shape) (lent .beds) ∷ leb (squares shape) (lent .roughness) ∷ leb (squares shape) (lent .rates) ∷ leb (squares shape) (lent .depths) ∷ leb (tableRoom rainKind) (lent .rain) ∷ leb (tableRoom inflowKind) (lent .inflow) ∷ []) ⌝ }
 {
     if !shape_fine(shape) {
         return false;
@@ -100,6 +101,9 @@ fn rooms_fine(shape: Shape, side: u64, lent: Sizes) -> bool
         return false;
     }
     if lent.roughness < squares {
+        return false;
+    }
+    if lent.rates < squares {
         return false;
     }
     if lent.depths < squares {
@@ -134,11 +138,12 @@ fn read_body(
     marks: &mut [u8],
     beds: &mut [u32],
     roughness: &mut [u32],
+    rates: &mut [u32],
     depths: &mut [u32],
 ) -> Body
     requires { ⌜ (top ≡ gridLine (now text)) × (top .found ≡ true) × (ShapeInRange (top .shape)) ⌝ }
-    requires { ⌜ (squares (top .shape) ≤ length (now marks)) × (squares (top .shape) ≤ length (now beds)) × (squares (top .shape) ≤ length (now roughness)) × (squares (top .shape) ≤ length (now depths)) ⌝ }
-    ensures { λ r. ⌜ TextRead (now (text .entry)) r (cellsRooms (now (marks .entry)) (now (beds .entry)) (now (roughness .entry)) (now (depths .entry))) (cellsRooms (now (marks .exit)) (now (beds .exit)) (now (roughness .exit)) (now (depths .exit))) ⌝ }
+    requires { ⌜ (squares (top .shape) ≤ length (now marks)) × (squares (top .shape) ≤ length (now beds)) × (squares (top .shape) ≤ length (now roughness)) × (squares (top .shape) ≤ length (now rates)) × (squares (top .shape) ≤ length (now depths)) ⌝ }
+    ensures { λ r. ⌜ TextRead (now (text .entry)) r (cellsRooms (now (marks .entry)) (now (beds .entry)) (now (roughness .entry)) (now (rates .entry)) (now (depths .entry))) (cellsRooms (now (marks .exit)) (now (beds .exit)) (now (roughness .exit)) (now (rates .exit)) (now (depths .exit))) ⌝ }
 {
     let run = run_line(text, top.next, top.side);
     let rules = run.rules;
@@ -147,7 +152,7 @@ fn read_body(
     }
     let shape = top.shape;
     let squares = squares_of(shape);
-    let cells = fill_cells(text, run.next, shape, marks, beds, roughness, depths);
+    let cells = fill_cells(text, run.next, shape, marks, beds, roughness, rates, depths);
     if cells.count < squares {
         return bad_body(cells.count + FIRST_CELL_LINE, rules);
     }
@@ -186,12 +191,13 @@ fn judge(
     marks: &[u8],
     beds: &[u32],
     roughness: &[u32],
+    rates: &[u32],
     depths: &[u32],
     rain: &[u32],
     inflow: &[u32],
 ) -> u32
     requires { ⌜ ShapeInRange shape ⌝ }
-    ensures { λ r. ⌜ r ≡ checksIn shape rules (rooms (now (marks .entry)) (now (beds .entry)) (now (roughness .entry)) (now (depths .entry)) (now (rain .entry)) (now (inflow .entry))) end ⌝ }
+    ensures { λ r. ⌜ r ≡ checksIn shape rules (rooms (now (marks .entry)) (now (beds .entry)) (now (roughness .entry)) (now (rates .entry)) (now (depths .entry)) (now (rain .entry)) (now (inflow .entry))) end ⌝ }
 {
     let lasts = [0u32; MOST_SQUARES];
     let records = [0u32; MOST_RECORD];
@@ -206,6 +212,7 @@ fn judge(
         marks,
         beds,
         roughness,
+        rates,
         rain,
         inflow,
         depths,
@@ -222,10 +229,11 @@ fn judge_body(
     marks: &[u8],
     beds: &[u32],
     roughness: &[u32],
+    rates: &[u32],
     depths: &[u32],
 ) -> u32
     requires { ⌜ (ShapeInRange shape) × (shape ≡ shapeOf (now text)) × (BodyIs (now text) body) ⌝ }
-    requires { ⌜ cellsRooms (now marks) (now beds) (now roughness) (now depths) ≡ said (now text) .cells ⌝ }
+    requires { ⌜ cellsRooms (now marks) (now beds) (now roughness) (now rates) (now depths) ≡ said (now text) .cells ⌝ }
     ensures { λ r. ⌜ r ≡ checksOf (now (text .entry)) ⌝ }
 {
     let mut rain = [0u32; RAIN_LOOKED];
@@ -257,6 +265,7 @@ fn judge_body(
         marks,
         beds,
         roughness,
+        rates,
         depths,
         &rain[..rain_end],
         &inflow[..inflow_end],
@@ -278,6 +287,7 @@ fn decide(text: &[u8], top: GridLine) -> Verdict
     let mut marks = [0u8; MOST_SQUARES];
     let mut beds = [0u32; MOST_SQUARES];
     let mut roughness = [0u32; MOST_SQUARES];
+    let mut rates = [0u32; MOST_SQUARES];
     let mut depths = [0u32; MOST_SQUARES];
     let body = read_body(
         text,
@@ -285,6 +295,7 @@ fn decide(text: &[u8], top: GridLine) -> Verdict
         &mut marks,
         &mut beds,
         &mut roughness,
+        &mut rates,
         &mut depths,
     );
     if body.bad != 0 {
@@ -303,6 +314,7 @@ fn decide(text: &[u8], top: GridLine) -> Verdict
         &marks[..squares],
         &beds[..squares],
         &roughness[..squares],
+        &rates[..squares],
         &depths[..squares],
     );
     Verdict {
@@ -318,11 +330,12 @@ pub fn read(
     marks: &mut [u8],
     beds: &mut [u32],
     roughness: &mut [u32],
+    rates: &mut [u32],
     depths: &mut [u32],
     rain: &mut [u32],
     inflow: &mut [u32],
 ) -> Sheet
-    ensures { λ r. ⌜ Reads (now (text .entry)) (rooms (now (marks .entry)) (now (beds .entry)) (now (roughness .entry)) (now (depths .entry)) (now (rain .entry)) (now (inflow .entry))) r (rooms (now (marks .exit)) (now (beds .exit)) (now (roughness .exit)) (now (depths .exit)) (now (rain .exit)) (now (inflow .exit))) ⌝ }
+    ensures { λ r. ⌜ Reads (now (text .entry)) (rooms (now (marks .entry)) (now (beds .entry)) (now (roughness .entry)) (now (rates .entry)) (now (depths .entry)) (now (rain .entry)) (now (inflow .entry))) r (rooms (now (marks .exit)) (now (beds .exit)) (now (roughness .exit)) (now (rates .exit)) (now (depths .exit)) (now (rain .exit)) (now (inflow .exit))) ⌝ }
 {
     let top = grid_line(text);
     if !top.found {
@@ -333,6 +346,7 @@ pub fn read(
         marks: marks.len(),
         beds: beds.len(),
         roughness: roughness.len(),
+        rates: rates.len(),
         depths: depths.len(),
         rain: rain.len(),
         inflow: inflow.len(),
@@ -346,7 +360,16 @@ pub fn read(
     }
     let body = verdict.body;
     let rules = body.rules;
-    fill_cells(text, body.cells_at, shape, marks, beds, roughness, depths);
+    fill_cells(
+        text,
+        body.cells_at,
+        shape,
+        marks,
+        beds,
+        roughness,
+        rates,
+        depths,
+    );
     fill_rows(
         text,
         body.rain_at,

@@ -24,19 +24,22 @@ pub(crate) struct Scan {
     pub(crate) next: usize,
 }
 
-// What a line says of a square into the rooms: the mark, and bed, roughness and depth where it is not closed.
+// What a line says of a square into the rooms: the mark, and bed, roughness, soak rate and depth where it is not
+// closed.
 fn put_cell(
     cell: CellLine,
     square: usize,
     marks: &mut [u8],
     beds: &mut [u32],
     roughness: &mut [u32],
+    rates: &mut [u32],
     depths: &mut [u32],
 )
-    requires { ⌜ (square < length (now marks)) × (square < length (now beds)) × (square < length (now roughness)) × (square < length (now depths)) ⌝ }
+    requires { ⌜ (square < length (now marks)) × (square < length (now beds)) × (square < length (now roughness)) × (square < length (now rates)) × (square < length (now depths)) ⌝ }
     ensures { λ _. ⌜ (now (marks .exit) ≡ set (now (marks .entry)) square (cell .mark))
         × (now (beds .exit) ≡ pick (eqb (cell .mark) 0) (now (beds .entry)) (set (now (beds .entry)) square (cell .bed)))
         × (now (roughness .exit) ≡ pick (eqb (cell .mark) 0) (now (roughness .entry)) (set (now (roughness .entry)) square (cell .roughness)))
+        × (now (rates .exit) ≡ pick (eqb (cell .mark) 0) (now (rates .entry)) (set (now (rates .entry)) square (cell .rate)))
         × (now (depths .exit) ≡ pick (eqb (cell .mark) 0) (now (depths .entry)) (set (now (depths .entry)) square (cell .depth))) ⌝ }
 {
     marks[square] = cell.mark;
@@ -45,6 +48,7 @@ fn put_cell(
     }
     beds[square] = cell.bed;
     roughness[square] = cell.roughness;
+    rates[square] = cell.rate;
     depths[square] = cell.depth;
 }
 
@@ -56,11 +60,12 @@ pub(crate) fn fill_cells(
     marks: &mut [u8],
     beds: &mut [u32],
     roughness: &mut [u32],
+    rates: &mut [u32],
     depths: &mut [u32],
 ) -> Scan
     requires { ⌜ ShapeInRange shape ⌝ }
-    requires { ⌜ (squares shape ≤ length (now marks)) × (squares shape ≤ length (now beds)) × (squares shape ≤ length (now roughness)) × (squares shape ≤ length (now depths)) ⌝ }
-    ensures { λ r. ⌜ CellsRead (now (text .entry)) at shape r (cellsRooms (now (marks .entry)) (now (beds .entry)) (now (roughness .entry)) (now (depths .entry))) (cellsRooms (now (marks .exit)) (now (beds .exit)) (now (roughness .exit)) (now (depths .exit))) ⌝ }
+    requires { ⌜ (squares shape ≤ length (now marks)) × (squares shape ≤ length (now beds)) × (squares shape ≤ length (now roughness)) × (squares shape ≤ length (now rates)) × (squares shape ≤ length (now depths)) ⌝ }
+    ensures { λ r. ⌜ CellsRead (now (text .entry)) at shape r (cellsRooms (now (marks .entry)) (now (beds .entry)) (now (roughness .entry)) (now (rates .entry)) (now (depths .entry))) (cellsRooms (now (marks .exit)) (now (beds .exit)) (now (roughness .exit)) (now (rates .exit)) (now (depths .exit))) ⌝ }
 {
     let squares = squares_of(shape);
     let columns = shape.columns;
@@ -74,7 +79,7 @@ pub(crate) fn fill_cells(
                 next: next,
             };
         }
-        put_cell(cell, square, marks, beds, roughness, depths);
+        put_cell(cell, square, marks, beds, roughness, rates, depths);
         next = cell.next;
         square += 1;
     }

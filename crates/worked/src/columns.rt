@@ -29,6 +29,7 @@ fn start() -> Run {
         outflow: 0,
         kept: 0,
         newest: 0,
+        soaked: 0,
     }
 }
 
@@ -49,12 +50,13 @@ fn columns_64() {
     let marks = [1u8; 64];
     let beds = [0u32; 64];
     let roughness = [100u32; 64];
+    let rates = [0u32; 64];
     let rain = [0u32; 3];
     let inflow = [0u32; 5];
     let mut depths = [1000u32; 64];
     depths[0] = 2000;
     let mut lasts = [0u32; 64];
-    let mut records = [0u32; 386];
+    let mut records = [0u32; 450];
     let answer = step(
         shape,
         rules(),
@@ -62,6 +64,7 @@ fn columns_64() {
         &marks,
         &beds,
         &roughness,
+        &rates,
         &rain,
         &inflow,
         &mut depths,
@@ -79,12 +82,13 @@ fn columns_65() {
     let marks = [1u8; 65];
     let beds = [0u32; 65];
     let roughness = [100u32; 65];
+    let rates = [0u32; 65];
     let rain = [0u32; 3];
     let inflow = [0u32; 5];
     let mut depths = [1000u32; 65];
     depths[0] = 2000;
     let mut lasts = [0u32; 65];
-    let mut records = [0u32; 392];
+    let mut records = [0u32; 457];
     let answer = step(
         shape,
         rules(),
@@ -92,6 +96,7 @@ fn columns_65() {
         &marks,
         &beds,
         &roughness,
+        &rates,
         &rain,
         &inflow,
         &mut depths,

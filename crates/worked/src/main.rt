@@ -15,4 +15,5 @@ fn main() {
     series::refused_midway();
     series::three_records();
     series::changing();
+    series::soaking();
 }

@@ -14,14 +14,15 @@ use ledger::runs::Run;
 use ledger::take_back::take_back;
 use rule::rules::Rules;
 
-// The numbers of the record room, of which the first `room` are lent. One record has 26.
-pub(crate) const ROOM: usize = 80;
+// The numbers of the record room, of which the first `room` are lent. One record has 30.
+pub(crate) const ROOM: usize = 92;
 
 // All that the calls are lent, and what the last call gave: the refusal's number, 0 for none, and the steps of a run to an end.
 pub(crate) struct Meadow {
     pub marks: [u8; 4],
     pub beds: [u32; 4],
     pub roughness: [u32; 4],
+    pub rates: [u32; 4],
     pub rain: [u32; 3],
     pub inflow: [u32; 5],
     pub depths: [u32; 4],
@@ -57,10 +58,12 @@ pub(crate) fn sheet(room: usize) -> Meadow {
             outflow: 0,
             kept: 0,
             newest: 0,
+            soaked: 0,
         },
         marks: [1, 1, 0, 0],
         beds: [0, 0, 0, 0],
         roughness: [100, 100, 0, 0],
+        rates: [0, 0, 4_000_000_000, 7],
         rain: [0, 0, 0],
         inflow: [0, 0, 0, 0, 0],
         depths: [1000, 0, 5, 6],
@@ -108,6 +111,7 @@ fn step_in(
     marks: &[u8],
     beds: &[u32],
     roughness: &[u32],
+    rates: &[u32],
     rain: &[u32],
     inflow: &[u32],
     depths: &mut [u32],
@@ -125,6 +129,7 @@ fn step_in(
         marks,
         beds,
         roughness,
+        rates,
         rain,
         inflow,
         depths,
@@ -141,6 +146,7 @@ fn run_in(
     marks: &[u8],
     beds: &[u32],
     roughness: &[u32],
+    rates: &[u32],
     rain: &[u32],
     inflow: &[u32],
     depths: &mut [u32],
@@ -163,6 +169,7 @@ fn run_in(
         marks,
         beds,
         roughness,
+        rates,
         rain,
         inflow,
         depths,
@@ -212,6 +219,7 @@ pub(crate) fn stepped(m: Meadow) -> Meadow {
     let marks = m.marks;
     let beds = m.beds;
     let roughness = m.roughness;
+    let rates = m.rates;
     let rain = m.rain;
     let inflow = m.inflow;
     let mut depths = m.depths;
@@ -225,6 +233,7 @@ pub(crate) fn stepped(m: Meadow) -> Meadow {
         &marks,
         &beds,
         &roughness,
+        &rates,
         &rain,
         &inflow,
         &mut depths,
@@ -250,6 +259,7 @@ pub(crate) fn ran(m: Meadow, end: u64) -> Meadow {
     let marks = m.marks;
     let beds = m.beds;
     let roughness = m.roughness;
+    let rates = m.rates;
     let rain = m.rain;
     let inflow = m.inflow;
     let mut depths = m.depths;
@@ -264,6 +274,7 @@ pub(crate) fn ran(m: Meadow, end: u64) -> Meadow {
         &marks,
         &beds,
         &roughness,
+        &rates,
         &rain,
         &inflow,
         &mut depths,

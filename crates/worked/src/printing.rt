@@ -29,4 +29,5 @@ pub(crate) fn run_fields(run: Run) {
     field(b" outflow", run.outflow);
     field(b" kept", run.kept as u64);
     field(b" newest", run.newest as u64);
+    field(b" soaked", run.soaked);
 }

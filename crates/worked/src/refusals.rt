@@ -51,6 +51,12 @@ fn mark() {
     tell_step(m);
 }
 
+fn rate() {
+    let mut m = moving();
+    m.rates[0] = 1_000_001;
+    tell_step(m);
+}
+
 fn last() {
     let mut m = moving();
     m.lasts[0] = 100_000_001;
@@ -77,13 +83,19 @@ fn end() {
 // Room for no record.
 fn room() {
     let mut m = moving();
-    m.room = 25;
+    m.room = 29;
     tell_step(m);
 }
 
 fn kept() {
     let mut m = moving();
     m.run.kept = 4;
+    tell_step(m);
+}
+
+fn total_soaked() {
+    let mut m = moving();
+    m.run.soaked = 1_000_000_000_000_001;
     tell_step(m);
 }
 
@@ -112,6 +124,18 @@ fn outflow() {
     tell_step(m);
 }
 
+// More soaks than the total can count; and an outflow too much comes before it.
+fn soaked() {
+    let mut m = moving();
+    m.rates[0] = 1_000_000;
+    m.run.soaked = 1_000_000_000_000_000;
+    tell_step(m);
+    m.marks[1] = 2;
+    m.depths[1] = 10_000;
+    m.run.outflow = 1_000_000_000_000_000;
+    tell_step(m);
+}
+
 fn nothing_kept() {
     tell_back(freshened(sheet(ROOM)));
 }
@@ -130,15 +154,24 @@ fn too_long() {
     tell_back(m);
 }
 
+// A step that soaked more than the total.
+fn soaked_more() {
+    let mut m = moving();
+    m.records[8] = 1;
+    tell_back(m);
+}
+
 fn by_input() {
     shape();
     mark();
+    rate();
     last();
     table();
     tolerance();
     end();
     room();
     kept();
+    total_soaked();
 }
 
 pub(crate) fn refusals() {
@@ -146,7 +179,9 @@ pub(crate) fn refusals() {
     clock();
     depth();
     outflow();
+    soaked();
     nothing_kept();
     forged();
     too_long();
+    soaked_more();
 }

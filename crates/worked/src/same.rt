@@ -38,6 +38,9 @@ fn same_run(a: Run, b: Run) -> bool {
     if a.outflow != b.outflow {
         return false;
     }
+    if a.soaked != b.soaked {
+        return false;
+    }
     a.newest == b.newest
 }
 

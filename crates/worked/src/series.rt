@@ -51,7 +51,7 @@ pub(crate) fn depth_limit() {
 // K = 1: step, step, take-back, take-back.
 pub(crate) fn one_record() {
     words(b"one record\n");
-    let start = show_fresh(sheet(26));
+    let start = show_fresh(sheet(30));
     let one = show_step(start);
     let two = show_step(one);
     let back = show_back(two);
@@ -165,5 +165,17 @@ pub(crate) fn changing() {
     let one = show_step(start);
     let two = show_step(second(one));
     let three = show_step(third(two));
+    tell_same(show_back(show_back(show_back(three))), start);
+}
+
+// What soaks is due by the clock: half a micrometre a step comes to one every other step. The due of a dry square is lost, what arrives is
+// not soaked in its step, and a closed square's rate does not matter; taken back, all of it returns.
+pub(crate) fn soaking() {
+    words(b"soaking\n");
+    let mut m = sheet(ROOM);
+    m.rates[0] = 1800;
+    m.rates[1] = 1_000_000;
+    let start = show_fresh(m);
+    let three = show_step(two_steps(start));
     tell_same(show_back(show_back(show_back(three))), start);
 }

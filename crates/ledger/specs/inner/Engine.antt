@@ -3,7 +3,7 @@
 use mathlib.Core.Path.{_≡_}
 use mathlib.Core.Bool.{Bool, false}
 use mathlib.Core.List.{List, [], _++_}
-use Prim.Native.Nat.{ℕ, zero, suc, _≤_, _<_}
+use Prim.Native.Nat.{ℕ, zero, suc, _+_, _≤_, _<_}
 use lib.Dec.{T}
 use lib.ListN.{getD}
 use Rattle.reckon.specs.Tests.{pick, Row, refusal, numbered}
@@ -20,7 +20,7 @@ use Rattle.ledger.specs.TakeBack.{restorable, worldBefore, earlyRefusals
 -- what is seen, with no record room: nothing that a step moves or a take-back restores of it depends on one
 abbrev pub bare : Seen → World
 bare v =
-    world (v .depths) (v .lasts) [] (record { clock = v .clock; length = v .length; outflow = v .outflow; kept = 0; newest = 0 })
+    world (v .depths) (v .lasts) [] (record { clock = v .clock; length = v .length; outflow = v .outflow; kept = 0; newest = 0; soaked = v .soaked })
 
 -- A rule of steps: its checks 1 to 6, where the test says whether K, kept and newest are in range, and what a step moves.
 pub record StepRule (Given : Type 0) : Type 1 where
@@ -58,7 +58,7 @@ module _ (p : Plan) {Given : Type 0} (rule : StepRule Given) where
   stateOf w = record { seen = seenOf w; room = w .records; kept = w .run .kept; newest = w .run .newest }
 
   -- What a rule owes, so that a take-back undoes its steps: its checks pass only where the take-back's look does; a step lasts and
-  -- leaves a length within the limits; no square sends more than it holds.
+  -- leaves a length within the limits; no square sends and soaks more than it holds.
   pub record Owed : Type 0 where
     pub looks : (ring : Bool) (g : Given) (v : Seen) → refusal (rule .checks ring g v) ≡ 0 → refusal (earlyRefusals p ring v) ≡ 0
     pub named : (ring : Bool) (g : Given) (v : Seen) → T (numbered (rule .checks ring g v))
@@ -67,4 +67,4 @@ module _ (p : Plan) {Given : Type 0} (rule : StepRule Given) where
     pub length-from : (ring : Bool) (g : Given) (v : Seen) → refusal (rule .checks ring g v) ≡ 0 → 1 ≤ rule .moves g v .length
     pub length-to : (ring : Bool) (g : Given) (v : Seen) → refusal (rule .checks ring g v) ≡ 0 → rule .moves g v .length ≤ mostLength
     pub covered : (ring : Bool) (g : Given) (v : Seen) → refusal (rule .checks ring g v) ≡ 0 →
-        (i : ℕ) → i < squares (p .shape) → shut p i ≡ false → gone (rule .moves g v .leaves) i ≤ getD (v .depths) i 0
+        (i : ℕ) → i < squares (p .shape) → shut p i ≡ false → gone (rule .moves g v .leaves) i + rule .moves g v .soaked i ≤ getD (v .depths) i 0

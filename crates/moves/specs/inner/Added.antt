@@ -74,7 +74,7 @@ module _ (s : Shape) (r : Rules) (inflow : List ℕ) (start end rain : ℕ) wher
 
 -- what the added water goes by of all that is given
 abbrev pub tables : Rules → List ℕ → List ℕ → Given
-tables r rain inflow = given (ground r [] []) rain inflow
+tables r rain inflow = given (ground r [] [] []) rain inflow
 
 -- the tables are fine and the two clocks in range
 pub record Between (p : Plan) (g : Given) (start end : ℕ) : Type 0 where

@@ -5,7 +5,7 @@ use mathlib.Core.Bool.{true, false}
 use mathlib.Core.List.{List}
 use Prim.Native.Nat.{ℕ, _≤_, _<_}
 use lib.ListN.{length, getD}
-use Rattle.reckon.specs.Ranges.{mostDepth, mostLength, lastClock, mostOutflow}
+use Rattle.reckon.specs.Ranges.{mostDepth, mostLength, lastClock, mostOutflow, mostSoakRate, mostSoaked}
 use Rattle.reckon.specs.Tables.{rainKind, inflowKind, tableFine}
 use Rattle.grid.specs.Squares.{squares, ShapeInRange}
 use Rattle.grid.specs.Marks.{inflowSquaresFine}
@@ -29,11 +29,13 @@ pub record MeadowInRange (p : Plan) (o : Ground) (depths : List ℕ) : Type 0 wh
   pub grounds : (i : ℕ) → i < squares (p .shape) → shut p i ≡ false → GroundInRange (getD (o .beds) i 0) (getD (o .roughness) i 0)
   pub depths-to : (i : ℕ) → i < squares (p .shape) → shut p i ≡ false → getD depths i 0 ≤ mostDepth
 
--- the last leaving too
+-- the last leaving and the soak rates too
 pub record WaterInRange (p : Plan) (o : Ground) (depths lasts : List ℕ) : Type 0 where
   pub lies : MeadowInRange p o depths
   pub lasts-long : length lasts ≡ squares (p .shape)
   pub lasts-to : (i : ℕ) → i < squares (p .shape) → shut p i ≡ false → getD lasts i 0 ≤ mostDepth
+  pub rates-long : length (o .rates) ≡ squares (p .shape)
+  pub rates-to : (i : ℕ) → i < squares (p .shape) → shut p i ≡ false → getD (o .rates) i 0 ≤ mostSoakRate
 
 -- the tables are fine
 pub record TablesInRange (p : Plan) (g : Given) : Type 0 where
@@ -51,3 +53,4 @@ pub record Ready (p : Plan) (g : Given) (v : Seen) : Type 0 where
   pub length-from : 1 ≤ v .length
   pub length-to : v .length ≤ mostLength
   pub outflow-to : v .outflow ≤ mostOutflow
+  pub soaked-to : v .soaked ≤ mostSoaked

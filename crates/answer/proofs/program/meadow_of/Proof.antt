@@ -21,13 +21,13 @@ abbrev start : tie.Else1 → tie.Start
 start c = c .before .before
 
 abbrev short : tie.After-read → tie.Else1
-short c = c .before .before .before .before .before .before .before
+short c = c .before .before .before .before .before .before .before .before
 
 abbrev refused : tie.After-sheet → tie.After-read
-refused c = c .before .before .before .before .before .before .before .before
+refused c = c .before .before .before .before .before .before .before .before .before
 
 abbrev read : tie.After-sheet2 → tie.After-read
-read c = c .before .before .before .before .before .before .before .before
+read c = c .before .before .before .before .before .before .before .before .before
 
 abbrev well : tie.After-squares-of → tie.After-sheet2
 well c = c .before .before
@@ -47,8 +47,11 @@ by-beds c = by-marks (c .before)
 abbrev by-roughness : tie.After-roughness3 → tie.After-record-size
 by-roughness c = by-beds (c .before)
 
+abbrev by-rates : tie.After-rates3 → tie.After-record-size
+by-rates c = by-roughness (c .before)
+
 abbrev by-rain : tie.After-rain3 → tie.After-record-size
-by-rain c = by-roughness (c .before)
+by-rain c = by-rates (c .before)
 
 abbrev by-inflow : tie.After-inflow3 → tie.After-record-size
 by-inflow c = by-rain (c .before)
@@ -69,7 +72,7 @@ ran c = c .before .before .before
 abbrev rooms-read : tie.After-read → Rooms
 rooms-read c =
     let l = c .read .last in
-    rooms (l .1 .0) (l .1 .1 .0) (l .1 .1 .1 .0) (l .1 .1 .1 .1 .0) (l .1 .1 .1 .1 .1 .0) (l .1 .1 .1 .1 .1 .1 .0)
+    rooms (l .1 .0) (l .1 .1 .0) (l .1 .1 .1 .0) (l .1 .1 .1 .1 .0) (l .1 .1 .1 .1 .1 .0) (l .1 .1 .1 .1 .1 .1 .0) (l .1 .1 .1 .1 .1 .1 .1 .0)
 
 reads : (c : tie.After-sheet2) → Reads (start (short (read c)) .args .text .now) programRooms (Read (c .sheet2 .given .0 .0)) (rooms-read (read c))
 reads c = read-as (c .sheet2 .given .1) (read c .read .ensures)
@@ -112,6 +115,9 @@ slice-aggregate-read-5 c = search needs
 
 slice-aggregate-read-6 : tie.Need-slice-aggregate-read-6
 slice-aggregate-read-6 c = search needs
+
+slice-aggregate-read-7 : tie.Need-slice-aggregate-read-7
+slice-aggregate-read-7 c = search needs
 
 read-requires : tie.Need-read-requires
 read-requires c κs = search needs
@@ -161,41 +167,49 @@ slice-aggregate-run-sheet-3 c =
     let z = by-roughness c in
     taken-long _ (few z) (read (well (counted z)) .read .kept .1 .1 .1 .0)
 
-array-share-prefix-rain : tie.Need-array-share-prefix-rain
-array-share-prefix-rain c = omega (arith, rain-rows (by-roughness c))
+array-share-prefix-rates : tie.Need-array-share-prefix-rates
+array-share-prefix-rates c = omega (arith, few (by-roughness c))
 
 slice-aggregate-run-sheet-4 : tie.Need-slice-aggregate-run-sheet-4
 slice-aggregate-run-sheet-4 c =
+    let z = by-rates c in
+    taken-long _ (few z) (read (well (counted z)) .read .kept .1 .1 .1 .1 .0)
+
+array-share-prefix-rain : tie.Need-array-share-prefix-rain
+array-share-prefix-rain c = omega (arith, rain-rows (by-rates c))
+
+slice-aggregate-run-sheet-5 : tie.Need-slice-aggregate-run-sheet-5
+slice-aggregate-run-sheet-5 c =
     let z = by-rain c in
-    taken-long {size = tableRoom rainKind} _ (omega (arith, rain-rows z)) (read (well (counted z)) .read .kept .1 .1 .1 .1 .1 .0)
+    taken-long {size = tableRoom rainKind} _ (omega (arith, rain-rows z)) (read (well (counted z)) .read .kept .1 .1 .1 .1 .1 .1 .0)
 
 array-share-prefix-inflow : tie.Need-array-share-prefix-inflow
 array-share-prefix-inflow c = omega (arith, inflow-rows (by-rain c))
 
-slice-aggregate-run-sheet-5 : tie.Need-slice-aggregate-run-sheet-5
-slice-aggregate-run-sheet-5 c =
+slice-aggregate-run-sheet-6 : tie.Need-slice-aggregate-run-sheet-6
+slice-aggregate-run-sheet-6 c =
     let z = by-inflow c in
-    taken-long {size = tableRoom inflowKind} _ (omega (arith, inflow-rows z)) (read (well (counted z)) .read .kept .1 .1 .1 .1 .1 .1 .0)
+    taken-long {size = tableRoom inflowKind} _ (omega (arith, inflow-rows z)) (read (well (counted z)) .read .kept .1 .1 .1 .1 .1 .1 .1 .0)
 
 array-borrow-prefix-depths : tie.Need-array-borrow-prefix-depths
 array-borrow-prefix-depths c = omega (arith, few (by-inflow c))
 
-slice-aggregate-run-sheet-6 : tie.Need-slice-aggregate-run-sheet-6
-slice-aggregate-run-sheet-6 c =
+slice-aggregate-run-sheet-7 : tie.Need-slice-aggregate-run-sheet-7
+slice-aggregate-run-sheet-7 c =
     let z = by-depths c in
-    taken-long _ (few z) (read (well (counted z)) .read .kept .1 .1 .1 .1 .0)
+    taken-long _ (few z) (read (well (counted z)) .read .kept .1 .1 .1 .1 .1 .0)
 
 array-borrow-prefix-lasts : tie.Need-array-borrow-prefix-lasts
 array-borrow-prefix-lasts c = omega (arith, few (by-depths c))
 
-slice-aggregate-run-sheet-7 : tie.Need-slice-aggregate-run-sheet-7
-slice-aggregate-run-sheet-7 c = taken-long _ (few (by-lasts c)) refl
+slice-aggregate-run-sheet-8 : tie.Need-slice-aggregate-run-sheet-8
+slice-aggregate-run-sheet-8 c = taken-long _ (few (by-lasts c)) refl
 
 array-borrow-prefix-records : tie.Need-array-borrow-prefix-records
 array-borrow-prefix-records c = omega (arith, small (by-lasts c))
 
-slice-aggregate-run-sheet-8 : tie.Need-slice-aggregate-run-sheet-8
-slice-aggregate-run-sheet-8 c = taken-long _ (small (by-records c)) refl
+slice-aggregate-run-sheet-9 : tie.Need-slice-aggregate-run-sheet-9
+slice-aggregate-run-sheet-9 c = taken-long _ (small (by-records c)) refl
 
 run-sheet-requires : tie.Need-run-sheet-requires
 run-sheet-requires c κs =
@@ -228,6 +242,7 @@ meadow-of-spec =
     slice-aggregate-read-4
     slice-aggregate-read-5
     slice-aggregate-read-6
+    slice-aggregate-read-7
     read-requires
     enum-known-sheet
     put-refused-requires-2
@@ -242,16 +257,18 @@ meadow-of-spec =
     slice-aggregate-run-sheet-2
     array-share-prefix-roughness
     slice-aggregate-run-sheet-3
-    array-share-prefix-rain
+    array-share-prefix-rates
     slice-aggregate-run-sheet-4
-    array-share-prefix-inflow
+    array-share-prefix-rain
     slice-aggregate-run-sheet-5
-    array-borrow-prefix-depths
+    array-share-prefix-inflow
     slice-aggregate-run-sheet-6
-    array-borrow-prefix-lasts
+    array-borrow-prefix-depths
     slice-aggregate-run-sheet-7
-    array-borrow-prefix-records
+    array-borrow-prefix-lasts
     slice-aggregate-run-sheet-8
+    array-borrow-prefix-records
+    slice-aggregate-run-sheet-9
     run-sheet-requires
     returns-2
     returns-3)

@@ -38,7 +38,7 @@ put-world-requires c κs =
     let k = known (c .before) in
     let s = start k in
     let g = s .good in
-    (s .pre .0, omega (arith, s .pre .1 .1, made-fits (P s) (D s) (s .args .ran .run) (s .args .ran .steps) (s .pre .1 .0) (λ i. omega (arith, k .shared-slice-known2 .given i)) (omega (arith, s .good)) (omega (arith, s .good)) (omega (arith, s .good))))
+    (s .pre .0, omega (arith, s .pre .1 .1, made-fits (P s) (D s) (s .args .ran .run) (s .args .ran .steps) (s .pre .1 .0) (λ i. omega (arith, k .shared-slice-known2 .given i)) (omega (arith, s .good)) (omega (arith, s .good)) (omega (arith, s .good)) (omega (arith, s .good))))
 
 same-length-2 : tie.Need-same-length-2
 same-length-2 c = search needs
@@ -49,7 +49,7 @@ returns-2 c =
     let e = put .before .before in
     let k = known e in
     let s = start k in
-    λ lasts records. made-printed (P s) (D s) (s .args .ran .run) (s .args .ran .steps) (s .pre .1 .0) (λ i. omega (arith, k .shared-slice-known2 .given i)) (omega (arith, s .good)) (omega (arith, s .good)) (omega (arith, s .good)) lasts records (e .if1 .left) (put .put-world .ensures)
+    λ lasts records. made-printed (P s) (D s) (s .args .ran .run) (s .args .ran .steps) (s .pre .1 .0) (λ i. omega (arith, k .shared-slice-known2 .given i)) (omega (arith, s .good)) (omega (arith, s .good)) (omega (arith, s .good)) (omega (arith, s .good)) lasts records (e .if1 .left) (put .put-world .ensures)
 
 pub put-ran-spec : {M : Type 1} → statement M
 put-ran-spec =

@@ -11,7 +11,7 @@ use Rattle.answer.proofs.program.run_sheet.Tie as tie
 
 -- the places, each by one after it
 abbrev start : tie.After-fresh → tie.Start
-start c = c .before .before .before .before .before .before .before .before .before .before .before .before .before .before
+start c = c .before .before .before .before .before .before .before .before .before .before .before .before .before .before .before
 
 abbrev refused : tie.After-number → tie.After-fresh
 refused c = c .before .before .before .before
@@ -30,7 +30,7 @@ printed c = c .before .before
 
 -- what the rooms hold
 abbrev held : tie.Start → Rooms
-held c = rooms (c .args .marks .now) (c .args .beds .now) (c .args .roughness .now) (c .args .depths .now) (c .args .rain .now) (c .args .inflow .now)
+held c = rooms (c .args .marks .now) (c .args .beds .now) (c .args .roughness .now) (c .args .rates .now) (c .args .depths .now) (c .args .rain .now) (c .args .inflow .now)
 
 fresh-requires : tie.Need-fresh-requires
 fresh-requires c κs = search needs
@@ -53,7 +53,7 @@ put-ran-requires : tie.Need-put-ran-requires
 put-ran-requires c κs =
     let s = start (fresh (running (ran c))) in
     let h = s .args .heading in
-    ((run-shape (h .shape) (h .rules) (held s) (h .end) (s .pre .1 .0), sym (run-marks (h .shape) (h .rules) (held s) (h .end) (s .pre .1 .0)), sym (ran c .run-to .kept .1 .1 .1 .1 .1 .1 .1 .1 .1 .0 ∙ run-depths (h .shape) (h .rules) (held s) (h .end) (s .pre .1 .0))), (s .pre .0 .0, s .pre .0 .1))
+    ((run-shape (h .shape) (h .rules) (held s) (h .end) (s .pre .1 .0), sym (run-marks (h .shape) (h .rules) (held s) (h .end) (s .pre .1 .0)), sym (ran c .run-to .kept .1 .1 .1 .1 .1 .1 .1 .1 .1 .1 .0 ∙ run-depths (h .shape) (h .rules) (held s) (h .end) (s .pre .1 .0))), (s .pre .0 .0, s .pre .0 .1))
 
 same-length : tie.Need-same-length
 same-length c = search needs
@@ -82,7 +82,7 @@ same-length-6 : tie.Need-same-length-6
 same-length-6 c = search needs
 
 same-length-7 : tie.Need-same-length-7
-same-length-7 c = ran (printed c .before) .run-to .kept .1 .1 .1 .1 .1 .1 .1 .1 .1 .1 .1 .0
+same-length-7 c = ran (printed c .before) .run-to .kept .1 .1 .1 .1 .1 .1 .1 .1 .1 .1 .1 .1 .0
 
 returns-2 : tie.Need-returns-2
 returns-2 c =

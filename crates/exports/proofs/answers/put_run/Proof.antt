@@ -1,4 +1,4 @@
--- `exports::answers::put_run` meets its contract: five stores fill a slice of five.
+-- `exports::answers::put_run` meets its contract: six stores fill a slice of six.
 -- Assumes nothing.
 use native.Mathlib.Omega.{arith}
 use lib.ListN.{length-set}
@@ -23,6 +23,10 @@ slice-write-room-5 : tie.Need-slice-write-room-5
 slice-write-room-5 c =
     simp length-set (omega arith)
 
+slice-write-room-6 : tie.Need-slice-write-room-6
+slice-write-room-6 c =
+    simp length-set (omega arith)
+
 same-length : tie.Need-same-length
 same-length c = search needs
 
@@ -39,5 +43,6 @@ put-run-spec =
     slice-write-room-3
     slice-write-room-4
     slice-write-room-5
+    slice-write-room-6
     same-length
     returns)

@@ -45,11 +45,14 @@ same-length-7 c = search needs
 same-length-8 : tie.Need-same-length-8
 same-length-8 c = search needs
 
+same-length-9 : tie.Need-same-length-9
+same-length-9 c = search needs
+
 returns-3 : tie.Need-returns-3
 returns-3 c =
     let at-tell-sheet = c .before .before .before .before in
-    let at-read = at-tell-sheet .before .before .before .before .before .before .before .before .before .before .before .before .before .before .before in
-    let at-if2 = at-read .before .before .before .before .before .before .before in
+    let at-read = at-tell-sheet .before .before .before .before .before .before .before .before .before .before .before .before .before .before .before .before .before in
+    let at-if2 = at-read .before .before .before .before .before .before .before .before in
     sheet-told _ _ _ _ (at-if2 .before .if1 .left) (at-if2 .if2 .left) (at-read .read .ensures) (at-tell-sheet .tell-sheet .ensures)
 
 pub flood-read-sheet-spec : {M : Type 1} → statement M
@@ -68,4 +71,5 @@ flood-read-sheet-spec =
     same-length-6
     same-length-7
     same-length-8
+    same-length-9
     returns-3)

@@ -19,7 +19,7 @@ use Rattle.flood.proofs.checks.checked.Tie as tie
 -- ---- the places, each by the one before it
 
 abbrev begin : tie.After-lent-fine → tie.Start
-begin c = c .before .before .before .before .before .before .before .before .before
+begin c = c .before .before .before .before .before .before .before .before .before .before
 
 abbrev lent : tie.After-grounds-fine → tie.Else1
 lent c = c .before .before .before
@@ -52,7 +52,7 @@ abbrev rows : tie.Start → List Row
 rows s =
     let a = s .args in
     let p = plan (a .shape) (a .marks .now) in
-    let g = given (ground (a .rules) (a .beds .now) (a .roughness .now)) (a .rain .now) (a .inflow .now) in
+    let g = given (ground (a .rules) (a .beds .now) (a .roughness .now) (a .rates .now)) (a .rain .now) (a .inflow .now) in
     let w = world (a .depths .now) (a .lasts .now) (a .records .now) (a .run) in
     checkRefusals p g (a .five) (ringOf p w) (seenOf w)
 
@@ -93,14 +93,14 @@ unfolding checkRefusals
 returns c = sym (refusal-here 1 _ (fails-by (c .before .lent-fine .ensures) (c .if1 .taken)))
 
 marks-fine-requires : tie.Need-marks-fine-requires
-marks-fine-requires c κs = lent-marked _ _ _ _ _ _ _ (holds-by (c .before .lent-fine .ensures) (c .if1 .left))
+marks-fine-requires c κs = lent-marked _ _ _ _ _ _ _ _ (holds-by (c .before .lent-fine .ensures) (c .if1 .left))
 
 returns-2 : tie.Need-returns-2
 unfolding checkRefusals
 returns-2 c = sym (past-1 (c .before .before) ∙ refusal-here 2 _ (every-fails _ 0 (fails-by (c .before .marks-fine .ensures) (c .if2 .taken))))
 
 grounds-fine-requires : tie.Need-grounds-fine-requires
-grounds-fine-requires c κs = lent-ground _ _ _ _ _ _ _ (holds-by (c .before .before .before .lent-fine .ensures) (c .before .before .if1 .left))
+grounds-fine-requires c κs = lent-ground _ _ _ _ _ _ _ _ (holds-by (c .before .before .before .lent-fine .ensures) (c .before .before .if1 .left))
 
 returns-3 : tie.Need-returns-3
 unfolding checkRefusals
@@ -109,7 +109,7 @@ returns-3 c = sym (past-1 (lent (c .before)) ∙ refusal-here 2 _ (every-fails _
 waters-fine-requires : tie.Need-waters-fine-requires
 waters-fine-requires c κs =
     let at-if1 = lent (c .before) in
-    lent-water _ _ _ _ _ _ _ (holds-by (at-if1 .before .lent-fine .ensures) (at-if1 .if1 .left))
+    lent-water _ _ _ _ _ _ _ _ (holds-by (at-if1 .before .lent-fine .ensures) (at-if1 .if1 .left))
 
 returns-4 : tie.Need-returns-4
 unfolding checkRefusals
@@ -118,7 +118,7 @@ returns-4 c = sym (past-2 (c .before .before) ∙ refusal-here 3 _ (fails-by (c 
 tables-fine-requires : tie.Need-tables-fine-requires
 tables-fine-requires c κs =
     let at-if1 = lent (grounds c .before) in
-    lent-marked _ _ _ _ _ _ _ (holds-by (at-if1 .before .lent-fine .ensures) (at-if1 .if1 .left))
+    lent-marked _ _ _ _ _ _ _ _ (holds-by (at-if1 .before .lent-fine .ensures) (at-if1 .if1 .left))
 
 returns-5 : tie.Need-returns-5
 unfolding checkRefusals
@@ -131,7 +131,7 @@ returns-6 c = sym (past-4 (c .before) ∙ refusal-here 5 _ (not-true _ (c .if6 .
 slots-of-requires : tie.Need-slots-of-requires
 slots-of-requires c κs =
     let at-if1 = lent (grounds (waters (tables c)) .before) in
-    lent-fine _ _ _ _ _ _ _ (holds-by (at-if1 .before .lent-fine .ensures) (at-if1 .if1 .left))
+    lent-fine _ _ _ _ _ _ _ _ (holds-by (at-if1 .before .lent-fine .ensures) (at-if1 .if1 .left))
 
 run-fine-requires : tie.Need-run-fine-requires
 run-fine-requires c κs = search needs

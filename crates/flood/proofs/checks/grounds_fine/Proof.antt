@@ -9,21 +9,20 @@ use borrow.Author.Needs.{needs}
 use Rattle.reckon.specs.Tests.{allBelow}
 use Rattle.reckon.proofs.TestLaws.{all-none, all-more, all-fails, all-whole}
 use Rattle.grid.specs.Marks.{closed}
-use Rattle.rule.specs.Rules.{groundFine}
-use Rattle.flood.specs.Refusals.{groundsFine}
+use Rattle.flood.specs.Refusals.{squareGroundFine, groundsFine}
 use Rattle.flood.proofs.CheckLaws.{fails-by, holds-by}
 use Rattle.flood.proofs.checks.grounds_fine.Statement.{statement}
 use Rattle.flood.proofs.checks.grounds_fine.Tie as tie
 
 abbrev Inv-loop : tie.InvT-loop
-Inv-loop marks beds roughness squares square₀ square =
-    (square ≤ squares) × (allBelow square (λ i. closed marks i || groundFine (getD beds i 0) (getD roughness i 0)) ≡ true)
+Inv-loop marks beds roughness rates squares square₀ square =
+    (square ≤ squares) × (allBelow square (λ i. closed marks i || squareGroundFine (getD beds i 0) (getD roughness i 0) (getD rates i 0)) ≡ true)
 
 abbrev μ-loop : tie.MeasureT-loop
-μ-loop marks beds roughness squares square₀ square = squares - square
+μ-loop marks beds roughness rates squares square₀ square = squares - square
 
 squares-of-requires : tie.Need-squares-of-requires Inv-loop μ-loop
-squares-of-requires c κs = c .before .before .before .pre .0 .fine
+squares-of-requires c κs = c .before .before .before .before .pre .0 .fine
 
 loop-holds : tie.Need-loop-holds Inv-loop μ-loop
 loop-holds c = (omega arith, all-none _)

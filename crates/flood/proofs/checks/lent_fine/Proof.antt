@@ -65,8 +65,20 @@ one-each-requires-5 c κs =
 
 returns-7 : tie.Need-returns-7
 unfolding oneEach
-returns-7 c =
-    let at-one-each4 = c .before .before in
+returns-7 c = sym (every-fails _ 6 (fails-by (c .before .one-each5 .ensures) (c .if7 .taken)))
+
+one-each-requires-6 : tie.Need-one-each-requires-6
+one-each-requires-6 c κs =
+    let at-if1 = c .before .before .before .before .before .before .before .before .before .before .before .before in
+    let at-shape-fine = at-if1 .before in
+    ranges-of-fine _ (holds-by (at-shape-fine .shape-fine .ensures) (at-if1 .if1 .left))
+
+returns-8 : tie.Need-returns-8
+unfolding oneEach
+returns-8 c =
+    let at-one-each5 = c .before .before in
+    let at-if6 = at-one-each5 .before in
+    let at-one-each4 = at-if6 .before in
     let at-if5 = at-one-each4 .before in
     let at-one-each3 = at-if5 .before in
     let at-if4 = at-one-each3 .before in
@@ -77,8 +89,8 @@ returns-7 c =
     let at-side-fine = at-if2 .before in
     let at-if1 = at-side-fine .before in
     let at-shape-fine = at-if1 .before in
-    every-decided _ 6 _ (sym (c .one-each5 .ensures))
-    (λ t. (holds-by (at-shape-fine .shape-fine .ensures) (at-if1 .if1 .left), (holds-by (at-side-fine .side-fine .ensures) (at-if2 .if2 .left), (holds-by (at-one-each .one-each .ensures) (at-if3 .if3 .left), (holds-by (at-one-each2 .one-each2 .ensures) (at-if4 .if4 .left), (holds-by (at-one-each3 .one-each3 .ensures) (at-if5 .if5 .left), (holds-by (at-one-each4 .one-each4 .ensures) (c .before .if6 .left), (sym (c .one-each5 .ensures) ∙ t, tt))))))))
+    every-decided _ 7 _ (sym (c .one-each6 .ensures))
+    (λ t. (holds-by (at-shape-fine .shape-fine .ensures) (at-if1 .if1 .left), (holds-by (at-side-fine .side-fine .ensures) (at-if2 .if2 .left), (holds-by (at-one-each .one-each .ensures) (at-if3 .if3 .left), (holds-by (at-one-each2 .one-each2 .ensures) (at-if4 .if4 .left), (holds-by (at-one-each3 .one-each3 .ensures) (at-if5 .if5 .left), (holds-by (at-one-each4 .one-each4 .ensures) (at-if6 .if6 .left), (holds-by (at-one-each5 .one-each5 .ensures) (c .before .if7 .left), (sym (c .one-each6 .ensures) ∙ t, tt)))))))))
 
 pub lent-fine-spec : {M : Type 1} → statement M
 lent-fine-spec =
@@ -97,4 +109,6 @@ lent-fine-spec =
     one-each-requires-4
     returns-6
     one-each-requires-5
-    returns-7)
+    returns-7
+    one-each-requires-6
+    returns-8)

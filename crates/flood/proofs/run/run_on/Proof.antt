@@ -14,10 +14,10 @@ use Rattle.flood.proofs.run.run_on.Statement.{statement}
 use Rattle.flood.proofs.run.run_on.Tie as tie
 
 abbrev Inv-loop : tie.InvT-loop
-Inv-loop shape rules end marks beds roughness rain inflow depths₀ lasts₀ records₀ rec₀ room₀ at₀ steps₀ depths lasts records rec room at steps =
+Inv-loop shape rules end marks beds roughness rates rain inflow depths₀ lasts₀ records₀ rec₀ room₀ at₀ steps₀ depths lasts records rec room at steps =
     (length rec ≡ recordSize (plan shape marks))
     × (length room ≡ squares shape)
-    × Running (plan shape marks) (given (ground rules beds roughness) rain inflow) end (world depths₀ lasts₀ records₀ at₀) (world depths lasts records at) steps
+    × Running (plan shape marks) (given (ground rules beds roughness rates) rain inflow) end (world depths₀ lasts₀ records₀ at₀) (world depths lasts records at) steps
     × (length depths ≡ length depths₀)
     × (length lasts ≡ length lasts₀)
     × (length records ≡ length records₀)
@@ -25,12 +25,12 @@ Inv-loop shape rules end marks beds roughness rain inflow depths₀ lasts₀ rec
     × (length room ≡ length room₀)
 
 abbrev μ-loop : tie.MeasureT-loop
-μ-loop shape rules end marks beds roughness rain inflow depths₀ lasts₀ records₀ rec₀ room₀ at₀ steps₀ depths lasts records rec room at steps = end - at .clock
+μ-loop shape rules end marks beds roughness rates rain inflow depths₀ lasts₀ records₀ rec₀ room₀ at₀ steps₀ depths lasts records rec room at steps = end - at .clock
 
 -- ---- the places, each by the one before it
 
 abbrev begin : tie.After-slice-known5 Inv-loop μ-loop → tie.Start Inv-loop μ-loop
-begin c = c .before .before .before .before .before .before .before .before .before .before
+begin c = c .before .before .before .before .before .before .before .before .before .before .before
 
 abbrev turned : tie.Then1 Inv-loop μ-loop → tie.At-loop Inv-loop μ-loop
 turned c = c .before .before
@@ -47,7 +47,7 @@ abbrev p : tie.Start Inv-loop μ-loop → Plan
 p s = plan (s .args .shape) (s .args .marks .now)
 
 abbrev g : tie.Start Inv-loop μ-loop → Given
-g s = given (ground (s .args .rules) (s .args .beds .now) (s .args .roughness .now)) (s .args .rain .now) (s .args .inflow .now)
+g s = given (ground (s .args .rules) (s .args .beds .now) (s .args .roughness .now) (s .args .rates .now)) (s .args .rain .now) (s .args .inflow .now)
 
 abbrev w : tie.Start Inv-loop μ-loop → World
 w s = world (s .args .depths .now) (s .args .lasts .now) (s .args .records .now) (s .args .run)
@@ -59,20 +59,20 @@ abbrev start : tie.Then1 Inv-loop μ-loop → tie.Start Inv-loop μ-loop
 start c = begin (turned c .before)
 
 -- the slices are as long after a step as before it
-kept-depths : (c : tie.After-make-step Inv-loop μ-loop) → length (c .make-step .last .1 .1 .1 .1 .1 .1 .1 .1 .0) ≡ length (turned (to-step (c .before)) .loop .depths)
-kept-depths c = c .make-step .kept .1 .1 .1 .1 .1 .1 .1 .1 .0
+kept-depths : (c : tie.After-make-step Inv-loop μ-loop) → length (c .make-step .last .1 .1 .1 .1 .1 .1 .1 .1 .1 .0) ≡ length (turned (to-step (c .before)) .loop .depths)
+kept-depths c = c .make-step .kept .1 .1 .1 .1 .1 .1 .1 .1 .1 .0
 
-kept-lasts : (c : tie.After-make-step Inv-loop μ-loop) → length (c .make-step .last .1 .1 .1 .1 .1 .1 .1 .1 .1 .0) ≡ length (turned (to-step (c .before)) .loop .lasts)
-kept-lasts c = c .make-step .kept .1 .1 .1 .1 .1 .1 .1 .1 .1 .0
+kept-lasts : (c : tie.After-make-step Inv-loop μ-loop) → length (c .make-step .last .1 .1 .1 .1 .1 .1 .1 .1 .1 .1 .0) ≡ length (turned (to-step (c .before)) .loop .lasts)
+kept-lasts c = c .make-step .kept .1 .1 .1 .1 .1 .1 .1 .1 .1 .1 .0
 
-kept-records : (c : tie.After-make-step Inv-loop μ-loop) → length (c .make-step .last .1 .1 .1 .1 .1 .1 .1 .1 .1 .1 .0) ≡ length (turned (to-step (c .before)) .loop .records)
-kept-records c = c .make-step .kept .1 .1 .1 .1 .1 .1 .1 .1 .1 .1 .0
+kept-records : (c : tie.After-make-step Inv-loop μ-loop) → length (c .make-step .last .1 .1 .1 .1 .1 .1 .1 .1 .1 .1 .1 .0) ≡ length (turned (to-step (c .before)) .loop .records)
+kept-records c = c .make-step .kept .1 .1 .1 .1 .1 .1 .1 .1 .1 .1 .1 .0
 
-kept-rec : (c : tie.After-make-step Inv-loop μ-loop) → length (c .make-step .last .1 .1 .1 .1 .1 .1 .1 .1 .1 .1 .1 .0) ≡ length (turned (to-step (c .before)) .loop .rec)
-kept-rec c = c .make-step .kept .1 .1 .1 .1 .1 .1 .1 .1 .1 .1 .1 .0
+kept-rec : (c : tie.After-make-step Inv-loop μ-loop) → length (c .make-step .last .1 .1 .1 .1 .1 .1 .1 .1 .1 .1 .1 .1 .0) ≡ length (turned (to-step (c .before)) .loop .rec)
+kept-rec c = c .make-step .kept .1 .1 .1 .1 .1 .1 .1 .1 .1 .1 .1 .1 .0
 
-kept-room : (c : tie.After-make-step Inv-loop μ-loop) → length (c .make-step .last .1 .1 .1 .1 .1 .1 .1 .1 .1 .1 .1 .1 .0) ≡ length (turned (to-step (c .before)) .loop .room)
-kept-room c = c .make-step .kept .1 .1 .1 .1 .1 .1 .1 .1 .1 .1 .1 .1 .0
+kept-room : (c : tie.After-make-step Inv-loop μ-loop) → length (c .make-step .last .1 .1 .1 .1 .1 .1 .1 .1 .1 .1 .1 .1 .1 .0) ≡ length (turned (to-step (c .before)) .loop .room)
+kept-room c = c .make-step .kept .1 .1 .1 .1 .1 .1 .1 .1 .1 .1 .1 .1 .1 .0
 
 -- ---- the answers
 

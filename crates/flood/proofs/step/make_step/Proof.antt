@@ -12,7 +12,7 @@ use Rattle.ledger.specs.Runs.{plan, world, seenOf, Plan, World, Seen}
 use Rattle.moves.specs.Given.{ground, Given, given}
 use Rattle.moves.specs.inner.Added.{addedFits}
 use Rattle.moves.proofs.MoveLaws.{step-lasts-to}
-use Rattle.moves.proofs.FillLaws.{length-made, lasts-made, same-fits, record-made}
+use Rattle.moves.proofs.FillLaws.{lies-firmly, length-made, lasts-made, same-fits, record-made}
 use Rattle.grid.specs.Squares.{squares}
 use Rattle.ledger.specs.After.{stepRecord}
 use Rattle.moves.specs.Moves.{stepLength, stepDuration, stepMoves}
@@ -24,7 +24,7 @@ use Rattle.flood.proofs.step.make_step.Tie as tie
 -- ---- the places, each by the one before it
 
 abbrev begin : tie.After-step-length-arg → tie.Start
-begin c = c .before .before .before .before .before .before .before .before .before .before .before
+begin c = c .before .before .before .before .before .before .before .before .before .before .before .before
 
 abbrev timed : tie.Else1 → tie.After-duration-for
 timed c = c .before .before
@@ -47,7 +47,7 @@ abbrev p : tie.Start → Plan
 p s = plan (s .args .shape) (s .args .marks .now)
 
 abbrev g : tie.Start → Given
-g s = given (ground (s .args .rules) (s .args .beds .now) (s .args .roughness .now)) (s .args .rain .now) (s .args .inflow .now)
+g s = given (ground (s .args .rules) (s .args .beds .now) (s .args .roughness .now) (s .args .rates .now)) (s .args .rain .now) (s .args .inflow .now)
 
 abbrev w : tie.Start → World
 w s = world (s .args .depths .now) (s .args .lasts .now) (s .args .records .now) (s .args .run)
@@ -66,7 +66,7 @@ abbrev room : tie.After-add-water → List ℕ
 room c = c .add-water .last .1 .1 .1 .1 .1 .1 .1 .0
 
 abbrev rec : tie.After-fill → List ℕ
-rec c = c .fill .last .1 .1 .1 .1 .1 .1 .1 .1 .1 .1 .0
+rec c = c .fill .last .1 .1 .1 .1 .1 .1 .1 .1 .1 .1 .1 .1 .0
 
 able : (s : tie.Start) → Ready (p s) (g s) (v s)
 able s = is-ready (p s) (g s) (w s) (s .pre .0 .checked)
@@ -97,7 +97,7 @@ record-is c =
 -- ---- the answers
 
 step-length-requires : tie.Need-step-length-requires
-step-length-requires c κs = able (begin c) .flows .lies
+step-length-requires c κs = let s = begin c in lies-firmly (p s) (g s) (w s) (able s .flows .lies)
 
 duration-for-requires : tie.Need-duration-for-requires
 duration-for-requires c κs = able (begin (c .before)) .waters .rules .update-from
@@ -161,6 +161,7 @@ fill-requires c κs =
         flows = able s .flows;
         added-long = room-long at-add-water;
         duration-for = omega (arith, lasts-is (in-water at-add-water), step-lasts-to (p s) (g s) (v s) (able s));
+        end-to = omega (arith, lasts-is (in-water at-add-water), in-time (at-add-water .before .before));
         record-long = s .pre .1 .0;
       },
       able s .length-to,

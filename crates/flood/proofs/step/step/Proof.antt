@@ -10,7 +10,7 @@ use Rattle.flood.proofs.step.step.Tie as tie
 -- ---- the places, each by the one before it
 
 abbrev begin : tie.After-rules-fine → tie.Start
-begin c = c .before .before .before .before .before .before .before .before .before
+begin c = c .before .before .before .before .before .before .before .before .before .before
 
 abbrev to-check : tie.After-checked → tie.After-rules-fine
 to-check c = c .before .before .before .before
@@ -27,7 +27,7 @@ abbrev p : tie.Start → Plan
 p s = plan (s .args .shape) (s .args .marks .now)
 
 abbrev g : tie.Start → Given
-g s = given (ground (s .args .rules) (s .args .beds .now) (s .args .roughness .now)) (s .args .rain .now) (s .args .inflow .now)
+g s = given (ground (s .args .rules) (s .args .beds .now) (s .args .roughness .now) (s .args .rates .now)) (s .args .rain .now) (s .args .inflow .now)
 
 abbrev w : tie.Start → World
 w s = world (s .args .depths .now) (s .args .lasts .now) (s .args .records .now) (s .args .run)

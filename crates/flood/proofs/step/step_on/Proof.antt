@@ -14,7 +14,7 @@ use Rattle.flood.proofs.step.step_on.Tie as tie
 -- ---- the places
 
 abbrev begin : tie.After-slice-known3 → tie.Start
-begin c = c .before .before .before .before .before .before .before .before
+begin c = c .before .before .before .before .before .before .before .before .before
 
 abbrev sized : tie.After-make-step-arg3 → tie.After-squares-of
 sized c = c .before .before .before
@@ -25,7 +25,7 @@ abbrev p : tie.Start → Plan
 p s = plan (s .args .shape) (s .args .marks .now)
 
 abbrev g : tie.Start → Given
-g s = given (ground (s .args .rules) (s .args .beds .now) (s .args .roughness .now)) (s .args .rain .now) (s .args .inflow .now)
+g s = given (ground (s .args .rules) (s .args .beds .now) (s .args .roughness .now) (s .args .rates .now)) (s .args .rain .now) (s .args .inflow .now)
 
 abbrev w : tie.Start → World
 w s = world (s .args .depths .now) (s .args .lasts .now) (s .args .records .now) (s .args .run)

@@ -6,29 +6,32 @@ use borrow.Author.Needs.{needs}
 use Rattle.ledger.proofs.record.put_square.Statement.{statement}
 use Rattle.ledger.proofs.record.put_square.Tie as tie
 
-array-read-t10 : tie.Need-array-read-t10
-array-read-t10 c = search needs
+array-read-t11 : tie.Need-array-read-t11
+array-read-t11 c = search needs
 
-cast-t11 : tie.Need-cast-t11
-cast-t11 c = search needs
+cast-t12 : tie.Need-cast-t12
+cast-t12 c = search needs
 
-array-read-t14 : tie.Need-array-read-t14
-array-read-t14 c = search needs
+array-read-t15 : tie.Need-array-read-t15
+array-read-t15 c = search needs
 
-cast-t15 : tie.Need-cast-t15
-cast-t15 c = search needs
+cast-t16 : tie.Need-cast-t16
+cast-t16 c = search needs
 
-array-read-t18 : tie.Need-array-read-t18
-array-read-t18 c = search needs
+array-read-t19 : tie.Need-array-read-t19
+array-read-t19 c = search needs
 
-cast-t19 : tie.Need-cast-t19
-cast-t19 c = search needs
+cast-t20 : tie.Need-cast-t20
+cast-t20 c = search needs
 
-array-read-t22 : tie.Need-array-read-t22
-array-read-t22 c = search needs
+array-read-t23 : tie.Need-array-read-t23
+array-read-t23 c = search needs
 
-cast-t23 : tie.Need-cast-t23
-cast-t23 c = search needs
+cast-t24 : tie.Need-cast-t24
+cast-t24 c = search needs
+
+cast-t25 : tie.Need-cast-t25
+cast-t25 c = search needs
 
 slice-aggregate-copy-into : tie.Need-slice-aggregate-copy-into
 slice-aggregate-copy-into c = search needs
@@ -51,14 +54,15 @@ pub put-square-spec : {M : Type 1} → statement M
 put-square-spec =
     tie.close
     (tie.spec
-    array-read-t10
-    cast-t11
-    array-read-t14
-    cast-t15
-    array-read-t18
-    cast-t19
-    array-read-t22
-    cast-t23
+    array-read-t11
+    cast-t12
+    array-read-t15
+    cast-t16
+    array-read-t19
+    cast-t20
+    array-read-t23
+    cast-t24
+    cast-t25
     slice-aggregate-copy-into
     word-place-requires
     copy-into-requires

@@ -1,4 +1,4 @@
--- `ledger::settle::gather` meets its contract: every square so far fits and is stored, and what it sent off the grid is summed.
+-- `ledger::settle::gather` meets its contract: every square so far fits and is stored, and what it sent off the grid and what soaked is summed.
 -- Assumes nothing.
 use mathlib.Core.Path.{_≡_, refl, sym, ap₂, _∙_}
 use mathlib.Core.Bool.{true}
@@ -13,24 +13,25 @@ use Rattle.reckon.proofs.TestLaws.{all-none, all-more}
 use Rattle.reckon.proofs.ListLaws.{filled-none, sum-none, sum-more}
 use Rattle.grid.specs.Squares.{squares, OnSquare}
 use Rattle.ledger.specs.Runs.{Plan, plan}
-use Rattle.ledger.specs.Flows.{offSquare}
-use Rattle.ledger.specs.Record.{leavesIn}
+use Rattle.ledger.specs.Flows.{offSquare, soakedSquare}
+use Rattle.ledger.specs.Record.{leavesIn, soakedIn}
 use Rattle.ledger.specs.inner.Settle.{depthsBy}
-use Rattle.ledger.proofs.FlowLaws.{off-small, off-sum-small}
+use Rattle.ledger.proofs.FlowLaws.{off-small, off-sum-small, soaked-made, soaked-square-small, soaked-sum-small}
 use Rattle.ledger.proofs.WalkLaws.{Walk, walk-none, walk-stands, walk-column, walk-next, walk-end, nothing, filled-long, filled-put}
 use Rattle.ledger.proofs.SettleLaws.{fits, gathered-at, gathered-unfit, gathered-fit}
 use Rattle.ledger.proofs.settle.gather.Statement.{statement}
 use Rattle.ledger.proofs.settle.gather.Tie as tie
 
 abbrev Inv-loop : tie.InvT-loop
-Inv-loop shape marks rec depths working₀ squares off₀ square₀ column₀ working off square column =
+Inv-loop shape marks rec depths working₀ squares off₀ soaked₀ square₀ column₀ working off soaked square column =
     (Walk shape squares square column)
     × (allBelow square (fits (plan shape marks) rec depths) ≡ true)
     × (off ≡ sumBelow square (offSquare (plan shape marks) (leavesIn rec)))
+    × (soaked ≡ sumBelow square (soakedSquare (plan shape marks) (soakedIn rec)))
     × (working ≡ filled square nothing (λ k. getD (depthsBy (plan shape marks) rec depths) k 0) working₀)
 
 abbrev μ-loop : tie.MeasureT-loop
-μ-loop shape marks rec depths working₀ squares off₀ square₀ column₀ working off square column =
+μ-loop shape marks rec depths working₀ squares off₀ soaked₀ square₀ column₀ working off soaked square column =
     squares - square
 
 -- ---- the places, each from the one after it
@@ -59,7 +60,10 @@ fitting c = gathered (c .before)
 abbrev summed : tie.After-off-from Inv-loop μ-loop → tie.Else1 Inv-loop μ-loop
 summed c = c .before
 
-abbrev end : tie.After-next-column Inv-loop μ-loop → tie.After-off-from Inv-loop μ-loop
+abbrev soaking : tie.After-soaked-from Inv-loop μ-loop → tie.After-off-from Inv-loop μ-loop
+soaking c = c .before
+
+abbrev end : tie.After-next-column Inv-loop μ-loop → tie.After-soaked-from Inv-loop μ-loop
 end c = c .before
 
 -- ---- what is known there
@@ -94,18 +98,18 @@ squares-of-requires : tie.Need-squares-of-requires Inv-loop μ-loop
 squares-of-requires c κs = c .before .before .before .before .pre .0 .recorded .fine
 
 loop-holds : tie.Need-loop-holds Inv-loop μ-loop
-loop-holds c = (walk-none _ (c .squares-of .ensures), all-none _, sym (sum-none _), filled-none _ _ _)
+loop-holds c = (walk-none _ (c .squares-of .ensures), all-none _, sym (sum-none _), sym (sum-none _), filled-none _ _ _)
 
 gather-square-requires : tie.Need-gather-square-requires Inv-loop μ-loop
 gather-square-requires c κs =
     let here = c .before in
     let s = start (at here) in
-    (s .pre .0, (stands here, omega (arith, filled-long _ _ _ _ (turn here .loop .inv .3), s .pre .1, inside here)))
+    (s .pre .0, (stands here, omega (arith, filled-long _ _ _ _ (turn here .loop .inv .4), s .pre .1, inside here)))
 
 same-length : tie.Need-same-length Inv-loop μ-loop
 same-length c =
     let g = gathered (c .before) in
-    g .gather-square .kept .1 .1 .1 .1 .1 .1 .0 ∙ filled-long _ _ _ _ (turn (asked g) .loop .inv .3)
+    g .gather-square .kept .1 .1 .1 .1 .1 .1 .0 ∙ filled-long _ _ _ _ (turn (asked g) .loop .inv .4)
 
 returns : tie.Need-returns Inv-loop μ-loop
 returns c =
@@ -132,25 +136,45 @@ add-off c =
       start z .pre .0 .recorded .fine .few,
     )
 
+soaked-from-requires : tie.Need-soaked-from-requires Inv-loop μ-loop
+soaked-from-requires c κs =
+    let here = asked (fitting (summed c)) in
+    let lent = start (at here) .pre .0 .recorded in
+    (omega (arith, lent .marks-long, inside here), omega (arith, lent .record-long, inside here))
+
+add-soaked : tie.Need-add-soaked Inv-loop μ-loop
+add-soaked c =
+    let here = asked (fitting (summed (soaking c))) in
+    let z = at here in
+    omega (
+      arith,
+      turn here .loop .inv .3,
+      soaked-sum-small (rec z) (λ k. known2 z .shared-slice-known2 .given k .fits) (p z) (i here),
+      soaked-made (rec z) (λ k. known2 z .shared-slice-known2 .given k .fits) (p z) (i here) (c .soaked-from .ensures),
+      soaked-square-small (rec z) (λ k. known2 z .shared-slice-known2 .given k .fits) (p z) (i here),
+      inside here,
+      start z .pre .0 .recorded .fine .few,
+    )
+
 add-square : tie.Need-add-square Inv-loop μ-loop
 add-square c =
-    let here = asked (fitting (summed c)) in
+    let here = asked (fitting (summed (soaking c))) in
     omega (arith, inside here, start (at here) .pre .0 .recorded .fine .few)
 
 next-column-requires : tie.Need-next-column-requires Inv-loop μ-loop
 next-column-requires c κs =
-    let here = asked (fitting (summed c)) in
+    let here = asked (fitting (summed (soaking c))) in
     let fine = start (at here) .pre .0 .recorded .fine in
     (fine, walk-column _ (turn here .loop .inv .0) fine)
 
 loop-less : tie.Need-loop-less Inv-loop μ-loop
 loop-less c =
-    let here = asked (fitting (summed (end c))) in
+    let here = asked (fitting (summed (soaking (end c)))) in
     omega (arith, here .loop-test .taken)
 
 loop-again : tie.Need-loop-again Inv-loop μ-loop
 loop-again c =
-    let passed = summed (end c) in
+    let passed = summed (soaking (end c)) in
     let g = fitting passed in
     let here = asked g in
     let z = at here in
@@ -158,21 +182,23 @@ loop-again c =
     let fit = not-false _ (passed .if1 .left) in (
       walk-next _ (inv .0) (here .loop-test .taken) (c .next-column .ensures),
       all-more (fits (p z) (rec z) (depths z)) (i here) (inv .1) (sym (g .gather-square .ensures .fits-is) ∙ fit),
-      ap₂ _+_ (inv .2) (end c .off-from .ensures) ∙ sym (sum-more (i here) (offSquare (p z) (leavesIn (rec z)))),
+      ap₂ _+_ (inv .2) (soaking (end c) .off-from .ensures) ∙ sym (sum-more (i here) (offSquare (p z) (leavesIn (rec z)))),
+      ap₂ _+_ (inv .3) (soaked-made (rec z) (λ k. known2 z .shared-slice-known2 .given k .fits) (p z) (i here) (end c .soaked-from .ensures))
+          ∙ sym (sum-more (i here) (soakedSquare (p z) (soakedIn (rec z)))),
       g .gather-square .ensures .stored fit ∙ filled-put nothing (λ k. getD (depthsBy (p z) (rec z) (depths z)) k 0) (start z .args .working .now)
-          (omega (arith, start z .pre .1, inside here)) (inv .3) refl
+          (omega (arith, start z .pre .1, inside here)) (inv .4) refl
           (gathered-at (p z) (rec z) (depths z) (start z .pre .0 .depths-long) (inside here)),
     )
 
 same-length-2 : tie.Need-same-length-2 Inv-loop μ-loop
-same-length-2 c = filled-long _ _ _ _ (c .before .loop .inv .3)
+same-length-2 c = filled-long _ _ _ _ (c .before .loop .inv .4)
 
 returns-2 : tie.Need-returns-2 Inv-loop μ-loop
 returns-2 c =
     let inv = c .before .loop .inv in
     let z = counted (c .before) in
     gathered-fit (p z) (rec z) (depths z) (start z .args .working .now) (start z .pre .0 .depths-long) (start z .pre .1)
-    (walk-end _ (inv .0) (c .loop-test .left)) (inv .1) (inv .2) (inv .3)
+    (walk-end _ (inv .0) (c .loop-test .left)) (inv .1) (inv .2) (inv .3) (inv .4)
 
 pub gather-spec : {M : Type 1} → statement M
 gather-spec =
@@ -187,6 +213,8 @@ gather-spec =
     returns
     off-from-requires
     add-off
+    soaked-from-requires
+    add-soaked
     add-square
     next-column-requires
     loop-less

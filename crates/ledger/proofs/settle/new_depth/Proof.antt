@@ -1,4 +1,4 @@
--- `ledger::settle::new_depth` meets its contract: what remains and what is gained; a dry square had nothing to send.
+-- `ledger::settle::new_depth` meets its contract: what remains and what is gained; a dry square had nothing to lose.
 -- Assumes nothing.
 use native.Mathlib.Omega.{arith}
 use Rattle.ledger.specs.Runs.{plan}
@@ -20,14 +20,14 @@ unfolding newDepth remains
 returns c =
     omega (arith, c .before .number .ensures, c .if1 .taken, c .before .before .gains .ensures)
 
-gone-from-requires : tie.Need-gone-from-requires
-gone-from-requires c κs =
+lost-from-requires : tie.Need-lost-from-requires
+lost-from-requires c κs =
     let start = c .before .before .before .before .before .before in omega (arith, start .pre .0 .recorded .record-long, start .pre .1 .0 .inside)
 
 sub-remains : tie.Need-sub-remains
 sub-remains c =
     let start = c .before .before .before .before .before .before .before in
-    omega (arith, c .before .before .number .ensures, c .gone-from .ensures, start .pre .0 .covered (start .args .square) (start .pre .1 .0 .inside) (start .pre .1 .1))
+    omega (arith, c .before .before .number .ensures, c .lost-from .ensures, start .pre .0 .covered (start .args .square) (start .pre .1 .0 .inside) (start .pre .1 .1))
 
 add-result : tie.Need-add-result
 add-result c =
@@ -37,7 +37,7 @@ add-result c =
 returns-2 : tie.Need-returns-2
 unfolding newDepth remains
 returns-2 c =
-    omega (arith, c .before .before .number .ensures, c .gone-from .ensures, c .before .before .before .gains .ensures)
+    omega (arith, c .before .before .number .ensures, c .lost-from .ensures, c .before .before .before .gains .ensures)
 
 pub new-depth-spec : {M : Type 1} → statement M
 new-depth-spec =
@@ -46,7 +46,7 @@ new-depth-spec =
     gains-requires
     number-requires
     returns
-    gone-from-requires
+    lost-from-requires
     sub-remains
     add-result
     returns-2)

@@ -1,4 +1,5 @@
--- `ledger::settle::settle` meets its contract: 8 where a square is too deep, then 9 where the outflow is too much, else all is written.
+-- `ledger::settle::settle` meets its contract: 8 where a square is too deep, then 9 where the outflow is too much, then 15 where too much has
+-- soaked, else all is written.
 -- Assumes nothing.
 use mathlib.Core.Path.{_≡_, sym, _∙_}
 use mathlib.Core.Bool.{true}
@@ -6,10 +7,10 @@ use Prim.Native.Nat.{_+_}
 use native.Mathlib.Omega.{arith}
 use borrow.Author.Tests.{not-true, not-false}
 use Rattle.ledger.specs.Runs.{Plan, World, plan, world, ofDepths}
-use Rattle.ledger.specs.After.{depthsFit, newOutflow}
+use Rattle.ledger.specs.After.{depthsFit, newOutflow, newSoaked}
 use Rattle.ledger.specs.inner.Settle.{movesIn}
-use Rattle.ledger.proofs.FlowLaws.{off-grid-small}
-use Rattle.ledger.proofs.SettleLaws.{settles-gathers, settles-deep, settles-over, settles-written, outflow-by}
+use Rattle.ledger.proofs.FlowLaws.{off-grid-small, soaked-grid-small}
+use Rattle.ledger.proofs.SettleLaws.{settles-gathers, settles-deep, settles-over, settles-soaked, settles-written, outflow-by, soaked-by}
 use borrow.Author.Needs.{needs}
 use Rattle.ledger.proofs.settle.settle.Statement.{statement}
 use Rattle.ledger.proofs.settle.settle.Tie as tie
@@ -37,7 +38,13 @@ summed c = c .before .before
 abbrev within : tie.Else2 → tie.After-struct-known3
 within c = c .before
 
-abbrev writing : tie.After-write-arg4 → tie.Else2
+abbrev soaking : tie.After-struct-known5 → tie.Else2
+soaking c = c .before .before
+
+abbrev taken-up : tie.Else3 → tie.After-struct-known5
+taken-up c = c .before
+
+abbrev writing : tie.After-write-arg4 → tie.Else3
 writing c = c .before .before .before .before
 
 abbrev written : tie.After-write → tie.After-write-arg4
@@ -70,6 +77,9 @@ module _ (c : tie.Else1) where
 
   outflow-is : w at .run .outflow + at .gather .result .off ≡ newOutflow (p at) (movesIn (begun at .args .rec .now) (begun at .args .held)) (w at)
   outflow-is = outflow-by (p at) (begun at .args .rec .now) (begun at .args .held) (w at) (at .gather .ensures .found .off-is fit)
+
+  soaked-is : w at .run .soaked + at .gather .result .soaked ≡ newSoaked (p at) (movesIn (begun at .args .rec .now) (begun at .args .held)) (w at)
+  soaked-is = soaked-by (p at) (begun at .args .rec .now) (begun at .args .held) (w at) (at .gather .ensures .found .soaked-is fit)
 
 -- ---- the needs
 
@@ -109,10 +119,16 @@ returns-2 c =
     settles-over (p g) (begun g .args .rec .now) (begun g .args .held) (w g) (all-fit (summed (c .before))) (outflow-is (summed (c .before)))
     (c .if2 .taken)
 
-write-requires : tie.Need-write-requires
-write-requires c κs =
-    let whole = summed (within (writing c)) in
-    (begun (at whole) .pre .0, (at whole .gather .ensures .stored (fit whole), outflow-is whole))
+add-soaked : tie.Need-add-soaked
+add-soaked c =
+    let whole = summed (within (soaking c)) in
+    let g = at whole in
+    omega (
+      arith,
+      g .gather .ensures .found .soaked-is (fit whole),
+      soaked-grid-small (begun g .args .rec .now) (λ k. known2 (asked g) .shared-slice-known2 .given k .fits) (p g) (begun g .pre .0 .fine),
+      begun g .pre .0 .soaked-to,
+    )
 
 same-length-5 : tie.Need-same-length-5
 same-length-5 c = search needs
@@ -120,19 +136,39 @@ same-length-5 c = search needs
 same-length-6 : tie.Need-same-length-6
 same-length-6 c = search needs
 
+returns-3 : tie.Need-returns-3
+returns-3 c =
+    let last = soaking (c .before) in
+    let whole = summed (within last) in
+    let g = at whole in
+    settles-soaked (p g) (begun g .args .rec .now) (begun g .args .held) (w g) (all-fit whole) (outflow-is whole) (last .if2 .left) (soaked-is whole)
+    (c .if3 .taken)
+
+write-requires : tie.Need-write-requires
+write-requires c κs =
+    let whole = summed (within (soaking (taken-up (writing c)))) in
+    (begun (at whole) .pre .0, (at whole .gather .ensures .stored (fit whole), (outflow-is whole, soaked-is whole)))
+
 same-length-7 : tie.Need-same-length-7
 same-length-7 c = search needs
 
 same-length-8 : tie.Need-same-length-8
 same-length-8 c = search needs
 
-returns-3 : tie.Need-returns-3
-returns-3 c =
+same-length-9 : tie.Need-same-length-9
+same-length-9 c = search needs
+
+same-length-10 : tie.Need-same-length-10
+same-length-10 c = search needs
+
+returns-4 : tie.Need-returns-4
+returns-4 c =
     let last = writing (written (end c)) in
-    let whole = summed (within last) in
+    let decided = soaking (taken-up last) in
+    let whole = summed (within decided) in
     let g = at whole in
-    settles-written (p g) (begun g .args .rec .now) (begun g .args .held) (w g) (all-fit whole) (outflow-is whole) (last .if2 .left)
-    (end c .write .ensures)
+    settles-written (p g) (begun g .args .rec .now) (begun g .args .held) (w g) (all-fit whole) (outflow-is whole) (decided .if2 .left)
+    (soaked-is whole) (last .if3 .left) (end c .write .ensures)
 
 pub settle-spec : {M : Type 1} → statement M
 settle-spec =
@@ -146,9 +182,13 @@ settle-spec =
     same-length-3
     same-length-4
     returns-2
-    write-requires
+    add-soaked
     same-length-5
     same-length-6
+    returns-3
+    write-requires
     same-length-7
     same-length-8
-    returns-3)
+    same-length-9
+    same-length-10
+    returns-4)

@@ -108,8 +108,10 @@ copy-into-requires-2 c κs =
 lasted-requires : tie.Need-lasted-requires
 lasted-requires c κs = search needs
 
-add-t25 : tie.Need-add-t25
-add-t25 c = search needs
+add-t26 : tie.Need-add-t26
+add-t26 c =
+    let s = start (size-at (slots-at (slot-at (place-asked (place-at (record-at (new-lasts (lasts-at (new-depths (depths-at (c .before))))))))))) in
+    record { fits = omega (arith, c .before .lasted .ensures, s .pre .0 .clock-to) }
 
 kept-after-requires : tie.Need-kept-after-requires
 kept-after-requires c κs = search needs
@@ -136,7 +138,7 @@ returns c =
     (depths .copy-into2 .ensures ∙ (placed-over (s .args .depths .now) (s .args .working .now) (sym (working-long size)) ∙ s .pre .1 .0))
     (lasts .write-lasts .ensures)
     (place .slot-start .ensures ∙ ap (λ (k : ℕ). slotStart k (slot .slot-after .result)) (size .record-size .ensures)) (stored .copy-into .ensures)
-    (ap (λ (k : ℕ). s .args .run .clock + k) (lasted-at c .lasted .ensures)) (s .pre .1 .1) (c .kept-after .ensures)
+    (ap (λ (k : ℕ). s .args .run .clock + k) (lasted-at c .lasted .ensures)) (s .pre .1 .1 .0) (c .kept-after .ensures) (s .pre .1 .1 .1)
 
 pub write-spec : {M : Type 1} → statement M
 write-spec =
@@ -150,7 +152,7 @@ write-spec =
     write-lasts-requires
     copy-into-requires-2
     lasted-requires
-    add-t25
+    add-t26
     kept-after-requires
     same-length
     same-length-2

@@ -14,7 +14,7 @@ use Rattle.ledger.specs.Record.{newestRecord}
 use Rattle.ledger.specs.TakeBack.{restorable}
 use Rattle.ledger.specs.inner.TakeBack.{Kept, RecordAndDepths}
 use Rattle.ledger.proofs.RecordLaws.{slots-of}
-use Rattle.ledger.proofs.BackLaws.{takes-refused, takes-unfit, takes-back, clock-covers, squares-restorable, outflow-covers, newest-below, kept-some, newest-fits, newest-is, newest-long, newest-led}
+use Rattle.ledger.proofs.BackLaws.{takes-refused, takes-unfit, takes-back, clock-covers, squares-restorable, outflow-covers, soaked-covers, newest-below, kept-some, newest-fits, newest-is, newest-long, newest-led}
 use borrow.Author.Needs.{needs}
 use Rattle.ledger.proofs.take_back.take_back.Statement.{statement}
 use Rattle.ledger.proofs.take_back.take_back.Tie as tie
@@ -192,6 +192,7 @@ run-before-requires c κs =
       (
         clock-covers (p at) (w at) (rec at) (restored whole),
         omega (arith, found (fitting whole) .try-record .ensures .off-is (fit whole), outflow-covers (p at) (w at) (rec at) (restored whole)),
+        omega (arith, found (fitting whole) .try-record .ensures .soaked-is (fit whole), soaked-covers (p at) (w at) (rec at) (restored whole)),
       ),
     )
 
@@ -209,7 +210,8 @@ returns-3 c =
     let at = placed whole in
     takes-back (p at) (w at) (kept (open-at at)) (rec-is at) (restored whole)
     (slots-of (p at) (w at .records) (sized (counted at) .record-size .ensures) (counted at .slots-in .ensures))
-    (found (fitting whole) .try-record .ensures .off-is (fit whole)) (c .run-before .ensures) (depths .restore-depths .ensures)
+    (found (fitting whole) .try-record .ensures .off-is (fit whole)) (found (fitting whole) .try-record .ensures .soaked-is (fit whole))
+    (c .run-before .ensures) (depths .restore-depths .ensures)
     (lasts .restore-lasts .ensures)
 
 pub take-back-spec : {M : Type 1} → statement M

@@ -1,4 +1,4 @@
--- `ledger::take_back::try_squares` meets its contract: every square so far can be restored, and what it sent off the grid is summed.
+-- `ledger::take_back::try_squares` meets its contract: every square so far can be restored, and what it sent off the grid and what soaked is summed.
 -- Assumes nothing.
 use mathlib.Core.Path.{_≡_, sym, ap₂, _∙_}
 use mathlib.Core.Bool.{true}
@@ -12,22 +12,23 @@ use Rattle.reckon.proofs.TestLaws.{all-none, all-more, all-fails, all-whole}
 use Rattle.reckon.proofs.ListLaws.{sum-none, sum-more}
 use Rattle.grid.specs.Squares.{squares, OnSquare}
 use Rattle.ledger.specs.Runs.{Plan, ofDepths, plan}
-use Rattle.ledger.specs.Flows.{offSquare}
-use Rattle.ledger.specs.Record.{leavesIn}
+use Rattle.ledger.specs.Flows.{offSquare, soakedSquare}
+use Rattle.ledger.specs.Record.{leavesIn, soakedIn}
 use Rattle.ledger.specs.TakeBack.{squareRestorable}
-use Rattle.ledger.proofs.FlowLaws.{off-small, off-sum-small}
+use Rattle.ledger.proofs.FlowLaws.{off-small, off-sum-small, soaked-made, soaked-square-small, soaked-sum-small}
 use Rattle.ledger.proofs.WalkLaws.{Walk, walk-none, walk-stands, walk-column, walk-next, walk-end, walked-unfit, walked-fit}
 use Rattle.ledger.proofs.take_back.try_squares.Statement.{statement}
 use Rattle.ledger.proofs.take_back.try_squares.Tie as tie
 
 abbrev Inv-loop : tie.InvT-loop
-Inv-loop shape marks rec depths squares off₀ square₀ column₀ off square column =
+Inv-loop shape marks rec depths squares off₀ soaked₀ square₀ column₀ off soaked square column =
     (Walk shape squares square column)
     × (allBelow square (squareRestorable (plan shape marks) (ofDepths depths) rec) ≡ true)
     × (off ≡ sumBelow square (offSquare (plan shape marks) (leavesIn rec)))
+    × (soaked ≡ sumBelow square (soakedSquare (plan shape marks) (soakedIn rec)))
 
 abbrev μ-loop : tie.MeasureT-loop
-μ-loop shape marks rec depths squares off₀ square₀ column₀ off square column =
+μ-loop shape marks rec depths squares off₀ soaked₀ square₀ column₀ off soaked square column =
     squares - square
 
 -- ---- the places, each from the one after it
@@ -53,7 +54,10 @@ fitting c = c .before
 abbrev summed : tie.After-off-from Inv-loop μ-loop → tie.Else1 Inv-loop μ-loop
 summed c = c .before
 
-abbrev end : tie.After-next-column Inv-loop μ-loop → tie.After-off-from Inv-loop μ-loop
+abbrev soaking : tie.After-soaked-from Inv-loop μ-loop → tie.After-off-from Inv-loop μ-loop
+soaking c = c .before
+
+abbrev end : tie.After-next-column Inv-loop μ-loop → tie.After-soaked-from Inv-loop μ-loop
 end c = c .before
 
 -- ---- what is known there
@@ -85,7 +89,7 @@ squares-of-requires : tie.Need-squares-of-requires Inv-loop μ-loop
 squares-of-requires c κs = c .before .before .before .pre .recorded .fine
 
 loop-holds : tie.Need-loop-holds Inv-loop μ-loop
-loop-holds c = (walk-none _ (c .squares-of .ensures), all-none _, sym (sum-none _))
+loop-holds c = (walk-none _ (c .squares-of .ensures), all-none _, sym (sum-none _), sym (sum-none _))
 
 square-restorable-requires : tie.Need-square-restorable-requires Inv-loop μ-loop
 square-restorable-requires c κs = (start (at c) .pre, stands c)
@@ -115,30 +119,53 @@ add-off c =
       start z .pre .recorded .fine .few,
     )
 
+soaked-from-requires : tie.Need-soaked-from-requires Inv-loop μ-loop
+soaked-from-requires c κs =
+    let here = asked (fitting (summed c)) in
+    let lent = start (at here) .pre .recorded in
+    (omega (arith, lent .marks-long, inside here), omega (arith, lent .record-long, inside here))
+
+add-soaked : tie.Need-add-soaked Inv-loop μ-loop
+add-soaked c =
+    let here = asked (fitting (summed (soaking c))) in
+    let z = at here in
+    omega (
+      arith,
+      turn here .loop .inv .3,
+      soaked-sum-small (rec z) (λ k. known2 z .shared-slice-known2 .given k .fits) (p z) (i here),
+      soaked-made (rec z) (λ k. known2 z .shared-slice-known2 .given k .fits) (p z) (i here) (c .soaked-from .ensures),
+      soaked-square-small (rec z) (λ k. known2 z .shared-slice-known2 .given k .fits) (p z) (i here),
+      inside here,
+      start z .pre .recorded .fine .few,
+    )
+
 add-square : tie.Need-add-square Inv-loop μ-loop
 add-square c =
-    let here = asked (fitting (summed c)) in
+    let here = asked (fitting (summed (soaking c))) in
     omega (arith, inside here, start (at here) .pre .recorded .fine .few)
 
 next-column-requires : tie.Need-next-column-requires Inv-loop μ-loop
 next-column-requires c κs =
-    let here = asked (fitting (summed c)) in
+    let here = asked (fitting (summed (soaking c))) in
     let fine = start (at here) .pre .recorded .fine in
     (fine, walk-column _ (turn here .loop .inv .0) fine)
 
 loop-less : tie.Need-loop-less Inv-loop μ-loop
 loop-less c =
-    let here = asked (fitting (summed (end c))) in
+    let here = asked (fitting (summed (soaking (end c)))) in
     omega (arith, here .loop-test .taken)
 
 loop-again : tie.Need-loop-again Inv-loop μ-loop
 loop-again c =
-    let passed = summed (end c) in
+    let passed = summed (soaking (end c)) in
     let here = asked (fitting passed) in
+    let z = at here in
     let inv = turn here .loop .inv in (
       walk-next _ (inv .0) (here .loop-test .taken) (c .next-column .ensures),
       all-more _ _ (inv .1) (sym (fitting passed .square-restorable .ensures) ∙ not-false _ (passed .if1 .left)),
-      ap₂ _+_ (inv .2) (end c .off-from .ensures) ∙ sym (sum-more (i here) (offSquare (p (at here)) (leavesIn (rec (at here))))),
+      ap₂ _+_ (inv .2) (soaking (end c) .off-from .ensures) ∙ sym (sum-more (i here) (offSquare (p z) (leavesIn (rec z)))),
+      ap₂ _+_ (inv .3) (soaked-made (rec z) (λ k. known2 z .shared-slice-known2 .given k .fits) (p z) (i here) (end c .soaked-from .ensures))
+          ∙ sym (sum-more (i here) (soakedSquare (p z) (soakedIn (rec z)))),
     )
 
 returns-2 : tie.Need-returns-2 Inv-loop μ-loop
@@ -146,7 +173,7 @@ returns-2 c =
     let inv = c .before .loop .inv in
     let z = counted (c .before) in
     let whole = walk-end _ (inv .0) (c .loop-test .left) in
-    walked-fit (p z) (rec z) (all-whole _ (inv .1) whole) (inv .2) whole
+    walked-fit (p z) (rec z) (all-whole _ (inv .1) whole) (inv .2) (inv .3) whole
 
 pub try-squares-spec : {M : Type 1} → statement M
 try-squares-spec =
@@ -160,6 +187,8 @@ try-squares-spec =
     returns
     off-from-requires
     add-off
+    soaked-from-requires
+    add-soaked
     add-square
     next-column-requires
     loop-less

@@ -9,24 +9,25 @@ use Rattle.grid.proofs.SquareLaws.{carried, column-within}
 use Rattle.ledger.specs.Runs.{Plan, plan}
 use Rattle.ledger.proofs.RecordLaws.{Begun, begun-none, begun-whole}
 use Rattle.moves.specs.Given.{Ground, ground}
-use Rattle.moves.specs.Moves.{leavesFor}
+use Rattle.moves.specs.Moves.{leavesFor, soakedFor}
 use Rattle.moves.proofs.FillLaws.{fill-turn}
 use Rattle.moves.proofs.fill.fill.Statement.{statement}
 use Rattle.moves.proofs.fill.fill.Tie as tie
 
 abbrev Inv-loop : tie.InvT-loop
-Inv-loop shape rules marks beds roughness depths lasts added held duration rec₀ squares square₀ column₀ rec square column =
+Inv-loop shape rules marks beds roughness rates depths lasts added held start duration rec₀ squares square₀ column₀ rec square column =
     (square ≤ shape .rows * shape .columns)
     × (column ≡ square % shape .columns)
-    × Begun (plan shape marks) held duration (leavesFor (plan shape marks) (ground rules beds roughness) depths lasts duration) (λ i. getD lasts i 0) (λ i. getD added i 0) square rec
+    × Begun (plan shape marks) held duration (leavesFor (plan shape marks) (ground rules beds roughness rates) depths lasts duration) (λ i. getD lasts i 0) (λ i. getD added i 0)
+    (soakedFor (plan shape marks) (ground rules beds roughness rates) depths lasts start duration) square rec
 
 abbrev μ-loop : tie.MeasureT-loop
-μ-loop shape rules marks beds roughness depths lasts added held duration rec₀ squares square₀ column₀ rec square column = squares - square
+μ-loop shape rules marks beds roughness rates depths lasts added held start duration rec₀ squares square₀ column₀ rec square column = squares - square
 
 -- ---- the places, each by the one before it
 
 abbrev begin : tie.After-put-head-arg Inv-loop μ-loop → tie.Start Inv-loop μ-loop
-begin c = c .before .before .before .before .before .before .before .before
+begin c = c .before .before .before .before .before .before .before .before .before
 
 abbrev to-loop : tie.At-loop Inv-loop μ-loop → tie.After-put-head Inv-loop μ-loop
 to-loop c = c .before .before .before .before
@@ -43,7 +44,7 @@ abbrev p : tie.Start Inv-loop μ-loop → Plan
 p s = plan (s .args .shape) (s .args .marks .now)
 
 abbrev o : tie.Start Inv-loop μ-loop → Ground
-o s = ground (s .args .rules) (s .args .beds .now) (s .args .roughness .now)
+o s = ground (s .args .rules) (s .args .beds .now) (s .args .roughness .now) (s .args .rates .now)
 
 abbrev start : tie.At-loop Inv-loop μ-loop → tie.Start Inv-loop μ-loop
 start c = begin (to-loop c .before)
@@ -71,7 +72,13 @@ fill-square-requires : tie.Need-fill-square-requires Inv-loop μ-loop
 fill-square-requires c κs =
     let at-loop = to-square c in
     let f = start at-loop .pre .0 in (
-      record { flows = f .flows; added-long = f .added-long; duration-for = f .duration-for; record-long = at-loop .loop .inv .2 .long },
+      record {
+        flows = f .flows;
+        added-long = f .added-long;
+        duration-for = f .duration-for;
+        end-to = f .end-to;
+        record-long = at-loop .loop .inv .2 .long;
+      },
       record { fine = f .flows .lies .sited .fine; inside = omega arith; column-is = at-loop .loop .inv .1 },
     )
 
@@ -95,7 +102,7 @@ loop-again c =
     let s = start at-loop in (
       omega arith,
       carried (s .args .shape) (at-loop .loop .square) (at-loop .loop .inv .1) (c .next-column .ensures),
-      fill-turn (p s) (o s) (s .args .depths .now) (s .args .lasts .now) (s .args .added .now) (s .args .held) (s .args .duration)
+      fill-turn (p s) (o s) (s .args .depths .now) (s .args .lasts .now) (s .args .added .now) (s .args .held) (s .args .start) (s .args .duration)
           (at-loop .loop .square) (omega arith) (at-loop .loop .inv .2) (at-fill-square .fill-square .ensures),
     )
 

@@ -8,7 +8,8 @@ use Rattle.reckon.specs.Lists.{joined}
 use Rattle.grid.proofs.SquareLaws.{carried, column-within}
 use Rattle.rule.specs.Length.{leastFrom}
 use Rattle.ledger.specs.Runs.{Plan, plan}
-use Rattle.moves.specs.Given.{Ground, ground}
+use Rattle.moves.specs.Given.{Ground}
+use Rattle.moves.specs.inner.Fill.{firm}
 use Rattle.moves.specs.Moves.{squareCandidates}
 use Rattle.moves.proofs.LengthLaws.{least-begin, least-more, least-all}
 use Rattle.moves.proofs.length.least_candidate.Statement.{statement}
@@ -18,7 +19,7 @@ abbrev Inv-loop : tie.InvT-loop
 Inv-loop shape rules marks beds roughness depths squares best₀ square₀ column₀ best square column =
     (square ≤ shape .rows * shape .columns)
     × (column ≡ square % shape .columns)
-    × (best ≡ leastFrom (rules .longest) (joined square (squareCandidates (plan shape marks) (ground rules beds roughness) depths)))
+    × (best ≡ leastFrom (rules .longest) (joined square (squareCandidates (plan shape marks) (firm rules beds roughness) depths)))
 
 abbrev μ-loop : tie.MeasureT-loop
 μ-loop shape rules marks beds roughness depths squares best₀ square₀ column₀ best square column = squares - square
@@ -34,7 +35,7 @@ abbrev p : tie.Start Inv-loop μ-loop → Plan
 p s = plan (s .args .shape) (s .args .marks .now)
 
 abbrev o : tie.Start Inv-loop μ-loop → Ground
-o s = ground (s .args .rules) (s .args .beds .now) (s .args .roughness .now)
+o s = firm (s .args .rules) (s .args .beds .now) (s .args .roughness .now)
 
 abbrev start : tie.At-loop Inv-loop μ-loop → tie.Start Inv-loop μ-loop
 start c = begin (c .before .before)

@@ -5,7 +5,8 @@ use mathlib.Core.Bool.{false}
 use borrow.Author.Needs.{needs}
 use Rattle.ledger.specs.Runs.{Plan, plan}
 use Rattle.ledger.specs.Flows.{shut}
-use Rattle.moves.specs.Given.{Ground, ground}
+use Rattle.moves.specs.Given.{Ground}
+use Rattle.moves.specs.inner.Fill.{firm}
 use Rattle.moves.proofs.DropLaws.{candidacy}
 use Rattle.moves.proofs.LengthLaws.{least-closed, least-open, least-dry, shorter-made}
 use Rattle.moves.proofs.length.shorter_by.Statement.{statement}
@@ -25,7 +26,7 @@ abbrev p : tie.Start → Plan
 p s = plan (s .args .shape) (s .args .marks .now)
 
 abbrev o : tie.Start → Ground
-o s = ground (s .args .rules) (s .args .beds .now) (s .args .roughness .now)
+o s = firm (s .args .rules) (s .args .beds .now) (s .args .roughness .now)
 
 abbrev start : tie.Else1 → tie.Start
 start c = begin (c .before)

@@ -18,10 +18,13 @@ array-read-t11 c = search needs
 array-read-t14 : tie.Need-array-read-t14
 array-read-t14 c = search needs
 
+array-read-t17 : tie.Need-array-read-t17
+array-read-t17 c = search needs
+
 returns : tie.Need-returns
 unfolding openCell asOpen
 returns c = ap (asOpen (c .before .before .before .args .mark)) (c .before .rest-of-line .ensures)
 
 pub open-cell-spec : {M : Type 1} → statement M
 open-cell-spec =
-    tie.close (tie.spec rest-of-line-requires array-read-t8 array-read-t11 array-read-t14 returns)
+    tie.close (tie.spec rest-of-line-requires array-read-t8 array-read-t11 array-read-t14 array-read-t17 returns)

@@ -13,10 +13,10 @@ use Rattle.sheet.proofs.reading.decide.Tie as tie
 
 -- the places, each by one after it
 abbrev start : tie.After-read-body → tie.Start
-start c = c .before .before .before .before .before .before
+start c = c .before .before .before .before .before .before .before
 
 abbrev read : tie.After-struct-known → tie.After-read-body
-read c = c .before .before .before .before .before
+read c = c .before .before .before .before .before .before
 
 abbrev good : tie.After-squares-of → tie.Else1
 good c = c .before .before
@@ -30,8 +30,11 @@ by-beds c = by-marks (c .before)
 abbrev by-roughness : tie.After-roughness3 → tie.After-squares-of
 by-roughness c = by-beds (c .before)
 
+abbrev by-rates : tie.After-rates3 → tie.After-squares-of
+by-rates c = by-roughness (c .before)
+
 abbrev by-depths : tie.After-depths3 → tie.After-squares-of
-by-depths c = by-roughness (c .before)
+by-depths c = by-rates (c .before)
 
 -- the same from where most is asked
 abbrev body : tie.After-squares-of → tie.After-read-body
@@ -52,12 +55,15 @@ slice-aggregate-read-body-3 c = search needs
 slice-aggregate-read-body-4 : tie.Need-slice-aggregate-read-body-4
 slice-aggregate-read-body-4 c = search needs
 
+slice-aggregate-read-body-5 : tie.Need-slice-aggregate-read-body-5
+slice-aggregate-read-body-5 c = search needs
+
 read-body-requires : tie.Need-read-body-requires
 read-body-requires c κs =
-    let s = c .before .before .before .before .before in
+    let s = c .before .before .before .before .before .before in
     let room : squares (s .args .top .shape) ≤ length (replicate {A = ℕ} mostSquares 0) =
     omega (arith, s .pre .2 .few, length-replicate {A = ℕ} mostSquares 0) in
-    ((s .pre .0, s .pre .1, s .pre .2), (room, room, room, room))
+    ((s .pre .0, s .pre .1, s .pre .2), (room, room, room, room, room))
 
 returns : tie.Need-returns
 returns c = decided-bad (read (c .before) .read-body .ensures) (c .if1 .taken)
@@ -83,11 +89,17 @@ array-share-prefix-roughness c = omega (arith, few (by-beds c))
 slice-aggregate-judge-body-3 : tie.Need-slice-aggregate-judge-body-3
 slice-aggregate-judge-body-3 c = taken-long _ (few (by-roughness c)) (body (by-roughness c) .read-body .kept .1 .1 .1 .1 .0)
 
-array-share-prefix-depths : tie.Need-array-share-prefix-depths
-array-share-prefix-depths c = omega (arith, few (by-roughness c))
+array-share-prefix-rates : tie.Need-array-share-prefix-rates
+array-share-prefix-rates c = omega (arith, few (by-roughness c))
 
 slice-aggregate-judge-body-4 : tie.Need-slice-aggregate-judge-body-4
-slice-aggregate-judge-body-4 c = taken-long _ (few (by-depths c)) (body (by-depths c) .read-body .kept .1 .1 .1 .1 .1 .0)
+slice-aggregate-judge-body-4 c = taken-long _ (few (by-rates c)) (body (by-rates c) .read-body .kept .1 .1 .1 .1 .1 .0)
+
+array-share-prefix-depths : tie.Need-array-share-prefix-depths
+array-share-prefix-depths c = omega (arith, few (by-rates c))
+
+slice-aggregate-judge-body-5 : tie.Need-slice-aggregate-judge-body-5
+slice-aggregate-judge-body-5 c = taken-long _ (few (by-depths c)) (body (by-depths c) .read-body .kept .1 .1 .1 .1 .1 .1 .0)
 
 judge-body-requires : tie.Need-judge-body-requires
 judge-body-requires c κs =
@@ -109,6 +121,7 @@ decide-spec =
     slice-aggregate-read-body-2
     slice-aggregate-read-body-3
     slice-aggregate-read-body-4
+    slice-aggregate-read-body-5
     read-body-requires
     returns
     squares-of-requires
@@ -118,7 +131,9 @@ decide-spec =
     slice-aggregate-judge-body-2
     array-share-prefix-roughness
     slice-aggregate-judge-body-3
-    array-share-prefix-depths
+    array-share-prefix-rates
     slice-aggregate-judge-body-4
+    array-share-prefix-depths
+    slice-aggregate-judge-body-5
     judge-body-requires
     returns-2)

@@ -14,7 +14,7 @@ use Rattle.sheet.proofs.reading.judge.Tie as tie
 
 -- the places, each by one after it
 abbrev start : tie.After-squares-of → tie.Start
-start c = c .before .before .before .before .before .before .before
+start c = c .before .before .before .before .before .before .before .before
 
 abbrev counted : tie.After-record-size → tie.After-squares-of
 counted c = c .before
@@ -32,7 +32,7 @@ small : (c : tie.After-fresh-run) → measured c .record-size .result ≤ mostRe
 small c = omega (arith, measured c .record-size .ensures, start (counted (measured c)) .pre .few)
 
 squares-of-requires : tie.Need-squares-of-requires
-squares-of-requires c κs = c .before .before .before .before .before .before .pre
+squares-of-requires c κs = c .before .before .before .before .before .before .before .pre
 
 record-size-requires : tie.Need-record-size-requires
 record-size-requires c κs = start c .pre

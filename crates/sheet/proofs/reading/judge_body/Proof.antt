@@ -12,7 +12,7 @@ use Rattle.sheet.proofs.reading.judge_body.Tie as tie
 
 -- the places, each by one after it
 abbrev start : tie.After-looked-at → tie.Start
-start c = c .before .before .before .before .before .before
+start c = c .before .before .before .before .before .before .before
 
 abbrev looked : tie.After-looked-at2 → tie.After-looked-at
 looked c = c .before

@@ -16,7 +16,7 @@ use Rattle.sheet.proofs.reading.read.Tie as tie
 
 -- the places, each by one after it
 abbrev start : tie.After-grid-line → tie.Start
-start c = c .before .before .before .before .before .before .before .before
+start c = c .before .before .before .before .before .before .before .before .before
 
 abbrev grid : tie.Else1 → tie.After-grid-line
 grid c = c .before .before
@@ -27,11 +27,11 @@ found c = c .before .before
 abbrev decided : tie.Else3 → tie.After-decide
 decided c = c .before .before
 
-abbrev good : tie.After-fill-cells-arg4 → tie.Else3
-good c = c .before .before .before .before .before .before
+abbrev good : tie.After-fill-cells-arg5 → tie.Else3
+good c = c .before .before .before .before .before .before .before
 
 abbrev cells : tie.After-fill-rows-arg → tie.After-fill-cells
-cells c = c .before .before .before .before .before .before .before .before .before
+cells c = c .before .before .before .before .before .before .before .before .before .before .before
 
 abbrev rain : tie.After-fill-rows-arg4 → tie.After-fill-rows
 rain c = c .before .before .before .before
@@ -46,17 +46,17 @@ fits c = decided c .before
 abbrev filled : tie.After-fill-rows → tie.After-fill-cells
 filled c = cells (c .before .before)
 
-abbrev done : tie.After-slice-known12 → tie.After-fill-rows2
+abbrev done : tie.After-slice-known14 → tie.After-fill-rows2
 done c = c .before .before
 
-abbrev rained : tie.After-slice-known12 → tie.After-fill-rows
+abbrev rained : tie.After-slice-known14 → tie.After-fill-rows
 rained c = rain (done c .before)
 
 -- what is known there
 abbrev lent : tie.After-grid-line → Rooms
 lent c =
     let a = start c .args in
-    rooms (a .marks .now) (a .beds .now) (a .roughness .now) (a .depths .now) (a .rain .now) (a .inflow .now)
+    rooms (a .marks .now) (a .beds .now) (a .roughness .now) (a .rates .now) (a .depths .now) (a .rain .now) (a .inflow .now)
 
 top-found : (c : tie.Else1) → grid c .grid-line .result .found ≡ true
 top-found c = not-false _ (c .if1 .left)
@@ -142,10 +142,13 @@ same-length-4 : tie.Need-same-length-4
 same-length-4 c = filled (rained c) .fill-cells .kept .1 .1 .1 .1 .1 .1 .0
 
 same-length-5 : tie.Need-same-length-5
-same-length-5 c = rained c .fill-rows .kept .1 .1 .1 .1 .1 .0
+same-length-5 c = filled (rained c) .fill-cells .kept .1 .1 .1 .1 .1 .1 .1 .0
 
 same-length-6 : tie.Need-same-length-6
-same-length-6 c = done c .fill-rows2 .kept .1 .1 .1 .1 .1 .0
+same-length-6 c = rained c .fill-rows .kept .1 .1 .1 .1 .1 .0
+
+same-length-7 : tie.Need-same-length-7
+same-length-7 c = done c .fill-rows2 .kept .1 .1 .1 .1 .1 .0
 
 returns-4 : tie.Need-returns-4
 returns-4 c =
@@ -175,4 +178,5 @@ read-spec =
     same-length-4
     same-length-5
     same-length-6
+    same-length-7
     returns-4)

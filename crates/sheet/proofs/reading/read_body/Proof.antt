@@ -14,7 +14,7 @@ use Rattle.sheet.proofs.reading.read_body.Tie as tie
 
 -- the places, each by one after it
 abbrev start : tie.After-run-line → tie.Start
-start c = c .before .before .before .before .before .before
+start c = c .before .before .before .before .before .before .before
 
 abbrev run : tie.Else1 → tie.After-run-line
 run c = c .before .before .before
@@ -23,10 +23,10 @@ abbrev found : tie.After-squares-of → tie.Else1
 found c = c .before .before
 
 abbrev counted : tie.After-fill-cells → tie.After-squares-of
-counted c = c .before .before .before .before .before
+counted c = c .before .before .before .before .before .before
 
 abbrev cells : tie.After-struct-known2 → tie.After-fill-cells
-cells c = c .before .before .before .before .before .before .before .before .before
+cells c = c .before .before .before .before .before .before .before .before .before .before .before
 
 abbrev all-there : tie.After-count-rows → tie.Else2
 all-there c = c .before .before
@@ -100,6 +100,9 @@ same-length-3 c = search needs
 same-length-4 : tie.Need-same-length-4
 same-length-4 c = search needs
 
+same-length-5 : tie.Need-same-length-5
+same-length-5 c = search needs
+
 returns-2 : tie.Need-returns-2
 returns-2 c =
     let f = cells (c .before .before .before) in
@@ -138,17 +141,20 @@ add-bad-body-4 c =
 bad-body-requires-3 : tie.Need-bad-body-requires-3
 bad-body-requires-3 c κs = search needs
 
-same-length-5 : tie.Need-same-length-5
-same-length-5 c = filled (more (c .before)) .fill-cells .kept .1 .1 .1 .0
-
 same-length-6 : tie.Need-same-length-6
-same-length-6 c = filled (more (c .before)) .fill-cells .kept .1 .1 .1 .1 .0
+same-length-6 c = filled (more (c .before)) .fill-cells .kept .1 .1 .1 .0
 
 same-length-7 : tie.Need-same-length-7
-same-length-7 c = filled (more (c .before)) .fill-cells .kept .1 .1 .1 .1 .1 .0
+same-length-7 c = filled (more (c .before)) .fill-cells .kept .1 .1 .1 .1 .0
 
 same-length-8 : tie.Need-same-length-8
-same-length-8 c = filled (more (c .before)) .fill-cells .kept .1 .1 .1 .1 .1 .1 .0
+same-length-8 c = filled (more (c .before)) .fill-cells .kept .1 .1 .1 .1 .1 .0
+
+same-length-9 : tie.Need-same-length-9
+same-length-9 c = filled (more (c .before)) .fill-cells .kept .1 .1 .1 .1 .1 .1 .0
+
+same-length-10 : tie.Need-same-length-10
+same-length-10 c = filled (more (c .before)) .fill-cells .kept .1 .1 .1 .1 .1 .1 .1 .0
 
 returns-3 : tie.Need-returns-3
 returns-3 c =
@@ -159,17 +165,20 @@ returns-3 c =
     (rows .count-rows2 .ensures) (c .before .before .before .if3 .taken)
     (c .bad-body3 .ensures ∙ ap (λ (k : ℕ). k + rain rows .count-rows .result .count + rows .count-rows2 .result .count + firstCell) (counted f .squares-of .ensures))
 
-same-length-9 : tie.Need-same-length-9
-same-length-9 c = filled (c .before .before) .fill-cells .kept .1 .1 .1 .0
-
-same-length-10 : tie.Need-same-length-10
-same-length-10 c = filled (c .before .before) .fill-cells .kept .1 .1 .1 .1 .0
-
 same-length-11 : tie.Need-same-length-11
-same-length-11 c = filled (c .before .before) .fill-cells .kept .1 .1 .1 .1 .1 .0
+same-length-11 c = filled (c .before .before) .fill-cells .kept .1 .1 .1 .0
 
 same-length-12 : tie.Need-same-length-12
-same-length-12 c = filled (c .before .before) .fill-cells .kept .1 .1 .1 .1 .1 .1 .0
+same-length-12 c = filled (c .before .before) .fill-cells .kept .1 .1 .1 .1 .0
+
+same-length-13 : tie.Need-same-length-13
+same-length-13 c = filled (c .before .before) .fill-cells .kept .1 .1 .1 .1 .1 .0
+
+same-length-14 : tie.Need-same-length-14
+same-length-14 c = filled (c .before .before) .fill-cells .kept .1 .1 .1 .1 .1 .1 .0
+
+same-length-15 : tie.Need-same-length-15
+same-length-15 c = filled (c .before .before) .fill-cells .kept .1 .1 .1 .1 .1 .1 .1 .0
 
 returns-4 : tie.Need-returns-4
 returns-4 c =
@@ -194,6 +203,7 @@ read-body-spec =
     same-length-2
     same-length-3
     same-length-4
+    same-length-5
     returns-2
     slice-aggregate-count-rows
     count-rows-requires
@@ -203,13 +213,15 @@ read-body-spec =
     add-bad-body-3
     add-bad-body-4
     bad-body-requires-3
-    same-length-5
     same-length-6
     same-length-7
     same-length-8
-    returns-3
     same-length-9
     same-length-10
+    returns-3
     same-length-11
     same-length-12
+    same-length-13
+    same-length-14
+    same-length-15
     returns-4)

@@ -33,10 +33,13 @@ beds c = c .before .before
 abbrev roughness : tie.Else5 → tie.Else4
 roughness c = c .before .before
 
-abbrev depths : tie.Else6 → tie.Else5
+abbrev rates : tie.Else6 → tie.Else5
+rates c = c .before .before
+
+abbrev depths : tie.Else7 → tie.Else6
 depths c = c .before .before
 
-abbrev rain : tie.Else7 → tie.Else6
+abbrev rain : tie.Else8 → tie.Else7
 rain c = c .before .before
 
 -- the squares that are counted, of which grid
@@ -78,20 +81,24 @@ returns-6 : tie.Need-returns-6
 returns-6 c = sym (every-fails _ 5 (small (marks (beds (roughness (c .before .before)))) _ (c .if6 .taken)))
 
 returns-7 : tie.Need-returns-7
-returns-7 c = sym (every-fails _ 6 (lt-leb _ _ (c .if7 .taken)))
+returns-7 c = sym (every-fails _ 6 (small (marks (beds (roughness (rates (c .before .before))))) _ (c .if7 .taken)))
 
 returns-8 : tie.Need-returns-8
-returns-8 c =
-    let e7 = c .before in
-    let e6 = rain e7 in
-    let e5 = depths e6 in
+returns-8 c = sym (every-fails _ 7 (lt-leb _ _ (c .if8 .taken)))
+
+returns-9 : tie.Need-returns-9
+returns-9 c =
+    let e8 = c .before in
+    let e7 = rain e8 in
+    let e6 = depths e7 in
+    let e5 = rates e6 in
     let e4 = roughness e5 in
     let e3 = beds e4 in
     let n = marks e3 in
     let e2 = side n in
     let e1 = shape e2 in
-    every-decided _ 7 _ refl
-    (λ t. ((holds-by (e1 .before .shape-fine .ensures) (e1 .if1 .left)), ((holds-by (e2 .before .side-fine .ensures) (e2 .if2 .left)), (enough n _ (e3 .if3 .left), (enough n _ (e4 .if4 .left), (enough n _ (e5 .if5 .left), (enough n _ (e6 .if6 .left), (le-leb _ _ (e7 .if7 .left), (t, tt)))))))))
+    every-decided _ 8 _ refl
+    (λ t. ((holds-by (e1 .before .shape-fine .ensures) (e1 .if1 .left)), ((holds-by (e2 .before .side-fine .ensures) (e2 .if2 .left)), (enough n _ (e3 .if3 .left), (enough n _ (e4 .if4 .left), (enough n _ (e5 .if5 .left), (enough n _ (e6 .if6 .left), (enough n _ (e7 .if7 .left), (le-leb _ _ (e8 .if8 .left), (t, tt))))))))))
 
 pub rooms-fine-spec : {M : Type 1} → statement M
 rooms-fine-spec =
@@ -107,4 +114,5 @@ rooms-fine-spec =
     returns-5
     returns-6
     returns-7
-    returns-8)
+    returns-8
+    returns-9)

@@ -14,7 +14,7 @@ same-length : tie.Need-same-length
 same-length c = search needs
 
 returns : tie.Need-returns
-returns c = let e = eq-eqb _ _ (c .if1 .taken) in (refl, sym (pick-true _ _ e), sym (pick-true _ _ e), sym (pick-true _ _ e))
+returns c = let e = eq-eqb _ _ (c .if1 .taken) in (refl, sym (pick-true _ _ e), sym (pick-true _ _ e), sym (pick-true _ _ e), sym (pick-true _ _ e))
 
 mul-beds : tie.Need-mul-beds
 mul-beds c = search needs
@@ -27,6 +27,12 @@ mul-roughness c = search needs
 
 slice-write-roughness : tie.Need-slice-write-roughness
 slice-write-roughness c = search needs
+
+mul-rates : tie.Need-mul-rates
+mul-rates c = search needs
+
+slice-write-rates : tie.Need-slice-write-rates
+slice-write-rates c = search needs
 
 mul-depths : tie.Need-mul-depths
 mul-depths c = search needs
@@ -46,8 +52,11 @@ same-length-4 c = search needs
 same-length-5 : tie.Need-same-length-5
 same-length-5 c = search needs
 
+same-length-6 : tie.Need-same-length-6
+same-length-6 c = search needs
+
 returns-2 : tie.Need-returns-2
-returns-2 c = let e = ne-eqb _ _ (c .if1 .left) in (refl, sym (pick-false _ _ e), sym (pick-false _ _ e), sym (pick-false _ _ e))
+returns-2 c = let e = ne-eqb _ _ (c .if1 .left) in (refl, sym (pick-false _ _ e), sym (pick-false _ _ e), sym (pick-false _ _ e), sym (pick-false _ _ e))
 
 pub put-cell-spec : {M : Type 1} → statement M
 put-cell-spec =
@@ -60,10 +69,13 @@ put-cell-spec =
     slice-write-beds
     mul-roughness
     slice-write-roughness
+    mul-rates
+    slice-write-rates
     mul-depths
     slice-write-depths
     same-length-2
     same-length-3
     same-length-4
     same-length-5
+    same-length-6
     returns-2)

@@ -7,10 +7,10 @@ use Rattle.worked.proofs.same.same_records.Statement.{statement}
 use Rattle.worked.proofs.same.same_records.Tie as tie
 
 abbrev Inv-loop : tie.InvT-loop
-Inv-loop a b i₀ i = i ≤ 80
+Inv-loop a b i₀ i = i ≤ 92
 
 abbrev μ-loop : tie.MeasureT-loop
-μ-loop a b i₀ i = 80 - i
+μ-loop a b i₀ i = 92 - i
 
 loop-holds : tie.Need-loop-holds Inv-loop μ-loop
 loop-holds c = omega arith
