@@ -14,6 +14,7 @@ Document 01, and what requests of document 02 change in it, a module for each of
 
 And what tests, tools and validation use besides:
     standing     the standing squares of an answer
+    account      the water account of an answer
     drawing      the map of a sheet and its answer
     programs     the built programs, and scripts that end quietly
     sources      the inputs of a program, read from its own source

@@ -342,6 +342,9 @@ module _ (p : Plan) where
         go zero z e = record { number = z; run-is = cc }
         go (suc n) z e = absurd (let y : _≡_ {A = ℕ} 0 1 = cc in omega arith)
 
+    pub fresh-run : u ≡ freshRun r (roomSlots p records)
+    fresh-run = freshened .run-is
+
     fresh-is : Fresh p (world depths lasts records u)
     unfolding freshRun
     fresh-is =

@@ -1,3 +1,4 @@
+pub mod Account
 pub mod Closed
 pub mod Demand1
 pub mod Demand2

@@ -5,4 +5,5 @@
 //             step refused
 //   Demand2   a step gives what the rule gives; closed squares are not altered, no answer depends on them, and no water enters one
 //   Demand3   a trial taken back was never made
+//   Account   document 02, #108: no water is lost and none made
 //   Worked    the worked cases of document 01 that are to be proved, as one list

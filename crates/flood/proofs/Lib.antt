@@ -1,3 +1,4 @@
+pub mod AccountLaws
 pub mod CheckLaws
 pub mod FreshLaws
 pub mod RuleLaws

@@ -1,3 +1,4 @@
+pub mod Account
 pub mod BackLaws
 pub mod Bridge
 pub mod CheckLaws

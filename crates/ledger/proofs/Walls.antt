@@ -50,7 +50,7 @@ module _ (p : Plan) (out : Leaves) (i side : ℕ) (inside : i < squares (p .shap
   back-here on = there-and-back (p .shape) inside side h (ltb-true neighbour (squares (p .shape)) on)
 
   -- what it was sent from there is what went, and nothing from a closed square
-  sent-back : within (p .shape) neighbour ≡ true → sent p out neighbour (opposite side) ≡ pick (shut p i) 0 (out i side)
+  pub sent-back : within (p .shape) neighbour ≡ true → sent p out neighbour (opposite side) ≡ pick (shut p i) 0 (out i side)
   unfolding sent
   sent-back on = rw (back-here on, opposite-opposite side h)
 

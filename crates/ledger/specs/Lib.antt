@@ -1,3 +1,4 @@
+pub mod Account
 pub mod After
 pub mod Checks
 pub mod Flows

@@ -1,3 +1,4 @@
+pub mod AccountLaws
 pub mod AddedLaws
 pub mod DropLaws
 pub mod FillLaws

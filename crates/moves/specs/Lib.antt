@@ -1,4 +1,5 @@
+pub mod Account
 pub mod Drops
 pub mod Given
-pub mod Moves
 pub mod inner
+pub mod Moves

@@ -4,5 +4,6 @@ pub mod PlaceLaws
 pub mod QuotientLaws
 pub mod RootLaws
 pub mod SoakingLaws
+pub mod SumLaws
 pub mod TableLaws
 pub mod TestLaws

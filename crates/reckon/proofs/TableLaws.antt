@@ -1,11 +1,11 @@
--- Laws of the tables, over both kinds: how large a term and a sum can be, that what a table has tableGives never falls, and that a table
+-- Laws of the tables, over both kinds: how large a term and a sum can be, that what a table has given never falls, and that a table
 -- which passes its test is in range.
 -- Assumes nothing.
 use mathlib.Core.Path.{_≡_, _∙_, ap}
 use mathlib.Core.Bool.{Bool, true, false}
 use mathlib.Core.List.{List, [], _∷_}
 use Prim.Native.Nat.{ℕ, _+_, _-_, _*_, _/_, _%_, _≤_, _<_}
-use native.Mathlib.Nat.{le-refl, le-trans, mul-le-mul, mul-le-mul-left, div-le-self, zero-div}
+use native.Mathlib.Nat.{le-refl, le-trans, mul-le-mul, mul-le-mul-left, div-le-self, mul-zero, zero-div}
 use native.Mathlib.Omega.{arith}
 use lib.Dec.{eqb, leb}
 use lib.ListN.{length, getD}
@@ -16,7 +16,7 @@ use Rattle.reckon.specs.Ranges.{lastClock, mostRain, mostLitres, mostTab
 use Rattle.reckon.specs.Tables.{rainKind, inflowKind, hour, rowStart, ran, rowGives, tableGives, rainBy, onSquare, inflowBy, rowFine, tableFine}
 use Rattle.reckon.specs.inner.Fits.{Fits}
 use Rattle.reckon.specs.declared.tables.Kind.{Kind}
-use Rattle.reckon.proofs.TestLaws.{pick-false, pick-both, and-both, and-false, and-true, every-each, each-every, every-fails, all-at, all-fails}
+use Rattle.reckon.proofs.TestLaws.{pick-false, pick-same, pick-both, and-both, and-false, and-true, every-each, each-every, every-fails, all-at, all-fails}
 use Rattle.reckon.proofs.ListLaws.{sum-mono, sum-le, sum-zero}
 use Rattle.reckon.proofs.QuotientLaws.{div-mono}
 
@@ -166,3 +166,22 @@ module _ (k : Kind) (rows : List ℕ) where
             leb-true _ _ (r .1 .1 .0);
         clock = h;
       }
+
+-- ---- nothing has been given by clock 0
+
+gives-start : (rows : List ℕ) (at : ℕ) → rowGives rows at 0 ≡ 0
+unfolding rowGives
+gives-start rows at = ap (λ (x : ℕ). getD rows (at + 2) 0 * x) (omega arith) ∙ mul-zero (getD rows (at + 2) 0)
+
+given-start : (k : Kind) (counts : ℕ → Bool) (rows : List ℕ) → tableGives k counts rows 0 ≡ 0
+unfolding tableGives
+given-start k counts rows =
+    sum-zero _ _ (λ j l. ap (λ (x : ℕ). pick (counts j) x 0) (gives-start rows (rowStart k j)) ∙ pick-same (counts j) 0)
+
+pub rain-start : (rows : List ℕ) → rainBy rows 0 ≡ 0
+unfolding rainBy
+rain-start rows = rw (given-start rainKind (λ j. true) rows) (zero-div hour)
+
+pub inflow-start : (rows : List ℕ) (r c side : ℕ) → inflowBy rows r c side 0 ≡ 0
+unfolding inflowBy
+inflow-start rows r c side = rw (given-start inflowKind (onSquare rows r c) rows) (zero-div (side * side))

@@ -1,4 +1,4 @@
--- Document 01, "Units and ranges": the tables of rain and of inflow, and what they have tableGives by a clock.
+-- Document 01, "Units and ranges": the tables of rain and of inflow, and what they have given by a clock.
 -- Assumes nothing.
 use mathlib.Core.Path.{_≡_}
 use mathlib.Core.Bool.{Bool, true, _&&_}
