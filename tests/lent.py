@@ -1,7 +1,7 @@
 """The calls of document 01 on values as a program's source has them: structs by name, slices written in place."""
 import struct
 
-from meadow import sights
+from meadow import bounds, sights
 from meadow.refusals import Refused
 from meadow.sources import Struct
 from meadow.steps import fresh, run_to, step
@@ -59,6 +59,20 @@ def runs_to(shape, rules, run, end, *slices):
     m = meadow(shape, rules, run, *slices)
     number, made = run_to(m, end)
     return Struct(refused=number, steps=made, run=run_of(m))
+
+
+NO_SHAPE = Struct(rows=0, columns=0)
+
+
+def step_bounds(rules, clock, end):
+    """The most and the least steps of a run, in the program's words."""
+    m = meadow(NO_SHAPE, rules, None, [], [], [], [], [], [], [], [], [])
+    m.clock = clock
+    try:
+        figures = bounds.step_bounds(m, end)
+    except Refused as refused:
+        return f"refused {refused.number}"
+    return "none" if figures is None else f"most {figures[0]} least {figures[1]}"
 
 
 NO_RULES = Struct(square_side=1, longest=1)

@@ -1,5 +1,6 @@
 #!/usr/bin/env python3
-"""tools/tell.py on an account worked by hand, on the samples, and on answers that are wrong."""
+"""tools/tell.py on steps and an account worked by hand, on the samples, and on answers that are wrong."""
+import re
 import subprocess
 import sys
 import tempfile
@@ -16,8 +17,8 @@ SAMPLES = TOP / "samples"
 BALANCED = "balanced to the micrometre"
 
 
-def told(sheet, answer):
-    return subprocess.run([sys.executable, TOOL, sheet, answer], capture_output=True, text=True)
+def told(*files):
+    return subprocess.run([sys.executable, TOOL, *files], capture_output=True, text=True)
 
 
 def amounts(said):
@@ -45,11 +46,33 @@ def hold_by_hand(checks, room):
         checks.hold((said.returncode == 0) == right and (BALANCED in said.stdout) == right, f"an account with {last} in the east: balanced or not")
 
 
+def hold_steps(checks, room):
+    """The steps of sheets worked by hand: an evening of an hour in spans of a minute, 60 of them; a span of 1 s in steps of 300 or 700 ms
+    has 4 or 2; a run that ends where it begins has none; a sheet with bad rules is said to be none."""
+    cases = [
+        ((1_000, MINUTE, MINUTE, HOUR), "at most 3,600 steps, at least 60"),
+        ((300, 700, 1_000, 3_000), "at most 12 steps, at least 6"),
+        ((300, 700, 1_000, 0), "at most 0 steps, at least 0"),
+    ]
+    text = Path(room) / "sheet"
+    for (shortest, longest, update, end), wanted in cases:
+        sheet = Sheet(1, 1, 10, shortest=shortest, longest=longest, update=update)
+        sheet.put((0, 0), 0, 300)
+        text.write_text(sheet.text(end))
+        said = told(text)
+        checks.hold(said.returncode == 0 and said.stdout == wanted + "\n", f"steps of {shortest} to {longest} ms: {said.stdout!r}")
+    text.write_text(Sheet(1, 1, 10, shortest=0).text(MINUTE))
+    checks.hold(told(text).returncode == 1 and "number 5" in told(text).stderr, "steps are told of a sheet with a shortest of 0")
+
+
 def hold_samples(checks):
     """Every sample balances; an answer to another sheet is refused."""
     for sheet in sorted(SAMPLES.glob("*.sheet")):
         said = told(sheet, sheet.with_suffix(".out"))
         checks.hold(said.returncode == 0 and said.stdout.endswith(BALANCED + "\n"), f"{sheet.name} does not balance")
+        most, least = (int(number.replace(",", "")) for number in re.findall(r"(?:most|least) ([\d,]+)", said.stdout.splitlines()[0]))
+        made = int(re.search(r"^steps\t(\d+)$", sheet.with_suffix(".out").read_text(), re.M)[1])
+        checks.hold(least <= made <= most, f"{sheet.name} made {made} steps, {least} to {most} were told")
     other = told(SAMPLES / "held-pond.sheet", SAMPLES / "document-01.out")
     checks.hold(other.returncode == 1 and "are not the sheet's" in other.stderr, "another sheet's answer is taken")
 
@@ -58,6 +81,7 @@ def main():
     checks = Checks("tell")
     with tempfile.TemporaryDirectory() as room:
         hold_by_hand(checks, room)
+        hold_steps(checks, room)
     hold_samples(checks)
     checks.end()
 

@@ -54,6 +54,10 @@ def tell(call, refused, same):
     print_decimal(1, f"{call.decode('ascii')} {refused}, {'as it was' if same else 'changed'}\n")
 
 
+def tell_bounds(answer):
+    print_decimal(1, f"bounds {answer}\n")
+
+
 def tell_same(a, b):
     print_decimal(1, "the same but for kept\n" if same_state(a, b) else "not the same\n")
 
@@ -72,6 +76,8 @@ GIVEN = {
     "as_it_was": as_it_was,
     "tell": tell,
     "tell_same": tell_same,
+    "step_bounds": lent.step_bounds,
+    "tell_bounds": tell_bounds,
 }
 
 

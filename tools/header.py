@@ -27,6 +27,7 @@ CONSTANTS = [
     ("RULES_NUMBERS", "exports", "RULES_NUMBERS"),
     ("RUN_NUMBERS", "exports", "RUN_NUMBERS"),
     ("STEPS_NUMBERS", "exports", "STEPS_NUMBERS"),
+    ("BOUNDS_NUMBERS", "exports", "BOUNDS_NUMBERS"),
     ("SPEED_NUMBERS", "exports", "SPEED_NUMBERS"),
     ("COUNT_NUMBERS", "exports", "COUNT_NUMBERS"),
     ("HEADING_NUMBERS", "exports", "HEADING_NUMBERS"),
@@ -38,6 +39,8 @@ CONSTANTS = [
     ("CLOSED", "exports", "CLOSED"),
     ("DRY", "exports", "DRY"),
     ("STILL", "exports", "STILL"),
+    ("BOUNDED", "exports", "BOUNDED"),
+    ("NOT_BOUNDED", "exports", "NOT_BOUNDED"),
 ]
 
 # the table of document 01, and what document 02 adds to it
@@ -63,6 +66,7 @@ STACK = {
     "flood_step": 144,
     "flood_run_to": 144,
     "flood_take_back": 16,
+    "flood_step_bounds": 16,
     "flood_arrow": 16,
     "flood_wet_rows": 16,
     "flood_read_sheet": 224,
@@ -81,6 +85,7 @@ TOP = """\
      run         clock, length, outflow, kept, newest, soaked: goes in, and the run that the call leaves comes out in it, for the next call;
                  flood_fresh only writes it, flood_arrow only reads it
      steps       the steps that a run to an end made
+     bounds      the most and the least steps of a run
      speeds      east and north, in m/s
      count       the wet squares
      heading     rows, columns, the rules (from FLOOD_HEADING_RULES on, as a call takes them), end, rain rows, inflow rows
@@ -152,7 +157,7 @@ def heading_rules():
 
 
 def functions():
-    for file in ("steps.rt", "sights.rt", "sheets.rt"):
+    for file in ("steps.rt", "bounds.rt", "sights.rt", "sheets.rt"):
         for comment, name, parameters, result in FUNCTION.findall((SOURCES / file).read_text()):
             words = " ".join(line.removeprefix("//").strip() for line in comment.splitlines())
             yield words, name, re.findall(r"(\w+): ([^,]+)", parameters), result

@@ -9,6 +9,7 @@
      run         clock, length, outflow, kept, newest, soaked: goes in, and the run that the call leaves comes out in it, for the next call;
                  flood_fresh only writes it, flood_arrow only reads it
      steps       the steps that a run to an end made
+     bounds      the most and the least steps of a run
      speeds      east and north, in m/s
      count       the wet squares
      heading     rows, columns, the rules (from FLOOD_HEADING_RULES on, as a call takes them), end, rain rows, inflow rows
@@ -29,6 +30,7 @@
      flood_step         144 KiB
      flood_run_to       144 KiB
      flood_take_back     16 KiB
+     flood_step_bounds   16 KiB
      flood_arrow         16 KiB
      flood_wet_rows      16 KiB
      flood_read_sheet   224 KiB
@@ -61,6 +63,7 @@ extern "C" {
 #define FLOOD_RULES_NUMBERS 7
 #define FLOOD_RUN_NUMBERS 6
 #define FLOOD_STEPS_NUMBERS 1
+#define FLOOD_BOUNDS_NUMBERS 2
 #define FLOOD_SPEED_NUMBERS 2
 #define FLOOD_COUNT_NUMBERS 1
 #define FLOOD_HEADING_NUMBERS 12
@@ -72,6 +75,8 @@ extern "C" {
 #define FLOOD_CLOSED 101
 #define FLOOD_DRY 102
 #define FLOOD_STILL 103
+#define FLOOD_BOUNDED 0
+#define FLOOD_NOT_BOUNDED 104
 #define FLOOD_HEADING_RULES 2
 #define FLOOD_RECORD_NUMBERS(rows, columns) (2 + 7 * (size_t)(rows) * (size_t)(columns)) /* of one record */
 #define FLOOD_STACK_BYTES (352 * 1024) /* suffice for every call */
@@ -100,6 +105,10 @@ uint32_t flood_run_to(size_t rows, size_t columns, const uint64_t *rules, size_t
 uint32_t flood_take_back(size_t rows, size_t columns, const uint8_t *marks, size_t marks_numbers, uint32_t *depths,
     size_t depths_numbers, uint32_t *lasts, size_t lasts_numbers, const uint32_t *records, size_t records_numbers,
     uint64_t *run, size_t run_numbers);
+
+/* The most and the least steps of a run from a clock to an end, before it is made. */
+uint32_t flood_step_bounds(const uint64_t *rules, size_t rules_numbers, uint64_t clock, uint64_t end, uint64_t *bounds,
+    size_t bounds_numbers);
 
 /* The flow arrow of the square in a row and a column, after the newest step kept. */
 uint32_t flood_arrow(size_t rows, size_t columns, uint64_t square_side, const uint8_t *marks, size_t marks_numbers,

@@ -1,11 +1,11 @@
 //! One call made by the reference and by the library on the same input, and everything compared afterwards: the answer, every number
 //! lent, the run. The first difference is printed with its input and ends the program.
 
-use crate::declared::{self, COUNT_NUMBERS, HEADING_NUMBERS, LINE_NUMBERS, OUT_ROOM, RULES_NUMBERS, RUN_NUMBERS, SPEED_NUMBERS, STEPS_NUMBERS};
+use crate::declared::{self, BOUNDS_NUMBERS, COUNT_NUMBERS, HEADING_NUMBERS, LINE_NUMBERS, OUT_ROOM, RULES_NUMBERS, RUN_NUMBERS, SPEED_NUMBERS, STEPS_NUMBERS};
 use crate::library;
 use crate::meadows::{Lent, Sizes};
 use crate::plain;
-use crate::reference::{self, Arrow, Heading, Made, Meadow, Run};
+use crate::reference::{self, Arrow, Bounds, Heading, Made, Meadow, Run};
 use std::collections::BTreeMap;
 use std::fmt;
 
@@ -15,6 +15,7 @@ pub enum Call {
     Step,
     RunTo,
     TakeBack,
+    StepBounds,
     Arrow,
     WetRows,
     ReadSheet,
@@ -24,15 +25,17 @@ pub enum Call {
 use Call::*;
 
 /// The calls on a meadow.
-pub const ON_MEADOW: [Call; 6] = [Fresh, Step, RunTo, TakeBack, Call::Arrow, WetRows];
+pub const ON_MEADOW: [Call; 7] = [Fresh, Step, RunTo, TakeBack, StepBounds, Call::Arrow, WetRows];
 
-/// What each call can answer: 0, a refusal, and for an arrow 101 closed, 102 dry, 103 still. A run can never give 7: its end is in range
-/// and no step passes a multiple of the update time. `meadow` can never give 15: in a week less soaks into all its squares.
-pub const ANSWERS: [(Call, &[u32]); 8] = [
+/// What each call can answer: 0, a refusal, for an arrow 101 closed, 102 dry, 103 still, and 104 where figures do not hold. A run can
+/// never give 7: its end is in range and no step passes a multiple of the update time. `meadow` can never give 15: in a week less soaks
+/// into all its squares.
+pub const ANSWERS: [(Call, &[u32]); 9] = [
     (Fresh, &[0, 1, 2, 5, 6]),
     (Step, &[0, 1, 2, 3, 4, 5, 6, 7, 8, 9, 15]),
     (RunTo, &[0, 1, 2, 3, 4, 5, 6, 8, 9, 15]),
     (TakeBack, &[0, 1, 2, 3, 6, 10, 11]),
+    (StepBounds, &[0, 1, 5, 6, 104]),
     (Call::Arrow, &[0, 1, 2, 3, 6, 10, 11, 101, 102, 103]),
     (WetRows, &[0, 1, 2, 3, 5]),
     (ReadSheet, &[0, 1, 2, 3, 4, 5, 12]),
@@ -178,6 +181,7 @@ fn first_difference(expected: &After, found: &After) -> String {
 fn answer_size(call: Call) -> usize {
     match call {
         RunTo => STEPS_NUMBERS,
+        StepBounds => BOUNDS_NUMBERS,
         Call::Arrow => SPEED_NUMBERS,
         WetRows => COUNT_NUMBERS,
         _ => 0,
@@ -217,6 +221,7 @@ fn sized(call: Call, lent: &Lent, after: &After) -> bool {
         Fresh | Step => rules && run,
         RunTo => rules && run && answer,
         TakeBack => run,
+        StepBounds => rules && answer,
         Call::Arrow => run && answer,
         _ => answer,
     }
@@ -268,6 +273,16 @@ fn by_reference(call: Call, lent: &Lent) -> After {
             let run = reference::take_back(&mut after.meadow, &lent.run);
             put_run(&mut after, run);
         }
+        StepBounds => {
+            after.number = match reference::step_bounds(&lent.rules, lent.run.clock, lent.end) {
+                Bounds::Refused(number) => number,
+                Bounds::NotBounded => declared::NOT_BOUNDED,
+                Bounds::Bounded { most, least } => {
+                    after.answer = vec![most as u64, least as u64];
+                    declared::BOUNDED
+                }
+            };
+        }
         Call::Arrow => {
             let arrow = reference::arrow(&lent.meadow, lent.rules.square_side, &lent.run, lent.row, lent.column);
             after.number = match arrow {
@@ -299,6 +314,7 @@ fn by_library(call: Call, lent: &Lent) -> After {
         Step => library::step(meadow, &rules, run),
         RunTo => library::run_to(meadow, &rules, lent.end, run, answer),
         TakeBack => library::take_back(meadow, run),
+        StepBounds => declared::flood_step_bounds(&rules, lent.run.clock, lent.end, answer),
         Call::Arrow => {
             let mut speeds: Vec<f64> = answer.iter().map(|bits| f64::from_bits(*bits)).collect();
             let number = library::arrow(meadow, lent.rules.square_side, run, lent.row, lent.column, &mut speeds);

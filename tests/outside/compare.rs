@@ -17,6 +17,7 @@ mod meadows;
 mod plain;
 mod reference;
 mod sheets;
+mod spans;
 mod steps;
 mod texts;
 mod worked;
@@ -32,7 +33,7 @@ const LONG_ROUNDS: u64 = 10 * ROUNDS;
 type Kind = fn(&mut Tally, &mut Chance);
 
 /// The kinds of rounds, in turn.
-const KINDS: [(&str, Kind); 18] = [
+const KINDS: [(&str, Kind); 19] = [
     ("series of steps and take-backs", steps::series),
     ("one value at or past a limit", limits::one_value),
     ("two values at or past a limit", limits::two_values),
@@ -47,6 +48,7 @@ const KINDS: [(&str, Kind); 18] = [
     ("exact roundings of rain and inflow", steps::exact_roundings),
     ("soaking at its roundings and at what the sides leave", steps::soakings),
     ("shapes", steps::shapes),
+    ("figures before a run", spans::counted_runs),
     ("wet rows", steps::wet_rows),
     ("sheets", texts::good_sheets),
     ("sheets with a value at or past a limit", texts::sheets_at_limits),
@@ -111,7 +113,7 @@ fn print_counts(tally: &Tally) {
     for (kind, count) in &tally.by_kind {
         println!("  {:>8}  {}", count, kind);
     }
-    println!("outside: calls by answer (0 done, 1 to 12 and 15 refused; an arrow: 0 moving, 101 closed, 102 dry, 103 still)");
+    println!("outside: calls by answer (0 done, 1 to 12 and 15 refused; an arrow: 0 moving, 101 closed, 102 dry, 103 still; 104 no figures hold)");
     for (call, answers) in ANSWERS {
         let counts: Vec<String> =
             answers.iter().map(|answer| format!("{}: {}", answer, tally.by_answer.get(&(call, *answer)).unwrap_or(&0))).collect();
@@ -146,6 +148,7 @@ fn main() {
     let mut tally = Tally { seed: words.seed, ..Tally::default() };
     tally.kind = "worked by hand";
     worked::cases(&mut tally);
+    spans::cases(&mut tally);
     tally.kind = "stored sheets";
     for path in &words.sheets {
         texts::stored_sheet(&mut tally, path);

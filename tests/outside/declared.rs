@@ -4,6 +4,7 @@
 pub const RULES_NUMBERS: usize = 7;
 pub const RUN_NUMBERS: usize = 6;
 pub const STEPS_NUMBERS: usize = 1;
+pub const BOUNDS_NUMBERS: usize = 2;
 pub const SPEED_NUMBERS: usize = 2;
 pub const COUNT_NUMBERS: usize = 1;
 pub const HEADING_NUMBERS: usize = 12;
@@ -15,6 +16,8 @@ pub const MOVING: u32 = 0;
 pub const CLOSED: u32 = 101;
 pub const DRY: u32 = 102;
 pub const STILL: u32 = 103;
+pub const BOUNDED: u32 = 0;
+pub const NOT_BOUNDED: u32 = 104;
 pub const REFUSED_SHAPE: u32 = 1;
 pub const REFUSED_GROUND: u32 = 2;
 pub const REFUSED_WATER: u32 = 3;
@@ -35,11 +38,12 @@ pub const fn record_numbers(rows: usize, columns: usize) -> usize {
 }
 
 /// KiB of stack that suffice for each call.
-pub const STACK: [(&str, usize); 8] = [
+pub const STACK: [(&str, usize); 9] = [
     ("flood_fresh", 16),
     ("flood_step", 144),
     ("flood_run_to", 144),
     ("flood_take_back", 16),
+    ("flood_step_bounds", 16),
     ("flood_arrow", 16),
     ("flood_wet_rows", 16),
     ("flood_read_sheet", 224),
@@ -70,6 +74,9 @@ mod linked {
         pub fn flood_take_back(rows: usize, columns: usize, marks: *const u8, marks_numbers: usize, depths: *mut u32,
             depths_numbers: usize, lasts: *mut u32, lasts_numbers: usize, records: *const u32, records_numbers: usize,
             run: *mut u64, run_numbers: usize) -> u32;
+
+        pub fn flood_step_bounds(rules: *const u64, rules_numbers: usize, clock: u64, end: u64, bounds: *mut u64,
+            bounds_numbers: usize) -> u32;
 
         pub fn flood_arrow(rows: usize, columns: usize, square_side: u64, marks: *const u8, marks_numbers: usize,
             depths: *const u32, depths_numbers: usize, records: *const u32, records_numbers: usize, run: *const u64,
@@ -129,6 +136,13 @@ pub fn flood_take_back(rows: usize, columns: usize, marks: &[u8], depths: &mut [
     unsafe {
         linked::flood_take_back(rows, columns, marks.as_ptr(), marks.len(), depths.as_mut_ptr(), depths.len(),
             lasts.as_mut_ptr(), lasts.len(), records.as_ptr(), records.len(), run.as_mut_ptr(), run.len())
+    }
+}
+
+/// The most and the least steps of a run from a clock to an end, before it is made.
+pub fn flood_step_bounds(rules: &[u64], clock: u64, end: u64, bounds: &mut [u64]) -> u32 {
+    unsafe {
+        linked::flood_step_bounds(rules.as_ptr(), rules.len(), clock, end, bounds.as_mut_ptr(), bounds.len())
     }
 }
 

@@ -27,6 +27,7 @@ int main(void)
     uint64_t heading[FLOOD_HEADING_NUMBERS], line[FLOOD_LINE_NUMBERS], run[FLOOD_RUN_NUMBERS], steps[FLOOD_STEPS_NUMBERS];
     const uint64_t *rules = heading + FLOOD_HEADING_RULES;
     uint64_t wet[1], count[FLOOD_COUNT_NUMBERS];
+    uint64_t bounds[FLOOD_BOUNDS_NUMBERS];
     double speeds[FLOOD_SPEED_NUMBERS];
     static uint8_t out[FLOOD_OUT_ROOM];
 
@@ -53,6 +54,10 @@ int main(void)
     expect("run of a wrong size", flood_fresh(1, 2, rules, FLOOD_RULES_NUMBERS, marks, 2, lasts, 2, records, record, run, FLOOD_RUN_NUMBERS - 1), FLOOD_REFUSED_SHAPE);
     expect("rules of a wrong size", flood_fresh(1, 2, rules, FLOOD_RULES_NUMBERS + 1, marks, 2, lasts, 2, records, record, run, FLOOD_RUN_NUMBERS), FLOOD_REFUSED_SHAPE);
     expect("no room for a record", flood_fresh(1, 2, rules, FLOOD_RULES_NUMBERS, marks, 2, lasts, 2, records, record - 1, run, FLOOD_RUN_NUMBERS), FLOOD_REFUSED_RUN);
+    expect("figures before a run", flood_step_bounds(rules, FLOOD_RULES_NUMBERS, 0, 2000, bounds, FLOOD_BOUNDS_NUMBERS), FLOOD_BOUNDED);
+    expect("most steps", bounds[0], 2);
+    expect("least steps", bounds[1], 2);
+    expect("figures from a clock between", flood_step_bounds(rules, FLOOD_RULES_NUMBERS, 1, 2000, bounds, FLOOD_BOUNDS_NUMBERS), FLOOD_NOT_BOUNDED);
     expect("run to an end", flood_run_to(1, 2, rules, FLOOD_RULES_NUMBERS, 2000, marks, 2, beds, 2, roughness, 2, rates, 2, rain, 0, inflow, 0, depths, 2, lasts, 2, records, record, run, FLOOD_RUN_NUMBERS, steps, FLOOD_STEPS_NUMBERS), FLOOD_DONE);
     expect("steps", steps[0], 2);
     expect("west depth after two", depths[0], 941);
@@ -65,6 +70,6 @@ int main(void)
     expect("printed", flood_meadow(text, strlen(sheet), out, sizeof out), strlen(answer));
     expect("as document 01 prints it", memcmp(out, answer, strlen(answer)), 0);
     if (!failed)
-        printf("header: C calls each of the 8 functions as flood.h declares them\n");
+        printf("header: C calls each of the 9 functions as flood.h declares them\n");
     return failed;
 }

@@ -95,6 +95,14 @@ pub enum Arrow {
     Moving { east: f64, north: f64 },
 }
 
+/// #112: both figures of a run; its own case where the clock is no multiple of U or the end comes before it; or a refusal.
+#[derive(Clone, Copy, PartialEq, Debug)]
+pub enum Bounds {
+    Refused(u32),
+    NotBounded,
+    Bounded { most: u128, least: u128 },
+}
+
 /// What the `grid` and `run` lines say, and how many lines of rain and inflow there are.
 #[derive(Clone, Copy, PartialEq, Debug)]
 pub struct Heading {
@@ -562,6 +570,33 @@ pub fn wet_rows(meadow: &Meadow, wet_depth: u32, wet: &mut [u64]) -> Result<u64,
         }
     }
     Ok(count)
+}
+
+// ---------------------------------------------------------------- How many steps
+
+/// #112: "the steps counted are at most (E − clock)/U times the least whole number not below U/shortest, and at least the same with
+/// longest".
+pub fn step_bounds(rules: &Rules, clock: u64, end: u64) -> Bounds {
+    if let Err(number) = bounds_refusal(rules, clock, end) {
+        return Bounds::Refused(number);
+    }
+    if clock % rules.update != 0 || clock > end {
+        return Bounds::NotBounded;
+    }
+    let spans = ((end - clock) / rules.update) as u128;
+    Bounds::Bounded { most: spans * not_below(rules.update, rules.shortest), least: spans * not_below(rules.update, rules.longest) }
+}
+
+/// "A call skips checks of what it is not lent."
+fn bounds_refusal(rules: &Rules, clock: u64, end: u64) -> Result<(), u32> {
+    refuse(1, side_wrong(rules.square_side))?;
+    refuse(5, rules_wrong(rules) || end_wrong(rules, end))?;
+    refuse(6, clock as u128 > MOST_CLOCK)
+}
+
+/// "The least whole number not below" a quotient.
+fn not_below(time: u64, length: u64) -> u128 {
+    (time / length + (time % length).min(1)) as u128
 }
 
 // ---------------------------------------------------------------- Numbers given back on refusal

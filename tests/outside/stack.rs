@@ -60,6 +60,7 @@ fn on_grid(call: &str) {
     records[0] = 100;
     records[1] = 100;
     let (mut run, mut steps) = ([100, 100, 0, 1, 0, 0], [0; STEPS_NUMBERS]);
+    let mut bounds = [0; BOUNDS_NUMBERS];
     let (mut speeds, mut wet, mut count) = ([0.0; SPEED_NUMBERS], vec![0; ALONG], [0; COUNT_NUMBERS]);
     let number = match call {
         "flood_fresh" => flood_fresh(ALONG, ALONG, &RULES, &marks, &mut lasts, &records, &mut run),
@@ -71,6 +72,7 @@ fn on_grid(call: &str) {
             &mut run, &mut steps,
         ),
         "flood_take_back" => flood_take_back(ALONG, ALONG, &marks, &mut depths, &mut lasts, &records, &mut run),
+        "flood_step_bounds" => flood_step_bounds(&RULES, 0, END, &mut bounds),
         "flood_arrow" => flood_arrow(ALONG, ALONG, RULES[0], &marks, &depths, &records, &run, 5, 5, &mut speeds),
         "flood_wet_rows" => flood_wet_rows(ALONG, ALONG, &marks, &depths, 1, &mut wet, &mut count),
         _ => panic!("no call {}", call),

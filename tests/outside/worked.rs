@@ -10,7 +10,7 @@ const SHEET: &[u8] = b"grid\t1\t2\t1\nrun\t100\t1000\t1000\t1000\t1000\t10000\t1
 const PRINTED: &[u8] = b"cell\t0\t0\t969\ncell\t0\t1\t31\nout\t0\nsoak\t0\nsteps\t1\nclock\t1000\n";
 
 /// A row of squares on flat ground, k 100, with a room for one record and a fresh run in steps of 1000 ms.
-fn flat(marks: Vec<u8>, depths: Vec<u32>) -> Lent {
+pub fn flat(marks: Vec<u8>, depths: Vec<u32>) -> Lent {
     let squares = marks.len();
     Lent {
         meadow: Meadow {
@@ -43,7 +43,7 @@ pub fn go_on(lent: &mut Lent, after: &After) {
     lent.run = library::run_of(&after.run);
 }
 
-fn hold(what: &str, right: bool) {
+pub fn hold(what: &str, right: bool) {
     if !right {
         println!("outside: not as worked by hand in the document: {}", what);
         std::process::exit(1);
@@ -104,7 +104,7 @@ fn edges(tally: &mut Tally) {
     for (edge, number) in [(10_000, 0), (10_001, 5)] {
         let mut lent = flat(vec![OPEN], vec![0]);
         lent.rules.edge = edge;
-        for call in [Call::Fresh, Call::Step, Call::RunTo] {
+        for call in [Call::Fresh, Call::Step, Call::RunTo, Call::StepBounds] {
             hold("the steepest edge slope", tally.call(call, &lent).number == number);
         }
     }

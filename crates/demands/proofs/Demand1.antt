@@ -9,6 +9,7 @@ use Rattle.ledger.specs.TakeBack.{backRefusals, backNumber, earlyRefusals}
 use Rattle.ledger.specs.After.{lateRefusals}
 use Rattle.ledger.proofs.Bridge.{refused-stays}
 use Rattle.flood.specs.Refusals.{checkRefusals}
+use Rattle.flood.specs.Bounds.{boundsRefusals, boundsNumber}
 use Rattle.flood.specs.Step.{stepNumber}
 use Rattle.flood.specs.Run.{freshRefusals, freshNumber, freshLasts}
 use Rattle.flood.proofs.RunToLaws.{refused-is, run-checked}
@@ -25,13 +26,14 @@ use Rattle.demands.proofs.Exported.{exports-exactly-when, exports-leave
 -- ---- refusals
 
 exactly-when : (p : Plan) → ExactlyWhen p
-unfolding stepNumber checkRefusals lateRefusals backNumber earlyRefusals backRefusals freshNumber freshRefusals arrowNumber arrowRefusals arrowEarlyRefusals sharedRefusals wetNumber wetRefusals
+unfolding stepNumber checkRefusals lateRefusals backNumber earlyRefusals backRefusals freshNumber freshRefusals boundsNumber boundsRefusals arrowNumber arrowRefusals arrowEarlyRefusals sharedRefusals wetNumber wetRefusals
 exactly-when p =
     record {
       step = λ g w. table-says _ tt;
       take-back = λ w. table-says _ tt;
       fresh = λ r lasts records. table-says _ tt;
       check = λ g end w. table-says _ tt;
+      step-bounds = λ r clock end. table-says _ tt;
       arrow = λ D w row column. table-says _ tt;
       wet-rows = λ depths least numbers. table-says _ tt;
     }

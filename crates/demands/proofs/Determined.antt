@@ -140,6 +140,7 @@ rule-determined =
       held-length = λ r candidate. exactly;
       is-update = λ r clock. exactly;
       duration-for = λ r clock length. exactly;
+      steps-over = λ time length. exactly;
       rules-fine = λ r. exactly;
       ground-fine = λ bed roughness. exactly;
       weigh = λ r depth last roughness ms drops. exactly;
@@ -187,6 +188,7 @@ flood-determined =
       check = λ p g end w. exactly;
       fresh = λ p r before records. fresh-one;
       fresh-run = λ r slots. exactly;
+      step-bounds = λ r clock end. exactly;
       step = λ p g w. step-one;
       step-on = λ p g w. step-on-one;
       run-to = λ p g end w. run-one;
@@ -262,6 +264,7 @@ exports-determined =
             (x .number-is ∙ sym (y .number-is)) j,
             ((x .depths-are ∙ sym (y .depths-are)) j, ((x .lasts-are ∙ sym (y .lasts-are)) j, (x .run-is ∙ sym (y .run-is)) j)),
           ));
+      step-bounds = λ clock end rules old a b x y. (λ j. ((x .number-is ∙ sym (y .number-is)) j, (x .bounds-are ∙ sym (y .bounds-are)) j));
       arrow = λ p D w row column run old a b x y. (λ j. ((x .number-is ∙ sym (y .number-is)) j, (x .speeds-are ∙ sym (y .speeds-are)) j));
       wet-rows =
           λ p depths least old-rows old-count a b x y.

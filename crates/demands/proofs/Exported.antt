@@ -21,6 +21,11 @@ use Rattle.flood.specs.Refusals.{checkRefusals, runChecks}
 use Rattle.flood.specs.Step.{stepNumber}
 use Rattle.flood.specs.Run.{Ended, runTo, freshRefusals, freshNumber}
 use Rattle.flood.proofs.RunToLaws.{run-checked}
+use Rattle.flood.specs.Bounds.{boundsRefusals, boundsNumber, toldBounds, boundsOf}
+use Rattle.flood.specs.declared.bounds.StepBounds.{StepBounds}
+use Rattle.flood.specs.declared.bounds.Bounds.{Bounds}
+use Rattle.flood.specs.declared.bounds.Bounds.the-variants.{Bounded, NotBounded}
+use Rattle.flood.specs.declared.bounds.Bounds.the-variants as Told
 use Rattle.sight.specs.Refusals.{sharedRefusals}
 use Rattle.sight.specs.Arrows.{view, arrowEarlyRefusals, arrowRefusals, arrowNumber, sighted, seenBy, seenAt}
 use Rattle.sight.specs.WetRows.{wetRefusals, wetNumber, onesOver}
@@ -38,6 +43,7 @@ use Rattle.sheet.specs.declared.reading.Sheet.the-variants as Reading
 use Rattle.exports.specs.Numbers.{runValueFrom, runNumbers, runSize, countSize}
 use Rattle.exports.specs.Steps.{bothSized, ExportsFresh, ExportsStep, ExportsRun, ExportsBack, freshGives, stepGives, backGives, ranSized}
 use Rattle.exports.specs.Refusals.{numberIf, lastCheck, unlessRefused, unlessChecks}
+use Rattle.exports.specs.Bounds.{boundsSized, boundsTold, figuresIn}
 use Rattle.exports.specs.Sights.{ExportsWet, arrowSized, sightNumber, speedsIn, wetGives}
 use Rattle.exports.specs.Sheets.{sheetSized, sheetNumber, sheetLine, headingIn}
 use Rattle.demands.specs.Closed.{SameOpen, SameGiven, SameRoom, SameWorld}
@@ -67,13 +73,20 @@ seen-number zero false true s a l = absurd (omega (arith, l))
 seen-number zero false false true a l = absurd (omega (arith, l))
 seen-number zero false false false a l = refl
 
+-- so is that of figures
+told-number : (n : ℕ) (holds : Bool) (b : StepBounds) → boundsTold (toldBounds n holds b) < 100 → boundsTold (toldBounds n holds b) ≡ n
+unfolding boundsTold toldBounds
+told-number (suc n) holds b l = refl
+told-number zero false b l = absurd (omega (arith, l))
+told-number zero true b l = refl
+
 below-sized : (sized : Bool) {seen table number : ℕ} → number < 100 → (seen < 100 → seen ≡ table) → number ≡ numberIf sized seen → number ≡ numberIf sized table
 unfolding numberIf pick
 below-sized true l f e = e ∙ f (subst (λ (n : ℕ). n < 100) e l)
 below-sized false l f e = e
 
 pub exports-exactly-when : (p : Plan) → ExportsExactlyWhen p
-unfolding freshNumber freshRefusals stepNumber checkRefusals lateRefusals backNumber earlyRefusals backRefusals arrowNumber arrowRefusals arrowEarlyRefusals sharedRefusals wetNumber wetRefusals numberIf seenAt seenBy
+unfolding freshNumber freshRefusals stepNumber checkRefusals lateRefusals backNumber earlyRefusals backRefusals arrowNumber arrowRefusals arrowEarlyRefusals sharedRefusals wetNumber wetRefusals boundsNumber boundsRefusals boundsOf numberIf seenAt seenBy
 exports-exactly-when p =
     record {
       fresh = λ r before records rules old number lasts run x. sized-says _ _ tt refl (x .number-is);
@@ -81,6 +94,8 @@ exports-exactly-when p =
       take-back = λ w old number depths lasts run x. sized-says _ _ tt refl (x .number-is);
       run-unsized = λ g end w rules old oldSteps number depths lasts records run steps x e. x .number-is ∙ pick-false _ _ e;
       run-sized = λ g end w rules old oldSteps number depths lasts records run steps x e. x .number-is ∙ pick-true _ _ e;
+      step-bounds = λ clock end rules old number bounds x l.
+          sized-says _ _ tt refl (below-sized (boundsSized clock end rules old) l (told-number _ _ _) (x .number-is));
       arrow = λ D w row column run old number speeds x l.
           sized-says _ _ tt refl (below-sized (arrowSized p D w row column run old) l (seen-number _ _ _ _ _) (x .number-is));
       wet-rows = λ depths least oldRows oldCount number rows count x. sized-says _ _ tt refl (x .number-is);
@@ -193,6 +208,19 @@ unfolding numberIf pick
 arrow-left true sight {number} {speeds} {old} n e d = e ∙ speeds-stay sight old (λ z. d (n ∙ z))
 arrow-left false sight n e d = e
 
+-- an answer without figures leaves the slice
+figures-stay : (a : Bounds) (old : List ℕ) → (boundsTold a ≡ 0 → ⊥) → figuresIn a old ≡ old
+unfolding boundsTold figuresIn
+figures-stay (Bounded b) old d = absurd (d refl)
+figures-stay NotBounded old d = refl
+figures-stay (Told.Refused n) old d = refl
+
+bounds-left : (sized : Bool) (a : Bounds) {number : ℕ} {bounds old : List ℕ} → number ≡ numberIf sized (boundsTold a) →
+    bounds ≡ pick sized (figuresIn a old) old → (number ≡ 0 → ⊥) → bounds ≡ old
+unfolding numberIf pick
+bounds-left true a {number} {bounds} {old} n e d = e ∙ figures-stay a old (λ z. d (n ∙ z))
+bounds-left false a n e d = e
+
 -- a sheet that is refused leaves the rooms and the heading
 read-left : (sized : Bool) (s : List ℕ) (a : Sheet) {number : ℕ} {before after : Rooms} {heading oldHeading : List ℕ} → number ≡ numberIf sized (sheetNumber a) →
     after ≡ pick sized (roomsAfter s a before) before → heading ≡ pick sized (headingIn a oldHeading) oldHeading → (number ≡ 0 → ⊥) →
@@ -226,6 +254,7 @@ exports-leave p =
           leaves-checks p g end w rules old oldSteps number depths lasts records run steps x same low high;
       run-steps = λ g end w rules old oldSteps number depths lasts records run steps x late.
           leaves-steps p g end w rules old oldSteps number depths lasts records run steps x late;
+      step-bounds = λ clock end rules old number bounds x d. bounds-left _ _ (x .number-is) (x .bounds-are) d;
       arrow = λ D w row column run old number speeds x d. arrow-left _ _ (x .number-is) (x .speeds-are) d;
       wet-rows = λ depths least oldRows oldCount number rows count x d. (left _ _ (x .number-is) (x .rows-are) d, left _ _ (x .number-is) (x .count-is) d);
       read-sheet = λ s before oldHeading oldLine number after heading line x d. read-left _ s _ (x .number-is) (x .rooms-are) (x .heading-is) d;

@@ -6,5 +6,6 @@ pub mod Determined
 pub mod Exported
 pub mod Loader
 pub mod RunStops
+pub mod StepCount
 pub mod Table
 pub mod WorkedCases

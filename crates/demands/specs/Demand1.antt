@@ -14,6 +14,7 @@ use Rattle.ledger.specs.Record.{ringOf}
 use Rattle.moves.specs.Given.{Given}
 use Rattle.moves.specs.Moves.{stepMoves}
 use Rattle.flood.specs.Refusals.{stepChecks, runChecks}
+use Rattle.flood.specs.Bounds.{boundsRefusals, boundsNumber}
 use Rattle.flood.specs.Step.{stepNumber, stepped}
 use Rattle.flood.specs.Run.{Ended, ended, runTo, freshRefusals, freshNumber, freshLasts, stepsOn}
 use Rattle.sight.specs.Arrows.{arrowRefusals, arrowNumber}
@@ -33,6 +34,8 @@ pub record ExactlyWhen (p : Plan) : Type 0 where
   pub fresh : (r : Rules) (lasts records : List ℕ) → TableSays (freshRefusals p r lasts records) (freshNumber p r lasts records)
   -- a run before its first step, and `check`
   pub check : (g : Given) (end : ℕ) (w : World) → TableSays (runChecks p g end w) (refusal (runChecks p g end w))
+  -- what is told before a run
+  pub step-bounds : (r : Rules) (clock end : ℕ) → TableSays (boundsRefusals r clock end) (boundsNumber r clock end)
   pub arrow : (D : ℕ) (w : World) (row column : ℕ) → TableSays (arrowRefusals p D w row column) (arrowNumber p D w row column)
   pub wet-rows : (depths : List ℕ) (least numbers : ℕ) → TableSays (wetRefusals p depths least numbers) (wetNumber p depths least numbers)
 

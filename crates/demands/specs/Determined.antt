@@ -15,6 +15,7 @@ use Rattle.grid.specs.Squares.{ShapeJudged, SquaresOf, SquareFound, NextColumn,
 use Rattle.grid.specs.Marks.{ClosedJudged, ExitJudged, MarksJudged, InflowSquaresJudged}
 use Rattle.grid.specs.Masks.{RowMasked, OnesOf, NextFound, Masked}
 use Rattle.grid.specs.declared.squares.Shape.{Shape}
+use Rattle.rule.specs.Bounds.{StepsOver}
 use Rattle.rule.specs.Drops.{DropTo, DropOff}
 use Rattle.rule.specs.Length.{Shorter, HeldLength, IsUpdate, DurationFor}
 use Rattle.rule.specs.Rules.{RulesJudged, GroundJudged}
@@ -31,6 +32,7 @@ use Rattle.ledger.specs.declared.settle.Settled.{Settled}
 use Rattle.moves.specs.Given.{Given, Ground}
 use Rattle.flood.specs.Step.{Steps, MakesStep}
 use Rattle.flood.specs.Refusals.{Checks}
+use Rattle.flood.specs.Bounds.{BoundsSteps}
 use Rattle.flood.specs.Run.{RunsTo, Freshens, FreshRunMade}
 use Rattle.flood.specs.declared.run.Ran.{Ran}
 use Rattle.sight.specs.Arrows.{Sees}
@@ -43,6 +45,7 @@ use Rattle.sheet.specs.Sheet.{Rooms, Reads}
 use Rattle.answer.specs.Program.{Prints, meadowText}
 use Rattle.sheet.specs.declared.reading.Sheet.{Sheet}
 use Rattle.exports.specs.Steps.{ExportsFresh, ExportsStep, ExportsRun, ExportsBack}
+use Rattle.exports.specs.Bounds.{ExportsBounds}
 use Rattle.exports.specs.Sights.{ExportsArrow, ExportsWet}
 use Rattle.exports.specs.Sheets.{ExportsRead, ExportsMeadow}
 use mathlib.Core.Bool.{Bool, true}
@@ -110,6 +113,7 @@ pub record RuleDetermined : Type 0 where
   pub held-length : (r : Rules) (candidate : ℕ) → One (HeldLength r candidate)
   pub is-update : (r : Rules) (clock : ℕ) → One (IsUpdate r clock)
   pub duration-for : (r : Rules) (clock held : ℕ) → One (DurationFor r clock held)
+  pub steps-over : (time held : ℕ) → One (StepsOver time held)
   pub rules-fine : (r : Rules) → One (RulesJudged r)
   pub ground-fine : (bed roughness : ℕ) → One (GroundJudged bed roughness)
   pub weigh : (r : Rules) (depth last roughness ms : ℕ) (drops : List ℕ) → One (Weighs r depth last roughness ms drops)
@@ -149,6 +153,7 @@ pub record FloodDetermined : Type 0 where
   pub check : (p : Plan) (g : Given) (end : ℕ) (w : World) → One (Checks p g end w)
   pub fresh : (p : Plan) (r : Rules) (before records : List ℕ) → One {Out = Answer × List ℕ} (λ o. Freshens p r before records (o .0) (o .1))
   pub fresh-run : (r : Rules) (slots : ℕ) → One (FreshRunMade r slots)
+  pub step-bounds : (r : Rules) (clock end : ℕ) → One (BoundsSteps r clock end)
   pub step : (p : Plan) (g : Given) (w : World) → One {Out = Answer × (List ℕ × (List ℕ × List ℕ))} (λ o. Steps p g w (o .0) (o .1 .0) (o .1 .1 .0) (o .1 .1 .1))
   pub step-on : (p : Plan) (g : Given) (w : World) →
       One {Out = Settled × (List ℕ × (List ℕ × List ℕ))} (λ o. MakesStep p g w (o .0 .refused) (world (o .1 .0) (o .1 .1 .0) (o .1 .1 .1) (o .0 .run)))
@@ -196,6 +201,7 @@ pub record ExportsDetermined : Type 0 where
       (λ o. ExportsRun p g end w rules old oldSteps (o .0) (o .1 .0) (o .1 .1 .0) (o .1 .1 .1 .0) (o .1 .1 .1 .1 .0) (o .1 .1 .1 .1 .1))
   pub take-back : (p : Plan) (w : World) (old : List ℕ) →
       One {Out = ℕ × (List ℕ × (List ℕ × List ℕ))} (λ o. ExportsBack p w old (o .0) (o .1 .0) (o .1 .1 .0) (o .1 .1 .1))
+  pub step-bounds : (clock end : ℕ) (rules old : List ℕ) → One {Out = ℕ × List ℕ} (λ o. ExportsBounds clock end rules old (o .0) (o .1))
   pub arrow : (p : Plan) (D : ℕ) (w : World) (row column : ℕ) (run : List ℕ) (old : List Float) →
       One {Out = ℕ × List Float} (λ o. ExportsArrow p D w row column run old (o .0) (o .1))
   pub wet-rows : (p : Plan) (depths : List ℕ) (least : ℕ) (oldRows oldCount : List ℕ) →

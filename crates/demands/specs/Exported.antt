@@ -1,4 +1,4 @@
--- The demands as they concern a caller in another language: the eight exported functions over the library's own calls.
+-- The demands as they concern a caller in another language: the nine exported functions over the library's own calls.
 -- Assumes nothing.
 use mathlib.Core.Path.{_≡_}
 use mathlib.Core.Bool.{true, false}
@@ -18,12 +18,14 @@ use Rattle.moves.specs.Given.{Given}
 use Rattle.moves.specs.Moves.{stepMoves}
 use Rattle.flood.specs.Refusals.{stepChecks}
 use Rattle.flood.specs.Run.{runTo, freshRefusals}
+use Rattle.flood.specs.Bounds.{boundsRefusals}
 use Rattle.sight.specs.Arrows.{view, arrowRefusals}
 use Rattle.sight.specs.WetRows.{wetRefusals}
 use Rattle.sheet.specs.Sheet.{Rooms}
-use Rattle.exports.specs.Numbers.{runValueFrom, runNumbers, runSize, countSize}
+use Rattle.exports.specs.Numbers.{rulesFrom, runValueFrom, runNumbers, runSize, countSize}
 use Rattle.exports.specs.Steps.{bothSized, ExportsFresh, ExportsStep, ExportsRun, ExportsBack, ranSized}
 use Rattle.exports.specs.Refusals.{lastCheck}
+use Rattle.exports.specs.Bounds.{ExportsBounds, boundsSized}
 use Rattle.exports.specs.Sights.{ExportsArrow, ExportsWet, arrowSized}
 use Rattle.exports.specs.Sheets.{ExportsRead, ExportsMeadow, sheetSized}
 use Rattle.demands.specs.Table.{TableSays}
@@ -48,6 +50,9 @@ module _ (p : Plan) where
     pub run-sized : (g : Given) (end : ℕ) (w : World) (rules old oldSteps : List ℕ) (number : ℕ) (depths lasts records run steps : List ℕ) →
         ExportsRun p g end w rules old oldSteps number depths lasts records run steps → ranSized p g end w rules old oldSteps ≡ true →
         number ≡ runTo p g end w .number
+    -- figures that do not hold have a number past every refusal's
+    pub step-bounds : (clock end : ℕ) (rules old : List ℕ) (number : ℕ) (bounds : List ℕ) → ExportsBounds clock end rules old number bounds → number < 100 →
+        TableSays (1 unless boundsSized clock end rules old ∷ boundsRefusals (rulesFrom rules) clock end) number
     -- closed, dry and still have numbers past every refusal's
     pub arrow : (D : ℕ) (w : World) (row column : ℕ) (run : List ℕ) (old : List Float) (number : ℕ) (speeds : List Float) →
         ExportsArrow p D w row column run old number speeds → number < 100 →
@@ -78,6 +83,9 @@ module _ (p : Plan) where
         ExportsRun p g end w rules old oldSteps number depths lasts records run steps → lastCheck < number →
         (depths ≡ runTo p g end w .world .depths) × ((lasts ≡ runTo p g end w .world .lasts) × ((records ≡ runTo p g end w .world .records)
         × ((run ≡ runNumbers (runTo p g end w .world .run)) × (steps ≡ runTo p g end w .steps ∷ []))))
+    -- refused, or where the figures do not hold
+    pub step-bounds : (clock end : ℕ) (rules old : List ℕ) (number : ℕ) (bounds : List ℕ) → ExportsBounds clock end rules old number bounds →
+        (number ≡ 0 → ⊥) → bounds ≡ old
     pub arrow : (D : ℕ) (w : World) (row column : ℕ) (run : List ℕ) (old : List Float) (number : ℕ) (speeds : List Float) →
         ExportsArrow p D w row column run old number speeds → (number ≡ 0 → ⊥) → speeds ≡ old
     pub wet-rows : (depths : List ℕ) (least : ℕ) (oldRows oldCount : List ℕ) (number : ℕ) (rows count : List ℕ) →

@@ -6,5 +6,6 @@ pub mod Demand3
 pub mod Determined
 pub mod Exported
 pub mod Loader
+pub mod StepCount
 pub mod Table
 pub mod Worked

@@ -1,4 +1,5 @@
 pub mod AnswerLaws
+pub mod BoundsLaws
 pub mod NumberLaws
 pub mod SheetLaws
 pub mod SightLaws

@@ -1,4 +1,5 @@
 pub mod inner
+pub mod Bounds
 pub mod Numbers
 pub mod Refusals
 pub mod Sheets

@@ -48,6 +48,9 @@ runSize = 6
 abbrev pub stepsSize : ℕ
 stepsSize = 1
 
+abbrev pub boundsSize : ℕ
+boundsSize = 2
+
 abbrev pub speedsSize : ℕ
 speedsSize = 2
 

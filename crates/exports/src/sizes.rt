@@ -5,6 +5,8 @@ pub(crate) const RUN_NUMBERS: usize = 6;
 
 pub(crate) const STEPS_NUMBERS: usize = 1;
 
+pub(crate) const BOUNDS_NUMBERS: usize = 2;
+
 pub(crate) const SPEED_NUMBERS: usize = 2;
 
 pub(crate) const COUNT_NUMBERS: usize = 1;

@@ -19,7 +19,7 @@ use Rattle.ledger.specs.After.{lateRefusals, stepRecord, worldAfter}
 use Rattle.ledger.proofs.ReadBack.{step-long}
 use Rattle.ledger.proofs.EngineLaws.{look-seen, valid-after}
 use Rattle.moves.specs.Given.{Given}
-use Rattle.moves.specs.Moves.{stepDuration, stepMoves}
+use Rattle.moves.specs.Moves.{stepDuration, stepLength, stepMoves}
 use Rattle.flood.specs.Refusals.{stepChecks, runChecks}
 use Rattle.flood.specs.Step.{stepNumber, stepped, floodRule}
 use Rattle.flood.specs.Run.{Ended, ended, goOn, runFrom, runTo}
@@ -83,9 +83,14 @@ module _ (p : Plan) (g : Given) (w : World) where
         }))
 
     -- the clock goes on
-    clock-after : stepped p g w .run .clock ≡ w .run .clock + stepDuration p g (seenOf w)
+    pub clock-after : stepped p g w .run .clock ≡ w .run .clock + stepDuration p g (seenOf w)
     unfolding worldAfter
     clock-after = ap (λ (x : World). x .run .clock) (made-is made)
+
+    -- and the run holds the length
+    pub length-after : stepped p g w .run .length ≡ stepLength p g (seenOf w)
+    unfolding worldAfter
+    length-after = ap (λ (x : World). x .run .length) (made-is made)
 
     pub clock-on : w .run .clock < stepped p g w .run .clock
     clock-on = omega (arith, clock-after, step-lasts-from p g (seenOf w) (ready p g (ringOf p w) (seenOf w) ok))

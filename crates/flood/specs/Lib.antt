@@ -1,3 +1,4 @@
+pub mod Bounds
 pub mod Refusals
 pub mod Run
 pub mod Step

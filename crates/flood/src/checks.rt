@@ -135,7 +135,7 @@ fn end_fine(rules: Rules, end: u64) -> bool
 }
 
 // Refusal 5 of a run to an end.
-fn rules_and_end_fine(rules: Rules, end: u64) -> bool
+pub(crate) fn rules_and_end_fine(rules: Rules, end: u64) -> bool
     ensures { λ r. ⌜ r ≡ every (rulesFine rules ∷ endFine rules end ∷ []) ⌝ }
 {
     if !rules_fine(rules) {

@@ -1,4 +1,5 @@
 pub mod DropLaws
 pub mod LengthLaws
 pub mod RuleLaws
+pub mod SpanLaws
 pub mod WeighingLaws

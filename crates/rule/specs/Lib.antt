@@ -1,3 +1,4 @@
+pub mod Bounds
 pub mod Drops
 pub mod Length
 pub mod Rules

@@ -8,8 +8,9 @@ use reckon::numbers::lesser;
 ghost use mathlib.Core.Path.{_≡_};
 ghost use Prim.Native.Nat.{_<_, _≤_};
 ghost use Rattle.reckon.specs.Tests.{pick};
-ghost use Rattle.reckon.specs.Ranges.{mostTolerance};
+ghost use Rattle.reckon.specs.Ranges.{mostLength, mostTolerance, mostUpdate};
 ghost use Rattle.rule.specs.inner.InRange.{mostDrop, SquareInRange, Candidacy};
+ghost use Rattle.rule.specs.Bounds.{StepsOver};
 ghost use Rattle.rule.specs.Length.{candidate, counts, Shorter, HeldLength, IsUpdate, DurationFor};
 
 // How long a step may last by one side of a square with water, ms.
@@ -73,4 +74,12 @@ pub fn duration_for(rules: Rules, clock: u64, length: u64) -> u64
 {
     let update = rules.update;
     lesser(length, update - clock % update)
+}
+
+// How many steps of a length a time needs: the least whole number not below time / length.
+pub fn steps_over(time: u64, length: u64) -> u64
+    requires { ⌜ (time ≤ mostUpdate) × (1 ≤ length) × (length ≤ mostLength) ⌝ }
+    ensures { λ r. ⌜ StepsOver time length r ⌝ }
+{
+    (time + length - 1) / length
 }

@@ -3,7 +3,7 @@
 //   rules      Rules; rules_fine, ground_fine
 //   drops      drop_to, drop_off
 //   weighing   weigh
-//   length     shorter, held_length, is_update, duration_for
+//   length     shorter, held_length, is_update, duration_for, steps_over
 pub mod drops;
 pub mod length;
 pub mod rules;

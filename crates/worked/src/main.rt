@@ -1,5 +1,6 @@
 // Runs document 01's worked cases that are not marked P, and beside them each refusal, a run refused midway and series of steps and
 // take-backs; a line for each call. tests/worked.py works the same lines.
+mod bounds;
 mod columns;
 mod meadow;
 mod printing;
@@ -16,4 +17,5 @@ fn main() {
     series::three_records();
     series::changing();
     series::soaking();
+    bounds::bounds();
 }
