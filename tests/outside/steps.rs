@@ -205,6 +205,19 @@ fn root(power: u32, of: u64) -> u64 {
     (0..25).rev().map(|bit| 1 << bit).fold(0, |root, place| if fits(root + place) { root + place } else { root })
 }
 
+/// A step of `ms`, and a run of that one step, of squares with this side; no rain and no inflow.
+fn one_step(tally: &mut Tally, mut lent: Lent, side: u64, ms: u64) {
+    lent.meadow.rain.clear();
+    lent.meadow.inflow.clear();
+    lent.rules.square_side = side;
+    lent.rules.update = ms + 1;
+    lent.run.clock = 1;
+    lent.run.length = ms;
+    lent.end = ms + 1;
+    tally.call(Call::Step, &lent);
+    tally.call(Call::RunTo, &lent);
+}
+
 /// A step of `ms`, and a run of that one step, of a square with water beside a dry one that lies `drop` below its level; P limits nothing.
 fn one_fall(tally: &mut Tally, chance: &mut Chance, [side, depth, roughness, drop, ms]: [u64; 5]) {
     let mut lent = meadows::lent(chance, (1, 2));
@@ -215,15 +228,7 @@ fn one_fall(tally: &mut Tally, chance: &mut Chance, [side, depth, roughness, dro
     lent.meadow.rates = vec![0; 2];
     lent.meadow.depths = vec![depth as u32, 0];
     lent.meadow.lasts = vec![MOST_DEPTH as u32; 2];
-    lent.meadow.rain.clear();
-    lent.meadow.inflow.clear();
-    lent.rules.square_side = side;
-    lent.rules.update = ms + 1;
-    lent.run.clock = 1;
-    lent.run.length = ms;
-    lent.end = ms + 1;
-    tally.call(Call::Step, &lent);
-    tally.call(Call::RunTo, &lent);
+    one_step(tally, lent, side, ms);
 }
 
 /// Water so deep that 1 µm/s tells in what leaves, and a roughness and a drop for which Manning's speed is at the critical one or beside it.
@@ -282,16 +287,8 @@ fn four_falls(tally: &mut Tally, chance: &mut Chance, drops: [u64; 4], [side, de
         lent.meadow.depths[square] = 0;
         lent.meadow.lasts[square] = 0;
     }
-    lent.meadow.rain.clear();
-    lent.meadow.inflow.clear();
-    lent.rules.square_side = side;
     lent.rules.edition = chance.pick(&[1, 2, 2, 2, 3]);
-    lent.rules.update = ms + 1;
-    lent.run.clock = 1;
-    lent.run.length = ms;
-    lent.end = ms + 1;
-    tally.call(Call::Step, &lent);
-    tally.call(Call::RunTo, &lent);
+    one_step(tally, lent, side, ms);
 }
 
 /// Water that falls on one to four sides, and a step in which what edition 2 sends by each just comes to the depth, or 1 ms less or more.
