@@ -1,7 +1,7 @@
 """A basin under rain and inflow, closed or with exits and soaking ground: the water account balances to the micrometre."""
+from meadow.account import account
 from meadow.lines import DAY, HOUR, MINUTE, Sheet
 from meadow.programs import meadow
-from meadow.steps import ran
 from meadow.weighing import EDITIONS
 from shared import claim, table, uneven
 
@@ -24,22 +24,13 @@ def basin(leaks=False, edition=1):
     return sheet
 
 
-def by_the_tables(sheet, clock):
-    """The water at the start and all that the tables have brought by a clock, in µm over one square."""
-    ground = sheet.ground()
-    rain = sum(rate * ran(start, end, clock) for start, end, rate in sheet.rain) // HOUR
-    poured = {}
-    for row, column, start, end, litres in sheet.inflow:
-        poured[row, column] = poured.get((row, column), 0) + litres * ran(start, end, clock)
-    return sum(sheet.depth(place) + rain for place in ground) + sum(amount // SIDE**2 for amount in poured.values())
-
-
 def figures(long):
     sheet, rows = basin(), []
     for end in [MINUTE, 10 * MINUTE, HOUR] + ([DAY] if long else []):
-        answer, told = meadow(sheet.text(end)), by_the_tables(sheet, end)
-        rows.append((end // MINUTE, answer.steps, answer.water(), told, answer.water() - told))
-        claim(answer.water() == told and answer.out == 0, f"water was lost or won by {end} ms")
+        answer = meadow(sheet.text(end))
+        told = account(sheet, end, answer)
+        rows.append((end // MINUTE, answer.steps, told.ground, told.came(), told.ground - told.came()))
+        claim(told.ground == told.came() and told.exits == 0, f"water was lost or won by {end} ms")
     yield from table(["minutes", "steps", "on the ground, µm over one square", "by the tables", "difference"], rows)
     yield from leaking(long)
 
@@ -50,10 +41,10 @@ def leaking(long):
     for edition in EDITIONS:
         sheet = basin(True, edition)
         for end in [10 * MINUTE, HOUR] + ([DAY] if long else []):
-            answer, told = meadow(sheet.text(end)), by_the_tables(sheet, end)
-            there_is = answer.water() + answer.out + answer.soaked
-            rows.append((edition, end // MINUTE, answer.water(), answer.out, answer.soaked, there_is, told, there_is - told))
-            claim(there_is == told, f"water was lost or won by {end} ms in edition {edition}")
-            claim(answer.out > 0 and answer.soaked > 0, "nothing has left by the exits, or soaked")
+            told = account(sheet, end, meadow(sheet.text(end)))
+            there_is, came = told.there_is(), told.came()
+            rows.append((edition, end // MINUTE, told.ground, told.exits, told.soaked, there_is, came, there_is - came))
+            claim(there_is == came, f"water was lost or won by {end} ms in edition {edition}")
+            claim(told.exits > 0 and told.soaked > 0, "nothing has left by the exits, or soaked")
     yield ""
     yield from table(["edition", "minutes", "on the ground", "gone by exits", "soaked", "there is", "by the tables", "difference"], rows)

@@ -4,6 +4,7 @@ import basin
 import lake
 import long_step
 import pond
+from meadow.account import account
 from meadow.grounds import HELD_MOUTH, LEAT, drowned_meadow, filling_pond, opened_pond
 from meadow.lines import DAY, HOUR, MINUTE, SECOND, Unreadable
 from meadow.programs import meadow
@@ -173,9 +174,10 @@ def basin_rows(long):
     for end in [10 * MINUTE, HOUR] + ([DAY] if long else []):
         for edition in EDITIONS:
             sheet = by(edition, basin.basin())
-            answer, told = meadow(sheet.text(end)), basin.by_the_tables(sheet, end)
-            claim(answer.water() == told and answer.out == 0, f"water was lost or won by {end} ms, edition {edition}")
-            yield (end // MINUTE, edition, answer.steps, answer.water(), told, answer.water() - told)
+            answer = meadow(sheet.text(end))
+            told = account(sheet, end, answer)
+            claim(told.ground == told.came() and told.exits == 0, f"water was lost or won by {end} ms, edition {edition}")
+            yield (end // MINUTE, edition, answer.steps, told.ground, told.came(), told.ground - told.came())
 
 
 # ---- meadows
