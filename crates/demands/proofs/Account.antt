@@ -1,25 +1,24 @@
 -- The water account holds: by demand 3 what is seen is what the standing steps alone give, and each of them adds what the tables give
 -- between its clocks.
 -- Assumes nothing.
-use mathlib.Core.Path.{_≡_, refl, sym, ap, _∙_}
+use mathlib.Core.Path.{_≡_, ap, _∙_}
 use mathlib.Core.List.{List, [], _∷_}
-use Prim.Native.Nat.{ℕ, _+_, _≤_}
+use Prim.Native.Nat.{ℕ, _+_}
+use native.Mathlib.Nat.{le-of-lt}
 use native.Mathlib.Omega.{arith}
 use Rattle.rule.specs.declared.rules.Rules.{Rules}
-use Rattle.ledger.specs.Runs.{Plan, World, world, seenOf}
-use Rattle.ledger.specs.After.{worldAfter}
+use Rattle.ledger.specs.Runs.{Plan, World, world}
 use Rattle.ledger.specs.Account.{water, held}
 use Rattle.ledger.specs.declared.runs.Run.{Run}
 use Rattle.ledger.specs.declared.runs.Answer.the-variants.{Done}
 use Rattle.moves.specs.Given.{Given}
-use Rattle.moves.specs.Moves.{stepMoves, stepDuration}
-use Rattle.moves.specs.Account.{tablesGive, tablesBy, SameTables}
+use Rattle.moves.specs.Account.{tablesBy}
 use Rattle.moves.proofs.AccountLaws.{tables-start, tables-go-on, tables-alike}
-use Rattle.flood.specs.Step.{stepNumber, stepped}
+use Rattle.flood.specs.Step.{stepped}
 use Rattle.flood.specs.Run.{freshRun, Freshens}
 use Rattle.flood.proofs.AccountLaws.{step-accounts}
-use Rattle.flood.proofs.RunToLaws.{made-is}
-use Rattle.demands.specs.Demand3.{Call, Trail, start, series, alone, AllMade, Fresh, NeverMade, Demand3}
+use Rattle.flood.proofs.RunToLaws.{checks-passed, clock-on}
+use Rattle.demands.specs.Demand3.{Call, Trail, alone, AllMade, NeverMade}
 use Rattle.demands.specs.Account.{allGiven, AllSame, after, Account}
 use Rattle.demands.proofs.Demand3.{fresh-run, demand-3}
 
@@ -30,11 +29,6 @@ module _ (p : Plan) where
   alone-balance [] f made = omega arith
   alone-balance (g ∷ gs) f made =
       omega (arith, alone-balance gs f (made .1), step-accounts p g (alone p gs f) (made .0))
-
-  -- a step takes the clock on
-  clock-on : (g : Given) (w : World) → stepNumber p g w ≡ 0 → w .run .clock ≤ stepped p g w .run .clock
-  unfolding worldAfter
-  clock-on g w made = rw (made-is p g w made) (omega arith)
 
   alone-tables : (one : Given) (gs : List Given) (f : World) → AllMade p gs f → AllSame p one gs →
       tablesBy p one (f .run .clock) + allGiven p gs f ≡ tablesBy p one (alone p gs f .run .clock)
@@ -47,7 +41,7 @@ module _ (p : Plan) where
         arith,
         alone-tables one gs f (made .1) (same .1),
         tables-alike p g one before now (same .0),
-        tables-go-on p one {t = before} {u = now} (clock-on g (alone p gs f) (made .0)),
+        tables-go-on p one {t = before} {u = now} (le-of-lt (clock-on p g (alone p gs f) (checks-passed p g (alone p gs f) (made .0)) (made .0))),
       )
 
   -- ---- from a fresh run

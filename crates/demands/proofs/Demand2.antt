@@ -12,7 +12,7 @@ use lib.ListN.{length, getD, List·getD-eq-default}
 use Rattle.reckon.specs.Tests.{pick, allBelow, refusal}
 use Rattle.reckon.specs.Lists.{filled}
 use Rattle.reckon.specs.Ranges.{mostDepth, waterFine}
-use Rattle.reckon.proofs.TestLaws.{pick-true, pick-both, all-ext, refusal-both}
+use Rattle.reckon.proofs.TestLaws.{pick-true, pick-both, all-ext}
 use Rattle.reckon.proofs.RootLaws.{root-right}
 use Rattle.reckon.proofs.ListLaws.{getD-tabulate, length-filled, filled-in, filled-skipped, joined-ext, sum-ext}
 use Rattle.trials.specs.Ring.{slotsIn, slotAfter}
@@ -41,13 +41,13 @@ use Rattle.ledger.specs.declared.runs.Run.{Run}
 use Rattle.moves.specs.Given.{Given, ground, given}
 use Rattle.moves.specs.Drops.{sideDrop, dropsOf}
 use Rattle.moves.specs.Moves.{squareCandidates, candidates, leavesFor, soakedFor, addedFor, stepLength, stepDuration, stepMoves}
-use Rattle.flood.specs.Refusals.{groundsFine, checkRefusals, stepChecks, runChecks}
+use Rattle.flood.specs.Refusals.{groundsFine, checkRefusals, runChecks}
 use Rattle.flood.specs.Step.{stepNumber, stepped}
 use Rattle.flood.specs.Run.{Ended, ended, goOn, runFrom, runTo, freshRefusals, freshNumber, freshRun, freshLasts}
 use Rattle.sight.proofs.Alike.{AlikeDepths, AlikeRecords, arrow-alike, wet-alike}
-use Rattle.flood.proofs.CheckLaws.{checks-named, ready, ring-is}
+use Rattle.flood.proofs.CheckLaws.{ready, ring-is}
 use Rattle.moves.proofs.MoveLaws.{leaves-open, soaked-open, lost-covered, flood-walled, off-none}
-use Rattle.flood.proofs.RunToLaws.{made-is, refused-is}
+use Rattle.flood.proofs.RunToLaws.{made-is, refused-is, checks-passed}
 use Rattle.demands.specs.Closed.{SameOpen, SameGiven, SameRecord, SameRoom, SameWorld, SameEnd}
 use Rattle.demands.specs.Demand2.{RootsAre, StepGives, NoneDepends, NoneAltered, WallRule, Demand2}
 use Rattle.demands.proofs.Loader.{loader-walls}
@@ -225,12 +225,8 @@ module _ (p : Plan) where
 
   -- a step that is made: it has a slot to write, and its record stands there
   module _ (g : Given) (w : World) (made : stepNumber p g w ≡ 0) where
-    checked : refusal (stepChecks p g (ringOf p w) (seenOf w)) ≡ 0
-    unfolding stepNumber
-    checked = refusal-both (stepChecks p g (ringOf p w) (seenOf w)) _ (checks-named p g (ringOf p w) (seenOf w)) made .0
-
     ring : Ring (roomSlots p (w .records)) (w .run .kept) (w .run .newest)
-    ring = fine-ring _ _ _ (ring-is p g (ringOf p w) (seenOf w) checked)
+    ring = fine-ring _ _ _ (ring-is p g (ringOf p w) (seenOf w) (checks-passed p g w made))
 
     newest-written : newestRecord p (stepped p g w) ≡ stepRecord p (stepMoves p g (seenOf w)) w
     unfolding newestRecord worldAfter roomSlots
@@ -559,7 +555,7 @@ module _ (p : Plan) where
     step-gives : StepGives p g w
     unfolding worldAfter newDepth remains newOutflow newSoaked stepLength stepDuration stepRecord
     step-gives =
-        let flows = ready p g (ringOf p w) (seenOf w) (checked g w made) .flows in
+        let flows = ready p g (ringOf p w) (seenOf w) (checks-passed p g w made) .flows in
         let depths-long : length (w .depths) ≡ squares (p .shape) = flows .lies .sited .depths-long in
         let lasts-long : length (w .lasts) ≡ squares (p .shape) = flows .lasts-long in
         let through = leaves-open p (g .lie) (w .depths) (w .lasts) (stepDuration p g (seenOf w)) in

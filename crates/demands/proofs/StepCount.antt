@@ -1,10 +1,9 @@
 -- The figures told before a run hold of its count: `run-counted` follows it step by step.
 -- Assumes nothing.
-use mathlib.Core.Path.{_≡_, refl, sym, _∙_, ap}
-use Prim.Native.Nat.{ℕ, _-_, _*_, _/_, _%_, _≤_}
+use mathlib.Core.Path.{_≡_}
+use Prim.Native.Nat.{ℕ, _-_, _*_, _/_, _≤_}
 use native.Mathlib.Nat.{sub-self, zero-div, zero-mul}
-use native.Mathlib.Omega.{arith}
-use Rattle.rule.specs.Bounds.{stepsOver, mostSteps, leastSteps}
+use Rattle.rule.specs.Bounds.{mostSteps, leastSteps}
 use Rattle.rule.specs.declared.rules.Rules.{Rules}
 use Rattle.rule.proofs.SpanLaws.{over-reached, over-least}
 use Rattle.ledger.specs.Runs.{Plan, World}

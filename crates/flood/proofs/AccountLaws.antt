@@ -1,10 +1,8 @@
 -- The account of a step of the flood: water, outflow and soaked grow by what the tables give between its clocks. It rests on the wall
 -- rule and on what every edition owes, and on nothing else of the rule.
 -- Assumes nothing.
-use mathlib.Core.Path.{_≡_, ap, _∙_}
-use Prim.Native.Nat.{ℕ, _+_}
-use Rattle.reckon.specs.Tests.{refusal}
-use Rattle.reckon.proofs.TestLaws.{refusal-both}
+use mathlib.Core.Path.{_≡_}
+use Prim.Native.Nat.{_+_}
 use Rattle.ledger.specs.Runs.{Plan, World, seenOf}
 use Rattle.ledger.specs.Record.{ringOf}
 use Rattle.ledger.specs.After.{worldAfter}
@@ -14,19 +12,14 @@ use Rattle.moves.specs.Given.{Given}
 use Rattle.moves.specs.Moves.{stepMoves, stepDuration}
 use Rattle.moves.specs.Account.{tablesGive}
 use Rattle.moves.proofs.MoveLaws.{flood-walled, lost-covered}
-use Rattle.flood.specs.Refusals.{stepChecks}
 use Rattle.flood.specs.Step.{stepNumber, stepped}
-use Rattle.flood.proofs.CheckLaws.{ready, checks-named}
-use Rattle.flood.proofs.RunToLaws.{made-is}
+use Rattle.flood.proofs.CheckLaws.{ready}
+use Rattle.flood.proofs.RunToLaws.{made-is, checks-passed}
 
 module _ (p : Plan) (g : Given) (w : World) (made : stepNumber p g w ≡ 0) where
-  checked : refusal (stepChecks p g (ringOf p w) (seenOf w)) ≡ 0
-  unfolding stepNumber
-  checked = refusal-both (stepChecks p g (ringOf p w) (seenOf w)) _ (checks-named p g (ringOf p w) (seenOf w)) made .0
-
   balanced : Balanced p (stepMoves p g (seenOf w)) w
   balanced =
-      let sited = ready p g (ringOf p w) (seenOf w) checked .flows .lies .sited in
+      let sited = ready p g (ringOf p w) (seenOf w) (checks-passed p g w made) .flows .lies .sited in
       record {
         walled = flood-walled p (g .lie) (w .depths) (w .lasts) (stepDuration p g (seenOf w));
         marks-long = sited .marks-long;

@@ -6,7 +6,6 @@ use Prim.Native.Nat.{ℕ, zero, suc, _-_, _*_, _/_, _%_, _≤_}
 use native.Mathlib.Nat.{mul-le-mul, div-le-self}
 use native.Mathlib.Omega.{arith}
 use borrow.Author.Tests.{eqb-true, leb-true}
-use Rattle.reckon.specs.Tests.{refusal}
 use Rattle.reckon.specs.Ranges.{lastClock, mostUpdate}
 use Rattle.reckon.proofs.TestLaws.{every-each, refusal-passed}
 use Rattle.rule.specs.Length.{isUpdate}

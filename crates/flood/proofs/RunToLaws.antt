@@ -43,6 +43,10 @@ module _ (p : Plan) (g : Given) (w : World) where
   unfolding stepped
   refused-is d = pick-false _ _ (ne-eqb _ _ d)
 
+  pub checks-passed : stepNumber p g w ≡ 0 → Valid p g w
+  unfolding stepNumber
+  checks-passed e = refusal-both (stepChecks p g (ringOf p w) (seenOf w)) _ (checks-named p g (ringOf p w) (seenOf w)) e .0
+
   late-passed : stepNumber p g w ≡ 0 → refusal (lateRefusals p (stepMoves p g (seenOf w)) w) ≡ 0
   unfolding stepNumber
   late-passed e = refusal-both (stepChecks p g (ringOf p w) (seenOf w)) _ (checks-named p g (ringOf p w) (seenOf w)) e .1

@@ -1,23 +1,21 @@
 -- How many steps a run makes (document 02, #112): by the spans from its clock to its end, a span being the time from a multiple of U to
 -- the next. Followed step by step: each takes at least one off the most that is left, and at most one off the least.
 -- Assumes nothing.
-use mathlib.Core.Path.{_≡_, refl, sym, _∙_, ap}
+use mathlib.Core.Path.{_≡_, refl, sym, _∙_}
 use Prim.Native.Nat.{ℕ, zero, suc, _+_, _-_, _%_, _≤_, _<_}
 use native.Mathlib.Decide.{decLt, ℕ-discrete}
 use native.Mathlib.Omega.{arith}
 use Rattle.reckon.specs.Tests.{refusal}
-use Rattle.rule.specs.Bounds.{stepsOver, mostSteps, leastSteps}
-use Rattle.rule.specs.inner.InRange.{RulesInRange}
+use Rattle.rule.specs.Bounds.{mostSteps, leastSteps}
 use Rattle.rule.specs.declared.rules.Rules.{Rules}
 use Rattle.rule.proofs.SpanLaws.{Stands, Onward, mostLeft, leastLeft, over-none, stands-start, stands-end, step-on}
 use Rattle.ledger.specs.Runs.{Plan, World, seenOf}
 use Rattle.ledger.specs.Record.{ringOf}
 use Rattle.moves.specs.Given.{Given}
 use Rattle.moves.specs.Moves.{candidates, stepDuration, stepLength}
-use Rattle.moves.specs.inner.Ready.{Ready}
 use Rattle.flood.specs.Refusals.{runChecks}
 use Rattle.flood.specs.Step.{stepNumber, stepped}
-use Rattle.flood.specs.Run.{Ended, ended, runTo}
+use Rattle.flood.specs.Run.{Ended, runTo}
 use Rattle.flood.proofs.CheckLaws.{ready, run-checks-step, run-checks-end, end-is}
 use Rattle.flood.proofs.RunToLaws.{Valid, still-valid, clock-after, length-after, clock-on, whole, run-ends, run-refused, run-steps, run-checked, run-passed}
 

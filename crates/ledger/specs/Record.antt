@@ -11,7 +11,6 @@ use Rattle.trials.specs.Ring.{slotsIn, ringFine}
 use Rattle.trials.specs.Room.{recordIn}
 use Rattle.grid.specs.declared.squares.Shape.{Shape}
 use Rattle.grid.specs.Squares.{north, east, south, west, mostSquares, squares, ShapeInRange}
-use Rattle.grid.specs.Squares.{north, east, south, west, squares, mostSquares, ShapeInRange}
 use Rattle.ledger.specs.Runs.{Plan, World, plan}
 use Rattle.ledger.specs.Flows.{Leaves, shut, gone, sent, came, offSquare}
 

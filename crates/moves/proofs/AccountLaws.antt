@@ -1,18 +1,10 @@
 -- Laws of what the tables give: nothing by clock 0, and by a later clock what they gave by an earlier one and between the two.
 -- Assumes nothing.
-use mathlib.Core.Path.{_≡_, refl, sym, _∙_, ap}
-use mathlib.Core.Bool.{Bool}
-use Prim.Native.Nat.{ℕ, _+_, _*_, _/_, _%_, _≤_, _<_}
-use native.Mathlib.Nat.{mul-zero, zero-div}
+use mathlib.Core.Path.{_≡_, sym, _∙_}
+use Prim.Native.Nat.{ℕ, _+_, _/_, _%_, _≤_}
 use native.Mathlib.Omega.{arith}
-use lib.ListN.{length, getD}
-use Rattle.reckon.specs.Tests.{pick}
-use Rattle.reckon.specs.Tables.{rainBy, inflowBy}
 use Rattle.reckon.proofs.TableLaws.{rain-mono, inflow-mono, rain-start, inflow-start}
-use Rattle.reckon.proofs.ListLaws.{sum-zero}
-use Rattle.grid.specs.Squares.{squares}
 use Rattle.ledger.specs.Runs.{Plan}
-use Rattle.ledger.specs.Account.{overOpen}
 use Rattle.ledger.proofs.Account.{open-add, open-ext, open-zero}
 use Rattle.moves.specs.Given.{Given}
 use Rattle.moves.specs.Moves.{addedFor}

@@ -1,6 +1,5 @@
 -- `rule::weighing::scaled` meets its contract: the sum decides, and each share is that of the depth.
 -- Assumes nothing.
-use native.Mathlib.Omega.{arith}
 use borrow.Author.Needs.{needs}
 use Rattle.rule.proofs.WeighingLaws.{scaled-kept, scaled-cut}
 use Rattle.rule.proofs.weighing.scaled.Statement.{statement}
