@@ -199,6 +199,11 @@ pub fn deep_and_steep(tally: &mut Tally, chance: &mut Chance) {
     }
 }
 
+/// The least whole number that is not below a quotient; Debian's compiler has no `div_ceil` yet.
+fn rounded_up(over: u64, under: u64) -> u64 {
+    (over + under - 1) / under
+}
+
 /// The largest whole number whose power fits, by binary digits: apart from both engines.
 fn root(power: u32, of: u64) -> u64 {
     let fits = |root: u64| (root as u128).pow(power) <= of as u128;
@@ -238,13 +243,13 @@ pub fn at_critical(tally: &mut Tally, chance: &mut Chance) {
         let (critical, height) = (root(2, 9_810_000 * depth), root(3, depth * depth));
         let mut near = vec![(10_000, 100 * critical / height)];
         for roughness in 1..=10_000 {
-            let above = (critical * roughness).div_ceil(100 * height);
+            let above = rounded_up(critical * roughness, 100 * height);
             let beside = |slope: u64| (100 * height * slope / roughness).abs_diff(critical) <= 2;
             near.extend([above - 1, above].into_iter().filter(|slope| beside(*slope)).map(|slope| (roughness, slope)));
         }
         let side = chance.pick(&[1, 2, 10, 99, 100]);
         let (roughness, slope) = chance.pick(&near);
-        let drop = (slope * slope * side).div_ceil(100);
+        let drop = rounded_up(slope * slope * side, 100);
         let ms = chance.between(side * 1_000_000_000 / depth, side * 1_000_000_000 / (2 * critical));
         one_fall(tally, chance, [side, depth, roughness, drop, ms]);
     }
@@ -260,7 +265,8 @@ pub fn at_whole_amounts(tally: &mut Tally, chance: &mut Chance) {
         let manning = 100 * root(3, depth * depth) * root(2, 100 * drop / side) / roughness;
         let speed = manning.min(root(2, 9_810_000 * depth)).max(1) as u128;
         let amount = chance.pick(&[1, 2, 1 + depth / 3]) as u128;
-        let enough = (amount * side as u128 * 1_000_000_000).div_ceil(speed * depth as u128).clamp(2, 60_000) as u64;
+        let (over, under) = (amount * side as u128 * 1_000_000_000, speed * depth as u128);
+        let enough = ((over + under - 1) / under).clamp(2, 60_000) as u64;
         for ms in [enough, enough - 1] {
             one_fall(tally, chance, [side, depth, roughness, drop, ms]);
         }
@@ -307,7 +313,7 @@ pub fn at_sums(tally: &mut Tally, chance: &mut Chance) {
         let critical = root(2, 9_810_000 * depth);
         let speed = |drop: u64| critical.min(100 * root(3, depth * depth) * root(2, 100 * drop / side) / roughness);
         let speeds = drops.into_iter().filter(|drop| *drop > 0).map(speed).sum::<u64>().max(1);
-        let whole = (side * 1_000_000_000).div_ceil(speeds).clamp(2, 59_999);
+        let whole = rounded_up(side * 1_000_000_000, speeds).clamp(2, 59_999);
         for ms in [whole - 1, whole, whole + 1] {
             four_falls(tally, chance, drops, [side, depth, roughness, ms]);
         }
@@ -438,7 +444,7 @@ fn at_what_is_left(tally: &mut Tally, chance: &mut Chance) {
         let left = lent.meadow.depths[square] as u64 - unsoaked.meadow.records[at..at + 4].iter().map(|sent| *sent as u64).sum::<u64>();
         let wanted = (left + chance.below(3)).saturating_sub(1);
         let beside = chance.below(3);
-        let rate = (wanted * 3_600_000).div_ceil(ms) + beside;
+        let rate = rounded_up(wanted * 3_600_000, ms) + beside;
         lent.meadow.rates[square] = rate.saturating_sub(1).min(MOST_SOAK_RATE) as u32;
     }
     let step = tally.call(Call::Step, &lent);
