@@ -1,12 +1,12 @@
--- `ledger::settle::new_depth` meets its contract: what remains and what is gained; a dry square had nothing to lose.
+-- `ledger::gather::new_depth` meets its contract: what remains and what is gained; a dry square had nothing to lose.
 -- Assumes nothing.
 use native.Mathlib.Omega.{arith}
 use Rattle.ledger.specs.Runs.{plan}
 use Rattle.ledger.specs.After.{remains, newDepth}
 use Rattle.ledger.proofs.FlowLaws.{came-small, added-small}
 use borrow.Author.Needs.{needs}
-use Rattle.ledger.proofs.settle.new_depth.Statement.{statement}
-use Rattle.ledger.proofs.settle.new_depth.Tie as tie
+use Rattle.ledger.proofs.gather.new_depth.Statement.{statement}
+use Rattle.ledger.proofs.gather.new_depth.Tie as tie
 
 gains-requires : tie.Need-gains-requires
 gains-requires c κs = search needs

@@ -1,13 +1,13 @@
--- `ledger::settle::gather_square` meets its contract: a closed square, one too deep, or one stored.
+-- `ledger::gather::gather_square` meets its contract: a closed square, one too deep, or one stored.
 -- Assumes nothing.
 use mathlib.Core.Path.{sym, _∙_}
 use native.Mathlib.Omega.{arith}
 use lib.ListN.{length-set}
 use Rattle.ledger.specs.Runs.{plan}
-use Rattle.ledger.proofs.SettleLaws.{gathered-closed, gathered-deep, gathered-open}
+use Rattle.ledger.proofs.GatherLaws.{gathered-closed, gathered-deep, gathered-open}
 use borrow.Author.Needs.{needs}
-use Rattle.ledger.proofs.settle.gather_square.Statement.{statement}
-use Rattle.ledger.proofs.settle.gather_square.Tie as tie
+use Rattle.ledger.proofs.gather.gather_square.Statement.{statement}
+use Rattle.ledger.proofs.gather.gather_square.Tie as tie
 
 is-closed-requires : tie.Need-is-closed-requires
 is-closed-requires c κs =

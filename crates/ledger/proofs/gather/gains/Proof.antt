@@ -1,4 +1,4 @@
--- `ledger::settle::gains` meets its contract: what came and what is added, on the rim or off it.
+-- `ledger::gather::gains` meets its contract: what came and what is added, on the rim or off it.
 -- Assumes nothing.
 use mathlib.Core.Path.{sym, ap₂, _∙_}
 use Prim.Native.Nat.{ℕ, _+_}
@@ -6,8 +6,8 @@ use native.Mathlib.Omega.{arith}
 use Rattle.ledger.specs.Runs.{plan}
 use Rattle.ledger.proofs.FlowLaws.{came-small, added-small}
 use borrow.Author.Needs.{needs}
-use Rattle.ledger.proofs.settle.gains.Statement.{statement}
-use Rattle.ledger.proofs.settle.gains.Tie as tie
+use Rattle.ledger.proofs.gather.gains.Statement.{statement}
+use Rattle.ledger.proofs.gather.gains.Tie as tie
 
 on-rim-requires : tie.Need-on-rim-requires
 on-rim-requires c κs = search needs
