@@ -1,4 +1,4 @@
--- `moves::length::least_candidate` meets its contract: the least of the squares passed.
+-- `moves::length::least_of_all` meets its contract: the least of the squares passed.
 -- Assumes nothing.
 use mathlib.Core.Path.{_≡_, sym}
 use Prim.Native.Nat.{_-_, _*_, _%_, _≤_}
@@ -12,8 +12,8 @@ use Rattle.moves.specs.Given.{Ground}
 use Rattle.moves.specs.inner.Fill.{firm}
 use Rattle.moves.specs.Moves.{squareCandidates}
 use Rattle.moves.proofs.LengthLaws.{least-begin, least-more, least-all}
-use Rattle.moves.proofs.length.least_candidate.Statement.{statement}
-use Rattle.moves.proofs.length.least_candidate.Tie as tie
+use Rattle.moves.proofs.length.least_of_all.Statement.{statement}
+use Rattle.moves.proofs.length.least_of_all.Tie as tie
 
 abbrev Inv-loop : tie.InvT-loop
 Inv-loop shape rules marks beds roughness depths squares best₀ square₀ column₀ best square column =
@@ -83,8 +83,8 @@ returns c =
     let s = start (c .before) in
     least-all (p s) (o s) (s .args .depths .now) (s .args .rules .longest) (c .before .loop .inv .2) (omega arith)
 
-pub least-candidate-spec : {M : Type 1} → statement M
-least-candidate-spec =
+pub least-of-all-spec : {M : Type 1} → statement M
+least-of-all-spec =
     tie.close
     (tie.spec
     Inv-loop
