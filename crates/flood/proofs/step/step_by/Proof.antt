@@ -1,11 +1,11 @@
--- `flood::step::step` meets its contract: rows 1 to 6 refuse, or the inner step decides.
+-- `flood::step::step_by` meets its contract: rows 1 to 6 refuse, or the inner step decides.
 -- Assumes nothing.
 use borrow.Author.Needs.{needs}
 use Rattle.ledger.specs.Runs.{Plan, World, plan, world}
 use Rattle.moves.specs.Given.{Given, ground, given}
 use Rattle.flood.proofs.StepLaws.{step-checked, passes-checks, step-refused, step-done}
-use Rattle.flood.proofs.step.step.Statement.{statement}
-use Rattle.flood.proofs.step.step.Tie as tie
+use Rattle.flood.proofs.step.step_by.Statement.{statement}
+use Rattle.flood.proofs.step.step_by.Tie as tie
 
 -- ---- the places, each by the one before it
 
@@ -89,8 +89,8 @@ same-length-9 c = search needs
 returns-3 : tie.Need-returns-3
 returns-3 c = let s = start (c .before) in step-done (p s) (g s) (w s) (finished (c .before) .step-on .ensures) (c .if2 .left)
 
-pub step-spec : {M : Type 1} → statement M
-step-spec =
+pub step-by-spec : {M : Type 1} → statement M
+step-by-spec =
     tie.close
     (tie.spec
     rules-fine-requires

@@ -1,10 +1,10 @@
--- `flood::run::run_to` meets its contract: rows 1 to 6 refuse, or the steps decide, in parts of the rooms that are of their sizes.
+-- `flood::run::run_to_by` meets its contract: rows 1 to 6 refuse, or the steps decide, in parts of the rooms that are of their sizes.
 -- Assumes nothing.
 use mathlib.Core.Path.{_≡_, sym, _∙_}
 use Prim.Native.Nat.{_≤_}
 use borrow.Author.Needs.{needs}
 use Rattle.reckon.specs.Tests.{refusal}
-use Rattle.grid.specs.Squares.{ShapeInRange, mostSquares}
+use Rattle.grid.specs.Squares.{ShapeInRange, mostAlong, mostSquares}
 use Rattle.ledger.specs.Runs.{Plan, World, plan, world}
 use Rattle.ledger.specs.Record.{mostRecord}
 use Rattle.moves.specs.Given.{Given, ground, given}
@@ -12,8 +12,8 @@ use Rattle.flood.specs.Refusals.{runChecks}
 use Rattle.flood.proofs.CheckLaws.{run-checks-step, run-checks-end, end-is}
 use Rattle.flood.proofs.StepLaws.{is-ready, record-part, squares-part, part-long}
 use Rattle.flood.proofs.RunToLaws.{run-checked, run-passed}
-use Rattle.flood.proofs.run.run_to.Statement.{statement}
-use Rattle.flood.proofs.run.run_to.Tie as tie
+use Rattle.flood.proofs.run.run_to_by.Statement.{statement}
+use Rattle.flood.proofs.run.run_to_by.Tie as tie
 
 -- ---- the places, each by the one before it
 
@@ -24,7 +24,7 @@ abbrev to-run : tie.After-run-on-arg3 → tie.After-squares-of
 to-run c = c .before .before .before
 
 abbrev finished : tie.After-room2 → tie.After-run-on
-finished c = c .before .before .before .before .before .before .before .before
+finished c = c .before .before .before .before .before .before .before .before .before
 
 -- ---- what is known there
 
@@ -55,6 +55,9 @@ record-fits c = record-part (start (past c) .args .shape) (fine (past c)) (c .be
 
 squares-fit : (c : tie.After-squares-of) → c .squares-of .result ≤ mostSquares
 squares-fit c = squares-part (start (past c) .args .shape) (fine (past c)) (c .squares-of .ensures)
+
+rows-fit : (c : tie.After-squares-of) → start (past c) .args .shape .rows ≤ mostAlong
+rows-fit c = fine (past c) .rows-high
 
 -- ---- the answers
 
@@ -87,20 +90,27 @@ array-borrow-prefix-rec c = record-fits (to-run c)
 slice-aggregate-run-on : tie.Need-slice-aggregate-run-on
 slice-aggregate-run-on c = sym (part-long mostRecord (record-fits (to-run (c .before))))
 
-array-borrow-prefix-room : tie.Need-array-borrow-prefix-room
-array-borrow-prefix-room c = squares-fit (to-run (c .before))
+array-borrow-prefix-senders : tie.Need-array-borrow-prefix-senders
+array-borrow-prefix-senders c = rows-fit (to-run (c .before))
 
 slice-aggregate-run-on-2 : tie.Need-slice-aggregate-run-on-2
-slice-aggregate-run-on-2 c = sym (part-long mostSquares (squares-fit (to-run (c .before .before))))
+slice-aggregate-run-on-2 c = sym (part-long mostAlong (rows-fit (to-run (c .before .before))))
+
+array-borrow-prefix-room : tie.Need-array-borrow-prefix-room
+array-borrow-prefix-room c = squares-fit (to-run (c .before .before))
+
+slice-aggregate-run-on-3 : tie.Need-slice-aggregate-run-on-3
+slice-aggregate-run-on-3 c = sym (part-long mostSquares (squares-fit (to-run (c .before .before .before))))
 
 run-on-requires : tie.Need-run-on-requires
 run-on-requires c κs =
-    let at-squares-of = to-run (c .before .before) in
+    let at-squares-of = to-run (c .before .before .before) in
     let e = passed (past at-squares-of) in
     let s = start (past at-squares-of) in (
       record { checked = run-checks-step (p s) (g s) (s .args .end) (w s) e },
       (
         part-long mostRecord (record-fits at-squares-of) ∙ at-squares-of .before .record-size .ensures,
+        part-long mostAlong (rows-fit at-squares-of),
         part-long mostSquares (squares-fit at-squares-of) ∙ at-squares-of .squares-of .ensures,
         end-is (s .args .rules) (s .args .end) (run-checks-end (p s) (g s) (s .args .end) (w s) e) .0,
       ),
@@ -118,12 +128,12 @@ same-length-6 c = search needs
 returns-2 : tie.Need-returns-2
 returns-2 c =
     let at-run-on = finished c in
-    let at-if1 = past (to-run (at-run-on .before .before .before)) in
+    let at-if1 = past (to-run (at-run-on .before .before .before .before)) in
     let s = start at-if1 in
     record { ends = run-passed (p s) (g s) (s .args .end) (w s) (at-if1 .before .check .ensures) (at-if1 .if1 .left) (at-run-on .run-on .ensures .ends) }
 
-pub run-to-spec : {M : Type 1} → statement M
-run-to-spec =
+pub run-to-by-spec : {M : Type 1} → statement M
+run-to-by-spec =
     tie.close
     (tie.spec
     check-requires
@@ -135,8 +145,10 @@ run-to-spec =
     squares-of-requires
     array-borrow-prefix-rec
     slice-aggregate-run-on
-    array-borrow-prefix-room
+    array-borrow-prefix-senders
     slice-aggregate-run-on-2
+    array-borrow-prefix-room
+    slice-aggregate-run-on-3
     run-on-requires
     same-length-4
     same-length-5
