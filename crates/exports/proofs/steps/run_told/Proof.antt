@@ -1,12 +1,12 @@
--- `exports::steps::flood_run_to` meets its contract: each slice has its size, or the call is refused by 1.
+-- `exports::steps::run_told` meets its contract: each slice has its size, or the call is refused by 1.
 -- Assumes nothing.
 use borrow.Author.Tests.{eq-eqb, ne-eqb}
 use Rattle.reckon.proofs.TestLaws.{each-every, every-fails}
 use Rattle.exports.proofs.NumberLaws.{plan-of, given-of, world-of}
 use Rattle.exports.proofs.StepLaws.{run-unsized, run-told}
 use borrow.Author.Needs.{needs}
-use Rattle.exports.proofs.steps.flood_run_to.Statement.{statement}
-use Rattle.exports.proofs.steps.flood_run_to.Tie as tie
+use Rattle.exports.proofs.steps.run_told.Statement.{statement}
+use Rattle.exports.proofs.steps.run_told.Tie as tie
 
 returns : tie.Need-returns
 returns c =
@@ -29,8 +29,8 @@ rules-from-requires c κs = search needs
 run-from-requires : tie.Need-run-from-requires
 run-from-requires c κs = search needs
 
-run-to-requires : tie.Need-run-to-requires
-run-to-requires c κs = search needs
+run-to-by-requires : tie.Need-run-to-by-requires
+run-to-by-requires c κs = search needs
 
 tell-ran-requires : tie.Need-tell-ran-requires
 tell-ran-requires c κs = search needs
@@ -61,10 +61,10 @@ returns-4 c =
     run-told _ _ _ _ _ _ _
     (each-every _ (eq-eqb _ _ (at-if2 .before .if1 .left), (eq-eqb _ _ (at-if2 .if2 .left), (eq-eqb _ _ (at-if3 .if3 .left), tt))))
     (plan-of (at-rules .before .shape-from .ensures)) (given-of (at-rules .rules-from .ensures)) (world-of (at-run .run-from .ensures))
-    (at-run-to .run-to .ensures) (at-tell-ran .tell-ran .ensures)
+    (at-run-to .run-to-by .ensures) (at-tell-ran .tell-ran .ensures)
 
-pub flood-run-to-spec : {M : Type 1} → statement M
-flood-run-to-spec =
+pub run-told-spec : {M : Type 1} → statement M
+run-told-spec =
     tie.close
     (tie.spec
     returns
@@ -73,7 +73,7 @@ flood-run-to-spec =
     shape-from-requires
     rules-from-requires
     run-from-requires
-    run-to-requires
+    run-to-by-requires
     tell-ran-requires
     same-length
     same-length-2

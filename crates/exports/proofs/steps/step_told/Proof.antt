@@ -1,12 +1,12 @@
--- `exports::steps::flood_step` meets its contract: each slice has its size, or the call is refused by 1.
+-- `exports::steps::step_told` meets its contract: each slice has its size, or the call is refused by 1.
 -- Assumes nothing.
 use borrow.Author.Tests.{eq-eqb, ne-eqb}
 use Rattle.reckon.proofs.TestLaws.{each-every, every-fails}
 use Rattle.exports.proofs.NumberLaws.{plan-of, given-of, world-of}
 use Rattle.exports.proofs.StepLaws.{step-unsized, step-told}
 use borrow.Author.Needs.{needs}
-use Rattle.exports.proofs.steps.flood_step.Statement.{statement}
-use Rattle.exports.proofs.steps.flood_step.Tie as tie
+use Rattle.exports.proofs.steps.step_told.Statement.{statement}
+use Rattle.exports.proofs.steps.step_told.Tie as tie
 
 returns : tie.Need-returns
 returns c =
@@ -25,8 +25,8 @@ rules-from-requires c κs = search needs
 run-from-requires : tie.Need-run-from-requires
 run-from-requires c κs = search needs
 
-step-requires : tie.Need-step-requires
-step-requires c κs = search needs
+step-by-requires : tie.Need-step-by-requires
+step-by-requires c κs = search needs
 
 tell-answer-requires : tie.Need-tell-answer-requires
 tell-answer-requires c κs = search needs
@@ -53,10 +53,10 @@ returns-3 c =
     step-told _ _ _ _ _
     (each-every _ (eq-eqb _ _ (at-if2 .before .if1 .left), (eq-eqb _ _ (at-if2 .if2 .left), tt)))
     (plan-of (at-rules .before .shape-from .ensures)) (given-of (at-rules .rules-from .ensures)) (world-of (at-run .run-from .ensures))
-    (at-step .step .ensures) (at-tell-answer .tell-answer .ensures)
+    (at-step .step-by .ensures) (at-tell-answer .tell-answer .ensures)
 
-pub flood-step-spec : {M : Type 1} → statement M
-flood-step-spec =
+pub step-told-spec : {M : Type 1} → statement M
+step-told-spec =
     tie.close
     (tie.spec
     returns
@@ -64,7 +64,7 @@ flood-step-spec =
     shape-from-requires
     rules-from-requires
     run-from-requires
-    step-requires
+    step-by-requires
     tell-answer-requires
     same-length
     same-length-2
