@@ -64,7 +64,9 @@ REFUSALS = [
 STACK = {
     "flood_fresh": 16,
     "flood_step": 144,
+    "flood_step_wet": 144,
     "flood_run_to": 144,
+    "flood_run_to_wet": 144,
     "flood_take_back": 16,
     "flood_step_bounds": 16,
     "flood_arrow": 16,
@@ -98,7 +100,11 @@ TOP = """\
      flood_read_sheet   writes `line` unless `heading` or `line` has not its size.
      flood_run_to       refused by 7, 8, 9 or 15 has made the steps that `steps` tells; depths, lasts, records and run are those before the
                         step refused.
+     flood_run_to_wet   the same.
    flood_meadow prints a refusal as it prints an answer.
+
+   flood_step_wet and flood_run_to_wet give and write just what flood_step and flood_run_to do, on every input, refused ones too; they work
+   only the sides of squares with water.
 
    A call does nothing but write the arrays lent to it: it takes no memory, opens nothing, waits for nothing, and ends. Its own rooms lie
    on the stack. This much of it suffices, as tests/stack.sh measures for each on the largest grid:

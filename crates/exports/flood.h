@@ -22,13 +22,19 @@
      flood_read_sheet   writes `line` unless `heading` or `line` has not its size.
      flood_run_to       refused by 7, 8, 9 or 15 has made the steps that `steps` tells; depths, lasts, records and run are those before the
                         step refused.
+     flood_run_to_wet   the same.
    flood_meadow prints a refusal as it prints an answer.
+
+   flood_step_wet and flood_run_to_wet give and write just what flood_step and flood_run_to do, on every input, refused ones too; they work
+   only the sides of squares with water.
 
    A call does nothing but write the arrays lent to it: it takes no memory, opens nothing, waits for nothing, and ends. Its own rooms lie
    on the stack. This much of it suffices, as tests/stack.sh measures for each on the largest grid:
      flood_fresh         16 KiB
      flood_step         144 KiB
+     flood_step_wet     144 KiB
      flood_run_to       144 KiB
+     flood_run_to_wet   144 KiB
      flood_take_back     16 KiB
      flood_step_bounds   16 KiB
      flood_arrow         16 KiB
@@ -86,15 +92,30 @@ uint32_t flood_fresh(size_t rows, size_t columns, const uint64_t *rules, size_t 
     size_t marks_numbers, uint32_t *lasts, size_t lasts_numbers, const uint32_t *records, size_t records_numbers,
     uint64_t *run, size_t run_numbers);
 
-/* One step. */
+/* One step: every square is worked. */
 uint32_t flood_step(size_t rows, size_t columns, const uint64_t *rules, size_t rules_numbers, const uint8_t *marks,
     size_t marks_numbers, const uint32_t *beds, size_t beds_numbers, const uint32_t *roughness,
     size_t roughness_numbers, const uint32_t *rates, size_t rates_numbers, const uint32_t *rain, size_t rain_numbers,
     const uint32_t *inflow, size_t inflow_numbers, uint32_t *depths, size_t depths_numbers, uint32_t *lasts,
     size_t lasts_numbers, uint32_t *records, size_t records_numbers, uint64_t *run, size_t run_numbers);
 
-/* Steps to an end of the clock, and how many were made. */
+/* One step by the wet walk: only the sides of squares with water are worked. */
+uint32_t flood_step_wet(size_t rows, size_t columns, const uint64_t *rules, size_t rules_numbers, const uint8_t *marks,
+    size_t marks_numbers, const uint32_t *beds, size_t beds_numbers, const uint32_t *roughness,
+    size_t roughness_numbers, const uint32_t *rates, size_t rates_numbers, const uint32_t *rain, size_t rain_numbers,
+    const uint32_t *inflow, size_t inflow_numbers, uint32_t *depths, size_t depths_numbers, uint32_t *lasts,
+    size_t lasts_numbers, uint32_t *records, size_t records_numbers, uint64_t *run, size_t run_numbers);
+
+/* Steps to an end of the clock, and how many were made: every square is worked at each. */
 uint32_t flood_run_to(size_t rows, size_t columns, const uint64_t *rules, size_t rules_numbers, uint64_t end,
+    const uint8_t *marks, size_t marks_numbers, const uint32_t *beds, size_t beds_numbers, const uint32_t *roughness,
+    size_t roughness_numbers, const uint32_t *rates, size_t rates_numbers, const uint32_t *rain, size_t rain_numbers,
+    const uint32_t *inflow, size_t inflow_numbers, uint32_t *depths, size_t depths_numbers, uint32_t *lasts,
+    size_t lasts_numbers, uint32_t *records, size_t records_numbers, uint64_t *run, size_t run_numbers, uint64_t *steps,
+    size_t steps_numbers);
+
+/* The same by the wet walk. */
+uint32_t flood_run_to_wet(size_t rows, size_t columns, const uint64_t *rules, size_t rules_numbers, uint64_t end,
     const uint8_t *marks, size_t marks_numbers, const uint32_t *beds, size_t beds_numbers, const uint32_t *roughness,
     size_t roughness_numbers, const uint32_t *rates, size_t rates_numbers, const uint32_t *rain, size_t rain_numbers,
     const uint32_t *inflow, size_t inflow_numbers, uint32_t *depths, size_t depths_numbers, uint32_t *lasts,

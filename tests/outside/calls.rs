@@ -1,8 +1,8 @@
-//! One call made by the reference and by the library on the same input, and everything compared afterwards: the answer, every number
-//! lent, the run. The first difference is printed with its input and ends the program.
+//! One call made by the reference and by the library on the same input, a step and a run by each of the library's walks, and everything
+//! compared afterwards: the answer, every number lent, the run. The first difference is printed with its input and ends the program.
 
 use crate::declared::{self, BOUNDS_NUMBERS, COUNT_NUMBERS, HEADING_NUMBERS, LINE_NUMBERS, OUT_ROOM, RULES_NUMBERS, RUN_NUMBERS, SPEED_NUMBERS, STEPS_NUMBERS};
-use crate::library;
+use crate::library::{self, Walk};
 use crate::meadows::{Lent, Sizes};
 use crate::plain;
 use crate::reference::{self, Arrow, Bounds, Heading, Made, Meadow, Run};
@@ -24,12 +24,22 @@ pub enum Call {
 
 use Call::*;
 
+impl Call {
+    /// The walks by which the library makes the call, each on every input; a call without that choice stands under the first.
+    pub fn walks(self) -> &'static [Walk] {
+        match self {
+            Step | RunTo => &[Walk::All, Walk::Wet],
+            _ => &[Walk::All],
+        }
+    }
+}
+
 /// The calls on a meadow.
 pub const ON_MEADOW: [Call; 7] = [Fresh, Step, RunTo, TakeBack, StepBounds, Call::Arrow, WetRows];
 
-/// What each call can answer: 0, a refusal, for an arrow 101 closed, 102 dry, 103 still, and 104 where figures do not hold. A run can
-/// never give 7: its end is in range and no step passes a multiple of the update time. `meadow` can never give 15: in a week less soaks
-/// into all its squares.
+/// What each call can answer, by each of its walks: 0, a refusal, for an arrow 101 closed, 102 dry, 103 still, and 104 where figures do
+/// not hold. A run can never give 7: its end is in range and no step passes a multiple of the update time. `meadow` can never give 15: in a
+/// week less soaks into all its squares.
 pub const ANSWERS: [(Call, &[u32]); 9] = [
     (Fresh, &[0, 1, 2, 5, 6]),
     (Step, &[0, 1, 2, 3, 4, 5, 6, 7, 8, 9, 15]),
@@ -82,7 +92,7 @@ pub struct Tally {
     pub seed: u64,
     pub round: u64,
     pub kind: &'static str,
-    pub by_answer: BTreeMap<(Call, u32), u64>,
+    pub by_answer: BTreeMap<(Call, Walk, u32), u64>,
     pub by_kind: BTreeMap<&'static str, u64>,
     pub by_damage: BTreeMap<(&'static str, u32), u64>,
 }
@@ -92,22 +102,24 @@ impl Tally {
     pub fn call(&mut self, call: Call, lent: &Lent) -> After {
         let expected = by_reference(call, lent);
         let input = || format!("tally.call(Call::{:?}, &{:?});", call, lent);
-        self.compare(call, &input, &expected, &by_library(call, lent), "the library");
+        for walk in call.walks() {
+            self.compare(call, &input, &expected, &by_library(call, *walk, lent), walk.name());
+            self.count(call, *walk, expected.number);
+        }
         if call == RunTo && lent.sizes == Sizes::default() {
             let run_to = [plain::run_to::<plain::Digits>, plain::run_to::<plain::Floats>];
             for (engine, name) in run_to.into_iter().zip(["the plain engine (digits)", "the plain engine (f64)"]) {
                 self.compare(call, &input, &expected, &by_run_to(lent, engine), name);
             }
         }
-        self.count(call, expected.number);
         expected
     }
 
     pub fn read_sheet(&mut self, lent: &LentSheet) -> After {
         let expected = sheet_by_reference(lent);
         let input = || format!("tally.read_sheet(&crate::calls::{:?});", lent);
-        self.compare(ReadSheet, &input, &expected, &sheet_by_library(lent), "the library");
-        self.count(ReadSheet, expected.number);
+        self.compare(ReadSheet, &input, &expected, &sheet_by_library(lent), Walk::All.name());
+        self.count(ReadSheet, Walk::All, expected.number);
         expected
     }
 
@@ -115,15 +127,15 @@ impl Tally {
     pub fn meadow(&mut self, text: &Text, room: usize) -> After {
         let expected = meadow_by_reference(text, room);
         let input = || format!("tally.meadow(&{:?}, {});", text, room);
-        self.compare(Call::Meadow, &input, &expected, &meadow_by_library(text, room), "the library");
+        self.compare(Call::Meadow, &input, &expected, &meadow_by_library(text, room), Walk::All.name());
         if room >= OUT_ROOM {
-            self.count(Call::Meadow, expected.number);
+            self.count(Call::Meadow, Walk::All, expected.number);
         }
         expected
     }
 
-    fn count(&mut self, call: Call, number: u32) {
-        *self.by_answer.entry((call, number)).or_insert(0) += 1;
+    fn count(&mut self, call: Call, walk: Walk, number: u32) {
+        *self.by_answer.entry((call, walk, number)).or_insert(0) += 1;
         *self.by_kind.entry(self.kind).or_insert(0) += 1;
     }
 
@@ -305,14 +317,14 @@ fn by_reference(call: Call, lent: &Lent) -> After {
     after
 }
 
-fn by_library(call: Call, lent: &Lent) -> After {
+fn by_library(call: Call, walk: Walk, lent: &Lent) -> After {
     let mut after = before(call, lent);
     let rules = rules(lent);
     let (meadow, run, answer) = (&mut after.meadow, &mut after.run, &mut after.answer);
     after.number = match call {
         Fresh => library::fresh(meadow, &rules, run),
-        Step => library::step(meadow, &rules, run),
-        RunTo => library::run_to(meadow, &rules, lent.end, run, answer),
+        Step => library::step(walk, meadow, &rules, run),
+        RunTo => library::run_to(walk, meadow, &rules, lent.end, run, answer),
         TakeBack => library::take_back(meadow, run),
         StepBounds => declared::flood_step_bounds(&rules, lent.run.clock, lent.end, answer),
         Call::Arrow => {

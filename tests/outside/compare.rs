@@ -25,15 +25,16 @@ mod worked;
 use calls::{Call, Tally, Text, ANSWERS};
 use chance::Chance;
 use declared::OUT_ROOM;
+use library::Walk;
 use std::time::{Duration, Instant};
 
-const ROUNDS: u64 = 568;
+const ROUNDS: u64 = 630;
 const LONG_ROUNDS: u64 = 10 * ROUNDS;
 
 type Kind = fn(&mut Tally, &mut Chance);
 
 /// The kinds of rounds, in turn.
-const KINDS: [(&str, Kind); 19] = [
+const KINDS: [(&str, Kind); 21] = [
     ("series of steps and take-backs", steps::series),
     ("one value at or past a limit", limits::one_value),
     ("two values at or past a limit", limits::two_values),
@@ -48,6 +49,8 @@ const KINDS: [(&str, Kind); 19] = [
     ("exact roundings of rain and inflow", steps::exact_roundings),
     ("soaking at its roundings and at what the sides leave", steps::soakings),
     ("shapes", steps::shapes),
+    ("one square with water, at each column", steps::wet_columns),
+    ("water in few squares, in all or in none", steps::waterings),
     ("figures before a run", spans::counted_runs),
     ("wet rows", steps::wet_rows),
     ("sheets", texts::good_sheets),
@@ -108,16 +111,26 @@ fn make_rounds(tally: &mut Tally, words: &Words) -> u64 {
     }
 }
 
+/// Each call by each of its walks, with what it can answer.
+fn by_each_walk() -> impl Iterator<Item = (Call, Walk, &'static [u32])> {
+    ANSWERS.into_iter().flat_map(|(call, answers)| call.walks().iter().map(move |walk| (call, *walk, answers)))
+}
+
+fn named(call: Call, walk: Walk) -> String {
+    let by = if walk == Walk::Wet { " wet" } else { "" };
+    format!("{:?}{}", call, by)
+}
+
 fn print_counts(tally: &Tally) {
     println!("outside: calls by kind");
     for (kind, count) in &tally.by_kind {
         println!("  {:>8}  {}", count, kind);
     }
     println!("outside: calls by answer (0 done, 1 to 12 and 15 refused; an arrow: 0 moving, 101 closed, 102 dry, 103 still; 104 no figures hold)");
-    for (call, answers) in ANSWERS {
-        let counts: Vec<String> =
-            answers.iter().map(|answer| format!("{}: {}", answer, tally.by_answer.get(&(call, *answer)).unwrap_or(&0))).collect();
-        println!("  {:<10} {}", format!("{:?}", call), counts.join(", "));
+    for (call, walk, answers) in by_each_walk() {
+        let seen = |answer: &u32| tally.by_answer.get(&(call, walk, *answer)).unwrap_or(&0);
+        let counts: Vec<String> = answers.iter().map(|answer| format!("{}: {}", answer, seen(answer))).collect();
+        println!("  {:<10} {}", named(call, walk), counts.join(", "));
     }
     println!("outside: damaged sheets by damage and what the reader answers");
     for name in sheets::DAMAGES.iter().map(|(name, _)| *name).chain([texts::TWO_DAMAGES]) {
@@ -131,11 +144,11 @@ fn print_counts(tally: &Tally) {
 /// some 156,000 steps, so that one is asked only where this run is made.
 fn answers_missing(tally: &Tally, endless: bool) -> bool {
     let mut missing = false;
-    for (call, answers) in ANSWERS {
+    for (call, walk, answers) in by_each_walk() {
         for answer in answers {
             let asked = endless || (call, *answer) != (Call::Meadow, 9);
-            if asked && !tally.by_answer.contains_key(&(call, *answer)) {
-                println!("outside: no input was answered {} by {:?}", answer, call);
+            if asked && !tally.by_answer.contains_key(&(call, walk, *answer)) {
+                println!("outside: no input was answered {} by {}", answer, named(call, walk));
                 missing = true;
             }
         }

@@ -38,10 +38,12 @@ pub const fn record_numbers(rows: usize, columns: usize) -> usize {
 }
 
 /// KiB of stack that suffice for each call.
-pub const STACK: [(&str, usize); 9] = [
+pub const STACK: [(&str, usize); 11] = [
     ("flood_fresh", 16),
     ("flood_step", 144),
+    ("flood_step_wet", 144),
     ("flood_run_to", 144),
+    ("flood_run_to_wet", 144),
     ("flood_take_back", 16),
     ("flood_step_bounds", 16),
     ("flood_arrow", 16),
@@ -64,7 +66,21 @@ mod linked {
             lasts_numbers: usize, records: *mut u32, records_numbers: usize, run: *mut u64,
             run_numbers: usize) -> u32;
 
+        pub fn flood_step_wet(rows: usize, columns: usize, rules: *const u64, rules_numbers: usize, marks: *const u8,
+            marks_numbers: usize, beds: *const u32, beds_numbers: usize, roughness: *const u32,
+            roughness_numbers: usize, rates: *const u32, rates_numbers: usize, rain: *const u32, rain_numbers: usize,
+            inflow: *const u32, inflow_numbers: usize, depths: *mut u32, depths_numbers: usize, lasts: *mut u32,
+            lasts_numbers: usize, records: *mut u32, records_numbers: usize, run: *mut u64,
+            run_numbers: usize) -> u32;
+
         pub fn flood_run_to(rows: usize, columns: usize, rules: *const u64, rules_numbers: usize, end: u64,
+            marks: *const u8, marks_numbers: usize, beds: *const u32, beds_numbers: usize, roughness: *const u32,
+            roughness_numbers: usize, rates: *const u32, rates_numbers: usize, rain: *const u32, rain_numbers: usize,
+            inflow: *const u32, inflow_numbers: usize, depths: *mut u32, depths_numbers: usize, lasts: *mut u32,
+            lasts_numbers: usize, records: *mut u32, records_numbers: usize, run: *mut u64, run_numbers: usize,
+            steps: *mut u64, steps_numbers: usize) -> u32;
+
+        pub fn flood_run_to_wet(rows: usize, columns: usize, rules: *const u64, rules_numbers: usize, end: u64,
             marks: *const u8, marks_numbers: usize, beds: *const u32, beds_numbers: usize, roughness: *const u32,
             roughness_numbers: usize, rates: *const u32, rates_numbers: usize, rain: *const u32, rain_numbers: usize,
             inflow: *const u32, inflow_numbers: usize, depths: *mut u32, depths_numbers: usize, lasts: *mut u32,
@@ -105,7 +121,7 @@ pub fn flood_fresh(rows: usize, columns: usize, rules: &[u64], marks: &[u8], las
     }
 }
 
-/// One step.
+/// One step: every square is worked.
 pub fn flood_step(rows: usize, columns: usize, rules: &[u64], marks: &[u8], beds: &[u32], roughness: &[u32],
     rates: &[u32], rain: &[u32], inflow: &[u32], depths: &mut [u32], lasts: &mut [u32], records: &mut [u32],
     run: &mut [u64]) -> u32 {
@@ -117,12 +133,37 @@ pub fn flood_step(rows: usize, columns: usize, rules: &[u64], marks: &[u8], beds
     }
 }
 
-/// Steps to an end of the clock, and how many were made.
+/// One step by the wet walk: only the sides of squares with water are worked.
+pub fn flood_step_wet(rows: usize, columns: usize, rules: &[u64], marks: &[u8], beds: &[u32], roughness: &[u32],
+    rates: &[u32], rain: &[u32], inflow: &[u32], depths: &mut [u32], lasts: &mut [u32], records: &mut [u32],
+    run: &mut [u64]) -> u32 {
+    unsafe {
+        linked::flood_step_wet(rows, columns, rules.as_ptr(), rules.len(), marks.as_ptr(), marks.len(), beds.as_ptr(),
+            beds.len(), roughness.as_ptr(), roughness.len(), rates.as_ptr(), rates.len(), rain.as_ptr(), rain.len(),
+            inflow.as_ptr(), inflow.len(), depths.as_mut_ptr(), depths.len(), lasts.as_mut_ptr(), lasts.len(),
+            records.as_mut_ptr(), records.len(), run.as_mut_ptr(), run.len())
+    }
+}
+
+/// Steps to an end of the clock, and how many were made: every square is worked at each.
 pub fn flood_run_to(rows: usize, columns: usize, rules: &[u64], end: u64, marks: &[u8], beds: &[u32], roughness: &[u32],
     rates: &[u32], rain: &[u32], inflow: &[u32], depths: &mut [u32], lasts: &mut [u32], records: &mut [u32],
     run: &mut [u64], steps: &mut [u64]) -> u32 {
     unsafe {
         linked::flood_run_to(rows, columns, rules.as_ptr(), rules.len(), end, marks.as_ptr(), marks.len(),
+            beds.as_ptr(), beds.len(), roughness.as_ptr(), roughness.len(), rates.as_ptr(), rates.len(),
+            rain.as_ptr(), rain.len(), inflow.as_ptr(), inflow.len(), depths.as_mut_ptr(), depths.len(),
+            lasts.as_mut_ptr(), lasts.len(), records.as_mut_ptr(), records.len(), run.as_mut_ptr(), run.len(),
+            steps.as_mut_ptr(), steps.len())
+    }
+}
+
+/// The same by the wet walk.
+pub fn flood_run_to_wet(rows: usize, columns: usize, rules: &[u64], end: u64, marks: &[u8], beds: &[u32],
+    roughness: &[u32], rates: &[u32], rain: &[u32], inflow: &[u32], depths: &mut [u32], lasts: &mut [u32],
+    records: &mut [u32], run: &mut [u64], steps: &mut [u64]) -> u32 {
+    unsafe {
+        linked::flood_run_to_wet(rows, columns, rules.as_ptr(), rules.len(), end, marks.as_ptr(), marks.len(),
             beds.as_ptr(), beds.len(), roughness.as_ptr(), roughness.len(), rates.as_ptr(), rates.len(),
             rain.as_ptr(), rain.len(), inflow.as_ptr(), inflow.len(), depths.as_mut_ptr(), depths.len(),
             lasts.as_mut_ptr(), lasts.len(), records.as_mut_ptr(), records.len(), run.as_mut_ptr(), run.len(),

@@ -26,6 +26,8 @@ int main(void)
     uint32_t rain[FLOOD_RAIN_ROOM], inflow[FLOOD_INFLOW_ROOM];
     uint64_t heading[FLOOD_HEADING_NUMBERS], line[FLOOD_LINE_NUMBERS], run[FLOOD_RUN_NUMBERS], steps[FLOOD_STEPS_NUMBERS];
     const uint64_t *rules = heading + FLOOD_HEADING_RULES;
+    uint32_t wet_depths[2], wet_lasts[2], wet_records[record];
+    uint64_t wet_run[FLOOD_RUN_NUMBERS], wet_steps[FLOOD_STEPS_NUMBERS];
     uint64_t wet[1], count[FLOOD_COUNT_NUMBERS];
     uint64_t bounds[FLOOD_BOUNDS_NUMBERS];
     double speeds[FLOOD_SPEED_NUMBERS];
@@ -50,6 +52,12 @@ int main(void)
     expect("wet count", count[0], 1);
     expect("take-back", flood_take_back(1, 2, marks, 2, depths, 2, lasts, 2, records, record, run, FLOOD_RUN_NUMBERS), FLOOD_DONE);
     expect("depth before", depths[0], 1000);
+    expect("step by the wet walk", flood_step_wet(1, 2, rules, FLOOD_RULES_NUMBERS, marks, 2, beds, 2, roughness, 2, rates, 2, rain, 0, inflow, 0, depths, 2, lasts, 2, records, record, run, FLOOD_RUN_NUMBERS), FLOOD_DONE);
+    expect("west depth by the wet walk", depths[0], 969);
+    expect("east depth by the wet walk", depths[1], 31);
+    expect("clock by the wet walk", run[0], 1000);
+    expect("take-back of it", flood_take_back(1, 2, marks, 2, depths, 2, lasts, 2, records, record, run, FLOOD_RUN_NUMBERS), FLOOD_DONE);
+    expect("depth before it", depths[0], 1000);
     expect("one more take-back", flood_take_back(1, 2, marks, 2, depths, 2, lasts, 2, records, record, run, FLOOD_RUN_NUMBERS), FLOOD_REFUSED_NONE_KEPT);
     expect("run of a wrong size", flood_fresh(1, 2, rules, FLOOD_RULES_NUMBERS, marks, 2, lasts, 2, records, record, run, FLOOD_RUN_NUMBERS - 1), FLOOD_REFUSED_SHAPE);
     expect("rules of a wrong size", flood_fresh(1, 2, rules, FLOOD_RULES_NUMBERS + 1, marks, 2, lasts, 2, records, record, run, FLOOD_RUN_NUMBERS), FLOOD_REFUSED_SHAPE);
@@ -58,18 +66,29 @@ int main(void)
     expect("most steps", bounds[0], 2);
     expect("least steps", bounds[1], 2);
     expect("figures from a clock between", flood_step_bounds(rules, FLOOD_RULES_NUMBERS, 1, 2000, bounds, FLOOD_BOUNDS_NUMBERS), FLOOD_NOT_BOUNDED);
+    memcpy(wet_depths, depths, sizeof depths);
+    memcpy(wet_lasts, lasts, sizeof lasts);
+    memcpy(wet_records, records, sizeof records);
+    memcpy(wet_run, run, sizeof run);
     expect("run to an end", flood_run_to(1, 2, rules, FLOOD_RULES_NUMBERS, 2000, marks, 2, beds, 2, roughness, 2, rates, 2, rain, 0, inflow, 0, depths, 2, lasts, 2, records, record, run, FLOOD_RUN_NUMBERS, steps, FLOOD_STEPS_NUMBERS), FLOOD_DONE);
     expect("steps", steps[0], 2);
     expect("west depth after two", depths[0], 941);
     expect("east depth after two, 2 of it soaked", depths[1], 57);
     expect("soaked", run[5], 2);
+    expect("run to an end by the wet walk", flood_run_to_wet(1, 2, rules, FLOOD_RULES_NUMBERS, 2000, marks, 2, beds, 2, roughness, 2, rates, 2, rain, 0, inflow, 0, wet_depths, 2, wet_lasts, 2, wet_records, record, wet_run, FLOOD_RUN_NUMBERS, wet_steps, FLOOD_STEPS_NUMBERS), FLOOD_DONE);
+    expect("steps by the wet walk", wet_steps[0], 2);
+    expect("west depth after two by the wet walk", wet_depths[0], 941);
+    expect("east depth after two by the wet walk", wet_depths[1], 57);
+    expect("soaked by the wet walk", wet_run[5], 2);
+    expect("records of both walks", memcmp(wet_records, records, sizeof records), 0);
     run[5] = 1;
     expect("a total below what the record soaked", flood_take_back(1, 2, marks, 2, depths, 2, lasts, 2, records, record, run, FLOOD_RUN_NUMBERS), FLOOD_REFUSED_RECORD);
     run[5] = 1000000000000000;
     expect("a total soaked that is full", flood_step(1, 2, rules, FLOOD_RULES_NUMBERS, marks, 2, beds, 2, roughness, 2, rates, 2, rain, 0, inflow, 0, depths, 2, lasts, 2, records, record, run, FLOOD_RUN_NUMBERS), FLOOD_REFUSED_SOAKED);
+    expect("a total soaked that is full, by the wet walk", flood_step_wet(1, 2, rules, FLOOD_RULES_NUMBERS, marks, 2, beds, 2, roughness, 2, rates, 2, rain, 0, inflow, 0, depths, 2, lasts, 2, records, record, run, FLOOD_RUN_NUMBERS), FLOOD_REFUSED_SOAKED);
     expect("printed", flood_meadow(text, strlen(sheet), out, sizeof out), strlen(answer));
     expect("as document 01 prints it", memcmp(out, answer, strlen(answer)), 0);
     if (!failed)
-        printf("header: C calls each of the 9 functions as flood.h declares them\n");
+        printf("header: C calls each of the 11 functions as flood.h declares them\n");
     return failed;
 }

@@ -1,7 +1,23 @@
-//! The static library's calls on a meadow, and rules and run as the numbers that go in and come out.
+//! The static library's calls on a meadow, steps and runs by either walk, and rules and run as the numbers that go in and come out.
 
 use crate::declared::*;
 use crate::reference::{Meadow, Rules, Run};
+
+/// Whether a step works the sides of all squares, or of those with water: two engines, with a function each for a step and for a run.
+#[derive(Clone, Copy, PartialEq, Eq, PartialOrd, Ord, Debug)]
+pub enum Walk {
+    All,
+    Wet,
+}
+
+impl Walk {
+    pub fn name(self) -> &'static str {
+        match self {
+            Walk::All => "the library",
+            Walk::Wet => "the library's wet walk",
+        }
+    }
+}
 
 pub fn rules_numbers(rules: &Rules) -> [u64; RULES_NUMBERS] {
     [rules.square_side, rules.tolerance, rules.shortest, rules.longest, rules.update, rules.edge, rules.edition]
@@ -20,16 +36,24 @@ pub fn fresh(meadow: &mut Meadow, rules: &[u64], run: &mut [u64]) -> u32 {
     flood_fresh(meadow.rows, meadow.columns, rules, &meadow.marks, &mut meadow.lasts, &meadow.records, run)
 }
 
-pub fn step(meadow: &mut Meadow, rules: &[u64], run: &mut [u64]) -> u32 {
-    flood_step(
+pub fn step(walk: Walk, meadow: &mut Meadow, rules: &[u64], run: &mut [u64]) -> u32 {
+    let step_by = match walk {
+        Walk::All => flood_step,
+        Walk::Wet => flood_step_wet,
+    };
+    step_by(
         meadow.rows, meadow.columns, rules,
         &meadow.marks, &meadow.beds, &meadow.roughness, &meadow.rates, &meadow.rain, &meadow.inflow,
         &mut meadow.depths, &mut meadow.lasts, &mut meadow.records, run,
     )
 }
 
-pub fn run_to(meadow: &mut Meadow, rules: &[u64], end: u64, run: &mut [u64], steps: &mut [u64]) -> u32 {
-    flood_run_to(
+pub fn run_to(walk: Walk, meadow: &mut Meadow, rules: &[u64], end: u64, run: &mut [u64], steps: &mut [u64]) -> u32 {
+    let run_to_by = match walk {
+        Walk::All => flood_run_to,
+        Walk::Wet => flood_run_to_wet,
+    };
+    run_to_by(
         meadow.rows, meadow.columns, rules, end,
         &meadow.marks, &meadow.beds, &meadow.roughness, &meadow.rates, &meadow.rain, &meadow.inflow,
         &mut meadow.depths, &mut meadow.lasts, &mut meadow.records, run, steps,

@@ -175,8 +175,8 @@ fn changes(chance: &mut Chance, base: &Lent) -> Vec<Change> {
 
 // ---------------------------------------------------------------- rounds
 
-/// A good input for all six calls: its newest record is that of a step just made, and a run to its end is short. Now and then no step is
-/// kept.
+/// A good input for all calls on a meadow: its newest record is that of a step just made, and a run to its end is short. Now and then no
+/// step is kept.
 fn good_for_all(tally: &mut Tally, chance: &mut Chance) -> Lent {
     loop {
         let shape = (chance.between(1, 3) as usize, chance.between(1, 3) as usize);

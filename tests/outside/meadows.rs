@@ -18,7 +18,7 @@ pub struct Sizes {
     pub answer: i64,
 }
 
-/// Everything that the six calls on a meadow are lent; each is lent its part.
+/// Everything that the calls on a meadow are lent; each is lent its part.
 #[derive(Clone, Debug, PartialEq)]
 pub struct Lent {
     pub meadow: Meadow,
@@ -270,4 +270,154 @@ pub fn end(chance: &mut Chance, run: &Run, rules: &Rules) -> u64 {
     let most = if held_steps > 20 { 0 } else { (20 / steps_an_update).max(1) };
     let end = (run.clock / rules.update + chance.between(0, most)) * rules.update;
     end.min(MOST_CLOCK / rules.update * rules.update)
+}
+
+// ---------------------------------------------------------------- where water lies
+
+/// A meadow that is dry but for the junk of closed squares, under rain now and then; its next step often works its length afresh.
+pub fn dry(chance: &mut Chance, shape: (usize, usize)) -> Lent {
+    let mut lent = lent(chance, shape);
+    for square in lent.open_squares() {
+        lent.meadow.depths[square] = 0;
+    }
+    if !chance.one_in(4) {
+        lent.meadow.rain.clear();
+    }
+    if chance.one_in(2) {
+        lent.run.clock -= lent.run.clock % lent.rules.update;
+    }
+    lent.end = end(chance, &lent.run, &lent.rules);
+    lent
+}
+
+/// Puts water on a square, which is opened where it is closed.
+pub fn pour(chance: &mut Chance, lent: &mut Lent, square: usize) {
+    let meadow = &mut lent.meadow;
+    if meadow.marks[square] == CLOSED {
+        meadow.marks[square] = OPEN;
+        meadow.beds[square] = chance.amount(MOST_BED) as u32;
+        meadow.roughness[square] = roughness(chance) as u32;
+        meadow.rates[square] = chance.amount(MOST_SOAK_RATE) as u32;
+        meadow.lasts[square] = chance.amount(MOST_DEPTH) as u32;
+    }
+    let any = chance.between(1, MOST_DEPTH);
+    meadow.depths[square] = chance.pick(&[1, 2, 1_000, 300_000, any]) as u32;
+}
+
+/// The ways in which water comes to lie on a dry meadow, or comes later.
+pub const WATERINGS: [fn(&mut Chance, &mut Lent); 11] = [
+    no_water,
+    water_everywhere,
+    one_micrometre,
+    water_in_first_row,
+    water_in_last_row,
+    high_at_row_ends,
+    wet_closed_squares,
+    old_leavings,
+    inflow_into_dry,
+    shallow_on_thirsty,
+    level_pond,
+];
+
+fn no_water(_: &mut Chance, _: &mut Lent) {}
+
+fn water_everywhere(chance: &mut Chance, lent: &mut Lent) {
+    for square in lent.open_squares() {
+        pour(chance, lent, square);
+    }
+}
+
+fn one_micrometre(chance: &mut Chance, lent: &mut Lent) {
+    let dry = chance.pick(&[0, 1, 3]);
+    for square in lent.open_squares() {
+        lent.meadow.depths[square] = (chance.below(dry + 1) == 0) as u32;
+    }
+}
+
+fn water_in_row(chance: &mut Chance, lent: &mut Lent, row: usize) {
+    for column in 0..lent.meadow.columns {
+        if chance.one_in(2) {
+            pour(chance, lent, row * lent.meadow.columns + column);
+        }
+    }
+}
+
+fn water_in_first_row(chance: &mut Chance, lent: &mut Lent) {
+    water_in_row(chance, lent, 0);
+}
+
+fn water_in_last_row(chance: &mut Chance, lent: &mut Lent) {
+    water_in_row(chance, lent, lent.meadow.rows - 1);
+}
+
+/// High squares with water at the end of a row or at the start of the next: what they send goes to the rows above and below, and not past
+/// the row's end.
+fn high_at_row_ends(chance: &mut Chance, lent: &mut Lent) {
+    for square in lent.open_squares() {
+        lent.meadow.beds[square] /= 2;
+    }
+    let start = chance.index(lent.meadow.rows) * lent.meadow.columns;
+    let next = (start + lent.meadow.columns) % lent.meadow.squares();
+    for square in [start + lent.meadow.columns - 1, next] {
+        if chance.below(3) > 0 {
+            pour(chance, lent, square);
+            lent.meadow.beds[square] = (MOST_BED - chance.below(1_000)) as u32;
+        }
+    }
+}
+
+/// Closed squares, most of them with a depth, a wet one's, the deepest or one that none can have, and a few open ones with water.
+fn wet_closed_squares(chance: &mut Chance, lent: &mut Lent) {
+    lent.meadow.inflow.clear();
+    for square in 0..lent.meadow.squares() {
+        if chance.one_in(2) {
+            lent.meadow.marks[square] = CLOSED;
+            lent.meadow.depths[square] = chance.pick(&[0, 1, 1_000, MOST_DEPTH as u32, MOST_DEPTH as u32 + 1, u32::MAX]);
+            lent.meadow.rates[square] = chance.pick(&[0, MOST_SOAK_RATE as u32, u32::MAX]);
+        } else if chance.one_in(3) {
+            pour(chance, lent, square);
+        }
+    }
+}
+
+/// Dry squares that have let water go before, and one with water among them.
+fn old_leavings(chance: &mut Chance, lent: &mut Lent) {
+    for square in lent.open_squares() {
+        lent.meadow.lasts[square] = chance.pick(&[1, 1_000, MOST_DEPTH as u32]);
+    }
+    let square = chance.index(lent.meadow.squares());
+    pour(chance, lent, square);
+}
+
+/// Inflow into one or two dry squares all the time.
+fn inflow_into_dry(chance: &mut Chance, lent: &mut Lent) {
+    lent.meadow.inflow.clear();
+    for square in lent.open_squares().into_iter().take(2) {
+        let (row, column) = ((square / lent.meadow.columns) as u32, (square % lent.meadow.columns) as u32);
+        lent.meadow.inflow.extend([row, column, 0, MOST_CLOCK as u32, chance.between(1, 1_000) as u32]);
+    }
+}
+
+/// Thin water on ground that soaks it up within some steps, or that lets it off the grid.
+fn shallow_on_thirsty(chance: &mut Chance, lent: &mut Lent) {
+    for square in lent.open_squares() {
+        lent.meadow.depths[square] = chance.amount(1_000) as u32;
+        lent.meadow.rates[square] = (MOST_SOAK_RATE - chance.below(10)) as u32;
+        if on_rim(&lent.meadow, square) && chance.one_in(2) {
+            lent.meadow.marks[square] = EXIT;
+        }
+    }
+}
+
+/// Water of one level, now and then at the deepest depth, of which a square or two may have fallen dry: few squares send, or none.
+fn level_pond(chance: &mut Chance, lent: &mut Lent) {
+    let depth = chance.pick(&[1, 1_000, MOST_DEPTH - 5, MOST_DEPTH]);
+    for square in lent.open_squares() {
+        lent.meadow.marks[square] = OPEN;
+        lent.meadow.beds[square] = 0;
+        lent.meadow.depths[square] = depth as u32;
+    }
+    for square in lent.open_squares().into_iter().take(chance.index(3)) {
+        lent.meadow.depths[square] = 0;
+    }
 }

@@ -31,7 +31,7 @@ const NAMES: [&str; 3] = ["library", "Rust, roots by digits", "Rust, roots by f6
 
 fn library_run_to(meadow: &mut Meadow, rules: &Rules, run: &Run, end: u64) -> Result<Made, u32> {
     let (mut numbers, mut steps) = (library::run_numbers(run), [0]);
-    let number = library::run_to(meadow, &library::rules_numbers(rules), end, &mut numbers, &mut steps);
+    let number = library::run_to(library::Walk::All, meadow, &library::rules_numbers(rules), end, &mut numbers, &mut steps);
     if steps[0] == 0 && number != 0 {
         return Err(number);
     }

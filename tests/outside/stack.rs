@@ -64,13 +64,19 @@ fn on_grid(call: &str) {
     let (mut speeds, mut wet, mut count) = ([0.0; SPEED_NUMBERS], vec![0; ALONG], [0; COUNT_NUMBERS]);
     let number = match call {
         "flood_fresh" => flood_fresh(ALONG, ALONG, &RULES, &marks, &mut lasts, &records, &mut run),
-        "flood_step" => flood_step(
-            ALONG, ALONG, &RULES, &marks, &beds, &roughness, &rates, &rain, &inflow, &mut depths, &mut lasts, &mut records, &mut run,
-        ),
-        "flood_run_to" => flood_run_to(
-            ALONG, ALONG, &RULES, END, &marks, &beds, &roughness, &rates, &rain, &inflow, &mut depths, &mut lasts, &mut records,
-            &mut run, &mut steps,
-        ),
+        "flood_step" | "flood_step_wet" => {
+            let step_by = if call == "flood_step" { flood_step } else { flood_step_wet };
+            step_by(
+                ALONG, ALONG, &RULES, &marks, &beds, &roughness, &rates, &rain, &inflow, &mut depths, &mut lasts, &mut records, &mut run,
+            )
+        }
+        "flood_run_to" | "flood_run_to_wet" => {
+            let run_to_by = if call == "flood_run_to" { flood_run_to } else { flood_run_to_wet };
+            run_to_by(
+                ALONG, ALONG, &RULES, END, &marks, &beds, &roughness, &rates, &rain, &inflow, &mut depths, &mut lasts, &mut records,
+                &mut run, &mut steps,
+            )
+        }
         "flood_take_back" => flood_take_back(ALONG, ALONG, &marks, &mut depths, &mut lasts, &records, &mut run),
         "flood_step_bounds" => flood_step_bounds(&RULES, 0, END, &mut bounds),
         "flood_arrow" => flood_arrow(ALONG, ALONG, RULES[0], &marks, &depths, &records, &run, 5, 5, &mut speeds),

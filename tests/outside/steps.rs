@@ -110,8 +110,13 @@ fn steps_at_brim(tally: &mut Tally, chance: &mut Chance) {
         meadows::tables(chance, &mut lent.meadow, lent.run.clock);
     }
     lent.end = meadows::end(chance, &lent.run, &lent.rules);
+    run_and_steps(tally, lent, 6);
+}
+
+/// A run to the end, and from the same start so many steps, up to one that is refused.
+fn run_and_steps(tally: &mut Tally, mut lent: Lent, steps: usize) {
     tally.call(Call::RunTo, &lent);
-    for _ in 0..6 {
+    for _ in 0..steps {
         let after = tally.call(Call::Step, &lent);
         if after.number != 0 {
             break;
@@ -499,5 +504,34 @@ pub fn wet_rows(tally: &mut Tally, chance: &mut Chance) {
     for wet_depth in [0, 1, MOST_DEPTH as u32, MOST_DEPTH as u32 + 1] {
         lent.wet_depth = wet_depth;
         tally.call(Call::WetRows, &lent);
+    }
+}
+
+// ---------------------------------------------------------------- the wet walk
+
+/// A width that a row's mask just holds, or one that leaves bits free.
+fn width(chance: &mut Chance) -> usize {
+    let any = chance.between(1, 64);
+    chance.pick(&[64, 64, 63, 33, 32, 31, 2, 1, any]) as usize
+}
+
+/// One square with water in a dry meadow, at each column in turn.
+pub fn wet_columns(tally: &mut Tally, chance: &mut Chance) {
+    let (rows, columns) = (chance.between(1, 3) as usize, width(chance));
+    for column in 0..columns {
+        let mut lent = meadows::dry(chance, (rows, columns));
+        let square = chance.index(rows) * columns + column;
+        meadows::pour(chance, &mut lent, square);
+        run_and_steps(tally, lent, 2);
+    }
+}
+
+/// Meadows with water in a few squares, in all or in none, and some that it comes to or goes from.
+pub fn waterings(tally: &mut Tally, chance: &mut Chance) {
+    for watering in meadows::WATERINGS {
+        let shape = if chance.one_in(3) { (chance.between(1, 9) as usize, width(chance)) } else { meadows::small_shape(chance) };
+        let mut lent = meadows::dry(chance, shape);
+        watering(chance, &mut lent);
+        run_and_steps(tally, lent, 5);
     }
 }

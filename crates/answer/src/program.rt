@@ -3,7 +3,7 @@ use crate::printing::put_refused;
 use crate::printing::put_world;
 use flood::fresh::fresh;
 use flood::run::Ran;
-use flood::run::run_to;
+use flood::run::run_to_wet;
 use grid::squares::Shape;
 use grid::squares::squares_of;
 use ledger::record::HEAD_WORDS;
@@ -49,7 +49,7 @@ fn put_ran(out: &mut [u8], shape: Shape, marks: &[u8], depths: &[u32], ran: Ran)
     put_world(out, 0, shape, marks, depths, ran.run, ran.steps)
 }
 
-// A fresh run of a sheet to its end, and what is printed of it.
+// A fresh run of a sheet to its end, by the wet walk, and what is printed of it.
 fn run_sheet(
     out: &mut [u8],
     heading: Heading,
@@ -73,7 +73,7 @@ fn run_sheet(
     match fresh(shape, rules, marks, lasts, records) {
         Answer::Refused(number) => put_refused(out, 0, number, 0),
         Answer::Done(run) => {
-            let ran = run_to(
+            let ran = run_to_wet(
                 shape,
                 rules,
                 run,

@@ -19,6 +19,7 @@ use Rattle.sight.specs.declared.wet_rows.Wet.{Wet}
 use Rattle.text.specs.Writing.{Wrote}
 use Rattle.sheet.specs.Sheet.{Rooms, Reads, roomsAfter}
 use Rattle.sheet.specs.declared.reading.Sheet.{Sheet}
+use Rattle.exports.specs.Steps.{ExportsStep, ExportsRun}
 use Rattle.demands.specs.Determined.{One, ReckonDetermined, TrialsDetermined, GridDetermined, RuleDetermined, LedgerDetermined, FloodDetermined, SightDetermined, TextDetermined, SheetDetermined, AnswerDetermined, ExportsDetermined, Determined}
 use Rattle.demands.specs.Determined.{MovesDetermined}
 
@@ -129,6 +130,8 @@ grid-determined =
       mask-rows = λ s marks depths least. exactly;
       ones = λ mask. exactly;
       next-set = λ mask column. exactly;
+      next-within = λ mask column columns. exactly;
+      beside-set = λ rows row. exactly;
     }
 
 rule-determined : RuleDetermined
@@ -179,10 +182,10 @@ moves-determined =
           λ p g start end old a b x y.
           let same = x .fits-is ∙ sym (y .fits-is) in
           (same, λ t. x .stored t ∙ sym (y .stored (sym same ∙ t)));
-      fill = λ p o depths lasts added held start ms. exactly;
+      fill = λ walk p o depths lasts added held start ms old a b x y. (λ j. ((x .0 ∙ sym (y .0)) j, (x .1 ∙ sym (y .1)) j));
     }
 
-flood-determined : FloodDetermined
+pub flood-determined : FloodDetermined
 flood-determined =
     record {
       check = λ p g end w. exactly;
@@ -190,8 +193,12 @@ flood-determined =
       fresh-run = λ r slots. exactly;
       step-bounds = λ r clock end. exactly;
       step = λ p g w. step-one;
+      step-wet = λ p g w. step-one;
+      step-by = λ p g w. step-one;
       step-on = λ p g w. step-on-one;
       run-to = λ p g end w. run-one;
+      run-to-wet = λ p g end w. run-one;
+      run-to-by = λ p g end w. run-one;
     }
 
 sight-determined : SightDetermined
@@ -231,33 +238,44 @@ answer-determined =
       meadow-of = λ text old a b x y. written a b (x .wrote) (y .wrote);
     }
 
-exports-determined : ExportsDetermined
+exported-step-one :
+    {p : Plan} {g : Given} {w : World} {rules old : List ℕ} →
+    One {Out = ℕ × (List ℕ × (List ℕ × (List ℕ × List ℕ)))} (λ o. ExportsStep p g w rules old (o .0) (o .1 .0) (o .1 .1 .0) (o .1 .1 .1 .0) (o .1 .1 .1 .1))
+exported-step-one a b x y =
+    λ j. (
+      (x .number-is ∙ sym (y .number-is)) j,
+      (
+        (x .depths-are ∙ sym (y .depths-are)) j,
+        ((x .lasts-are ∙ sym (y .lasts-are)) j, ((x .records-are ∙ sym (y .records-are)) j, (x .run-is ∙ sym (y .run-is)) j)),
+      ),
+    )
+
+exported-run-one :
+    {p : Plan} {g : Given} {end : ℕ} {w : World} {rules old oldSteps : List ℕ} →
+    One {Out = ℕ × (List ℕ × (List ℕ × (List ℕ × (List ℕ × List ℕ))))}
+    (λ o. ExportsRun p g end w rules old oldSteps (o .0) (o .1 .0) (o .1 .1 .0) (o .1 .1 .1 .0) (o .1 .1 .1 .1 .0) (o .1 .1 .1 .1 .1))
+exported-run-one a b x y =
+    λ j. (
+      (x .number-is ∙ sym (y .number-is)) j,
+      (
+        (x .depths-are ∙ sym (y .depths-are)) j,
+        (
+          (x .lasts-are ∙ sym (y .lasts-are)) j,
+          ((x .records-are ∙ sym (y .records-are)) j, ((x .run-is ∙ sym (y .run-is)) j, (x .steps-are ∙ sym (y .steps-are)) j)),
+        ),
+      ),
+    )
+
+pub exports-determined : ExportsDetermined
 exports-determined =
     record {
       fresh =
           λ p r before records rules old a b x y.
           (λ j. ((x .number-is ∙ sym (y .number-is)) j, ((x .lasts-are ∙ sym (y .lasts-are)) j, (x .run-is ∙ sym (y .run-is)) j)));
-      step =
-          λ p g w rules old a b x y.
-          (λ j. (
-            (x .number-is ∙ sym (y .number-is)) j,
-            (
-              (x .depths-are ∙ sym (y .depths-are)) j,
-              ((x .lasts-are ∙ sym (y .lasts-are)) j, ((x .records-are ∙ sym (y .records-are)) j, (x .run-is ∙ sym (y .run-is)) j)),
-            ),
-          ));
-      run-to =
-          λ p g end w rules old oldSteps a b x y.
-          (λ j. (
-            (x .number-is ∙ sym (y .number-is)) j,
-            (
-              (x .depths-are ∙ sym (y .depths-are)) j,
-              (
-                (x .lasts-are ∙ sym (y .lasts-are)) j,
-                ((x .records-are ∙ sym (y .records-are)) j, ((x .run-is ∙ sym (y .run-is)) j, (x .steps-are ∙ sym (y .steps-are)) j)),
-              ),
-            ),
-          ));
+      step = λ p g w rules old. exported-step-one;
+      step-wet = λ p g w rules old. exported-step-one;
+      run-to = λ p g end w rules old oldSteps. exported-run-one;
+      run-to-wet = λ p g end w rules old oldSteps. exported-run-one;
       take-back =
           λ p w old a b x y.
           (λ j. (

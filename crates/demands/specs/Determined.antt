@@ -14,6 +14,8 @@ use Rattle.trials.specs.Ring.{SlotsIn, SlotStart, SlotAfter, SlotBefore, KeptAf
 use Rattle.grid.specs.Squares.{ShapeJudged, SquaresOf, SquareFound, NextColumn, BesideOn, OppositeOf, RimJudged}
 use Rattle.grid.specs.Marks.{ClosedJudged, ExitJudged, MarksJudged, InflowSquaresJudged}
 use Rattle.grid.specs.Masks.{RowMasked, OnesOf, NextFound, Masked}
+use Rattle.grid.specs.Walks.{NextWithin, BesideSet}
+use Rattle.grid.specs.declared.walks.Walk.{Walk}
 use Rattle.grid.specs.declared.squares.Shape.{Shape}
 use Rattle.rule.specs.Bounds.{StepsOver}
 use Rattle.rule.specs.Drops.{DropTo, DropOff}
@@ -49,7 +51,7 @@ use Rattle.exports.specs.Bounds.{ExportsBounds}
 use Rattle.exports.specs.Sights.{ExportsArrow, ExportsWet}
 use Rattle.exports.specs.Sheets.{ExportsRead, ExportsMeadow}
 use mathlib.Core.Bool.{Bool, true}
-use Rattle.moves.specs.inner.Fill.{LengthWorked, RecordFilled}
+use Rattle.moves.specs.inner.Fill.{LengthWorked, RecordFilled, SendersTold}
 use Rattle.moves.specs.inner.Added.{WaterAdded}
 use Rattle.answer.specs.Printed.{PutRefused, PutWorld}
 use Rattle.reckon.specs.Copying.{Copied}
@@ -105,6 +107,8 @@ pub record GridDetermined : Type 0 where
   pub mask-rows : (s : Shape) (marks depths : List ℕ) (least : ℕ) → One (Masked s marks depths least)
   pub ones : (mask : ℕ) → One (OnesOf mask)
   pub next-set : (mask column : ℕ) → One (NextFound mask column)
+  pub next-within : (mask column columns : ℕ) → One (NextWithin mask column columns)
+  pub beside-set : (rows : List ℕ) (row : ℕ) → One (BesideSet rows row)
 
 pub record RuleDetermined : Type 0 where
   pub drop-to : (own neighbour : ℕ) → One (DropTo own neighbour)
@@ -147,17 +151,25 @@ pub record MovesDetermined : Type 0 where
   pub step-length : (p : Plan) (o : Ground) (depths : List ℕ) (clock held : ℕ) → One (LengthWorked p o depths clock held)
   pub add-water : (p : Plan) (g : Given) (start end : ℕ) (old : List ℕ) (a b : Bool × List ℕ) →
       WaterAdded p g start end old (a .0) (a .1) → WaterAdded p g start end old (b .0) (b .1) → (a .0 ≡ b .0) × (a .0 ≡ true → a .1 ≡ b .1)
-  pub fill : (p : Plan) (o : Ground) (depths lasts added : List ℕ) (held start ms : ℕ) → One (RecordFilled p o depths lasts added held start ms)
+  pub fill : (walk : Walk) (p : Plan) (o : Ground) (depths lasts added : List ℕ) (held start ms : ℕ) (old : List ℕ) →
+      One {Out = List ℕ × List ℕ} (λ out. (RecordFilled p o depths lasts added held start ms (out .0)) × (SendersTold walk p o depths lasts ms old (out .1)))
 
+-- a step and a run are the same relation by every square, by the wet walk and by a walk that is given
 pub record FloodDetermined : Type 0 where
   pub check : (p : Plan) (g : Given) (end : ℕ) (w : World) → One (Checks p g end w)
   pub fresh : (p : Plan) (r : Rules) (before records : List ℕ) → One {Out = Answer × List ℕ} (λ o. Freshens p r before records (o .0) (o .1))
   pub fresh-run : (r : Rules) (slots : ℕ) → One (FreshRunMade r slots)
   pub step-bounds : (r : Rules) (clock end : ℕ) → One (BoundsSteps r clock end)
   pub step : (p : Plan) (g : Given) (w : World) → One {Out = Answer × (List ℕ × (List ℕ × List ℕ))} (λ o. Steps p g w (o .0) (o .1 .0) (o .1 .1 .0) (o .1 .1 .1))
+  pub step-wet : (p : Plan) (g : Given) (w : World) → One {Out = Answer × (List ℕ × (List ℕ × List ℕ))} (λ o. Steps p g w (o .0) (o .1 .0) (o .1 .1 .0) (o .1 .1 .1))
+  pub step-by : (p : Plan) (g : Given) (w : World) → One {Out = Answer × (List ℕ × (List ℕ × List ℕ))} (λ o. Steps p g w (o .0) (o .1 .0) (o .1 .1 .0) (o .1 .1 .1))
   pub step-on : (p : Plan) (g : Given) (w : World) →
       One {Out = Settled × (List ℕ × (List ℕ × List ℕ))} (λ o. MakesStep p g w (o .0 .refused) (world (o .1 .0) (o .1 .1 .0) (o .1 .1 .1) (o .0 .run)))
   pub run-to : (p : Plan) (g : Given) (end : ℕ) (w : World) →
+      One {Out = Ran × (List ℕ × (List ℕ × List ℕ))} (λ o. RunsTo p g end w (o .0) (o .1 .0) (o .1 .1 .0) (o .1 .1 .1))
+  pub run-to-wet : (p : Plan) (g : Given) (end : ℕ) (w : World) →
+      One {Out = Ran × (List ℕ × (List ℕ × List ℕ))} (λ o. RunsTo p g end w (o .0) (o .1 .0) (o .1 .1 .0) (o .1 .1 .1))
+  pub run-to-by : (p : Plan) (g : Given) (end : ℕ) (w : World) →
       One {Out = Ran × (List ℕ × (List ℕ × List ℕ))} (λ o. RunsTo p g end w (o .0) (o .1 .0) (o .1 .1 .0) (o .1 .1 .1))
 
 pub record SightDetermined : Type 0 where
@@ -196,7 +208,12 @@ pub record ExportsDetermined : Type 0 where
       One {Out = ℕ × (List ℕ × List ℕ)} (λ o. ExportsFresh p r before records rules old (o .0) (o .1 .0) (o .1 .1))
   pub step : (p : Plan) (g : Given) (w : World) (rules old : List ℕ) →
       One {Out = ℕ × (List ℕ × (List ℕ × (List ℕ × List ℕ)))} (λ o. ExportsStep p g w rules old (o .0) (o .1 .0) (o .1 .1 .0) (o .1 .1 .1 .0) (o .1 .1 .1 .1))
+  pub step-wet : (p : Plan) (g : Given) (w : World) (rules old : List ℕ) →
+      One {Out = ℕ × (List ℕ × (List ℕ × (List ℕ × List ℕ)))} (λ o. ExportsStep p g w rules old (o .0) (o .1 .0) (o .1 .1 .0) (o .1 .1 .1 .0) (o .1 .1 .1 .1))
   pub run-to : (p : Plan) (g : Given) (end : ℕ) (w : World) (rules old oldSteps : List ℕ) →
+      One {Out = ℕ × (List ℕ × (List ℕ × (List ℕ × (List ℕ × List ℕ))))}
+      (λ o. ExportsRun p g end w rules old oldSteps (o .0) (o .1 .0) (o .1 .1 .0) (o .1 .1 .1 .0) (o .1 .1 .1 .1 .0) (o .1 .1 .1 .1 .1))
+  pub run-to-wet : (p : Plan) (g : Given) (end : ℕ) (w : World) (rules old oldSteps : List ℕ) →
       One {Out = ℕ × (List ℕ × (List ℕ × (List ℕ × (List ℕ × List ℕ))))}
       (λ o. ExportsRun p g end w rules old oldSteps (o .0) (o .1 .0) (o .1 .1 .0) (o .1 .1 .1 .0) (o .1 .1 .1 .1 .0) (o .1 .1 .1 .1 .1))
   pub take-back : (p : Plan) (w : World) (old : List ℕ) →

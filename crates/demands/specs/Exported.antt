@@ -1,4 +1,4 @@
--- The demands as they concern a caller in another language: the nine exported functions over the library's own calls.
+-- The demands as they concern a caller in another language: the eleven exported functions over the library's own calls; a step and a run are the same relation by either walk.
 -- Assumes nothing.
 use mathlib.Core.Path.{_≡_}
 use mathlib.Core.Bool.{true, false}

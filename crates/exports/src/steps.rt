@@ -1,4 +1,4 @@
-// A fresh run, a step, a run to an end and a take-back.
+// A fresh run, a step, a run to an end, these two by either walk, and a take-back.
 use crate::answers::put_run;
 use crate::inputs::rules_from;
 use crate::inputs::run_from;
@@ -9,8 +9,9 @@ use crate::sizes::RUN_NUMBERS;
 use crate::sizes::STEPS_NUMBERS;
 use flood::fresh::fresh;
 use flood::run::Ran;
-use flood::run::run_to;
-use flood::step::step;
+use flood::run::run_to_by;
+use flood::step::step_by;
+use grid::walks::Walk;
 use ledger::runs::Answer;
 use ledger::take_back::take_back;
 ghost use mathlib.Core.Path.{_≡_};
@@ -86,9 +87,9 @@ pub extern "C" fn flood_fresh(
     tell_answer(answer, run)
 }
 
-// One step.
-#[no_mangle]
-pub extern "C" fn flood_step(
+// One step by either walk.
+fn step_told(
+    walk: Walk,
     rows: usize,
     columns: usize,
     rules: &[u64],
@@ -111,7 +112,8 @@ pub extern "C" fn flood_step(
     if run.len() != RUN_NUMBERS {
         return NOT_ITS_SIZE;
     }
-    let answer = step(
+    let answer = step_by(
+        walk,
         shape_from(rows, columns),
         rules_from(rules),
         run_from(run),
@@ -128,9 +130,83 @@ pub extern "C" fn flood_step(
     tell_answer(answer, run)
 }
 
-// Steps to an end of the clock, and how many were made.
+// One step: every square is worked.
 #[no_mangle]
-pub extern "C" fn flood_run_to(
+pub extern "C" fn flood_step(
+    rows: usize,
+    columns: usize,
+    rules: &[u64],
+    marks: &[u8],
+    beds: &[u32],
+    roughness: &[u32],
+    rates: &[u32],
+    rain: &[u32],
+    inflow: &[u32],
+    depths: &mut [u32],
+    lasts: &mut [u32],
+    records: &mut [u32],
+    run: &mut [u64],
+) -> u32
+    ensures { λ r. ⌜ ExportsStep (plan (shapeFrom rows columns) (now (marks .entry))) (given (ground (rulesFrom (now (rules .entry))) (now (beds .entry)) (now (roughness .entry)) (now (rates .entry))) (now (rain .entry)) (now (inflow .entry))) (world (now (depths .entry)) (now (lasts .entry)) (now (records .entry)) (runValueFrom (now (run .entry)))) (now (rules .entry)) (now (run .entry)) r (now (depths .exit)) (now (lasts .exit)) (now (records .exit)) (now (run .exit)) ⌝ }
+{
+    step_told(
+        Walk::All,
+        rows,
+        columns,
+        rules,
+        marks,
+        beds,
+        roughness,
+        rates,
+        rain,
+        inflow,
+        depths,
+        lasts,
+        records,
+        run,
+    )
+}
+
+// One step by the wet walk: only the sides of squares with water are worked.
+#[no_mangle]
+pub extern "C" fn flood_step_wet(
+    rows: usize,
+    columns: usize,
+    rules: &[u64],
+    marks: &[u8],
+    beds: &[u32],
+    roughness: &[u32],
+    rates: &[u32],
+    rain: &[u32],
+    inflow: &[u32],
+    depths: &mut [u32],
+    lasts: &mut [u32],
+    records: &mut [u32],
+    run: &mut [u64],
+) -> u32
+    ensures { λ r. ⌜ ExportsStep (plan (shapeFrom rows columns) (now (marks .entry))) (given (ground (rulesFrom (now (rules .entry))) (now (beds .entry)) (now (roughness .entry)) (now (rates .entry))) (now (rain .entry)) (now (inflow .entry))) (world (now (depths .entry)) (now (lasts .entry)) (now (records .entry)) (runValueFrom (now (run .entry)))) (now (rules .entry)) (now (run .entry)) r (now (depths .exit)) (now (lasts .exit)) (now (records .exit)) (now (run .exit)) ⌝ }
+{
+    step_told(
+        Walk::Wet,
+        rows,
+        columns,
+        rules,
+        marks,
+        beds,
+        roughness,
+        rates,
+        rain,
+        inflow,
+        depths,
+        lasts,
+        records,
+        run,
+    )
+}
+
+// Steps by either walk to an end of the clock, and how many were made.
+fn run_told(
+    walk: Walk,
     rows: usize,
     columns: usize,
     rules: &[u64],
@@ -158,7 +234,8 @@ pub extern "C" fn flood_run_to(
     if steps.len() != STEPS_NUMBERS {
         return NOT_ITS_SIZE;
     }
-    let ran = run_to(
+    let ran = run_to_by(
+        walk,
         shape_from(rows, columns),
         rules_from(rules),
         run_from(run),
@@ -174,6 +251,88 @@ pub extern "C" fn flood_run_to(
         records,
     );
     tell_ran(ran, run, steps)
+}
+
+// Steps to an end of the clock, and how many were made: every square is worked at each.
+#[no_mangle]
+pub extern "C" fn flood_run_to(
+    rows: usize,
+    columns: usize,
+    rules: &[u64],
+    end: u64,
+    marks: &[u8],
+    beds: &[u32],
+    roughness: &[u32],
+    rates: &[u32],
+    rain: &[u32],
+    inflow: &[u32],
+    depths: &mut [u32],
+    lasts: &mut [u32],
+    records: &mut [u32],
+    run: &mut [u64],
+    steps: &mut [u64],
+) -> u32
+    ensures { λ r. ⌜ ExportsRun (plan (shapeFrom rows columns) (now (marks .entry))) (given (ground (rulesFrom (now (rules .entry))) (now (beds .entry)) (now (roughness .entry)) (now (rates .entry))) (now (rain .entry)) (now (inflow .entry))) end (world (now (depths .entry)) (now (lasts .entry)) (now (records .entry)) (runValueFrom (now (run .entry)))) (now (rules .entry)) (now (run .entry)) (now (steps .entry)) r (now (depths .exit)) (now (lasts .exit)) (now (records .exit)) (now (run .exit)) (now (steps .exit)) ⌝ }
+{
+    run_told(
+        Walk::All,
+        rows,
+        columns,
+        rules,
+        end,
+        marks,
+        beds,
+        roughness,
+        rates,
+        rain,
+        inflow,
+        depths,
+        lasts,
+        records,
+        run,
+        steps,
+    )
+}
+
+// The same by the wet walk.
+#[no_mangle]
+pub extern "C" fn flood_run_to_wet(
+    rows: usize,
+    columns: usize,
+    rules: &[u64],
+    end: u64,
+    marks: &[u8],
+    beds: &[u32],
+    roughness: &[u32],
+    rates: &[u32],
+    rain: &[u32],
+    inflow: &[u32],
+    depths: &mut [u32],
+    lasts: &mut [u32],
+    records: &mut [u32],
+    run: &mut [u64],
+    steps: &mut [u64],
+) -> u32
+    ensures { λ r. ⌜ ExportsRun (plan (shapeFrom rows columns) (now (marks .entry))) (given (ground (rulesFrom (now (rules .entry))) (now (beds .entry)) (now (roughness .entry)) (now (rates .entry))) (now (rain .entry)) (now (inflow .entry))) end (world (now (depths .entry)) (now (lasts .entry)) (now (records .entry)) (runValueFrom (now (run .entry)))) (now (rules .entry)) (now (run .entry)) (now (steps .entry)) r (now (depths .exit)) (now (lasts .exit)) (now (records .exit)) (now (run .exit)) (now (steps .exit)) ⌝ }
+{
+    run_told(
+        Walk::Wet,
+        rows,
+        columns,
+        rules,
+        end,
+        marks,
+        beds,
+        roughness,
+        rates,
+        rain,
+        inflow,
+        depths,
+        lasts,
+        records,
+        run,
+        steps,
+    )
 }
 
 // The newest step taken back.

@@ -1,8 +1,8 @@
 -- Laws of the step: once the checks have passed, 7 is decided by the clock, 8 where a square could not hold what is added, and else
 -- the ledger settles the record; and a valid world stays valid.
 -- Assumes nothing.
-use mathlib.Core.Path.{_≡_, sym, ap, ap₂, _∙_}
-use mathlib.Core.Bool.{Bool, true, false}
+use mathlib.Core.Path.{_≡_, refl, sym, ap, ap₂, _∙_}
+use mathlib.Core.Bool.{Bool, true, false, _&&_, not}
 use mathlib.Core.List.{List}
 use Prim.Native.Nat.{ℕ, _+_, _-_, _≤_, _<_}
 use native.Mathlib.Nat.{le-trans}
@@ -16,16 +16,20 @@ use Rattle.reckon.specs.Ranges.{lastClock}
 use Rattle.reckon.proofs.TestLaws.{not-both, no-more, pick-false, or-right, or-of, all-at, all-of, refusal-here, refusal-later, refusal-first, refusal-second}
 use Rattle.trials.proofs.RingLaws.{fine-ring}
 use Rattle.grid.specs.Squares.{squares, mostSquares, ShapeInRange, SquaresOf}
+use Rattle.grid.specs.Walks.{bitOf}
+use Rattle.grid.specs.declared.walks.Walk.{Walk}
+use Rattle.grid.specs.declared.walks.Walk.the-variants.{Wet}
 use Rattle.ledger.specs.Runs.{Plan, World, answered, Seen, seenOf}
-use Rattle.ledger.specs.Flows.{shut}
-use Rattle.ledger.specs.Record.{roomSlots, ringOf, mostRecord, SizeOf}
+use Rattle.ledger.specs.Flows.{Leaves, shut, gone}
+use Rattle.ledger.specs.Record.{leavesIn, roomSlots, ringOf, mostRecord, SizeOf}
 use Rattle.ledger.specs.After.{Moves, newDepth, depthsFit, lateRefusals, stepRecord, worldAfter, worldWith}
-use Rattle.ledger.specs.inner.Settle.{movesIn, settleNumber, settled, Settles, SettlesTo}
+use Rattle.ledger.specs.inner.Settle.{movesIn, settleNumber, settled, Settles, SettlesTo, sends, SendersLent}
 use Rattle.grid.specs.declared.squares.Shape.{Shape}
-use Rattle.ledger.proofs.ReadBack.{step-long, step-lasted, step-gone, step-soaked, settled-is, late-settled}
+use Rattle.ledger.proofs.ReadBack.{step-long, step-lasted, step-gone, step-soaked, step-zeros, settled-is, late-settled}
 use Rattle.moves.specs.Given.{Given}
-use Rattle.moves.specs.Moves.{stepLength, stepDuration, stepMoves}
+use Rattle.moves.specs.Moves.{leavesFor, stepLength, stepDuration, stepMoves}
 use Rattle.moves.specs.inner.Added.{addedFits}
+use Rattle.moves.specs.inner.Fill.{SendersTold}
 use Rattle.moves.specs.inner.Ready.{Ready}
 use Rattle.rule.specs.Rules.{rulesFine}
 use Rattle.ledger.specs.declared.runs.Answer.the-variants.{Done, Refused}
@@ -33,6 +37,7 @@ use Rattle.ledger.proofs.RunLaws.{answered-done, answered-refused}
 use Rattle.flood.specs.Refusals.{checkRefusals, stepChecks}
 use Rattle.flood.specs.Step.{stepNumber, stepped, Steps, MakesStep, Passes}
 use Rattle.flood.proofs.CheckLaws.{ready, ring-is, checks-named}
+use Rattle.moves.proofs.WetLaws.{told-rows, sender-bit-is}
 use Rattle.moves.proofs.MoveLaws.{lost-covered, step-length-to}
 
 module _ (p : Plan) (g : Given) (w : World) (passed : refusal (stepChecks p g (ringOf p w) (seenOf w)) ≡ 0) where
@@ -104,7 +109,33 @@ module _ (p : Plan) (g : Given) (w : World) (passed : refusal (stepChecks p g (r
           covered =
               λ i h s.
               rw (step-gone p m w i h s, step-soaked p m w i h s) (lost-covered p (g .lie) (w .depths) (w .lasts) (stepDuration p g v) i clock s);
+          closed-zeros = step-zeros p m w;
         })
+
+    -- and of the rows of the squares that sent
+    pub senders-lent :
+        {walk : Walk} {rec : List ℕ} (old : List ℕ) {rows : List ℕ} {ms : ℕ} → rec ≡ stepRecord p m w → ms ≡ stepDuration p g v → length rows ≡ p .shape .rows →
+        SendersTold walk p (g .lie) (w .depths) (w .lasts) ms old rows → SendersLent walk p rec rows
+    unfolding sends
+    senders-lent {walk} {rec} old {rows} {ms} e t l told = record { long = l; are = λ z i h c. sent i h (sym (bit i h z) ∙ c) }
+      where
+        out : Leaves
+        out = leavesFor p (g .lie) (w .depths) (w .lasts) ms
+
+        bit : (i : ℕ) → i < squares (p .shape) → walk ≡ Wet → bitOf (p .shape) rows i ≡ sends p out i
+        bit i h z =
+            ap (λ (k : List ℕ). bitOf (p .shape) k i) (told-rows p (g .lie) (w .depths) (w .lasts) ms old z told)
+            ∙ sender-bit-is p (g .lie) (w .depths) (w .lasts) ms (is-ready .waters .fine) h
+
+        sent : (i : ℕ) → i < squares (p .shape) → sends p out i ≡ false → sends p (leavesIn rec) i ≡ false
+        sent i h c = go (shut p i) refl
+          where
+            go : (b : Bool) → shut p i ≡ b → sends p (leavesIn rec) i ≡ false
+            go true q = rw q
+            go false q =
+                let same : gone (leavesIn rec) i ≡ gone out i =
+                ap (λ (k : List ℕ). gone (leavesIn k) i) e ∙ (step-gone p m w i h q ∙ ap (λ (k : ℕ). gone (leavesFor p (g .lie) (w .depths) (w .lasts) k) i) (sym t)) in
+                ap (λ (k : ℕ). not (shut p i) && not (eqb k 0)) same ∙ c
 
     pub step-settled :
         {rec : List ℕ} {held n : ℕ} {after : World} → rec ≡ stepRecord p m w → held ≡ stepLength p g v → SettlesTo p rec held w n after →

@@ -1,9 +1,11 @@
 // A run to an end: the checks once, then steps while the clock is below the end.
 use crate::checks::check;
 use crate::step::make_step;
+use grid::squares::MOST_ALONG;
 use grid::squares::MOST_SQUARES;
 use grid::squares::Shape;
 use grid::squares::squares_of;
+use grid::walks::Walk;
 use ledger::record::MOST_RECORD;
 use ledger::record::record_size;
 use ledger::runs::Run;
@@ -27,8 +29,9 @@ pub struct Ran {
     pub run: Run,
 }
 
-// Steps while the clock is below the end, up to a step that is refused. `rec` and `room` are working rooms.
+// Steps by either walk while the clock is below the end, up to a step that is refused. `rec`, `senders` and `room` are working rooms.
 fn run_on(
+    walk: Walk,
     shape: Shape,
     rules: Rules,
     run: Run,
@@ -43,16 +46,18 @@ fn run_on(
     lasts: &mut [u32],
     records: &mut [u32],
     rec: &mut [u32],
+    senders: &mut [u64],
     room: &mut [u32],
 ) -> Ran
     requires { ⌜ Passes (plan shape (now marks)) (given (ground rules (now beds) (now roughness) (now rates)) (now rain) (now inflow)) (world (now depths) (now lasts) (now records) run) ⌝ }
-    requires { ⌜ (length (now rec) ≡ recordSize (plan shape (now marks))) × (length (now room) ≡ squares shape) × (end ≤ lastClock) ⌝ }
+    requires { ⌜ (length (now rec) ≡ recordSize (plan shape (now marks))) × (length (now senders) ≡ shape .rows) × (length (now room) ≡ squares shape) × (end ≤ lastClock) ⌝ }
     ensures { λ r. ⌜ RunsOn (plan shape (now (marks .entry))) (given (ground rules (now (beds .entry)) (now (roughness .entry)) (now (rates .entry))) (now (rain .entry)) (now (inflow .entry))) end (world (now (depths .entry)) (now (lasts .entry)) (now (records .entry)) run) r (now (depths .exit)) (now (lasts .exit)) (now (records .exit)) ⌝ }
 {
     let mut at = run;
     let mut steps: u64 = 0;
     while at.clock < end {
         let made = make_step(
+            walk,
             shape,
             rules,
             at,
@@ -66,6 +71,7 @@ fn run_on(
             lasts,
             records,
             rec,
+            senders,
             room,
         );
         let refused = made.refused;
@@ -87,8 +93,9 @@ fn run_on(
     }
 }
 
-// A run to an end, or a refusal.
-pub fn run_to(
+// A run to an end by either walk, or a refusal.
+pub fn run_to_by(
+    walk: Walk,
     shape: Shape,
     rules: Rules,
     run: Run,
@@ -129,9 +136,12 @@ pub fn run_to(
     }
     let size = record_size(shape);
     let squares = squares_of(shape);
+    let rows = shape.rows;
     let mut rec = [0u32; MOST_RECORD];
+    let mut senders = [0u64; MOST_ALONG];
     let mut room = [0u32; MOST_SQUARES];
     run_on(
+        walk,
         shape,
         rules,
         run,
@@ -146,6 +156,79 @@ pub fn run_to(
         lasts,
         records,
         &mut rec[..size],
+        &mut senders[..rows],
         &mut room[..squares],
+    )
+}
+
+// A run to an end, or a refusal: every square is worked at each step.
+pub fn run_to(
+    shape: Shape,
+    rules: Rules,
+    run: Run,
+    end: u64,
+    marks: &[u8],
+    beds: &[u32],
+    roughness: &[u32],
+    rates: &[u32],
+    rain: &[u32],
+    inflow: &[u32],
+    depths: &mut [u32],
+    lasts: &mut [u32],
+    records: &mut [u32],
+) -> Ran
+    ensures { λ r. ⌜ RunsTo (plan shape (now (marks .entry))) (given (ground rules (now (beds .entry)) (now (roughness .entry)) (now (rates .entry))) (now (rain .entry)) (now (inflow .entry))) end (world (now (depths .entry)) (now (lasts .entry)) (now (records .entry)) run) r (now (depths .exit)) (now (lasts .exit)) (now (records .exit)) ⌝ }
+{
+    run_to_by(
+        Walk::All,
+        shape,
+        rules,
+        run,
+        end,
+        marks,
+        beds,
+        roughness,
+        rates,
+        rain,
+        inflow,
+        depths,
+        lasts,
+        records,
+    )
+}
+
+// The same by the wet walk: at each step only the sides of squares with water are worked.
+pub fn run_to_wet(
+    shape: Shape,
+    rules: Rules,
+    run: Run,
+    end: u64,
+    marks: &[u8],
+    beds: &[u32],
+    roughness: &[u32],
+    rates: &[u32],
+    rain: &[u32],
+    inflow: &[u32],
+    depths: &mut [u32],
+    lasts: &mut [u32],
+    records: &mut [u32],
+) -> Ran
+    ensures { λ r. ⌜ RunsTo (plan shape (now (marks .entry))) (given (ground rules (now (beds .entry)) (now (roughness .entry)) (now (rates .entry))) (now (rain .entry)) (now (inflow .entry))) end (world (now (depths .entry)) (now (lasts .entry)) (now (records .entry)) run) r (now (depths .exit)) (now (lasts .exit)) (now (records .exit)) ⌝ }
+{
+    run_to_by(
+        Walk::Wet,
+        shape,
+        rules,
+        run,
+        end,
+        marks,
+        beds,
+        roughness,
+        rates,
+        rain,
+        inflow,
+        depths,
+        lasts,
+        records,
     )
 }

@@ -1,3 +1,4 @@
+pub mod BesideLaws
 pub mod MarkLaws
 pub mod MaskLaws
 pub mod SquareLaws

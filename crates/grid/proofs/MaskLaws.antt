@@ -5,8 +5,8 @@ use mathlib.Core.Path.{_≡_, refl, sym, ap, ap₂, _∙_}
 use mathlib.Core.Bool.{Bool, true, false, _&&_}
 use mathlib.Core.List.{List}
 use Prim.Native.Nat.{ℕ, zero, suc, _+_, _-_, _*_, _/_, _%_, _^_, _≤_, _<_}
-use native.Mathlib.Nat.{le-refl, le-trans, pow-suc, add-comm, add-suc, add-zero, zero-add, add-assoc, suc-mul, zero-mul, zero-div, div-one, div-div-eq-div-mul}
-use native.Mathlib.Decide.{decLt}
+use native.Mathlib.Nat.{le-refl, le-trans, pow-suc, add-comm, add-suc, add-zero, zero-add, add-assoc, suc-mul, zero-mul, mul-assoc, zero-div, div-one, div-div-eq-div-mul}
+use native.Mathlib.Decide.{decLt, ℕ-discrete}
 use native.Mathlib.Numerals.{add-one}
 use native.Mathlib.Omega.{arith}
 use lib.Dec.{leb, ltb, eqb, lit<}
@@ -91,6 +91,36 @@ module _ (says : ℕ → Bool) where
 
   pub mask-past : (i : ℕ) {n c : ℕ} → n ≤ c → bitAt (maskFrom says i n) c ≡ false
   mask-past i {n} {c} h = mask-bit i n c ∙ rw (le-ltb c n h)
+
+  -- a row made from its first column up: one column more, and columns that say no
+  last-digit : (i n : ℕ) → maskFrom says i (suc n) ≡ maskFrom says i n + digit (says (i + n)) * 2 ^ n
+  unfolding maskFrom
+  last-digit i zero = rw (add-zero i) (let e : digit (says i) + 0 * 2 ≡ 0 + digit (says i) * 1 = omega arith in e)
+  last-digit i (suc n) =
+      ap (λ (x : ℕ). digit (says i) + x * 2) (last-digit (suc i) n)
+      ∙ (join (digit (says i)) (maskFrom says (suc i) n) (digit (says (suc i + n))) (2 ^ n)
+      ∙ ap₂ (λ (x y : ℕ). digit (says i) + maskFrom says (suc i) n * 2 + digit (says x) * y) (let e : suc i + n ≡ i + suc n = omega arith in e) (sym (pow-suc 2 n)))
+    where
+      join : (a b c d : ℕ) → a + (b + c * d) * 2 ≡ a + b * 2 + c * (d * 2)
+      join a b c d = omega (arith, mul-assoc c d 2)
+
+  pub mask-more : (i n : ℕ) → maskFrom says i (n + 1) ≡ maskFrom says i n + digit (says (i + n)) * 2 ^ n
+  mask-more i n = ap (maskFrom says i) (add-one n) ∙ last-digit i n
+
+  no-digit : (x k : ℕ) → x + digit false * 2 ^ k ≡ x
+  unfolding digit pick
+  no-digit x k = ap (λ (y : ℕ). x + y) (zero-mul (2 ^ k)) ∙ add-zero x
+
+  pub mask-idle : (i n m : ℕ) → n ≤ m → ((c : ℕ) → n ≤ c → c < m → says (i + c) ≡ false) → maskFrom says i m ≡ maskFrom says i n
+  mask-idle i n zero h idle = ap (maskFrom says i) (let e : 0 ≡ n = omega arith in e)
+  mask-idle i n (suc m) h idle = go (ℕ-discrete n (suc m)) (λ g. mask-idle i n m g (λ c k l. idle c k (omega arith)))
+    where
+      go : Dec (n ≡ suc m) → (n ≤ m → maskFrom says i m ≡ maskFrom says i n) → maskFrom says i (suc m) ≡ maskFrom says i n
+      go (yes e) ih = ap (maskFrom says i) (sym e)
+      go (no e) ih =
+          last-digit i m
+          ∙ (ap (λ (b : Bool). maskFrom says i m + digit b * 2 ^ m) (idle m (omega arith) (omega arith))
+          ∙ (no-digit (maskFrom says i m) m ∙ ih (omega arith)))
 
 -- ---- the ones of masks
 
@@ -203,9 +233,9 @@ abbrev none : ℕ → Bool
 none row = false
 
 -- after some rows: where the next begins, and the slice filled so far
-module _ (marks depths : List ℕ) (least columns : ℕ) (old : List ℕ) where
+module _ (says : ℕ → Bool) (columns : ℕ) (old : List ℕ) where
   abbrev maskOf : ℕ → ℕ
-  maskOf row = maskFrom (isWet marks depths least) (row * columns) columns
+  maskOf row = maskFrom says (row * columns) columns
 
   abbrev pub Rowed : List ℕ → ℕ → ℕ → Type 0
   Rowed rows row first = (first ≡ row * columns) × (rows ≡ filled row none maskOf old)
@@ -217,27 +247,32 @@ module _ (marks depths : List ℕ) (least columns : ℕ) (old : List ℕ) where
     pub rowed-long : length rows ≡ length old
     rowed-long = ap length (r .1) ∙ length-filled row none maskOf old
 
-    pub rowed-more :
-        {mask : ℕ} → row < length old → mask ≡ maskFrom (isWet marks depths least) first columns → Rowed (set rows row mask) (row + 1) (first + columns)
+    pub rowed-more : {mask : ℕ} → row < length old → mask ≡ maskFrom says first columns → Rowed (set rows row mask) (row + 1) (first + columns)
     rowed-more {mask} h e = (
       ap (λ (k : ℕ). k + columns) (r .0) ∙ (sym (suc-mul row columns) ∙ ap (λ (k : ℕ). k * columns) (sym (add-one row))),
       ap (λ (l : List ℕ). set l row mask) (r .1)
-          ∙ filled-store none maskOf old row h refl (e ∙ ap (λ (k : ℕ). maskFrom (isWet marks depths least) k columns) (r .0)),
+          ∙ filled-store none maskOf old row h refl (e ∙ ap (λ (k : ℕ). maskFrom says k columns) (r .0)),
     )
 
-    pub rowed-whole : length old ≤ row → rows ≡ tabulate (length old) maskOf
+    rowed-whole : length old ≤ row → rows ≡ tabulate (length old) maskOf
     rowed-whole h =
         r .1
         ∙ is-tabulate (length old) maskOf (filled row none maskOf old) (length-filled row none maskOf old)
         (λ i l. filled-in row none maskOf old i l (omega arith) refl)
 
+-- all rows
+pub rows-whole :
+    (s : Shape) (says : ℕ → Bool) (old : List ℕ) (row : ℕ) {rows : List ℕ} {first : ℕ} → length old ≡ s .rows → s .rows ≤ row →
+    Rowed says (s .columns) old rows row first → rows ≡ tabulate (s .rows) (rowMask s says)
+rows-whole s says old row long h r =
+    rowed-whole says (s .columns) old row r (omega arith) ∙ ap (λ (n : ℕ). tabulate n (rowMask s says)) long
+
 module _ (s : Shape) (marks depths : List ℕ) (least : ℕ) where
   pub masks-whole :
       (old : List ℕ) (row : ℕ) {rows : List ℕ} {first : ℕ} → length old ≡ s .rows → s .rows ≤ row →
-      Rowed marks depths least (s .columns) old rows row first → rows ≡ wetMasks s marks depths least
+      Rowed (isWet marks depths least) (s .columns) old rows row first → rows ≡ wetMasks s marks depths least
   unfolding wetMasks
-  masks-whole old row long h r =
-      rowed-whole marks depths least (s .columns) old row r (omega arith) ∙ ap (λ (n : ℕ). tabulate n (rowMask s (isWet marks depths least))) long
+  masks-whole old row long h r = rows-whole s (isWet marks depths least) old row long h r
 
   pub masks-long : {rows : List ℕ} → rows ≡ wetMasks s marks depths least → length rows ≡ s .rows
   unfolding wetMasks

@@ -10,6 +10,7 @@ use lib.Dec.{ltb}
 use borrow.Author.Tests.{not-false, ltb-true, leb-true, le-leb, lt-leb, lt-ltb, le-ltb, eq-eqb, ne-eqb}
 use Rattle.reckon.proofs.TestLaws.{pick-true, pick-false, every-each, each-every, all-at, all-of, all-fails}
 use Rattle.grid.specs.declared.squares.Shape.{Shape}
+use Rattle.grid.specs.Walks.{InRow}
 use Rattle.grid.specs.Squares.{mostAlong, mostSquares, north, east, south, west, sides, squares, squareAt, beside, opposite, onRim, shapeFine, ShapeInRange, OnSquare, NextColumn}
 
 -- ---- the shape
@@ -260,3 +261,24 @@ module _ (s : Shape) (i : ℕ) (off : onRim s i ≡ false) where
 
   pub west-is : i - 1 ≡ beside s i west
   west-is = sym (west-some s i {side = west} refl west-within)
+
+-- ---- a row by its first square
+
+module _ (s : Shape) (fine : ShapeInRange s) {first : ℕ} (r : InRow s first) where
+  -- the squares of a row stand in its columns
+  pub row-column : {column : ℕ} → column < s .columns → OnSquare s (first + column) column
+  row-column {column} h =
+      let at : first ≡ first / s .columns * s .columns = omega (arith, div-add-mod' first (s .columns), r .begins) in
+      record {
+        fine = fine;
+        inside = omega (arith, r .fits);
+        column-is = sym (ap (λ (k : ℕ). (k + column) % s .columns) at ∙ column-of s (first / s .columns) h);
+      }
+
+-- a row that a walk has come to
+pub row-begins : (s : Shape) {row first : ℕ} → row < s .rows → first ≡ row * s .columns → InRow s first
+row-begins s {row} {first} h e =
+    record { begins = ap (λ (k : ℕ). k % s .columns) e ∙ mul-mod-left row (s .columns); fits = omega (arith, row-fits s h, e) }
+
+pub next-row : (s : Shape) (row : ℕ) {first : ℕ} → first ≡ row * s .columns → first + s .columns ≡ (row + 1) * s .columns
+next-row s row e = ap (λ (k : ℕ). k + s .columns) e ∙ (sym (suc-mul row (s .columns)) ∙ ap (λ (k : ℕ). k * s .columns) (let q : suc row ≡ row + 1 = omega arith in q))

@@ -12,6 +12,7 @@ use borrow.Author.Tests.{lt-ltb, le-ltb, not-false, not-true}
 use Rattle.reckon.specs.Tests.{pick, firstFailing}
 use Rattle.reckon.proofs.TestLaws.{pick-true, pick-false, failing-le, failing-at, failing-none, failing-before, failing-fails}
 use Rattle.grid.specs.Masks.{bits, maskFrom, bitAt, nextSet, foldBelow, onSet, walkFrom, walk}
+use Rattle.grid.specs.Walks.{nextWithin}
 use Rattle.grid.proofs.MaskLaws.{bit-low, bit-high, bit-shifted, mask-in, mask-past}
 
 -- ---- the next set column
@@ -82,6 +83,19 @@ module _ (mask c : ℕ) where
   next-passes k h l =
       subst (λ (j : ℕ). bitAt mask j ≡ false) (let e : c + (k - c) ≡ k = omega arith in e)
       (not-true _ (failing-before (bits - c) ahead (k - c) (omega arith)))
+
+-- the same in a row of so many columns
+module _ (mask c columns : ℕ) where
+  pub within-from : c ≤ columns → c ≤ nextWithin mask c columns
+  within-from h = omega (arith, next-from mask c)
+
+  pub within-passes : (k : ℕ) → c ≤ k → k < nextWithin mask c columns → bitAt mask k ≡ false
+  within-passes k h l = next-passes mask c k h (omega (arith, l))
+
+  pub within-set : columns ≤ bits → nextWithin mask c columns < columns → bitAt mask (nextWithin mask c columns) ≡ true
+  within-set h l =
+      let e : nextWithin mask c columns ≡ nextSet mask c = omega (arith, l) in
+      ap (bitAt mask) e ∙ next-set mask c (omega (arith, l))
 
 -- ---- the walk
 

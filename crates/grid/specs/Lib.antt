@@ -1,3 +1,4 @@
 pub mod Marks
 pub mod Masks
 pub mod Squares
+pub mod Walks

@@ -17,7 +17,7 @@ pub const SOUTH: usize = 2;
 pub const WEST: usize = 3;
 
 // The most rows, and the most columns.
-const MOST_ALONG: usize = 64;
+pub const MOST_ALONG: usize = 64;
 
 // The most squares that a grid has: rooms of one number a square are this long.
 pub const MOST_SQUARES: usize = MOST_ALONG * MOST_ALONG;

@@ -1,9 +1,11 @@
 pub mod Account
 pub mod BackLaws
 pub mod Bridge
+pub mod CalmLaws
 pub mod CheckLaws
 pub mod EngineLaws
 pub mod FlowLaws
+pub mod GatherLaws
 pub mod ReadBack
 pub mod RecordLaws
 pub mod RunLaws

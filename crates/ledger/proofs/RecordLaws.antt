@@ -16,6 +16,7 @@ use Rattle.grid.specs.Squares.{north, east, south, west, sides, squares}
 use Rattle.ledger.specs.Runs.{Plan}
 use Rattle.ledger.specs.Flows.{Leaves, shut}
 use Rattle.ledger.specs.Record.{headWords, squareWords, recordSize, wordPlace, squareRecord, recordOf, roomSlots, HeadPut, SquarePut, ClosedPut}
+use Rattle.ledger.specs.inner.Walks.{Begun}
 
 -- ---- words placed
 
@@ -36,11 +37,6 @@ take-placed l a v h =
     (length-append (take a l) v ∙ ap (λ (k : ℕ). k + length v) (length-take-le a l (omega arith)))
 
 -- ---- a record, square by square
-
--- the head and the first i squares stand
-pub record Begun (p : Plan) (held lasted : ℕ) (out : Leaves) (last added soaked : ℕ → ℕ) (i : ℕ) (rec : List ℕ) : Type 0 where
-  pub long : length rec ≡ recordSize p
-  pub so-far : take (wordPlace i north) rec ≡ held ∷ lasted ∷ joined i (squareRecord p out last added soaked)
 
 module _ {p : Plan} {held lasted : ℕ} {out : Leaves} {last added soaked : ℕ → ℕ} where
   -- the head is put

@@ -1,78 +1,25 @@
 -- Laws of settling: a square's new depth is the world's, whatever else the world holds; 8 comes before 9, and 9 before 15; and parts written make a world.
 -- Assumes nothing.
 use mathlib.Core.Path.{_≡_, refl, sym, ap, _∙_}
-use mathlib.Core.Bool.{Bool, true, false, _||_}
+use mathlib.Core.Bool.{true, false}
 use mathlib.Core.List.{List}
 use Prim.Native.Nat.{ℕ, _+_, _≤_, _<_}
 use native.Mathlib.Omega.{arith}
 use lib.Dec.{leb}
-use lib.ListN.{length, getD, set}
+use lib.ListN.{length}
 use borrow.Author.Tests.{le-leb, lt-leb, eq-eqb, ne-eqb}
-use Rattle.reckon.specs.Tests.{pick, allBelow}
-use Rattle.reckon.specs.Lists.{filled, placed, sumBelow}
-use Rattle.reckon.specs.Ranges.{mostDepth, mostOutflow, mostSoaked}
-use Rattle.reckon.proofs.TestLaws.{not-both, pick-true, pick-false, all-fails, all-whole, refusal-here, refusal-later, passed-refusal}
-use Rattle.reckon.proofs.ListLaws.{filled-in, filled-skipped, length-filled}
+use Rattle.reckon.specs.Lists.{filled, placed}
+use Rattle.reckon.specs.Ranges.{mostOutflow, mostSoaked}
+use Rattle.reckon.proofs.TestLaws.{pick-true, pick-false, refusal-here, refusal-later, passed-refusal}
 use Rattle.trials.specs.Ring.{slotsIn, slotStart, slotAfter, keptAfter}
 use Rattle.trials.proofs.RingLaws.{after-below}
 use Rattle.grid.specs.Squares.{squares}
 use Rattle.ledger.specs.Runs.{Plan, World, world, ofDepths}
-use Rattle.ledger.specs.Flows.{shut, gone, offSquare, offGrid, soakedSquare, soakedGrid}
+use Rattle.ledger.specs.Flows.{shut, gone, offGrid, soakedGrid}
 use Rattle.ledger.specs.Record.{recordSize, lastedIn, leavesIn, soakedIn, roomSlots, Recorded}
 use Rattle.ledger.specs.After.{remains, newDepth, depthsFit, newOutflow, newSoaked, worldWith}
-use Rattle.ledger.specs.inner.Settle.{movesIn, settleRefusals, settleNumber, settled, Settles, SettlesTo, depthBy, depthsBy, Gathers, GatheredOne, GatheredAll, SmallLeaving}
+use Rattle.ledger.specs.inner.Settle.{movesIn, settleRefusals, settleNumber, settled, Settles, SettlesTo, depthsBy, Gathers, SmallLeaving}
 use Rattle.ledger.proofs.RecordLaws.{slots-of, slot-fits}
-use Rattle.ledger.proofs.WalkLaws.{nothing, copied, walked-unfit, walked-fit}
-
--- ---- one square gathered
-
-module _ (p : Plan) (rec depths : List ℕ) (i : ℕ) (old : List ℕ) where
-  pub gathered-closed : shut p i ≡ true → GatheredOne p rec depths i old true (set old i (getD depths i 0))
-  gathered-closed e = record { fits-is = rw e; stored = λ z. ap (set old i) (sym (pick-true _ _ e)) }
-
-  module _ (e : shut p i ≡ false) {x : ℕ} (d : x ≡ depthBy p rec depths i) where
-    pub gathered-deep : mostDepth < x → GatheredOne p rec depths i old false old
-    gathered-deep h =
-        let l : leb (depthBy p rec depths i) mostDepth ≡ false = lt-leb (depthBy p rec depths i) mostDepth (omega (arith, h, d)) in
-        record { fits-is = rw (e, l); stored = λ z. not-both z refl }
-
-    pub gathered-open : x ≤ mostDepth → GatheredOne p rec depths i old true (set old i x)
-    gathered-open h =
-        let l : leb (depthBy p rec depths i) mostDepth ≡ true = le-leb (depthBy p rec depths i) mostDepth (omega (arith, h, d)) in
-        record { fits-is = rw (e, l); stored = λ z. ap (set old i) (d ∙ sym (pick-false _ _ e)) }
-
--- ---- all squares gathered
-
-module _ (p : Plan) (rec depths : List ℕ) where
-  abbrev pub fits : ℕ → Bool
-  fits i = shut p i || leb (depthBy p rec depths i) mostDepth
-
-  -- the number that is stored for a square is that of the new depths
-  pub gathered-at : {i : ℕ} → length depths ≡ squares (p .shape) → i < squares (p .shape) →
-      pick (shut p i) (getD depths i 0) (depthBy p rec depths i) ≡ getD (depthsBy p rec depths) i 0
-  gathered-at {i} l h = go (shut p i) refl
-    where
-      go : (b : Bool) → shut p i ≡ b → pick (shut p i) (getD depths i 0) (depthBy p rec depths i) ≡ getD (depthsBy p rec depths) i 0
-      go true e = pick-true _ _ e ∙ sym (filled-skipped (squares (p .shape)) (shut p) (depthBy p rec depths) depths i (omega arith) e)
-      go false e = pick-false _ _ e ∙ sym (filled-in (squares (p .shape)) (shut p) (depthBy p rec depths) depths i (omega arith) h e)
-
-  pub gathered-unfit : {i : ℕ} {new : List ℕ} → i < squares (p .shape) → fits i ≡ false → GatheredAll p rec depths (record { fits = false; off = 0; soaked = 0 }) new
-  unfolding depthsFit
-  gathered-unfit {i} h e =
-      record { found = walked-unfit p rec (all-fails (squares (p .shape)) fits i h e); stored = λ z. not-both z refl }
-
-  pub gathered-fit :
-      {n off soaked : ℕ} (old : List ℕ) {new : List ℕ} → length depths ≡ squares (p .shape) → length old ≡ squares (p .shape) → n ≡ squares (p .shape) →
-      allBelow n fits ≡ true → off ≡ sumBelow n (offSquare p (leavesIn rec)) → soaked ≡ sumBelow n (soakedSquare p (soakedIn rec)) →
-      new ≡ filled n nothing (λ k. getD (depthsBy p rec depths) k 0) old →
-      GatheredAll p rec depths (record { fits = true; off = off; soaked = soaked }) new
-  unfolding depthsFit
-  gathered-fit old l m h a s t q =
-      let long : length (depthsBy p rec depths) ≡ squares (p .shape) = length-filled (squares (p .shape)) (shut p) (depthBy p rec depths) depths ∙ l in
-      record {
-        found = walked-fit p rec (all-whole fits a h) s t h;
-        stored = λ z. copied (depthsBy p rec depths) old (m ∙ sym long) (omega arith) q;
-      }
 
 -- ---- what is asked of the parts
 
@@ -81,7 +28,7 @@ module _ {p : Plan} {rec : List ℕ} {held : ℕ} {w : World} (s : Settles p rec
   settles-recorded = record { fine = s .fine; marks-long = s .marks-long; record-long = s .record-long }
 
   pub settles-gathers : Gathers p rec (w .depths)
-  settles-gathers = record { recorded = settles-recorded; depths-long = s .depths-long; covered = s .covered }
+  settles-gathers = record { recorded = settles-recorded; depths-long = s .depths-long; covered = s .covered; closed-zeros = s .closed-zeros }
 
   pub settles-small : SmallLeaving p rec (w .depths)
   settles-small = record { gathers = settles-gathers; small = s .depths-to }

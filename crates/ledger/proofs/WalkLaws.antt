@@ -6,12 +6,11 @@ use mathlib.Core.List.{List}
 use Prim.Native.Nat.{ℕ, _+_, _%_, _≤_, _<_}
 use native.Mathlib.Nat.{zero-mod}
 use native.Mathlib.Omega.{arith}
-use lib.ListN.{length, getD, set}
-use lib.Seq.{ext-getD}
+use lib.ListN.{length, set}
 use Rattle.reckon.specs.Tests.{pick}
 use Rattle.reckon.specs.Lists.{filled, sumBelow}
 use Rattle.reckon.proofs.TestLaws.{not-both, pick-true, pick-false}
-use Rattle.reckon.proofs.ListLaws.{length-filled, filled-in, filled-store, filled-keep, sum-whole}
+use Rattle.reckon.proofs.ListLaws.{length-filled, filled-store, filled-keep, sum-whole}
 use Rattle.grid.specs.declared.squares.Shape.{Shape}
 use Rattle.grid.specs.Squares.{squares, ShapeInRange, OnSquare, NextColumn}
 use Rattle.grid.proofs.SquareLaws.{carried, column-within}
@@ -50,7 +49,7 @@ pub filled-long : (n : ℕ) (skipped : ℕ → Bool) (f : ℕ → ℕ) (old : Li
 filled-long n skipped f old e = ap length e ∙ length-filled n skipped f old
 
 module _ (skipped : ℕ → Bool) (f : ℕ → ℕ) (old : List ℕ) {i : ℕ} (h : i < length old) {l : List ℕ} (e : l ≡ filled i skipped f old) where
-  pub filled-put : skipped i ≡ false → {v : ℕ} → v ≡ f i → set l i v ≡ filled (i + 1) skipped f old
+  filled-put : skipped i ≡ false → {v : ℕ} → v ≡ f i → set l i v ≡ filled (i + 1) skipped f old
   filled-put s {v} q = ap (λ (m : List ℕ). set m i v) e ∙ filled-store skipped f old i h s q
 
   -- one square more: stored, unless it is skipped
@@ -63,19 +62,6 @@ module _ (skipped : ℕ → Bool) (f : ℕ → ℕ) (old : List ℕ) {i : ℕ} (
 
 pub filled-whole : (skipped : ℕ → Bool) (f : ℕ → ℕ) (old : List ℕ) {n m : ℕ} {l : List ℕ} → l ≡ filled n skipped f old → n ≡ m → l ≡ filled m skipped f old
 filled-whole skipped f old e h = e ∙ ap (λ (k : ℕ). filled k skipped f old) h
-
--- nothing is skipped
-abbrev pub nothing : ℕ → Bool
-nothing i = false
-
--- a room filled whole with another's numbers is a copy of it
-pub copied : (from old : List ℕ) {n : ℕ} {l : List ℕ} → length old ≡ length from → length from ≤ n → l ≡ filled n nothing (λ i. getD from i 0) old → l ≡ from
-copied from old {n} e h q =
-    q
-    ∙ ext-getD 0 _ from (length-filled n nothing (λ i. getD from i 0) old ∙ e)
-    (λ i l.
-    let b : i < length old = omega (arith, length-filled n nothing (λ i. getD from i 0) old) in
-    filled-in n nothing (λ i. getD from i 0) old i b (omega arith) refl)
 
 -- ---- what a walk finds
 

@@ -2,37 +2,27 @@
 // Nothing lent but the working room is written before all three are decided.
 ghost use mathlib.Core.Path.{_≡_};
 ghost use mathlib.Core.Bool.{false};
-ghost use Prim.Native.Nat.{_+_, _<_};
+ghost use Prim.Native.Nat.{_<_};
 ghost use lib.ListN.{length, set};
 ghost use Rattle.reckon.specs.Tests.{pick};
 ghost use Rattle.reckon.specs.Lists.{filled};
-ghost use Rattle.grid.specs.Squares.{OnSquare, squares, west};
+ghost use Rattle.grid.specs.Squares.{squares, west};
 ghost use Rattle.grid.specs.Marks.{closed};
 ghost use Rattle.ledger.specs.Runs.{plan, world};
-ghost use Rattle.ledger.specs.Flows.{came, gone};
-ghost use Rattle.ledger.specs.Record.{Recorded, addedIn, leavesIn, wordPlace};
+ghost use Rattle.ledger.specs.Flows.{gone};
+ghost use Rattle.ledger.specs.Record.{leavesIn, wordPlace};
 ghost use Rattle.ledger.specs.After.{newOutflow, newSoaked, worldWith};
-ghost use Rattle.ledger.specs.inner.Settle.{GatheredAll, GatheredOne, Gathers, Settles, SettlesTo, SmallLeaving, SmallSquare, depthBy, depthsBy, movesIn};
-use crate::record::Found;
-use crate::record::UNFIT;
-use crate::record::added_by;
-use crate::record::came_to;
-use crate::record::came_within;
+ghost use Rattle.ledger.specs.inner.Settle.{SendersLent, Settles, SettlesTo, SmallLeaving, SmallSquare, depthsBy, movesIn};
+use crate::gather::gather;
 use crate::record::gone_from;
 use crate::record::lasted;
-use crate::record::lost_from;
-use crate::record::off_from;
 use crate::record::record_size;
-use crate::record::soaked_from;
 use crate::runs::Run;
 use grid::marks::is_closed;
 use grid::squares::Shape;
-use grid::squares::next_column;
-use grid::squares::on_rim;
 use grid::squares::squares_of;
+use grid::walks::Walk;
 use reckon::copying::copy_into;
-use reckon::numbers::number;
-use reckon::ranges::MOST_DEPTH;
 use reckon::ranges::MOST_OUTFLOW;
 use reckon::ranges::MOST_SOAKED;
 
@@ -40,93 +30,6 @@ use reckon::ranges::MOST_SOAKED;
 pub struct Settled {
     pub refused: u32,
     pub run: Run,
-}
-
-// What a square gains: from its neighbours, which are all there unless it is on the rim, and what is added.
-fn gains(shape: Shape, marks: &[u8], rec: &[u32], square: usize, column: usize) -> u64
-    requires { ⌜ Recorded (plan shape (now marks)) (now rec) ⌝ }
-    requires { ⌜ OnSquare shape square column ⌝ }
-    ensures { λ r. ⌜ r ≡ came (plan shape (now (marks .entry))) (leavesIn (now (rec .entry))) square + addedIn (now (rec .entry)) square ⌝ }
-{
-    if on_rim(shape, square, column) {
-        return came_to(shape, marks, rec, square, column) + added_by(rec, square);
-    }
-    came_within(shape, marks, rec, square) + added_by(rec, square)
-}
-
-// A square's new depth. A dry square has sent nothing, and nothing has soaked.
-fn new_depth(
-    shape: Shape,
-    marks: &[u8],
-    rec: &[u32],
-    depths: &[u32],
-    square: usize,
-    column: usize,
-) -> u64
-    requires { ⌜ Gathers (plan shape (now marks)) (now rec) (now depths) ⌝ }
-    requires { ⌜ (OnSquare shape square column) × (closed (now marks) square ≡ false) ⌝ }
-    ensures { λ r. ⌜ r ≡ depthBy (plan shape (now (marks .entry))) (now (rec .entry)) (now (depths .entry)) square ⌝ }
-{
-    let gained = gains(shape, marks, rec, square, column);
-    let depth = number(depths, square);
-    if depth == 0 {
-        return gained;
-    }
-    let remains = depth - lost_from(rec, square);
-    remains + gained
-}
-
-// Puts a square's new depth, or its old one if it is closed, into the working room, unless the new depth is above the most.
-fn gather_square(
-    shape: Shape,
-    marks: &[u8],
-    rec: &[u32],
-    depths: &[u32],
-    square: usize,
-    column: usize,
-    working: &mut [u32],
-) -> bool
-    requires { ⌜ Gathers (plan shape (now marks)) (now rec) (now depths) ⌝ }
-    requires { ⌜ (OnSquare shape square column) × (square < length (now working)) ⌝ }
-    ensures { λ r. ⌜ GatheredOne (plan shape (now (marks .entry))) (now (rec .entry)) (now (depths .entry)) square (now (working .entry)) r (now (working .exit)) ⌝ }
-{
-    if is_closed(marks, square) {
-        working[square] = depths[square];
-        return true;
-    }
-    let depth = new_depth(shape, marks, rec, depths, square, column);
-    if (MOST_DEPTH as u64) < depth {
-        return false;
-    }
-    working[square] = depth as u32;
-    true
-}
-
-// Gathers every square's new depth, what leaves the grid and what soaks.
-fn gather(shape: Shape, marks: &[u8], rec: &[u32], depths: &[u32], working: &mut [u32]) -> Found
-    requires { ⌜ Gathers (plan shape (now marks)) (now rec) (now depths) ⌝ }
-    requires { ⌜ length (now working) ≡ squares shape ⌝ }
-    ensures { λ r. ⌜ GatheredAll (plan shape (now (marks .entry))) (now (rec .entry)) (now (depths .entry)) r (now (working .exit)) ⌝ }
-{
-    let squares = squares_of(shape);
-    let mut off: u64 = 0;
-    let mut soaked: u64 = 0;
-    let mut square = 0;
-    let mut column = 0;
-    while square < squares {
-        if !gather_square(shape, marks, rec, depths, square, column, working) {
-            return UNFIT;
-        }
-        off += off_from(shape, marks, rec, square, column);
-        soaked += soaked_from(marks, rec, square);
-        square += 1;
-        column = next_column(shape, column);
-    }
-    Found {
-        fits: true,
-        off: off,
-        soaked: soaked,
-    }
 }
 
 // Writes the last leaving of a square that is not closed. A dry square has sent nothing.
@@ -195,11 +98,14 @@ fn write(
     }
 }
 
-// Settles a step by its record and the length that it leaves held. `working` is working room for the new depths.
+// Settles a step by its record and the length that it leaves held; the wet walk goes by the rows of the squares that sent. `working` is
+// working room for the new depths.
 pub fn settle(
+    walk: Walk,
     shape: Shape,
     marks: &[u8],
     rec: &[u32],
+    senders: &[u64],
     held: u64,
     run: Run,
     depths: &mut [u32],
@@ -208,10 +114,10 @@ pub fn settle(
     working: &mut [u32],
 ) -> Settled
     requires { ⌜ Settles (plan shape (now marks)) (now rec) held (world (now depths) (now lasts) (now records) run) ⌝ }
-    requires { ⌜ length (now working) ≡ squares shape ⌝ }
+    requires { ⌜ (length (now working) ≡ squares shape) × (SendersLent walk (plan shape (now marks)) (now rec) (now senders)) ⌝ }
     ensures { λ r. ⌜ SettlesTo (plan shape (now (marks .entry))) (now (rec .entry)) held (world (now (depths .entry)) (now (lasts .entry)) (now (records .entry)) run) (r .refused) (world (now (depths .exit)) (now (lasts .exit)) (now (records .exit)) (r .run)) ⌝ }
 {
-    let found = gather(shape, marks, rec, depths, working);
+    let found = gather(walk, shape, marks, rec, senders, depths, working);
     if !found.fits {
         return Settled {
             refused: 8,

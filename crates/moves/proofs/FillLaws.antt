@@ -1,10 +1,11 @@
 -- Laws of the record that a step works out: it is the step's record, since the rooms hold what is added and lasts is the step's.
 -- Assumes nothing.
-use mathlib.Core.Path.{_≡_, refl, sym, ap, _∙_}
-use mathlib.Core.Bool.{Bool, true, false}
+use mathlib.Core.Path.{_≡_, refl, sym, ap, _∙_, subst}
+use mathlib.Core.Bool.{Bool, true, false, not}
 use mathlib.Core.List.{List, [], _∷_}
 use Prim.Native.Nat.{ℕ, _+_, _-_, _^_, _≤_, _<_, min}
 use native.Mathlib.Omega.{arith}
+use lib.Dec.{eqb}
 use lib.ListN.{length, getD}
 use Rattle.reckon.specs.Ranges.{mostDepth}
 use Rattle.reckon.specs.Soaking.{soakDue}
@@ -19,12 +20,14 @@ use Rattle.ledger.specs.Runs.{Plan, World, seenOf}
 use Rattle.ledger.specs.Flows.{Leaves, fourSides, shut, gone}
 use Rattle.ledger.specs.Record.{squareRecord, recordOf, SquarePut}
 use Rattle.ledger.specs.After.{stepRecord}
-use Rattle.ledger.proofs.RecordLaws.{Begun, begun-open, begun-closed}
+use Rattle.ledger.specs.inner.Settle.{sends}
+use Rattle.ledger.specs.inner.Walks.{Begun}
+use Rattle.ledger.proofs.RecordLaws.{begun-open, begun-closed}
 use Rattle.moves.specs.Given.{Ground, Given}
 use Rattle.moves.specs.Drops.{dropsOf}
 use Rattle.moves.specs.Moves.{squareCandidates, candidates, leavesFor, soakedFor, addedFor, stepLength, stepDuration, stepMoves}
 use Rattle.moves.specs.inner.Added.{tables, addedFits, WaterAdded}
-use Rattle.moves.specs.inner.Fill.{firm, LengthWorked, FilledOne}
+use Rattle.moves.specs.inner.Fill.{firm, LengthWorked, FilledOne, FilledTo, FilledOn}
 use Rattle.moves.specs.inner.Ready.{MeadowInRange}
 use Rattle.moves.proofs.MoveLaws.{weights, leaves-open, covered, soaked-open}
 
@@ -71,7 +74,7 @@ module _ (p : Plan) (o : Ground) (depths lasts : List ℕ) (start ms i : ℕ) (e
   pub soaked-dry : getD depths i 0 ≡ 0 → 0 ≡ soakedFor p o depths lasts start ms i
   soaked-dry d = omega (arith, soaked-open p o depths lasts ms i start e)
 
-  gone-made :
+  pub gone-made :
       {leaves : List ℕ} → leaves ≡ weights p o depths lasts ms i → fourSides (λ side. getD leaves side 0) ≡ gone (leavesFor p o depths lasts ms) i
   unfolding gone
   gone-made l =
@@ -79,17 +82,21 @@ module _ (p : Plan) (o : Ground) (depths lasts : List ℕ) (start ms i : ℕ) (e
       = λ side. leaves-open p o depths lasts ms i side e in
       rw (l, at north, at east, at south, at west)
 
-  pub left-over : {leaves : List ℕ} {d : ℕ} → leaves ≡ weights p o depths lasts ms i → d ≡ getD depths i 0 → fourSides (λ side. getD leaves side 0) ≤ d
-  left-over l d = omega (arith, gone-made l, covered p o depths lasts ms i e)
+  pub gone-covered : gone (leavesFor p o depths lasts ms) i ≤ getD depths i 0
+  gone-covered = covered p o depths lasts ms i e
 
   pub soaked-made :
-      {rate d s : ℕ} {leaves : List ℕ} → rate ≡ getD (o .rates) i 0 → d ≡ getD depths i 0 → leaves ≡ weights p o depths lasts ms i →
-      s ≡ min (soakDue rate start (start + ms)) (d - fourSides (λ side. getD leaves side 0)) → s ≡ soakedFor p o depths lasts start ms i
-  soaked-made {rate} {d} {leaves = leaves} a b l s =
-      let four : fourSides (λ side. getD leaves side 0) ≡ gone (leavesFor p o depths lasts ms) i = gone-made l in
-      let same : min (soakDue rate start (start + ms)) (d - fourSides (λ side. getD leaves side 0))
-      ≡ min (soakDue (getD (o .rates) i 0) start (start + ms)) (getD depths i 0 - gone (leavesFor p o depths lasts ms) i) = rw (a, b, four) in
+      {rate d four s : ℕ} → rate ≡ getD (o .rates) i 0 → d ≡ getD depths i 0 → four ≡ gone (leavesFor p o depths lasts ms) i →
+      s ≡ min (soakDue rate start (start + ms)) (d - four) → s ≡ soakedFor p o depths lasts start ms i
+  soaked-made {rate} {d} {four} a b l s =
+      let same : min (soakDue rate start (start + ms)) (d - four)
+      ≡ min (soakDue (getD (o .rates) i 0) start (start + ms)) (getD depths i 0 - gone (leavesFor p o depths lasts ms) i) = rw (a, b, l) in
       s ∙ (same ∙ sym (soaked-open p o depths lasts ms i start e))
+
+  -- whether anything leaves, as the code asks
+  pub sends-made : {four : ℕ} → four ≡ gone (leavesFor p o depths lasts ms) i → not (eqb four 0) ≡ sends p (leavesFor p o depths lasts ms) i
+  unfolding sends
+  sends-made q = rw (q, e)
 
 -- a turn of the loop over squares
 pub fill-turn :
@@ -105,6 +112,25 @@ fill-turn p o depths lasts added held start ms i {old} {new} h b f = go (shut p 
         begun-open h b c
         (weighed (o .rules) (getD depths i 0) (getD lasts i 0) (getD (o .roughness) i 0) ms (dropsOf p (o .rules) (o .beds) depths i))
         (λ side l. sym (leaves-open p o depths lasts ms i side c)) refl refl refl (f .open-put c)
+
+-- squares written from one on
+module _ (p : Plan) (o : Ground) (depths lasts added : List ℕ) (start ms from : ℕ) where
+  -- one more
+  pub filled-more :
+      (i : ℕ) {old mid new : List ℕ} → i < squares (p .shape) → FilledOn p o depths lasts added start ms from i old mid →
+      FilledOne p o depths lasts added start ms i mid new → FilledOn p o depths lasts added start ms from (i + 1) old new
+  filled-more i h b f held s = fill-turn p o depths lasts added held start ms i h (b held s) f
+
+  -- more of them
+  pub filled-then :
+      {i j k : ℕ} {old mid new : List ℕ} → i ≡ j → FilledOn p o depths lasts added start ms from i old mid → FilledOn p o depths lasts added start ms j k mid new →
+      FilledOn p o depths lasts added start ms from k old new
+  filled-then {mid = mid} e a b held s = b held (subst (λ (n : ℕ). FilledTo p o depths lasts added held start ms n mid) e (a held s))
+
+  -- up to here, by another name
+  pub filled-on :
+      {i j : ℕ} {old new : List ℕ} → i ≡ j → FilledOn p o depths lasts added start ms from i old new → FilledOn p o depths lasts added start ms from j old new
+  filled-on {old = old} {new} e = subst (λ (k : ℕ). FilledOn p o depths lasts added start ms from k old new) e
 
 -- ---- the step's own times and record, from what the code finds
 

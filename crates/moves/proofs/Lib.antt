@@ -4,3 +4,4 @@ pub mod DropLaws
 pub mod FillLaws
 pub mod LengthLaws
 pub mod MoveLaws
+pub mod WetLaws

@@ -18,7 +18,7 @@ ghost use Rattle.ledger.specs.Runs.{plan};
 ghost use Rattle.moves.specs.inner.Added.{Between, PouredAll, PouredRow, Pours, Rained, RainedAll, WaterAdded, tables};
 
 // The old number of a closed square, else the new one: a choice and not a branch, so that a walk over all squares is quick.
-fn unless_closed(closed: bool, new: u32, old: u32) -> u32
+pub(crate) fn unless_closed(closed: bool, new: u32, old: u32) -> u32
     ensures { λ r. ⌜ r ≡ pick closed old new ⌝ }
 {
     if closed { old } else { new }

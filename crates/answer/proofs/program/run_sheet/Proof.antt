@@ -19,10 +19,10 @@ refused c = c .before .before .before .before
 abbrev fresh : tie.After-run → tie.After-fresh
 fresh c = c .before .before .before .before
 
-abbrev running : tie.After-run-to → tie.After-run
+abbrev running : tie.After-run-to-wet → tie.After-run
 running c = c .before .before .before .before .before
 
-abbrev ran : tie.After-put-ran-arg2 → tie.After-run-to
+abbrev ran : tie.After-put-ran-arg2 → tie.After-run-to-wet
 ran c = c .before .before .before .before .before .before .before .before
 
 abbrev printed : tie.After-slice-known10 → tie.After-put-ran
@@ -46,14 +46,14 @@ put-refused-requires c κs =
 enum-known-run : tie.Need-enum-known-run
 enum-known-run c = search needs
 
-run-to-requires : tie.Need-run-to-requires
-run-to-requires c κs = search needs
+run-to-wet-requires : tie.Need-run-to-wet-requires
+run-to-wet-requires c κs = search needs
 
 put-ran-requires : tie.Need-put-ran-requires
 put-ran-requires c κs =
     let s = start (fresh (running (ran c))) in
     let h = s .args .heading in
-    ((run-shape (h .shape) (h .rules) (held s) (h .end) (s .pre .1 .0), sym (run-marks (h .shape) (h .rules) (held s) (h .end) (s .pre .1 .0)), sym (ran c .run-to .kept .1 .1 .1 .1 .1 .1 .1 .1 .1 .1 .0 ∙ run-depths (h .shape) (h .rules) (held s) (h .end) (s .pre .1 .0))), (s .pre .0 .0, s .pre .0 .1))
+    ((run-shape (h .shape) (h .rules) (held s) (h .end) (s .pre .1 .0), sym (run-marks (h .shape) (h .rules) (held s) (h .end) (s .pre .1 .0)), sym (ran c .run-to-wet .kept .1 .1 .1 .1 .1 .1 .1 .1 .1 .1 .0 ∙ run-depths (h .shape) (h .rules) (held s) (h .end) (s .pre .1 .0))), (s .pre .0 .0, s .pre .0 .1))
 
 same-length : tie.Need-same-length
 same-length c = search needs
@@ -82,7 +82,7 @@ same-length-6 : tie.Need-same-length-6
 same-length-6 c = search needs
 
 same-length-7 : tie.Need-same-length-7
-same-length-7 c = ran (printed c .before) .run-to .kept .1 .1 .1 .1 .1 .1 .1 .1 .1 .1 .1 .1 .0
+same-length-7 c = ran (printed c .before) .run-to-wet .kept .1 .1 .1 .1 .1 .1 .1 .1 .1 .1 .1 .1 .0
 
 returns-2 : tie.Need-returns-2
 returns-2 c =
@@ -90,7 +90,7 @@ returns-2 c =
     let f = fresh (running to) in
     let s = start f in
     let h = s .args .heading in
-    run-printed h (held s) (to .run-to .ensures .ends)
+    run-printed h (held s) (to .run-to-wet .ensures .ends)
     (starts-lasts (h .shape) (h .rules) (held s) (h .end) (s .pre .1 .0) (s .pre .1 .1 .0) (s .pre .1 .1 .1) (f .fresh .ensures))
     (s .pre .1 .1 .1)
     (same-run (starts (h .shape) (h .rules) (held s) (h .end) (s .pre .1 .0) (s .pre .1 .1 .0) (s .pre .1 .1 .1) (f .fresh .ensures)) (running to .run .given .1))
@@ -104,7 +104,7 @@ run-sheet-spec =
     enum-known-number
     put-refused-requires
     enum-known-run
-    run-to-requires
+    run-to-wet-requires
     put-ran-requires
     same-length
     same-length-2

@@ -14,7 +14,7 @@ use Rattle.flood.proofs.run.run_on.Statement.{statement}
 use Rattle.flood.proofs.run.run_on.Tie as tie
 
 abbrev Inv-loop : tie.InvT-loop
-Inv-loop shape rules end marks beds roughness rates rain inflow depths₀ lasts₀ records₀ rec₀ room₀ at₀ steps₀ depths lasts records rec room at steps =
+Inv-loop walk shape rules end marks beds roughness rates rain inflow depths₀ lasts₀ records₀ rec₀ senders₀ room₀ at₀ steps₀ depths lasts records rec senders room at steps =
     (length rec ≡ recordSize (plan shape marks))
     × (length room ≡ squares shape)
     × Running (plan shape marks) (given (ground rules beds roughness rates) rain inflow) end (world depths₀ lasts₀ records₀ at₀) (world depths lasts records at) steps
@@ -22,24 +22,25 @@ Inv-loop shape rules end marks beds roughness rates rain inflow depths₀ lasts�
     × (length lasts ≡ length lasts₀)
     × (length records ≡ length records₀)
     × (length rec ≡ length rec₀)
+    × (length senders ≡ length senders₀)
     × (length room ≡ length room₀)
 
 abbrev μ-loop : tie.MeasureT-loop
-μ-loop shape rules end marks beds roughness rates rain inflow depths₀ lasts₀ records₀ rec₀ room₀ at₀ steps₀ depths lasts records rec room at steps = end - at .clock
+μ-loop walk shape rules end marks beds roughness rates rain inflow depths₀ lasts₀ records₀ rec₀ senders₀ room₀ at₀ steps₀ depths lasts records rec senders room at steps = end - at .clock
 
 -- ---- the places, each by the one before it
 
-abbrev begin : tie.After-slice-known5 Inv-loop μ-loop → tie.Start Inv-loop μ-loop
-begin c = c .before .before .before .before .before .before .before .before .before .before .before
+abbrev begin : tie.After-slice-known6 Inv-loop μ-loop → tie.Start Inv-loop μ-loop
+begin c = c .before .before .before .before .before .before .before .before .before .before .before .before
 
 abbrev turned : tie.Then1 Inv-loop μ-loop → tie.At-loop Inv-loop μ-loop
 turned c = c .before .before
 
-abbrev to-step : tie.After-make-step-arg5 Inv-loop μ-loop → tie.Then1 Inv-loop μ-loop
-to-step c = c .before .before .before .before .before
+abbrev to-step : tie.After-make-step-arg6 Inv-loop μ-loop → tie.Then1 Inv-loop μ-loop
+to-step c = c .before .before .before .before .before .before
 
 abbrev finished : tie.After-after Inv-loop μ-loop → tie.After-make-step Inv-loop μ-loop
-finished c = c .before .before .before .before .before .before .before .before .before .before .before
+finished c = c .before .before .before .before .before .before .before .before .before .before .before .before .before
 
 -- ---- what is known there
 
@@ -59,20 +60,23 @@ abbrev start : tie.Then1 Inv-loop μ-loop → tie.Start Inv-loop μ-loop
 start c = begin (turned c .before)
 
 -- the slices are as long after a step as before it
-kept-depths : (c : tie.After-make-step Inv-loop μ-loop) → length (c .make-step .last .1 .1 .1 .1 .1 .1 .1 .1 .1 .0) ≡ length (turned (to-step (c .before)) .loop .depths)
-kept-depths c = c .make-step .kept .1 .1 .1 .1 .1 .1 .1 .1 .1 .0
+kept-depths : (c : tie.After-make-step Inv-loop μ-loop) → length (c .make-step .last .1 .1 .1 .1 .1 .1 .1 .1 .1 .1 .0) ≡ length (turned (to-step (c .before)) .loop .depths)
+kept-depths c = c .make-step .kept .1 .1 .1 .1 .1 .1 .1 .1 .1 .1 .0
 
-kept-lasts : (c : tie.After-make-step Inv-loop μ-loop) → length (c .make-step .last .1 .1 .1 .1 .1 .1 .1 .1 .1 .1 .0) ≡ length (turned (to-step (c .before)) .loop .lasts)
-kept-lasts c = c .make-step .kept .1 .1 .1 .1 .1 .1 .1 .1 .1 .1 .0
+kept-lasts : (c : tie.After-make-step Inv-loop μ-loop) → length (c .make-step .last .1 .1 .1 .1 .1 .1 .1 .1 .1 .1 .1 .0) ≡ length (turned (to-step (c .before)) .loop .lasts)
+kept-lasts c = c .make-step .kept .1 .1 .1 .1 .1 .1 .1 .1 .1 .1 .1 .0
 
-kept-records : (c : tie.After-make-step Inv-loop μ-loop) → length (c .make-step .last .1 .1 .1 .1 .1 .1 .1 .1 .1 .1 .1 .0) ≡ length (turned (to-step (c .before)) .loop .records)
-kept-records c = c .make-step .kept .1 .1 .1 .1 .1 .1 .1 .1 .1 .1 .1 .0
+kept-records : (c : tie.After-make-step Inv-loop μ-loop) → length (c .make-step .last .1 .1 .1 .1 .1 .1 .1 .1 .1 .1 .1 .1 .0) ≡ length (turned (to-step (c .before)) .loop .records)
+kept-records c = c .make-step .kept .1 .1 .1 .1 .1 .1 .1 .1 .1 .1 .1 .1 .0
 
-kept-rec : (c : tie.After-make-step Inv-loop μ-loop) → length (c .make-step .last .1 .1 .1 .1 .1 .1 .1 .1 .1 .1 .1 .1 .0) ≡ length (turned (to-step (c .before)) .loop .rec)
-kept-rec c = c .make-step .kept .1 .1 .1 .1 .1 .1 .1 .1 .1 .1 .1 .1 .0
+kept-rec : (c : tie.After-make-step Inv-loop μ-loop) → length (c .make-step .last .1 .1 .1 .1 .1 .1 .1 .1 .1 .1 .1 .1 .1 .0) ≡ length (turned (to-step (c .before)) .loop .rec)
+kept-rec c = c .make-step .kept .1 .1 .1 .1 .1 .1 .1 .1 .1 .1 .1 .1 .1 .0
 
-kept-room : (c : tie.After-make-step Inv-loop μ-loop) → length (c .make-step .last .1 .1 .1 .1 .1 .1 .1 .1 .1 .1 .1 .1 .1 .0) ≡ length (turned (to-step (c .before)) .loop .room)
-kept-room c = c .make-step .kept .1 .1 .1 .1 .1 .1 .1 .1 .1 .1 .1 .1 .1 .0
+kept-senders : (c : tie.After-make-step Inv-loop μ-loop) → length (c .make-step .last .1 .1 .1 .1 .1 .1 .1 .1 .1 .1 .1 .1 .1 .1 .0) ≡ length (turned (to-step (c .before)) .loop .senders)
+kept-senders c = c .make-step .kept .1 .1 .1 .1 .1 .1 .1 .1 .1 .1 .1 .1 .1 .1 .0
+
+kept-room : (c : tie.After-make-step Inv-loop μ-loop) → length (c .make-step .last .1 .1 .1 .1 .1 .1 .1 .1 .1 .1 .1 .1 .1 .1 .1 .0) ≡ length (turned (to-step (c .before)) .loop .room)
+kept-room c = c .make-step .kept .1 .1 .1 .1 .1 .1 .1 .1 .1 .1 .1 .1 .1 .1 .1 .0
 
 -- ---- the answers
 
@@ -80,8 +84,9 @@ loop-holds : tie.Need-loop-holds Inv-loop μ-loop
 loop-holds c =
     let s = begin c in (
       s .pre .1 .0,
-      s .pre .1 .1,
+      s .pre .1 .2,
       running-starts (p s) (g s) (s .args .end) (w s) (s .pre .0 .checked),
+      refl,
       refl,
       refl,
       refl,
@@ -92,7 +97,7 @@ loop-holds c =
 make-step-requires : tie.Need-make-step-requires Inv-loop μ-loop
 make-step-requires c κs =
     let inv = turned (to-step c) .loop .inv in
-    (record { checked = inv .2 .valid }, (inv .0, inv .1))
+    (record { checked = inv .2 .valid }, (inv .0, inv .7 ∙ start (to-step c) .pre .1 .1, inv .1))
 
 same-length : tie.Need-same-length Inv-loop μ-loop
 same-length c = search needs
@@ -109,6 +114,9 @@ same-length-4 c = search needs
 same-length-5 : tie.Need-same-length-5 Inv-loop μ-loop
 same-length-5 c = search needs
 
+same-length-6 : tie.Need-same-length-6 Inv-loop μ-loop
+same-length-6 c = search needs
+
 returns : tie.Need-returns Inv-loop μ-loop
 returns c =
     let at-if1 = under (c .before) in
@@ -122,7 +130,7 @@ returns c =
 add-steps : tie.Need-add-steps Inv-loop μ-loop
 add-steps c =
     let at-if1 = under (c .before) in
-    omega (arith, turned at-if1 .loop .inv .2 .few, start at-if1 .pre .1 .2, at-if1 .if1 .taken)
+    omega (arith, turned at-if1 .loop .inv .2 .few, start at-if1 .pre .1 .3, at-if1 .if1 .taken)
 
 loop-less : tie.Need-loop-less Inv-loop μ-loop
 loop-less c =
@@ -148,23 +156,27 @@ loop-again c =
       kept-lasts at-make-step ∙ inv .4,
       kept-records at-make-step ∙ inv .5,
       kept-rec at-make-step ∙ inv .6,
-      kept-room at-make-step ∙ inv .7,
+      kept-senders at-make-step ∙ inv .7,
+      kept-room at-make-step ∙ inv .8,
     )
 
-same-length-6 : tie.Need-same-length-6 Inv-loop μ-loop
-same-length-6 c = c .before .before .loop .inv .3
-
 same-length-7 : tie.Need-same-length-7 Inv-loop μ-loop
-same-length-7 c = c .before .before .loop .inv .4
+same-length-7 c = c .before .before .loop .inv .3
 
 same-length-8 : tie.Need-same-length-8 Inv-loop μ-loop
-same-length-8 c = c .before .before .loop .inv .5
+same-length-8 c = c .before .before .loop .inv .4
 
 same-length-9 : tie.Need-same-length-9 Inv-loop μ-loop
-same-length-9 c = c .before .before .loop .inv .6
+same-length-9 c = c .before .before .loop .inv .5
 
 same-length-10 : tie.Need-same-length-10 Inv-loop μ-loop
-same-length-10 c = c .before .before .loop .inv .7
+same-length-10 c = c .before .before .loop .inv .6
+
+same-length-11 : tie.Need-same-length-11 Inv-loop μ-loop
+same-length-11 c = c .before .before .loop .inv .7
+
+same-length-12 : tie.Need-same-length-12 Inv-loop μ-loop
+same-length-12 c = c .before .before .loop .inv .8
 
 returns-2 : tie.Need-returns-2 Inv-loop μ-loop
 returns-2 c =
@@ -185,13 +197,15 @@ run-on-spec =
     same-length-3
     same-length-4
     same-length-5
+    same-length-6
     returns
     add-steps
     loop-less
     loop-again
-    same-length-6
     same-length-7
     same-length-8
     same-length-9
     same-length-10
+    same-length-11
+    same-length-12
     returns-2)

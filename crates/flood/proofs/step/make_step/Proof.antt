@@ -17,28 +17,28 @@ use Rattle.grid.specs.Squares.{squares}
 use Rattle.ledger.specs.After.{stepRecord}
 use Rattle.moves.specs.Moves.{stepLength, stepDuration, stepMoves}
 use Rattle.moves.specs.inner.Ready.{Ready}
-use Rattle.flood.proofs.StepLaws.{is-ready, step-seven, step-eight, settles, step-settled}
+use Rattle.flood.proofs.StepLaws.{is-ready, step-seven, step-eight, settles, senders-lent, step-settled}
 use Rattle.flood.proofs.step.make_step.Statement.{statement}
 use Rattle.flood.proofs.step.make_step.Tie as tie
 
 -- ---- the places, each by the one before it
 
 abbrev begin : tie.After-step-length-arg → tie.Start
-begin c = c .before .before .before .before .before .before .before .before .before .before .before .before
+begin c = c .before .before .before .before .before .before .before .before .before .before .before .before .before
 
 abbrev timed : tie.Else1 → tie.After-duration-for
 timed c = c .before .before
 
-abbrev watered : tie.After-slice-known6 → tie.After-add-water
+abbrev watered : tie.After-slice-known7 → tie.After-add-water
 watered c = c .before .before
 
-abbrev to-fill : tie.After-fill-arg4 → tie.Else2
-to-fill c = c .before .before .before .before
+abbrev to-fill : tie.After-fill-arg5 → tie.Else2
+to-fill c = c .before .before .before .before .before
 
-abbrev to-settle : tie.After-settle-arg5 → tie.After-fill
-to-settle c = c .before .before .before .before .before .before .before
+abbrev to-settle : tie.After-settle-arg6 → tie.After-fill
+to-settle c = c .before .before .before .before .before .before .before .before .before .before
 
-abbrev finished : tie.After-slice-known11 → tie.After-settle
+abbrev finished : tie.After-slice-known13 → tie.After-settle
 finished c = c .before .before .before .before .before .before .before .before
 
 -- ---- what is known there
@@ -66,7 +66,7 @@ abbrev room : tie.After-add-water → List ℕ
 room c = c .add-water .last .1 .1 .1 .1 .1 .1 .1 .0
 
 abbrev rec : tie.After-fill → List ℕ
-rec c = c .fill .last .1 .1 .1 .1 .1 .1 .1 .1 .1 .1 .1 .1 .0
+rec c = c .fill .last .1 .1 .1 .1 .1 .1 .1 .1 .1 .1 .1 .1 .1 .0
 
 able : (s : tie.Start) → Ready (p s) (g s) (v s)
 able s = is-ready (p s) (g s) (w s) (s .pre .0 .checked)
@@ -81,7 +81,7 @@ in-time : (c : tie.Else1) → start (timed c) .args .run .clock + stepDuration (
 in-time c = omega (arith, lasts-is (timed c), c .if1 .left)
 
 room-long : (c : tie.After-add-water) → length (room c) ≡ squares (start (in-water c) .args .shape)
-room-long c = c .add-water .ensures .long ∙ start (in-water c) .pre .1 .1
+room-long c = c .add-water .ensures .long ∙ start (in-water c) .pre .1 .2
 
 record-is :
     (c : tie.After-fill) →
@@ -91,8 +91,8 @@ record-is c =
     let at-if2 = to-fill (c .before) in
     let at-add-water = watered (at-if2 .before) in
     let s = start (in-water at-add-water) in
-    record-made (p s) (g s) (w s) (lasts-is (in-water at-add-water)) refl (s .pre .1 .1) (at-add-water .add-water .ensures)
-    (not-false _ (at-if2 .if2 .left)) (c .fill .ensures)
+    record-made (p s) (g s) (w s) (lasts-is (in-water at-add-water)) refl (s .pre .1 .2) (at-add-water .add-water .ensures)
+    (not-false _ (at-if2 .if2 .left)) (c .fill .ensures .0)
 
 -- ---- the answers
 
@@ -133,7 +133,7 @@ add-water-requires c κs =
         ordered = omega arith;
         end-to = omega (arith, c .before .if1 .left);
       },
-      s .pre .1 .1,
+      s .pre .1 .2,
     )
 
 same-length-2 : tie.Need-same-length-2
@@ -164,7 +164,7 @@ fill-requires c κs =
         end-to = omega (arith, lasts-is (in-water at-add-water), in-time (at-add-water .before .before));
         record-long = s .pre .1 .0;
       },
-      able s .length-to,
+      (able s .length-to, s .pre .1 .1),
     )
 
 settle-requires : tie.Need-settle-requires
@@ -173,7 +173,11 @@ settle-requires c κs =
     let at-add-water = watered (to-fill (at-fill .before) .before) in
     let s = start (in-water at-add-water) in (
       settles (p s) (g s) (w s) (s .pre .0 .checked) (in-time (at-add-water .before .before)) (record-is at-fill) (length-is (in-water at-add-water)),
-      room-long at-add-water,
+      (
+        room-long at-add-water,
+        senders-lent (p s) (g s) (w s) (s .pre .0 .checked) (in-time (at-add-water .before .before)) (s .args .senders .now) (record-is at-fill) (lasts-is (in-water at-add-water))
+            (at-fill .fill .kept .1 .1 .1 .1 .1 .1 .1 .1 .1 .1 .1 .1 .1 .1 .0 ∙ s .pre .1 .1) (at-fill .fill .ensures .1),
+      ),
     )
 
 same-length-4 : tie.Need-same-length-4
@@ -190,6 +194,12 @@ same-length-7 c = search needs
 
 same-length-8 : tie.Need-same-length-8
 same-length-8 c = search needs
+
+same-length-9 : tie.Need-same-length-9
+same-length-9 c =
+    let at-settle = finished c in
+    let at-add-water = watered (to-fill (to-settle (at-settle .before) .before) .before) in
+    at-settle .settle .kept .1 .1 .1 .1 .1 .1 .1 .1 .1 .1 .0 ∙ at-add-water .add-water .kept .1 .1 .1 .1 .1 .1 .1 .0
 
 returns-3 : tie.Need-returns-3
 returns-3 c =
@@ -220,4 +230,5 @@ make-step-spec =
     same-length-6
     same-length-7
     same-length-8
+    same-length-9
     returns-3)

@@ -3,7 +3,7 @@
 use mathlib.Core.Path.{sym, _∙_}
 use Prim.Native.Nat.{_≤_}
 use borrow.Author.Needs.{needs}
-use Rattle.grid.specs.Squares.{ShapeInRange, mostSquares}
+use Rattle.grid.specs.Squares.{ShapeInRange, mostAlong, mostSquares}
 use Rattle.ledger.specs.Runs.{Plan, World, plan, world}
 use Rattle.ledger.specs.Record.{mostRecord}
 use Rattle.moves.specs.Given.{Given, ground, given}
@@ -43,6 +43,9 @@ squares-fit c =
     let s = begin (c .before .before) in
     squares-part (s .args .shape) (fine s) (c .squares-of .ensures)
 
+rows-fit : (c : tie.After-squares-of) → begin (c .before .before) .args .shape .rows ≤ mostAlong
+rows-fit c = fine (begin (c .before .before)) .rows-high
+
 -- ---- the answers
 
 record-size-requires : tie.Need-record-size-requires
@@ -57,18 +60,25 @@ array-borrow-prefix-rec c = record-fits (sized c)
 slice-aggregate-make-step : tie.Need-slice-aggregate-make-step
 slice-aggregate-make-step c = sym (part-long mostRecord (record-fits (sized (c .before))))
 
-array-borrow-prefix-room : tie.Need-array-borrow-prefix-room
-array-borrow-prefix-room c = squares-fit (sized (c .before))
+array-borrow-prefix-senders : tie.Need-array-borrow-prefix-senders
+array-borrow-prefix-senders c = rows-fit (sized (c .before))
 
 slice-aggregate-make-step-2 : tie.Need-slice-aggregate-make-step-2
-slice-aggregate-make-step-2 c = sym (part-long mostSquares (squares-fit (sized (c .before .before))))
+slice-aggregate-make-step-2 c = sym (part-long mostAlong (rows-fit (sized (c .before .before))))
+
+array-borrow-prefix-room : tie.Need-array-borrow-prefix-room
+array-borrow-prefix-room c = squares-fit (sized (c .before .before))
+
+slice-aggregate-make-step-3 : tie.Need-slice-aggregate-make-step-3
+slice-aggregate-make-step-3 c = sym (part-long mostSquares (squares-fit (sized (c .before .before .before))))
 
 make-step-requires : tie.Need-make-step-requires
 make-step-requires c κs =
-    let at-sized = sized (c .before .before) in (
+    let at-sized = sized (c .before .before .before) in (
       begin (at-sized .before .before) .pre,
       (
         part-long mostRecord (record-fits at-sized) ∙ at-sized .before .record-size .ensures,
+        part-long mostAlong (rows-fit at-sized),
         part-long mostSquares (squares-fit at-sized) ∙ at-sized .squares-of .ensures,
       ),
     )
@@ -93,8 +103,10 @@ step-on-spec =
     squares-of-requires
     array-borrow-prefix-rec
     slice-aggregate-make-step
-    array-borrow-prefix-room
+    array-borrow-prefix-senders
     slice-aggregate-make-step-2
+    array-borrow-prefix-room
+    slice-aggregate-make-step-3
     make-step-requires
     same-length
     same-length-2

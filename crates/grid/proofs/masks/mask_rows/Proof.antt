@@ -2,19 +2,20 @@
 -- Assumes nothing.
 use Prim.Native.Nat.{_≤_, _-_, zero-le}
 use native.Mathlib.Omega.{arith}
+use Rattle.grid.specs.Masks.{isWet}
 use Rattle.grid.proofs.SquareLaws.{row-fits}
 use Rattle.grid.proofs.MaskLaws.{Rowed, rowed-none, rowed-long, rowed-more, masks-whole}
 use Rattle.grid.proofs.masks.mask_rows.Statement.{statement}
 use Rattle.grid.proofs.masks.mask_rows.Tie as tie
 
 abbrev Inv-loop : tie.InvT-loop
-Inv-loop marks depths least rows₀ count columns row₀ first₀ rows row first = (row ≤ count) × Rowed marks depths least columns rows₀ rows row first
+Inv-loop marks depths least rows₀ count columns row₀ first₀ rows row first = (row ≤ count) × Rowed (isWet marks depths least) columns rows₀ rows row first
 
 abbrev μ-loop : tie.MeasureT-loop
 μ-loop marks depths least rows₀ count columns row₀ first₀ rows row first = count - row
 
 loop-holds : tie.Need-loop-holds Inv-loop μ-loop
-loop-holds c = (zero-le, rowed-none _ _ _ _ _)
+loop-holds c = (zero-le, rowed-none _ _ _)
 
 row-mask-requires : tie.Need-row-mask-requires Inv-loop μ-loop
 row-mask-requires c κs =
@@ -32,7 +33,7 @@ slice-write-rows : tie.Need-slice-write-rows Inv-loop μ-loop
 slice-write-rows c =
     let at-loop = c .before .before in
     let start = at-loop .before .before .before .before in
-    omega (arith, rowed-long _ _ _ _ _ _ (at-loop .loop .inv .1), start .pre .rows-long, c .before .loop-test .taken)
+    omega (arith, rowed-long _ _ _ _ (at-loop .loop .inv .1), start .pre .rows-long, c .before .loop-test .taken)
 
 add-row : tie.Need-add-row Inv-loop μ-loop
 add-row c = omega (arith, c .before .before .before .before .before .before .pre .fine .rows-high, c .before .loop-test .taken)
@@ -51,12 +52,12 @@ loop-again c =
     let at-loop = c .before .before in
     let start = at-loop .before .before .before .before in (
       omega (arith, c .before .loop-test .taken),
-      rowed-more _ _ _ _ _ _ (at-loop .loop .inv .1)
+      rowed-more _ _ _ _ (at-loop .loop .inv .1)
           (omega (arith, start .pre .rows-long, c .before .loop-test .taken)) (c .row-mask .ensures),
     )
 
 same-length : tie.Need-same-length Inv-loop μ-loop
-same-length c = rowed-long _ _ _ _ _ _ (c .before .loop .inv .1)
+same-length c = rowed-long _ _ _ _ (c .before .loop .inv .1)
 
 returns : tie.Need-returns Inv-loop μ-loop
 returns c =

@@ -18,7 +18,7 @@ use Rattle.ledger.proofs.settle.settle.Tie as tie
 -- ---- the places, each from the one after it
 
 abbrev known2 : tie.After-gather-arg2 → tie.After-shared-slice-known2
-known2 c = c .before .before .before .before .before .before
+known2 c = c .before .before .before .before .before .before .before
 
 abbrev start : tie.After-gather-arg2 → tie.Start
 start c = known2 c .before .before
@@ -84,7 +84,7 @@ module _ (c : tie.Else1) where
 -- ---- the needs
 
 gather-requires : tie.Need-gather-requires
-gather-requires c κs = (settles-gathers (start c .pre .0), start c .pre .1)
+gather-requires c κs = ((settles-gathers (start c .pre .0), start c .pre .1 .0), start c .pre .1 .1)
 
 same-length : tie.Need-same-length
 same-length c = search needs

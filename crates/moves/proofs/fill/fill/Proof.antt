@@ -1,130 +1,113 @@
--- `moves::fill::fill` meets its contract: the squares passed are the record's.
+-- `moves::fill::fill` meets its contract: after the head, either walk writes every square.
 -- Assumes nothing.
-use mathlib.Core.Path.{_≡_, sym, _∙_}
-use Prim.Native.Nat.{_-_, _*_, _%_, _≤_}
-use native.Mathlib.Nat.{zero-mod}
-use native.Mathlib.Omega.{arith}
-use lib.ListN.{getD}
-use Rattle.grid.proofs.SquareLaws.{carried, column-within}
+use mathlib.Core.Path.{refl, _∙_}
+use borrow.Author.Needs.{needs}
 use Rattle.ledger.specs.Runs.{Plan, plan}
-use Rattle.ledger.proofs.RecordLaws.{Begun, begun-none, begun-whole}
+use Rattle.ledger.proofs.RecordLaws.{begun-none, begun-whole}
 use Rattle.moves.specs.Given.{Ground, ground}
-use Rattle.moves.specs.Moves.{leavesFor, soakedFor}
-use Rattle.moves.proofs.FillLaws.{fill-turn}
+use Rattle.moves.specs.inner.Fill.{FilledTo, Fills}
+use Rattle.moves.proofs.WetLaws.{told-none, told-wet}
 use Rattle.moves.proofs.fill.fill.Statement.{statement}
 use Rattle.moves.proofs.fill.fill.Tie as tie
 
-abbrev Inv-loop : tie.InvT-loop
-Inv-loop shape rules marks beds roughness rates depths lasts added held start duration rec₀ squares square₀ column₀ rec square column =
-    (square ≤ shape .rows * shape .columns)
-    × (column ≡ square % shape .columns)
-    × Begun (plan shape marks) held duration (leavesFor (plan shape marks) (ground rules beds roughness rates) depths lasts duration) (λ i. getD lasts i 0) (λ i. getD added i 0)
-    (soakedFor (plan shape marks) (ground rules beds roughness rates) depths lasts start duration) square rec
-
-abbrev μ-loop : tie.MeasureT-loop
-μ-loop shape rules marks beds roughness rates depths lasts added held start duration rec₀ squares square₀ column₀ rec square column = squares - square
-
 -- ---- the places, each by the one before it
 
-abbrev begin : tie.After-put-head-arg Inv-loop μ-loop → tie.Start Inv-loop μ-loop
-begin c = c .before .before .before .before .before .before .before .before .before
+abbrev begin : tie.After-put-head → tie.Start
+begin c = c .before .before .before .before .before .before .before .before .before .before .before
 
-abbrev to-loop : tie.At-loop Inv-loop μ-loop → tie.After-put-head Inv-loop μ-loop
-to-loop c = c .before .before .before .before
-
-abbrev to-square : tie.After-fill-square-arg Inv-loop μ-loop → tie.At-loop Inv-loop μ-loop
-to-square c = c .before .before
-
-abbrev turned : tie.After-slice-known3 Inv-loop μ-loop → tie.After-fill-square Inv-loop μ-loop
-turned c = c .before .before
+abbrev headed : tie.After-slice-known3 → tie.After-put-head
+headed c = c .before .before
 
 -- ---- what is known there
 
-abbrev p : tie.Start Inv-loop μ-loop → Plan
+abbrev p : tie.Start → Plan
 p s = plan (s .args .shape) (s .args .marks .now)
 
-abbrev o : tie.Start Inv-loop μ-loop → Ground
+abbrev o : tie.Start → Ground
 o s = ground (s .args .rules) (s .args .beds .now) (s .args .roughness .now) (s .args .rates .now)
 
-abbrev start : tie.At-loop Inv-loop μ-loop → tie.Start Inv-loop μ-loop
-start c = begin (to-loop c .before)
+-- the record begins with its head
+head-put :
+    (c : tie.After-put-head) →
+    let s = begin c in
+    FilledTo (p s) (o s) (s .args .depths .now) (s .args .lasts .now) (s .args .added .now) (s .args .held) (s .args .start) (s .args .duration) 0
+    (c .put-head .last .0)
+head-put c = begun-none (begin c .args .rec .now) (begin c .pre .0 .record-long) (c .put-head .ensures)
+
+fills :
+    (c : tie.After-put-head) →
+    let s = begin c in
+    Fills (p s) (o s) (s .args .depths .now) (s .args .lasts .now) (s .args .added .now) (s .args .start) (s .args .duration) (c .put-head .last .0)
+fills c =
+    let f = begin c .pre .0 in
+    record {
+      flows = f .flows;
+      added-long = f .added-long;
+      duration-for = f .duration-for;
+      end-to = f .end-to;
+      record-long = c .put-head .kept .0 ∙ f .record-long;
+    }
 
 -- ---- the answers
 
-put-head-requires : tie.Need-put-head-requires Inv-loop μ-loop
-put-head-requires c κs =
-    let s = begin c in
-    (omega (arith, s .pre .0 .record-long), (s .pre .1, s .pre .0 .duration-for))
+put-head-requires : tie.Need-put-head-requires
+put-head-requires c κs = search needs
 
-squares-of-requires : tie.Need-squares-of-requires Inv-loop μ-loop
-squares-of-requires c κs = begin (c .before .before .before) .pre .0 .flows .lies .sited .fine
+enum-told : tie.Need-enum-told
+enum-told c = search needs
 
-loop-holds : tie.Need-loop-holds Inv-loop μ-loop
-loop-holds c =
-    let at-put-head = c .before .before .before in
-    let s = begin (at-put-head .before) in (
-      omega arith,
-      sym (zero-mod (s .args .shape .columns)),
-      begun-none (s .args .rec .now) (s .pre .0 .record-long) (at-put-head .put-head .ensures),
+fill-all-requires : tie.Need-fill-all-requires
+fill-all-requires c κs = fills (headed (c .before .before .before))
+
+enum-told-2 : tie.Need-enum-told-2
+enum-told-2 c = search needs
+
+fill-wet-requires : tie.Need-fill-wet-requires
+fill-wet-requires c κs =
+    let h = headed (c .before .before .before .before) in
+    (fills h, begin h .pre .1 .1)
+
+same-length : tie.Need-same-length
+same-length c = search needs
+
+returns : tie.Need-returns
+returns c =
+    let all = c .before .before in
+    let told = all .before .before in
+    let h = headed (told .before .before) in
+    let s = begin h in (
+      begun-whole refl (all .fill-all .ensures (s .args .held) (head-put h)),
+      told-none (p s) (o s) (s .args .depths .now) (s .args .lasts .now) (s .args .duration) (s .args .senders .now) (told .enum-told .given .1),
     )
 
-fill-square-requires : tie.Need-fill-square-requires Inv-loop μ-loop
-fill-square-requires c κs =
-    let at-loop = to-square c in
-    let f = start at-loop .pre .0 in (
-      record {
-        flows = f .flows;
-        added-long = f .added-long;
-        duration-for = f .duration-for;
-        end-to = f .end-to;
-        record-long = at-loop .loop .inv .2 .long;
-      },
-      record { fine = f .flows .lies .sited .fine; inside = omega arith; column-is = at-loop .loop .inv .1 },
+same-length-2 : tie.Need-same-length-2
+same-length-2 c = search needs
+
+same-length-3 : tie.Need-same-length-3
+same-length-3 c = search needs
+
+returns-2 : tie.Need-returns-2
+returns-2 c =
+    let wet = c .before .before .before .before in
+    let told = wet .before .before .before in
+    let h = headed (told .before .before) in
+    let s = begin h in (
+      begun-whole refl (wet .fill-wet .ensures .0 (s .args .held) (head-put h)),
+      told-wet (p s) (o s) (s .args .depths .now) (s .args .lasts .now) (s .args .duration) (s .args .senders .now) (told .enum-told2 .given .1)
+          (wet .fill-wet .ensures .1),
     )
-
-add-square : tie.Need-add-square Inv-loop μ-loop
-add-square c = omega arith
-
-next-column-requires : tie.Need-next-column-requires Inv-loop μ-loop
-next-column-requires c κs =
-    let at-loop = to-square (turned c .before) in
-    let s = start at-loop in
-    let fine = s .pre .0 .flows .lies .sited .fine in
-    (fine, column-within (s .args .shape) (at-loop .loop .square) (fine .columns-low) (at-loop .loop .inv .1))
-
-loop-less : tie.Need-loop-less Inv-loop μ-loop
-loop-less c = omega arith
-
-loop-again : tie.Need-loop-again Inv-loop μ-loop
-loop-again c =
-    let at-fill-square = turned (c .before) in
-    let at-loop = to-square (at-fill-square .before) in
-    let s = start at-loop in (
-      omega arith,
-      carried (s .args .shape) (at-loop .loop .square) (at-loop .loop .inv .1) (c .next-column .ensures),
-      fill-turn (p s) (o s) (s .args .depths .now) (s .args .lasts .now) (s .args .added .now) (s .args .held) (s .args .start) (s .args .duration)
-          (at-loop .loop .square) (omega arith) (at-loop .loop .inv .2) (at-fill-square .fill-square .ensures),
-    )
-
-same-length : tie.Need-same-length Inv-loop μ-loop
-same-length c = c .before .loop .inv .2 .long ∙ sym (start (c .before) .pre .0 .record-long)
-
-returns : tie.Need-returns Inv-loop μ-loop
-returns c = begun-whole (omega arith) (c .before .loop .inv .2)
 
 pub fill-spec : {M : Type 1} → statement M
 fill-spec =
     tie.close
     (tie.spec
-    Inv-loop
-    μ-loop
     put-head-requires
-    squares-of-requires
-    loop-holds
-    fill-square-requires
-    add-square
-    next-column-requires
-    loop-less
-    loop-again
+    enum-told
+    fill-all-requires
+    enum-told-2
+    fill-wet-requires
     same-length
-    returns)
+    returns
+    same-length-2
+    same-length-3
+    returns-2)

@@ -1,0 +1,156 @@
+-- `flood::run::run_to_by` meets its contract: rows 1 to 6 refuse, or the steps decide, in parts of the rooms that are of their sizes.
+-- Assumes nothing.
+use mathlib.Core.Path.{_≡_, sym, _∙_}
+use Prim.Native.Nat.{_≤_}
+use borrow.Author.Needs.{needs}
+use Rattle.reckon.specs.Tests.{refusal}
+use Rattle.grid.specs.Squares.{ShapeInRange, mostAlong, mostSquares}
+use Rattle.ledger.specs.Runs.{Plan, World, plan, world}
+use Rattle.ledger.specs.Record.{mostRecord}
+use Rattle.moves.specs.Given.{Given, ground, given}
+use Rattle.flood.specs.Refusals.{runChecks}
+use Rattle.flood.proofs.CheckLaws.{run-checks-step, run-checks-end, end-is}
+use Rattle.flood.proofs.StepLaws.{is-ready, record-part, squares-part, part-long}
+use Rattle.flood.proofs.RunToLaws.{run-checked, run-passed}
+use Rattle.flood.proofs.run.run_to_by.Statement.{statement}
+use Rattle.flood.proofs.run.run_to_by.Tie as tie
+
+-- ---- the places, each by the one before it
+
+abbrev begin : tie.After-check → tie.Start
+begin c = c .before .before .before .before .before .before .before .before .before .before .before .before .before
+
+abbrev to-run : tie.After-run-on-arg3 → tie.After-squares-of
+to-run c = c .before .before .before
+
+abbrev finished : tie.After-room2 → tie.After-run-on
+finished c = c .before .before .before .before .before .before .before .before .before
+
+-- ---- what is known there
+
+abbrev p : tie.Start → Plan
+p s = plan (s .args .shape) (s .args .marks .now)
+
+abbrev g : tie.Start → Given
+g s = given (ground (s .args .rules) (s .args .beds .now) (s .args .roughness .now) (s .args .rates .now)) (s .args .rain .now) (s .args .inflow .now)
+
+abbrev w : tie.Start → World
+w s = world (s .args .depths .now) (s .args .lasts .now) (s .args .records .now) (s .args .run)
+
+-- the checks have passed
+abbrev past : tie.After-squares-of → tie.Else1
+past c = c .before .before
+
+abbrev start : tie.Else1 → tie.Start
+start c = begin (c .before)
+
+passed : (c : tie.Else1) → let s = start c in refusal (runChecks (p s) (g s) (s .args .end) (w s)) ≡ 0
+passed c = sym (c .before .check .ensures) ∙ c .if1 .left
+
+fine : (c : tie.Else1) → ShapeInRange (start c .args .shape)
+fine c = let s = start c in is-ready (p s) (g s) (w s) (run-checks-step (p s) (g s) (s .args .end) (w s) (passed c)) .waters .fine
+
+record-fits : (c : tie.After-squares-of) → c .before .record-size .result ≤ mostRecord
+record-fits c = record-part (start (past c) .args .shape) (fine (past c)) (c .before .record-size .ensures)
+
+squares-fit : (c : tie.After-squares-of) → c .squares-of .result ≤ mostSquares
+squares-fit c = squares-part (start (past c) .args .shape) (fine (past c)) (c .squares-of .ensures)
+
+rows-fit : (c : tie.After-squares-of) → start (past c) .args .shape .rows ≤ mostAlong
+rows-fit c = fine (past c) .rows-high
+
+-- ---- the answers
+
+check-requires : tie.Need-check-requires
+check-requires c κs = search needs
+
+same-length : tie.Need-same-length
+same-length c = search needs
+
+same-length-2 : tie.Need-same-length-2
+same-length-2 c = search needs
+
+same-length-3 : tie.Need-same-length-3
+same-length-3 c = search needs
+
+returns : tie.Need-returns
+returns c =
+    let s = begin (c .before) in
+    record { ends = run-checked (p s) (g s) (s .args .end) (w s) (c .before .check .ensures) (c .if1 .taken) }
+
+record-size-requires : tie.Need-record-size-requires
+record-size-requires c κs = fine c
+
+squares-of-requires : tie.Need-squares-of-requires
+squares-of-requires c κs = fine (c .before)
+
+array-borrow-prefix-rec : tie.Need-array-borrow-prefix-rec
+array-borrow-prefix-rec c = record-fits (to-run c)
+
+slice-aggregate-run-on : tie.Need-slice-aggregate-run-on
+slice-aggregate-run-on c = sym (part-long mostRecord (record-fits (to-run (c .before))))
+
+array-borrow-prefix-senders : tie.Need-array-borrow-prefix-senders
+array-borrow-prefix-senders c = rows-fit (to-run (c .before))
+
+slice-aggregate-run-on-2 : tie.Need-slice-aggregate-run-on-2
+slice-aggregate-run-on-2 c = sym (part-long mostAlong (rows-fit (to-run (c .before .before))))
+
+array-borrow-prefix-room : tie.Need-array-borrow-prefix-room
+array-borrow-prefix-room c = squares-fit (to-run (c .before .before))
+
+slice-aggregate-run-on-3 : tie.Need-slice-aggregate-run-on-3
+slice-aggregate-run-on-3 c = sym (part-long mostSquares (squares-fit (to-run (c .before .before .before))))
+
+run-on-requires : tie.Need-run-on-requires
+run-on-requires c κs =
+    let at-squares-of = to-run (c .before .before .before) in
+    let e = passed (past at-squares-of) in
+    let s = start (past at-squares-of) in (
+      record { checked = run-checks-step (p s) (g s) (s .args .end) (w s) e },
+      (
+        part-long mostRecord (record-fits at-squares-of) ∙ at-squares-of .before .record-size .ensures,
+        part-long mostAlong (rows-fit at-squares-of),
+        part-long mostSquares (squares-fit at-squares-of) ∙ at-squares-of .squares-of .ensures,
+        end-is (s .args .rules) (s .args .end) (run-checks-end (p s) (g s) (s .args .end) (w s) e) .0,
+      ),
+    )
+
+same-length-4 : tie.Need-same-length-4
+same-length-4 c = search needs
+
+same-length-5 : tie.Need-same-length-5
+same-length-5 c = search needs
+
+same-length-6 : tie.Need-same-length-6
+same-length-6 c = search needs
+
+returns-2 : tie.Need-returns-2
+returns-2 c =
+    let at-run-on = finished c in
+    let at-if1 = past (to-run (at-run-on .before .before .before .before)) in
+    let s = start at-if1 in
+    record { ends = run-passed (p s) (g s) (s .args .end) (w s) (at-if1 .before .check .ensures) (at-if1 .if1 .left) (at-run-on .run-on .ensures .ends) }
+
+pub run-to-by-spec : {M : Type 1} → statement M
+run-to-by-spec =
+    tie.close
+    (tie.spec
+    check-requires
+    same-length
+    same-length-2
+    same-length-3
+    returns
+    record-size-requires
+    squares-of-requires
+    array-borrow-prefix-rec
+    slice-aggregate-run-on
+    array-borrow-prefix-senders
+    slice-aggregate-run-on-2
+    array-borrow-prefix-room
+    slice-aggregate-run-on-3
+    run-on-requires
+    same-length-4
+    same-length-5
+    same-length-6
+    returns-2)

@@ -1,0 +1,46 @@
+-- Document 02, #109: "going from one set bit to the next", and the squares beside those that are set.
+-- Assumes nothing.
+use mathlib.Core.Path.{_≡_}
+use mathlib.Core.Bool.{Bool}
+use mathlib.Core.List.{List}
+use Prim.Native.Nat.{ℕ, zero, suc, _+_, _*_, _/_, _%_, _^_, _≤_, min}
+use lib.ListN.{getD}
+use lib.Bits.{bitOr}
+use Rattle.grid.specs.declared.squares.Shape.{Shape}
+use Rattle.grid.specs.Squares.{squares}
+use Rattle.grid.specs.Masks.{bits, bitAt, nextSet}
+
+-- "squares with water": at least this deep
+abbrev pub leastWet : ℕ
+leastWet = 1
+
+-- a row of the grid, by its first square
+pub record InRow (s : Shape) (first : ℕ) : Type 0 where
+  pub begins : first % s .columns ≡ 0
+  pub fits : first + s .columns ≤ squares s
+
+-- the next set column of a row with so many columns, or their number where there is none
+abbrev pub nextWithin : ℕ → ℕ → ℕ → ℕ
+nextWithin mask column columns = min (nextSet mask column) columns
+
+-- a square's bit in the masks of all rows
+unfoldable pub bitOf : Shape → List ℕ → ℕ → Bool
+bitOf s rows i = bitAt (getD rows (i / s .columns) 0) (i % s .columns)
+
+-- the mask of the row above, 0 for none
+unfoldable pub rowAbove : List ℕ → ℕ → ℕ
+rowAbove rows zero = 0
+rowAbove rows (suc row) = getD rows row 0
+
+-- the columns of a row that are set or beside a set one: to the west of it, to the east of it, below it or above it
+unfoldable pub besideSet : List ℕ → ℕ → ℕ
+besideSet rows row =
+    bitOr (bitOr (bitOr (bitOr (getD rows row 0) (getD rows row 0 * 2 ^ 1 % 2 ^ bits)) (getD rows row 0 / 2 ^ 1)) (rowAbove rows row)) (getD rows (row + 1) 0)
+
+-- ---- what the public functions give
+
+abbrev pub NextWithin : ℕ → ℕ → ℕ → ℕ → Type 0
+NextWithin mask column columns r = r ≡ nextWithin mask column columns
+
+abbrev pub BesideSet : List ℕ → ℕ → ℕ → Type 0
+BesideSet rows row r = r ≡ besideSet rows row
