@@ -1,7 +1,9 @@
 #!/usr/bin/env python3
-"""pictures.py: makes the pictures of README and docs/METHOD.md in docs/pictures/, and the picture of the crates in that page itself.
+"""pictures.py: makes the pictures of README, docs/METHOD.md and docs/SPEED.md in docs/pictures/, and the picture of the crates in
+docs/METHOD.md itself.
 
-The map is that of the sample `walled-meadow`, the crates are those of crates.txt, the square is the one worked in docs/METHOD.md.
+The map is that of the sample `walled-meadow`, the crates are those of crates.txt, the square is the one worked in docs/METHOD.md, the times
+are those of the table in docs/SPEED.md.
 """
 import re
 import sys
@@ -16,6 +18,8 @@ from meadow.sheets import read  # noqa: E402
 from meadow.worked_square import AMOUNTS, DROPS  # noqa: E402
 
 WATER, WALL, GROUND, INK, PALE = "#9ecae1", "#4a4a4a", "#e9ddb8", "#222222", "#777777"
+COLOURS = ("#08519c", "#31a354", "#8c6d31", "#d94801", "#6a51a3")
+SPEED = TOP / "docs" / "SPEED.md"
 
 
 class Drawing:
@@ -92,6 +96,51 @@ def ring():
     return picture.text()
 
 
+def step_times():
+    """What docs/SPEED.md calls the time of a step, and by engine pairs of how many squares in a hundred are wet and the median in µs."""
+    lines = iter(SPEED.read_text(encoding="utf-8").splitlines())
+    head, *shares = next(line for line in lines if line.startswith("| µs a step")).strip("|").split("|")
+    wet = [0 if share.strip() == "dry" else int(share.split()[0]) for share in shares]
+    next(lines)
+    times = {}
+    for line in lines:
+        if not line.startswith("|"):
+            return head.strip(), times
+        engine, *spreads = (cell.strip() for cell in line.strip("|").split("|"))
+        times[engine] = list(zip(wet, (float(spread.split()[0].replace(",", "")) for spread in spreads)))
+
+
+def apart(heights, least):
+    """Heights in their order, moved down where one is too near to the one above it."""
+    placed = []
+    for height in sorted(heights):
+        placed.append(max(height, placed[-1] + least) if placed else height)
+    return placed
+
+
+def wet_shares():
+    """The time of a step by how much of the meadow is wet, a line for each engine."""
+    left, bottom, width, height, part = 70, 350, 420, 300, 500
+    picture, (head, times) = Drawing(680, 400), step_times()
+    parts = int(max(time for line in times.values() for _, time in line) // part) + 1
+    for mark in range(parts + 1):
+        y = bottom - height * mark / parts
+        picture.line(f"M{left} {y:.0f}H{left + width}", False, "#dddddd", 1)
+        picture.write(left - 8, round(y + 4), f"{mark * part:,}", "end", PALE)
+    for share in (0, 1, 10, 50, 100):
+        picture.write(left + width * share / 100, bottom + 18 + 14 * (share == 1), share, fill=PALE)
+    picture.write(left + width / 2, bottom + 42, "squares wet in a hundred", fill=PALE)
+    picture.write(16, 24, f"{head}; 64 by 64 squares", "start")
+    across, up = width / 100, height / (parts * part)
+    at = {engine: [(left + across * wet, bottom - up * time) for wet, time in line] for engine, line in times.items()}
+    order = sorted(at, key=lambda engine: at[engine][-1][1])
+    for engine, y in zip(order, apart([at[engine][-1][1] for engine in order], 17)):
+        colour = COLOURS[list(times).index(engine) % len(COLOURS)]
+        picture.line("M" + "L".join(f"{x:.0f} {y:.1f}" for x, y in at[engine]), False, colour, 2)
+        picture.write(left + width + 10, round(y + 4), engine, "start", colour)
+    return picture.text()
+
+
 def crates():
     """Each listed crate and program with those that it may look at, as Mermaid; what follows from another arrow is left out."""
     sees = {}
@@ -114,7 +163,7 @@ def walled_meadow():
     return svg(read(sheet)[0], Answer(answer))
 
 
-PICTURES = {"walled-meadow.svg": walled_meadow, "square.svg": one_square, "ring.svg": ring}
+PICTURES = {"walled-meadow.svg": walled_meadow, "square.svg": one_square, "ring.svg": ring, "wet-shares.svg": wet_shares}
 FOLDER = TOP / "docs" / "pictures"
 PAGE = TOP / "docs" / "METHOD.md"
 

@@ -36,12 +36,40 @@ archive() {
     fi
 }
 
+# for release, in one unit
+release=(--edition 2021 -C opt-level=3 -C codegen-units=1)
+
 # build NAME: tests/outside/NAME.rs with the static library, to target/outside/NAME
 build() {
-    "${compile[@]}" --edition 2021 -C opt-level=3 -C codegen-units=1 -L native=target/staticlib -o "$built/$1" "tests/outside/$1.rs"
+    "${compile[@]}" "${release[@]}" -L native=target/staticlib -o "$built/$1" "tests/outside/$1.rs"
 }
 
 # build_c NAME: the same of tests/outside/NAME.c
 build_c() {
     "${compile_c[@]}" -std=c99 -Wall -Wextra -Werror -O -o "$built/$1" "tests/outside/$1.c" target/staticlib/libexports.a
+}
+
+# build_engine NAME: the crate tests/outside/NAME.rs of one Rust engine, alone
+build_engine() {
+    "${compile[@]}" "${release[@]}" --crate-type rlib --crate-name "$1" --out-dir "$built" "tests/outside/$1.rs"
+}
+
+# build_placed BYTES: tests/outside/speed.rs with so much room before its code, to target/outside/speed-BYTES; the engines are built
+build_placed() {
+    local externs=() engine
+    for engine in "$built"/libengine_*.rlib; do
+        engine=$(basename "$engine" .rlib)
+        externs+=(--extern "${engine#lib}=$built/$engine.rlib")
+    done
+    PADDING=$1 "${compile[@]}" "${release[@]}" -L native=target/staticlib "${externs[@]}" -o "$built/speed-$1" tests/outside/speed.rs
+}
+
+# build_counter: the emulator's plugin of tests/outside/count.c, to target/outside/count.so; 1 where this emulator takes none
+build_counter() {
+    local version
+    for version in 1 2 3 4 5; do
+        cc -std=c99 -Wall -Wextra -Werror -O -fPIC -shared -DPLUGIN_VERSION="$version" -o "$built/count.so" tests/outside/count.c || return 1
+        ! "${run_by[@]}" -plugin "$built/count.so" "$built/speed-0" engines >/dev/null 2>&1 || return 0
+    done
+    return 1
 }

@@ -2,10 +2,13 @@
 //! compared afterwards: the answer, every number lent, the run. The first difference is printed with its input and ends the program.
 
 use crate::declared::{self, BOUNDS_NUMBERS, COUNT_NUMBERS, HEADING_NUMBERS, LINE_NUMBERS, OUT_ROOM, RULES_NUMBERS, RUN_NUMBERS, SPEED_NUMBERS, STEPS_NUMBERS};
+use crate::lent;
 use crate::library::{self, Walk};
 use crate::meadows::{Lent, Sizes};
-use crate::plain;
+use crate::plain::Plain;
 use crate::reference::{self, Arrow, Bounds, Heading, Made, Meadow, Run};
+use crate::rival::Rival;
+use crate::roots::{Digits, Guesses};
 use std::collections::BTreeMap;
 use std::fmt;
 
@@ -50,6 +53,13 @@ pub const ANSWERS: [(Call, &[u32]); 9] = [
     (WetRows, &[0, 1, 2, 3, 5]),
     (ReadSheet, &[0, 1, 2, 3, 4, 5, 12]),
     (Call::Meadow, &[0, 1, 2, 3, 4, 5, 8, 9, 12]),
+];
+
+/// The benchmark's Rust engines.
+const ENGINES: [(&str, lent::RunTo); 3] = [
+    ("the plain engine", lent::run_to::<Plain>),
+    ("the rival (digits)", lent::run_to::<Rival<Digits>>),
+    ("the rival (fast roots)", lent::run_to::<Rival<Guesses>>),
 ];
 
 /// What a slice for an answer holds before the call, so that a number not written is seen.
@@ -107,9 +117,8 @@ impl Tally {
             self.count(call, *walk, expected.number);
         }
         if call == RunTo && lent.sizes == Sizes::default() {
-            let run_to = [plain::run_to::<plain::Digits>, plain::run_to::<plain::Floats>];
-            for (engine, name) in run_to.into_iter().zip(["the plain engine (digits)", "the plain engine (f64)"]) {
-                self.compare(call, &input, &expected, &by_run_to(lent, engine), name);
+            for (name, engine) in ENGINES {
+                self.compare(call, &input, &expected, &by_engine(lent, engine), name);
             }
         }
         expected
@@ -258,10 +267,9 @@ fn put_run(after: &mut After, run: Result<Run, u32>) {
     }
 }
 
-fn by_run_to(lent: &Lent, run_to: fn(&mut Meadow, &reference::Rules, &Run, u64) -> Result<Made, u32>) -> After {
+fn by_engine(lent: &Lent, engine: lent::RunTo) -> After {
     let mut after = before(RunTo, lent);
-    let made = run_to(&mut after.meadow, &lent.rules, &lent.run, lent.end);
-    put_made(&mut after, made);
+    after.number = library::run_to_by(engine, &mut after.meadow, &rules(lent), lent.end, &mut after.run, &mut after.answer);
     after
 }
 
@@ -280,7 +288,10 @@ fn by_reference(call: Call, lent: &Lent) -> After {
             let run = reference::step(&mut after.meadow, &lent.rules, &lent.run);
             put_run(&mut after, run);
         }
-        RunTo => return by_run_to(lent, reference::run_to),
+        RunTo => {
+            let made = reference::run_to(&mut after.meadow, &lent.rules, &lent.run, lent.end);
+            put_made(&mut after, made);
+        }
         TakeBack => {
             let run = reference::take_back(&mut after.meadow, &lent.run);
             put_run(&mut after, run);

@@ -9,13 +9,14 @@ mod chance;
 #[allow(dead_code)]
 mod declared;
 mod forged;
+mod lent;
 mod library;
 mod limits;
 mod meadows;
-// what the benchmark alone counts is not used here
-#[allow(dead_code)]
 mod plain;
 mod reference;
+mod rival;
+mod roots;
 mod sheets;
 mod spans;
 mod steps;

@@ -1,6 +1,7 @@
 //! The static library's calls on a meadow, steps and runs by either walk, and rules and run as the numbers that go in and come out.
 
 use crate::declared::*;
+use crate::lent::RunTo;
 use crate::reference::{Meadow, Rules, Run};
 
 /// Whether a step works the sides of all squares, or of those with water: two engines, with a function each for a step and for a run.
@@ -49,11 +50,16 @@ pub fn step(walk: Walk, meadow: &mut Meadow, rules: &[u64], run: &mut [u64]) -> 
 }
 
 pub fn run_to(walk: Walk, meadow: &mut Meadow, rules: &[u64], end: u64, run: &mut [u64], steps: &mut [u64]) -> u32 {
-    let run_to_by = match walk {
+    let engine = match walk {
         Walk::All => flood_run_to,
         Walk::Wet => flood_run_to_wet,
     };
-    run_to_by(
+    run_to_by(engine, meadow, rules, end, run, steps)
+}
+
+/// The same by any engine that has the parameters of `flood_run_to`.
+pub fn run_to_by(engine: RunTo, meadow: &mut Meadow, rules: &[u64], end: u64, run: &mut [u64], steps: &mut [u64]) -> u32 {
+    engine(
         meadow.rows, meadow.columns, rules, end,
         &meadow.marks, &meadow.beds, &meadow.roughness, &meadow.rates, &meadow.rain, &meadow.inflow,
         &mut meadow.depths, &mut meadow.lasts, &mut meadow.records, run, steps,

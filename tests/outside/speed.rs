@@ -1,128 +1,125 @@
-//! The benchmark: `flood_run_to` and `flood_meadow` of the static library against the same arithmetic in Rust on plain vectors. The
-//! programs take turns, so that a change of the machine's pace meets all of them. Times are of the processor and not of the clock on the
-//! wall, so that other work on the machine counts little. Prints the tables of docs/SPEED.md.
-//! Arguments: the sheet to run, and the words that name the machine.
+//! The benchmark's program: the static library and the Rust engines, each built alone, on the same meadows. They take turns, so that a
+//! change of the machine's pace meets all of them, and times are of the processor and not of the clock on the wall. What they leave is
+//! compared, and a difference ends the program. It prints figures by lines of fields, for tools/speed.py; bin/speed links it at several
+//! places and lets it run. Words: `check`; `time`; `time short`, a single turn of a quarter of the steps; `engines`, each with each meadow;
+//! or `count`, a meadow, an engine and steps.
 
 // the benchmark uses a part of what the comparison does
 #[allow(dead_code)]
 mod chance;
 #[allow(dead_code)]
 mod declared;
+mod grounds;
+// only the type of an engine
+#[allow(dead_code)]
+mod lent;
 #[allow(dead_code)]
 mod library;
-mod plain;
+#[allow(dead_code)]
+mod meadows;
 #[allow(dead_code)]
 mod reference;
 
 use chance::Chance;
-use reference::{Made, Meadow, Rules, Run, CLOSED, EXIT, OPEN, WORDS};
+use declared::{RULES_NUMBERS, RUN_NUMBERS};
+use grounds::{Ground, GROUNDS, RULES, SPAN, STEP_LASTS};
+use lent::RunTo;
+use reference::{Meadow, CLOSED, WORDS};
 
-const ROUNDS: usize = 9;
-const STEPS: u64 = 200;
-const STEP_LASTS: u64 = 100;
-const SLOTS: usize = 4;
-const RULES: Rules =
-    Rules { square_side: 10, tolerance: 100, shortest: STEP_LASTS, longest: STEP_LASTS, update: 50 * STEP_LASTS, edge: 10_000, edition: 1 };
-
-type RunTo = fn(&mut Meadow, &Rules, &Run, u64) -> Result<Made, u32>;
-
-const RUNS: [RunTo; 3] = [library_run_to, plain::run_to::<plain::Digits>, plain::run_to::<plain::Floats>];
-const NAMES: [&str; 3] = ["library", "Rust, roots by digits", "Rust, roots by f64"];
-
-fn library_run_to(meadow: &mut Meadow, rules: &Rules, run: &Run, end: u64) -> Result<Made, u32> {
-    let (mut numbers, mut steps) = (library::run_numbers(run), [0]);
-    let number = library::run_to(library::Walk::All, meadow, &library::rules_numbers(rules), end, &mut numbers, &mut steps);
-    if steps[0] == 0 && number != 0 {
-        return Err(number);
-    }
-    Ok(Made { number, steps: steps[0], run: library::run_of(&numbers) })
-}
-
-// ---------------------------------------------------------------- meadows
-
-fn open_meadow(rows: usize, columns: usize) -> Meadow {
-    let squares = rows * columns;
-    Meadow {
-        rows,
-        columns,
-        marks: vec![OPEN; squares],
-        beds: vec![0; squares],
-        roughness: vec![350; squares],
-        rates: vec![0; squares],
-        rain: Vec::new(),
-        inflow: Vec::new(),
-        depths: vec![0; squares],
-        lasts: vec![0; squares],
-        records: vec![0; SLOTS * (2 + WORDS * squares)],
-    }
-}
-
-/// Uneven ground under half a metre of water and more, with exits along the southern rim.
-fn all_wet(side: usize) -> Meadow {
-    let mut chance = Chance(1);
-    let mut meadow = open_meadow(side, side);
-    for square in 0..meadow.squares() {
-        meadow.beds[square] = (1_000_000 + chance.below(300_000)) as u32;
-        meadow.depths[square] = (500_000 + chance.below(500_000)) as u32;
-        meadow.roughness[square] = chance.between(200, 500) as u32;
-        if square / side == side - 1 && square % 4 == 0 {
-            meadow.marks[square] = EXIT;
-        }
-    }
-    meadow
-}
-
-/// The same on ground that soaks, each square at a rate of its own.
-fn all_soaking(side: usize) -> Meadow {
-    let mut chance = Chance(3);
-    let mut meadow = all_wet(side);
-    for rate in &mut meadow.rates {
-        *rate = chance.between(1_000, 1_000_000) as u32;
-    }
-    meadow
-}
-
-/// Dry ground with a channel of six or seven squares in every eight by eight, ten metres deep, with a hatch at its head: the water moves
-/// all the time and cannot leave its channel.
-fn tenth_wet() -> Meadow {
-    let mut chance = Chance(2);
-    let mut meadow = open_meadow(64, 64);
-    for bed in &mut meadow.beds {
-        *bed = (20_000_000 + chance.below(300_000)) as u32;
-    }
-    for block in 0..64 {
-        let length = 6 + block % 2;
-        let along_row = chance.below(2) == 0;
-        let (across, start) = (1 + chance.below(6) as usize, chance.below(9 - length as u64) as usize);
-        for part in 0..length {
-            let (down, right) = if along_row { (across, start + part) } else { (start + part, across) };
-            let (row, column) = (block / 8 * 8 + down, block % 8 * 8 + right);
-            let square = row * 64 + column;
-            meadow.beds[square] = 10_000_000 - 20_000 * part as u32;
-            meadow.depths[square] = (200_000 + chance.below(200_000)) as u32;
-            if part == 0 {
-                meadow.inflow.extend([row as u32, column as u32, 0, 604_800_000, 200]);
-            }
-        }
-    }
-    meadow
-}
-
-fn wet_squares(meadow: &Meadow) -> usize {
-    (0..meadow.squares()).filter(|square| meadow.marks[*square] != CLOSED && meadow.depths[*square] > 0).count()
-}
-
-/// How many squares sent water in the newest step.
-fn sending_squares(meadow: &Meadow, made: &Made) -> usize {
-    let at = made.run.newest * meadow.record_size() + 2;
-    let record = &meadow.records[at..at + WORDS * meadow.squares()];
-    record.chunks(WORDS).filter(|square| square[..4] != [0; 4]).count()
-}
-
-// ---------------------------------------------------------------- times
+// Nothing but room, laid in front of the code: it moves all code that comes after it.
+std::arch::global_asm!(
+    ".pushsection .text.unlikely.padding, \"ax\", @progbits",
+    ".globl padding_before_code",
+    "padding_before_code:",
+    concat!(".skip ", env!("PADDING"), ", 0x90"),
+    ".popsection"
+);
 
 extern "C" {
+    fn padding_before_code();
     fn clock_gettime(clock: i32, seconds_and_nanoseconds: *mut [i64; 2]) -> i32;
+}
+
+/// One step, with the parameters of `flood_step`.
+type Step = fn(usize, usize, &[u64], &[u8], &[u32], &[u32], &[u32], &[u32], &[u32], &mut [u32], &mut [u32], &mut [u32], &mut [u64]) -> u32;
+
+fn engines() -> [(&'static str, RunTo); 5] {
+    [
+        ("library", declared::flood_run_to),
+        ("wet walk", declared::flood_run_to_wet),
+        ("plain.rs", engine_plain::RUN_TO),
+        ("rival", engine_rival::RUN_TO),
+        ("rival, fast roots", engine_rival_fast::RUN_TO),
+    ]
+}
+
+/// The engines of the library that also make a single step.
+const STEPS: [(&str, Step, RunTo); 2] =
+    [("library", declared::flood_step, declared::flood_run_to), ("wet walk", declared::flood_step_wet, declared::flood_run_to_wet)];
+
+// ---------------------------------------------------------------- a run under way
+
+#[derive(Clone, PartialEq)]
+struct Course {
+    meadow: Meadow,
+    rules: [u64; RULES_NUMBERS],
+    run: [u64; RUN_NUMBERS],
+}
+
+impl Course {
+    /// A fresh run.
+    fn new(meadow: &Meadow) -> Course {
+        let mut course = Course { meadow: meadow.clone(), rules: library::rules_numbers(&RULES), run: [0; RUN_NUMBERS] };
+        let number = library::fresh(&mut course.meadow, &course.rules, &mut course.run);
+        assert!(number == 0, "a fresh run is refused by {}", number);
+        course
+    }
+
+    /// Goes on to an end; gives the number and the steps.
+    fn go_on(&mut self, run_to: RunTo, end: u64) -> (u32, u64) {
+        let mut steps = [0];
+        let number = library::run_to_by(run_to, &mut self.meadow, &self.rules, end, &mut self.run, &mut steps);
+        (number, steps[0])
+    }
+
+    /// Makes steps by one run, and gives the nanoseconds of a step.
+    fn run(&mut self, run_to: RunTo, steps: u64) -> f64 {
+        let start = processor_time();
+        let answer = self.go_on(run_to, self.run[0] + steps * STEP_LASTS);
+        let time = processor_time() - start;
+        assert!(answer == (0, steps), "a run of {} steps ends with {:?}", steps, answer);
+        time / steps as f64
+    }
+
+    /// Makes steps by as many calls, and gives the nanoseconds of a call.
+    fn step(&mut self, step: Step, steps: u64) -> f64 {
+        let start = processor_time();
+        for _ in 0..steps {
+            let meadow = &mut self.meadow;
+            let number = step(
+                meadow.rows, meadow.columns, &self.rules,
+                &meadow.marks, &meadow.beds, &meadow.roughness, &meadow.rates, &meadow.rain, &meadow.inflow,
+                &mut meadow.depths, &mut meadow.lasts, &mut meadow.records, &mut self.run,
+            );
+            assert!(number == 0, "a step is refused by {}", number);
+        }
+        (processor_time() - start) / steps as f64
+    }
+
+    fn share(&self, counted: impl Fn(usize) -> bool) -> f64 {
+        let squares = self.meadow.squares();
+        100.0 * (0..squares).filter(|square| self.meadow.marks[*square] != CLOSED && counted(*square)).count() as f64 / squares as f64
+    }
+
+    fn share_wet(&self) -> f64 {
+        self.share(|square| self.meadow.depths[square] > 0)
+    }
+
+    /// Of the squares, those that sent water in the newest step.
+    fn share_sent(&self) -> f64 {
+        let newest = self.run[4] as usize * self.meadow.record_size() + 2;
+        self.share(|square| self.meadow.records[newest + WORDS * square..][..4] != [0; 4])
+    }
 }
 
 /// The processor's time that this program has had so far, in nanoseconds; the standard library gives only the time on the wall.
@@ -134,164 +131,109 @@ fn processor_time() -> f64 {
     time[0] as f64 * 1e9 + time[1] as f64
 }
 
-/// Nanoseconds of each round for each program.
-type Times = [Vec<f64>; 3];
+// ---------------------------------------------------------------- check
 
-/// Lets the programs take turns for some rounds and a first one that is not counted, and asks that all give the same.
-fn take_turns<Answer: PartialEq>(name: &str, one_turn: impl Fn(usize) -> (f64, Answer)) -> (Times, Answer) {
-    let mut times: Times = Default::default();
-    let mut first = None;
-    for round in 0..ROUNDS + 1 {
-        for program in 0..3 {
-            let (time, answer) = one_turn(program);
-            if round > 0 {
-                times[program].push(time);
-            }
-            match &first {
-                None => first = Some(answer),
-                Some(first) => assert!(*first == answer, "{}: {} ends with other numbers", name, NAMES[program]),
+/// A random meadow by the reference and by an engine.
+fn hold_to_reference(round: u64, name: &str, run_to: RunTo) {
+    let mut chance = Chance(round);
+    let mut side = || chance.between(1, 64) as usize;
+    let shape = if round % 4 == 0 { (side(), side()) } else { meadows::small_shape(&mut chance) };
+    let lent = meadows::lent(&mut chance, shape);
+    let mut course = Course { meadow: lent.meadow.clone(), rules: library::rules_numbers(&lent.rules), run: library::run_numbers(&lent.run) };
+    let (number, steps) = course.go_on(run_to, lent.end);
+    let mut meadow = lent.meadow.clone();
+    let made = reference::run_to(&mut meadow, &lent.rules, &lent.run, lent.end).expect("a meadow that every check passes");
+    let same = (made.number, made.steps, library::run_numbers(&made.run)) == (number, steps, course.run) && meadow == course.meadow;
+    assert!(same, "random meadow {}: {} leaves other numbers than the reference", round, name);
+}
+
+fn check(rounds: u64) {
+    for (name, run_to) in engines() {
+        for round in 0..rounds {
+            hold_to_reference(round, name, run_to);
+        }
+        println!("agree\t{}\t{}", name, rounds);
+    }
+}
+
+// ---------------------------------------------------------------- time
+
+/// Lets the engines take turns on one meadow, after a few steps that are not counted.
+fn take_turns(ground: &Ground, turns: u64, steps: u64) {
+    let start = Course::new(&(ground.meadow)());
+    let mut courses = vec![start.clone(); engines().len()];
+    for turn in 0..turns + 1 {
+        for ((name, run_to), course) in engines().iter().zip(&mut courses) {
+            let time = course.run(*run_to, if turn == 0 { SPAN } else { steps });
+            if turn > 0 {
+                println!("time\t{}\t{}\t{:.1}", ground.name, name, time);
             }
         }
     }
-    (times, first.unwrap())
+    let first = &courses[0];
+    for (course, (name, _)) in courses.iter().zip(engines()) {
+        assert!(course == first, "{}: {} leaves other numbers than the library", ground.name, name);
+    }
+    println!("state\t{}\t{}\t{:.1}\t{:.1}\t{:.1}", ground.name, turns * steps, start.share_wet(), first.share_wet(), first.share_sent());
 }
 
-fn time_run(name: &str, start: &Meadow) -> (Times, (Meadow, Made)) {
-    take_turns(name, |program| {
-        let mut meadow = start.clone();
-        let run = reference::fresh(&mut meadow, &RULES).expect("a fresh run");
-        let start = processor_time();
-        let made = RUNS[program](&mut meadow, &RULES, &run, STEPS * STEP_LASTS).expect("a run");
-        let time = processor_time() - start;
-        assert!(made.number == 0 && made.steps == STEPS, "{}: {:?}", name, made);
-        (time, (meadow, made))
-    })
-}
-
-fn time_meadow(text: &[u8]) -> (Times, Vec<u8>) {
-    take_turns("meadow", |program| {
-        let mut out = vec![0; declared::OUT_ROOM];
-        let start = processor_time();
-        if program == 0 {
-            let length = declared::flood_meadow(text, &mut out);
-            out.truncate(length);
-        } else {
-            out = reference::meadow_by(text, RUNS[program]);
+/// Single steps against steps of a run, on grids of several sizes.
+fn time_calls(calls: u64) {
+    for side in [8, 16, 32, 64] {
+        let start = Course::new(&grounds::dry(side));
+        for (name, step, run_to) in STEPS {
+            let (mut single, mut run) = (start.clone(), start.clone());
+            single.step(step, SPAN);
+            run.run(run_to, SPAN);
+            println!("call\t{} by {}\t{}\t{:.1}\t{:.1}", side, side, name, single.step(step, calls), run.run(run_to, calls));
+            assert!(single == run, "{}: single steps leave other numbers than a run", name);
         }
-        (processor_time() - start, out)
-    })
+    }
 }
 
-/// The roots of a depth: those of the height and the slope, which every square with a drop takes, and with them that of the critical speed.
-fn two_roots<R: plain::Roots>(depth: u64) -> u64 {
-    R::cube(depth * depth) + R::square(100 * depth / RULES.square_side)
+fn time(short: bool) {
+    println!("place\tpadding\t{}", padding_before_code as usize % 4096);
+    for (name, run_to) in engines() {
+        println!("place\t{}\t{}", name, run_to as usize % 4096);
+    }
+    for ground in GROUNDS {
+        let (turns, steps) = if short { (1, ground.steps / 4) } else { (ground.turns, ground.steps) };
+        take_turns(&ground, turns, steps);
+    }
+    time_calls(if short { SPAN } else { 4 * SPAN });
 }
 
-fn three_roots<R: plain::Roots>(depth: u64) -> u64 {
-    two_roots::<R>(depth) + R::square(9_810_000 * depth)
+// ---------------------------------------------------------------- count
+
+fn list() {
+    for ground in GROUNDS {
+        for (name, _) in engines() {
+            println!("{}\t{}", ground.name, name);
+        }
+    }
 }
 
-/// The roots of every square of a meadow, taken as often as in a run: what finding roots alone costs.
-fn time_roots(meadow: &Meadow, roots: impl Fn(u64) -> u64) -> (Vec<f64>, u64) {
-    let mut sum = 0;
-    let times = (0..ROUNDS)
-        .map(|_| {
-            let start = processor_time();
-            for turn in 0..STEPS {
-                for depth in &meadow.depths {
-                    sum += roots(*depth as u64 + turn);
-                }
-            }
-            processor_time() - start
-        })
-        .collect();
-    (times, sum)
-}
-
-fn median(times: &[f64]) -> f64 {
-    let mut sorted = times.to_vec();
-    sorted.sort_by(|a, b| a.partial_cmp(b).unwrap());
-    (sorted[(sorted.len() - 1) / 2] + sorted[sorted.len() / 2]) / 2.0
-}
-
-/// Median and spread of one part of a turn, in whole nanoseconds or in tenths.
-fn spread(times: &[f64], parts: f64, places: usize) -> String {
-    let least = times.iter().cloned().fold(f64::INFINITY, f64::min);
-    let most = times.iter().cloned().fold(0.0, f64::max);
-    format!("{:.*} ({:.*}..{:.*})", places, median(times) / parts, places, least / parts, places, most / parts)
-}
-
-fn ratio(times: &Times, program: usize) -> String {
-    format!("{:.2}", median(&times[0]) / median(&times[program]))
-}
-
-fn line(name: &str, times: &Times, parts: f64) {
-    let each: Vec<String> = times.iter().map(|times| spread(times, parts, 0)).collect();
-    println!("| {} | {} | {} | {} |", name, each.join(" | "), ratio(times, 1), ratio(times, 2));
-}
-
-// ---------------------------------------------------------------- tables
-
-fn roots_line(name: &str, meadow: &Meadow, digits: impl Fn(u64) -> u64, floats: impl Fn(u64) -> u64) {
-    let ((digits, a), (floats, b)) = (time_roots(meadow, digits), time_roots(meadow, floats));
-    assert!(a == b, "the two ways to find a root differ");
-    let roots = STEPS as f64 * meadow.squares() as f64;
-    println!("| {} | {} | {} |", name, spread(&digits, roots, 1), spread(&floats, roots, 1));
-}
-
-fn state(start: &Meadow, end: &Meadow, made: &Made) -> String {
-    let share = |count: usize| format!("{:.1} %", 100.0 * count as f64 / start.squares() as f64);
-    let (weighed, found) = plain::critical_roots(end, &RULES);
-    format!(
-        "{} of the squares wet at the start, {} at the end; {} sent water in the last step; at the end {} have water and a drop, and the \
-         critical speed's root is found in {} of them",
-        share(wet_squares(start)),
-        share(wet_squares(end)),
-        share(sending_squares(end, made)),
-        weighed,
-        found
-    )
+/// One engine on one meadow, so that its instructions can be counted from outside; the first thousand steps are made by the fastest.
+fn count(ground: &str, engine: &str, steps: u64) {
+    let ground = GROUNDS.iter().find(|each| each.name == ground).expect("a meadow");
+    let (_, run_to) = engines().into_iter().find(|each| each.0 == engine).expect("an engine");
+    let mut course = Course::new(&(ground.meadow)());
+    course.run(engine_rival_fast::RUN_TO, 1_000);
+    course.run(run_to, steps);
 }
 
 fn main() {
-    let words: Vec<String> = std::env::args().collect();
-    if words.len() != 3 {
-        eprintln!("usage: speed SHEET MACHINE");
-        std::process::exit(2);
-    }
-    let text = std::fs::read(&words[1]).expect("the sheet");
-    println!("Machine: {}.", words[2]);
-    println!("{} rounds after a first one that is not counted; {} steps a round; processor time; median (least..most).", ROUNDS, STEPS);
-
-    let mut states = Vec::new();
-    println!("\n| nanoseconds a step of `run_to` | {} | library / digits | library / f64 |", NAMES.join(" | "));
-    println!("|---|---|---|---|---|---|");
-    let meadows = [("64 by 64, a tenth wet", tenth_wet()), ("64 by 64, all wet", all_wet(64)), ("64 by 64, all wet and soaking", all_soaking(64))];
-    for (name, meadow) in meadows {
-        let (times, (end, made)) = time_run(name, &meadow);
-        line(name, &times, STEPS as f64);
-        states.push(format!("{}: {}.", name, state(&meadow, &end, &made)));
-    }
-    println!("\n{}", states.join("\n"));
-
-    println!("\n| microseconds a run of `meadow` | {} | library / digits | library / f64 |", NAMES.join(" | "));
-    println!("|---|---|---|---|---|---|");
-    let (times, _) = time_meadow(&text);
-    line(&words[1], &times, 1000.0);
-
-    let meadow = all_wet(64);
-    println!("\n| nanoseconds for the roots of a wet square | roots by digits | roots by f64 |");
-    println!("|---|---|---|");
-    roots_line("height and slope", &meadow, two_roots::<plain::Digits>, two_roots::<plain::Floats>);
-    roots_line("height, slope and critical speed", &meadow, three_roots::<plain::Digits>, three_roots::<plain::Floats>);
-
-    println!("\n| all wet | squares | library, ns a step | library, ns a square | digits, ns a square | f64, ns a square |");
-    println!("|---|---|---|---|---|---|");
-    for side in [8, 16, 32, 64] {
-        let squares = (side * side) as f64;
-        let (times, _) = time_run("growth", &all_wet(side));
-        let each: Vec<String> = times.iter().map(|times| spread(times, STEPS as f64 * squares, 1)).collect();
-        let whole = spread(&times[0], STEPS as f64, 0);
-        println!("| {} by {} | {} | {} | {} |", side, side, squares, whole, each.join(" | "));
+    let words: Vec<String> = std::env::args().skip(1).collect();
+    let words: Vec<&str> = words.iter().map(String::as_str).collect();
+    match words[..] {
+        ["check"] => check(300),
+        ["time"] => time(false),
+        ["time", "short"] => time(true),
+        ["engines"] => list(),
+        ["count", ground, engine, steps] => count(ground, engine, steps.parse().expect("a number")),
+        _ => {
+            eprintln!("usage: speed check | time [short] | engines | count MEADOW ENGINE STEPS");
+            std::process::exit(2);
+        }
     }
 }

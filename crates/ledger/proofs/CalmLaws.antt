@@ -167,7 +167,7 @@ module _ (p : Plan) (rec rows : List ℕ) (by : SentBy p rec rows) where
   clear i = bitOf (p .shape) rows i ≡ false
 
   -- a square that is not among them sends nothing
-  clear-none : {i : ℕ} → i < squares (p .shape) → clear i → shut p i ≡ false → gone (leavesIn rec) i ≡ 0
+  pub clear-none : {i : ℕ} → i < squares (p .shape) → clear i → shut p i ≡ false → gone (leavesIn rec) i ≡ 0
   unfolding sends
   clear-none {i} h c e = eqb-true _ 0 (not-false _ (rw e at (by i h c)))
 

@@ -3,7 +3,7 @@
 use mathlib.Core.Path.{_≡_, refl, sym, ap, _∙_, subst}
 use mathlib.Core.Bool.{Bool, true, false, _||_}
 use mathlib.Core.List.{List}
-use Prim.Native.Nat.{ℕ, _+_, _-_, _≤_, _<_}
+use Prim.Native.Nat.{ℕ, _+_, _≤_, _<_}
 use native.Mathlib.Decide.{ℕ-discrete}
 use native.Mathlib.Omega.{arith}
 use lib.Dec.{leb}
@@ -21,6 +21,7 @@ use Rattle.ledger.specs.Record.{leavesIn, soakedIn}
 use Rattle.ledger.specs.After.{depthsFit}
 use Rattle.ledger.specs.declared.record.Found.{Found}
 use Rattle.ledger.specs.inner.Settle.{depthBy, depthsBy, GatheredOne, GatheredTo, GatheredAll}
+use Rattle.ledger.proofs.FlowLaws.{off-shut, soaked-shut, soaked-open}
 
 -- ---- one square gathered
 
@@ -71,6 +72,12 @@ module _ (p : Plan) (rec depths : List ℕ) where
       {n : ℕ} {r : Found} {room : List ℕ} → GatheredTo p rec depths n r room → r .fits ≡ true →
       GatheredTo p rec depths n (record { fits = true; off = r .off; soaked = r .soaked }) room
   to-fit g f = record { fits-is = sym f ∙ g .fits-is; off-is = λ z. g .off-is f; soaked-is = λ z. g .soaked-is f; stored = λ z. g .stored f; long = g .long }
+
+  pub as-found :
+      {n : ℕ} {r : Found} {room : List ℕ} → GatheredTo p rec depths n (record { fits = true; off = r .off; soaked = r .soaked }) room → r .fits ≡ true →
+      GatheredTo p rec depths n r room
+  as-found g f =
+      record { fits-is = f ∙ g .fits-is; off-is = λ z. g .off-is refl; soaked-is = λ z. g .soaked-is refl; stored = λ z. g .stored refl; long = g .long }
 
   fails-to : {i n : ℕ} {room : List ℕ} → i < n → fits i ≡ false → length room ≡ squares (p .shape) → GatheredTo p rec depths n unfit room
   fails-to {i} {n} h e l =
@@ -125,6 +132,26 @@ module _ (p : Plan) (rec depths : List ℕ) where
         at : (k : ℕ) → k < i + 1 → Dec (k ≡ i) → getD (set old i v) k 0 ≡ getD (depthsBy p rec depths) k 0
         at k l (yes z) = rw z (getD-set-same old i v 0 (omega (arith, g .long)) ∙ gathered-at h)
         at k l (no z) = getD-set-other old i k v 0 z ∙ g .stored f k (omega arith)
+
+    module _ {i : ℕ} {found : Found} {old : List ℕ} (h : i < squares (p .shape)) (g : GatheredTo p rec depths i found old) (f : found .fits ≡ true) where
+      -- one square more, which is closed: what was found stays
+      pub to-closed : shut p i ≡ true → GatheredTo p rec depths (i + 1) found (set old i (getD depths i 0))
+      to-closed e =
+          as-found
+          (to-more h g f (gathered-closed p rec depths i old e) refl (omega (arith, off-shut p i (leavesIn rec) e))
+          (omega (arith, soaked-shut p i (soakedIn rec) e)))
+          f
+
+      -- one that is not: too deep, or stored
+      module _ (e : shut p i ≡ false) {x : ℕ} (d : x ≡ depthBy p rec depths i) where
+        pub to-deep : mostDepth < x → GatheredTo p rec depths (i + 1) unfit old
+        to-deep l = to-unfit (gathered-deep p rec depths i old e d l) refl (omega arith) (g .long)
+
+        pub to-open :
+            {off soaked : ℕ} → x ≤ mostDepth → off ≡ offSquare p (leavesIn rec) i → soaked ≡ soakedIn rec i →
+            GatheredTo p rec depths (i + 1) (record { fits = true; off = found .off + off; soaked = found .soaked + soaked }) (set old i x)
+        to-open l a b =
+            to-more h g f (gathered-open p rec depths i old e d l) refl (omega (arith, a)) (omega (arith, b, soaked-open p i (soakedIn rec) e))
 
     -- all squares
     pub to-all : {n : ℕ} {r : Found} {room : List ℕ} → GatheredTo p rec depths n r room → n ≡ squares (p .shape) → GatheredAll p rec depths r room

@@ -6,6 +6,7 @@ pub mod CheckLaws
 pub mod EngineLaws
 pub mod FlowLaws
 pub mod GatherLaws
+pub mod LastLaws
 pub mod ReadBack
 pub mod RecordLaws
 pub mod RunLaws

@@ -2,26 +2,28 @@
 // which gathers only beside squares that sent. Nothing lent but the working room is written.
 ghost use mathlib.Core.Path.{_≡_};
 ghost use mathlib.Core.Bool.{false, true};
-ghost use Prim.Native.Nat.{_+_, _-_, _<_, _≤_, min};
+ghost use Prim.Native.Nat.{_+_, _<_, _≤_, min};
 ghost use lib.ListN.{length};
-ghost use Rattle.grid.specs.Squares.{OnSquare, squares};
+ghost use Rattle.grid.specs.Squares.{OnSquare, onRim, squares};
 ghost use Rattle.grid.specs.Marks.{closed};
 ghost use Rattle.grid.specs.Walks.{InRow};
 ghost use Rattle.ledger.specs.Runs.{plan};
-ghost use Rattle.ledger.specs.Flows.{came};
-ghost use Rattle.ledger.specs.Record.{Recorded, addedIn, leavesIn};
-ghost use Rattle.ledger.specs.inner.Settle.{AllCalm, CalmAt, CalmRow, GatheredAll, GatheredOne, GatheredTo, Gathers, SendersLent, SentBy, depthBy, tooDeep};
+ghost use Rattle.ledger.specs.Record.{CameTo, OffFrom, Recorded};
+ghost use Rattle.ledger.specs.inner.Settle.{AllCalm, CalmAt, CalmRow, ClosedZeros, GatheredAll, GatheredOne, GatheredTo, Gathers, SendersLent, SentBy, tooDeep};
 use crate::record::Found;
 use crate::record::UNFIT;
 use crate::record::added_by;
 use crate::record::came_to;
-use crate::record::came_within;
+use crate::record::leaving;
 use crate::record::lost_from;
 use crate::record::off_from;
 use crate::record::soaked_by;
-use crate::record::soaked_from;
 use grid::marks::is_closed;
+use grid::squares::EAST;
+use grid::squares::NORTH;
+use grid::squares::SOUTH;
 use grid::squares::Shape;
+use grid::squares::WEST;
 use grid::squares::next_column;
 use grid::squares::on_rim;
 use grid::squares::squares_of;
@@ -40,67 +42,53 @@ const NOTHING_YET: Found = Found {
 
 // ---- one square
 
-// What a square gains: from its neighbours, which are all there unless it is on the rim, and what is added.
-fn gains(shape: Shape, marks: &[u8], rec: &[u32], square: usize, column: usize) -> u64
-    requires { ⌜ Recorded (plan shape (now marks)) (now rec) ⌝ }
-    requires { ⌜ OnSquare shape square column ⌝ }
-    ensures { λ r. ⌜ r ≡ came (plan shape (now (marks .entry))) (leavesIn (now (rec .entry))) square + addedIn (now (rec .entry)) square ⌝ }
+// What the neighbours of a square that is not on the rim sent: all four are there, and a closed one's words are zeros, so that neither a
+// side nor a mark is tested.
+fn came_within(shape: Shape, marks: &[u8], rec: &[u32], square: usize) -> u64
+    requires { ⌜ (Recorded (plan shape (now marks)) (now rec)) × (ClosedZeros (plan shape (now marks)) (now rec)) ⌝ }
+    requires { ⌜ (square < squares shape) × (onRim shape square ≡ false) ⌝ }
+    ensures { λ r. ⌜ CameTo (plan shape (now (marks .entry))) (now (rec .entry)) square r ⌝ }
 {
-    if on_rim(shape, square, column) {
-        return came_to(shape, marks, rec, square, column) + added_by(rec, square);
-    }
-    came_within(shape, marks, rec, square) + added_by(rec, square)
+    let columns = shape.columns;
+    let north = leaving(rec, square - columns, SOUTH);
+    let east = leaving(rec, square + 1, WEST);
+    let south = leaving(rec, square + columns, NORTH);
+    let west = leaving(rec, square - 1, EAST);
+    north + east + south + west
 }
 
-// A square's new depth. A dry square has sent nothing, and nothing has soaked.
-fn new_depth(
+// One square more, which is not closed, by what came to it and what it sent off the grid: its new depth goes into the working room,
+// unless it is above the most.
+fn gather_open(
     shape: Shape,
     marks: &[u8],
     rec: &[u32],
     depths: &[u32],
     square: usize,
-    column: usize,
-) -> u64
-    requires { ⌜ Gathers (plan shape (now marks)) (now rec) (now depths) ⌝ }
-    requires { ⌜ (OnSquare shape square column) × (closed (now marks) square ≡ false) ⌝ }
-    ensures { λ r. ⌜ r ≡ depthBy (plan shape (now (marks .entry))) (now (rec .entry)) (now (depths .entry)) square ⌝ }
-{
-    let gained = gains(shape, marks, rec, square, column);
-    let depth = number(depths, square);
-    if depth == 0 {
-        return gained;
-    }
-    let remains = depth - lost_from(rec, square);
-    remains + gained
-}
-
-// Puts a square's new depth, or its old one if it is closed, into the working room, unless the new depth is above the most.
-fn gather_square(
-    shape: Shape,
-    marks: &[u8],
-    rec: &[u32],
-    depths: &[u32],
-    square: usize,
-    column: usize,
+    came: u64,
+    off: u64,
+    found: Found,
     working: &mut [u32],
-) -> bool
-    requires { ⌜ Gathers (plan shape (now marks)) (now rec) (now depths) ⌝ }
-    requires { ⌜ (OnSquare shape square column) × (square < length (now working)) ⌝ }
-    ensures { λ r. ⌜ GatheredOne (plan shape (now (marks .entry))) (now (rec .entry)) (now (depths .entry)) square (now (working .entry)) r (now (working .exit)) ⌝ }
+) -> Found
+    requires { ⌜ (Gathers (plan shape (now marks)) (now rec) (now depths)) × (square < squares shape) × (closed (now marks) square ≡ false) ⌝ }
+    requires { ⌜ (CameTo (plan shape (now marks)) (now rec) square came) × (OffFrom (plan shape (now marks)) (now rec) square off) ⌝ }
+    requires { ⌜ (GatheredTo (plan shape (now marks)) (now rec) (now depths) square found (now working)) × (found .fits ≡ true) ⌝ }
+    ensures { λ r. ⌜ GatheredTo (plan shape (now (marks .entry))) (now (rec .entry)) (now (depths .entry)) (square + 1) r (now (working .exit)) ⌝ }
 {
-    if is_closed(marks, square) {
-        working[square] = depths[square];
-        return true;
-    }
-    let depth = new_depth(shape, marks, rec, depths, square, column);
+    let remains = number(depths, square) - lost_from(rec, square);
+    let depth = remains + came + added_by(rec, square);
     if (MOST_DEPTH as u64) < depth {
-        return false;
+        return UNFIT;
     }
     working[square] = depth as u32;
-    true
+    Found {
+        fits: true,
+        off: found.off + off,
+        soaked: found.soaked + soaked_by(rec, square),
+    }
 }
 
-// One square more: gathered, with what it sent off the grid and what soaked there.
+// One square more: a closed one keeps its depth; nothing goes off the grid from one that is not on the rim.
 fn gather_one(
     shape: Shape,
     marks: &[u8],
@@ -115,14 +103,17 @@ fn gather_one(
     requires { ⌜ (GatheredTo (plan shape (now marks)) (now rec) (now depths) square found (now working)) × (found .fits ≡ true) ⌝ }
     ensures { λ r. ⌜ GatheredTo (plan shape (now (marks .entry))) (now (rec .entry)) (now (depths .entry)) (square + 1) r (now (working .exit)) ⌝ }
 {
-    if !gather_square(shape, marks, rec, depths, square, column, working) {
-        return UNFIT;
+    if is_closed(marks, square) {
+        working[square] = depths[square];
+        return found;
     }
-    Found {
-        fits: true,
-        off: found.off + off_from(shape, marks, rec, square, column),
-        soaked: found.soaked + soaked_from(marks, rec, square),
+    if on_rim(shape, square, column) {
+        let came = came_to(shape, marks, rec, square, column);
+        let off = off_from(shape, marks, rec, square, column);
+        return gather_open(shape, marks, rec, depths, square, came, off, found, working);
     }
+    let came = came_within(shape, marks, rec, square);
+    gather_open(shape, marks, rec, depths, square, came, 0, found, working)
 }
 
 // ---- all squares, one after the other

@@ -6,10 +6,12 @@
 //   record      MOST_RECORD, record_size; a record's words read: held_before, lasted, leaving, last_before, added_by, soaked_by; its amounts:
 //               gone_from, sent_to, came_to, off_from; its words written: put_head, put_square, put_closed
 //   gather      the new depths, by either walk
+//   lasts       the last leaving, by either walk
 //   settle      Settled; settle
 //   take_back   take_back
 pub mod checks;
 mod gather;
+mod lasts;
 pub mod record;
 pub mod runs;
 pub mod settle;

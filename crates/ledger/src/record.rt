@@ -1,11 +1,10 @@
 // The record of a step: its words read and written by name, and the amounts that they give. Only this file knows a word's place.
 ghost use mathlib.Core.Path.{_≡_};
-ghost use mathlib.Core.Bool.{false};
 ghost use Prim.Native.Nat.{_+_, _<_, _^_, _≤_};
 ghost use lib.ListN.{getD, length};
 ghost use Rattle.reckon.specs.Tests.{pick};
 ghost use Rattle.reckon.specs.Ranges.{mostLength};
-ghost use Rattle.grid.specs.Squares.{ShapeInRange, OnSquare, east, north, onRim, sides, south, squares, west};
+ghost use Rattle.grid.specs.Squares.{ShapeInRange, OnSquare, east, north, sides, south, west};
 ghost use Rattle.grid.specs.Marks.{closed};
 ghost use Rattle.ledger.specs.Runs.{plan};
 ghost use Rattle.ledger.specs.Flows.{gone, offSide};
@@ -177,20 +176,6 @@ pub fn sent_to(
         return 0;
     }
     sent_from(marks, rec, at, opposite_side(side))
-}
-
-// What the neighbours of a square that is not on the rim sent: all four are there, so that no side is tested.
-pub(crate) fn came_within(shape: Shape, marks: &[u8], rec: &[u32], square: usize) -> u64
-    requires { ⌜ Recorded (plan shape (now marks)) (now rec) ⌝ }
-    requires { ⌜ (square < squares shape) × (onRim shape square ≡ false) ⌝ }
-    ensures { λ r. ⌜ CameTo (plan shape (now (marks .entry))) (now (rec .entry)) square r ⌝ }
-{
-    let columns = shape.columns;
-    let north = sent_from(marks, rec, square - columns, SOUTH);
-    let east = sent_from(marks, rec, square + 1, WEST);
-    let south = sent_from(marks, rec, square + columns, NORTH);
-    let west = sent_from(marks, rec, square - 1, EAST);
-    north + east + south + west
 }
 
 // What the neighbours sent.

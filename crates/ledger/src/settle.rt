@@ -1,26 +1,17 @@
 // A step whose record is worked out, settled: refused by 8, 9 or 15, or written to depths, last leaving, record room and run.
 // Nothing lent but the working room is written before all three are decided.
 ghost use mathlib.Core.Path.{_≡_};
-ghost use mathlib.Core.Bool.{false};
-ghost use Prim.Native.Nat.{_<_};
-ghost use lib.ListN.{length, set};
-ghost use Rattle.reckon.specs.Tests.{pick};
-ghost use Rattle.reckon.specs.Lists.{filled};
-ghost use Rattle.grid.specs.Squares.{squares, west};
-ghost use Rattle.grid.specs.Marks.{closed};
+ghost use lib.ListN.{length};
+ghost use Rattle.grid.specs.Squares.{squares};
 ghost use Rattle.ledger.specs.Runs.{plan, world};
-ghost use Rattle.ledger.specs.Flows.{gone};
-ghost use Rattle.ledger.specs.Record.{leavesIn, wordPlace};
 ghost use Rattle.ledger.specs.After.{newOutflow, newSoaked, worldWith};
-ghost use Rattle.ledger.specs.inner.Settle.{SendersLent, Settles, SettlesTo, SmallLeaving, SmallSquare, depthsBy, movesIn};
+ghost use Rattle.ledger.specs.inner.Settle.{SendersLent, Settles, SettlesTo, depthsBy, movesIn};
 use crate::gather::gather;
-use crate::record::gone_from;
+use crate::lasts::write_lasts;
 use crate::record::lasted;
 use crate::record::record_size;
 use crate::runs::Run;
-use grid::marks::is_closed;
 use grid::squares::Shape;
-use grid::squares::squares_of;
 use grid::walks::Walk;
 use reckon::copying::copy_into;
 use reckon::ranges::MOST_OUTFLOW;
@@ -32,41 +23,13 @@ pub struct Settled {
     pub run: Run,
 }
 
-// Writes the last leaving of a square that is not closed. A dry square has sent nothing.
-fn write_last(marks: &[u8], rec: &[u32], depths: &[u32], square: usize, lasts: &mut [u32])
-    requires { ⌜ (square < length (now marks)) × (wordPlace square west < length (now rec)) × (square < length (now depths)) × (square < length (now lasts)) ⌝ }
-    requires { ⌜ (closed (now marks) square ≡ false → SmallSquare (now rec) (now depths) square) ⌝ }
-    ensures { λ _. ⌜ now (lasts .exit) ≡ pick (closed (now (marks .entry)) square) (now (lasts .entry)) (set (now (lasts .entry)) square (gone (leavesIn (now (rec .entry))) square)) ⌝ }
-{
-    if is_closed(marks, square) {
-        return;
-    }
-    if depths[square] == 0 {
-        lasts[square] = 0;
-        return;
-    }
-    lasts[square] = gone_from(rec, square) as u32;
-}
-
-// Writes the last leaving of every square that is not closed.
-fn write_lasts(shape: Shape, marks: &[u8], rec: &[u32], depths: &[u32], lasts: &mut [u32])
-    requires { ⌜ SmallLeaving (plan shape (now marks)) (now rec) (now depths) ⌝ }
-    requires { ⌜ length (now lasts) ≡ squares shape ⌝ }
-    ensures { λ _. ⌜ now (lasts .exit) ≡ filled (squares shape) (closed (now (marks .entry))) (gone (leavesIn (now (rec .entry)))) (now (lasts .entry)) ⌝ }
-{
-    let squares = squares_of(shape);
-    let mut square = 0;
-    while square < squares {
-        write_last(marks, rec, depths, square, lasts);
-        square += 1;
-    }
-}
-
 // Writes the step: its record into the slot after the newest, last leaving and depths; gives the run after it.
 fn write(
+    walk: Walk,
     shape: Shape,
     marks: &[u8],
     rec: &[u32],
+    senders: &[u64],
     held: u64,
     outflow: u64,
     soaked: u64,
@@ -77,6 +40,7 @@ fn write(
     records: &mut [u32],
 ) -> Run
     requires { ⌜ Settles (plan shape (now marks)) (now rec) held (world (now depths) (now lasts) (now records) run) ⌝ }
+    requires { ⌜ SendersLent walk (plan shape (now marks)) (now rec) (now senders) ⌝ }
     requires { ⌜ now working ≡ depthsBy (plan shape (now marks)) (now rec) (now depths) ⌝ }
     requires { ⌜ outflow ≡ newOutflow (plan shape (now marks)) (movesIn (now rec) held) (world (now depths) (now lasts) (now records) run) ⌝ }
     requires { ⌜ soaked ≡ newSoaked (plan shape (now marks)) (movesIn (now rec) held) (world (now depths) (now lasts) (now records) run) ⌝ }
@@ -86,7 +50,7 @@ fn write(
     let slots = trials::slots_in(size, records.len());
     let slot = trials::slot_after(slots, run.newest);
     copy_into(rec, records, trials::slot_start(size, slot));
-    write_lasts(shape, marks, rec, depths, lasts);
+    write_lasts(walk, shape, marks, rec, senders, depths, lasts);
     copy_into(working, depths, 0);
     Run {
         clock: run.clock + lasted(rec),
@@ -139,9 +103,11 @@ pub fn settle(
         };
     }
     let after = write(
+        walk,
         shape,
         marks,
         rec,
+        senders,
         held,
         outflow,
         soaked,

@@ -1,12 +1,13 @@
 -- Laws of the drops: what each side's is, case by case as the code finds it, and that none is above the own level.
 -- Assumes nothing.
-use mathlib.Core.Path.{_≡_, sym, ap, _∙_, subst}
+use mathlib.Core.Path.{_≡_, sym, ap, ap₂, _∙_, subst}
 use mathlib.Core.Bool.{true, false}
 use mathlib.Core.List.{List, [], _∷_}
 use Prim.Native.Nat.{ℕ, _-_, _≤_, _<_}
 use native.Mathlib.Omega.{arith}
 use lib.ListN.{getD}
 use borrow.Author.Tests.{lt-ltb, le-ltb}
+use Rattle.reckon.specs.Tests.{pick}
 use Rattle.reckon.proofs.TestLaws.{pick-true, pick-false, pick-both}
 use Rattle.grid.specs.Squares.{squares, within, beside}
 use Rattle.grid.specs.Marks.{exit}
@@ -34,14 +35,14 @@ module _ (p : Plan) (r : Rules) (beds depths : List ℕ) (i side : ℕ) {other :
   unfolding sideDrop
   drop-closed h e = pick-true _ _ (inside h) ∙ pick-true _ _ (ap (shut p) (sym q) ∙ e)
 
-  -- towards an open or exit neighbour
-  pub drop-open :
-      other < squares (p .shape) → shut p other ≡ false →
-      sideDrop p r beds depths i side ≡ dropTo (levelAt p r beds depths i) (levelAt p r beds depths other)
+  -- towards any square, of a level that the code has worked
+  pub drop-there :
+      {own d : ℕ} → own ≡ levelAt p r beds depths i → other < squares (p .shape) →
+      d ≡ pick (shut p other) 0 (dropTo own (levelAt p r beds depths other)) → d ≡ sideDrop p r beds depths i side
   unfolding sideDrop
-  drop-open h e =
-      pick-true _ _ (inside h)
-      ∙ (pick-false _ _ (ap (shut p) (sym q) ∙ e) ∙ ap (λ (j : ℕ). dropTo (levelAt p r beds depths i) (levelAt p r beds depths j)) (sym q))
+  drop-there o h e =
+      e
+      ∙ (ap₂ (λ (k j : ℕ). pick (shut p j) 0 (dropTo k (levelAt p r beds depths j))) o q ∙ sym (pick-true _ _ (inside h)))
 
   -- off the grid from an exit
   pub drop-exit : squares (p .shape) ≤ other → exit (p .marks) i ≡ true → sideDrop p r beds depths i side ≡ dropOff r (getD depths i 0)

@@ -7,16 +7,22 @@ use grid::squares::SOUTH;
 use grid::squares::Shape;
 use grid::squares::WEST;
 use grid::squares::beside_on;
+use grid::squares::on_rim;
 use grid::squares::squares_of;
 use reckon::numbers::number;
 use rule::drops::drop_off;
 use rule::drops::drop_to;
 use rule::rules::Rules;
 ghost use mathlib.Core.Path.{_≡_};
+ghost use mathlib.Core.Bool.{false};
 ghost use Prim.Native.Nat.{_+_, _<_};
 ghost use lib.ListN.{length, getD};
-ghost use Rattle.grid.specs.Squares.{OnSquare, sides};
+ghost use Rattle.reckon.specs.Tests.{pick};
+ghost use Rattle.grid.specs.Squares.{OnSquare, onRim, sides, squares};
+ghost use Rattle.grid.specs.Marks.{closed};
+ghost use Rattle.rule.specs.Drops.{dropTo, level};
 ghost use Rattle.rule.specs.inner.InRange.{EdgeInRange};
+ghost use Rattle.rule.specs.declared.rules.Rules as Declared;
 ghost use Rattle.ledger.specs.Runs.{plan};
 ghost use Rattle.moves.specs.Drops.{dropsOf, sideDrop};
 ghost use Rattle.moves.specs.inner.Ready.{GroundLent};
@@ -27,6 +33,37 @@ fn level_of(beds: &[u32], depths: &[u32], square: usize) -> u64
     ensures { λ r. ⌜ r ≡ getD (now (beds .entry)) square 0 + getD (now (depths .entry)) square 0 ⌝ }
 {
     number(beds, square) + number(depths, square)
+}
+
+// The drop from a level towards a square: 0 where that is closed.
+fn drop_beside(marks: &[u8], beds: &[u32], depths: &[u32], at: usize, own: u64) -> u64
+    requires { ⌜ (at < length (now marks)) × (at < length (now beds)) × (at < length (now depths)) ⌝ }
+    ensures { λ r. ⌜ r ≡ pick (closed (now (marks .entry)) at) 0 (dropTo own (level (getD (now (beds .entry)) at 0) (getD (now (depths .entry)) at 0))) ⌝ }
+{
+    let drop = drop_to(own, level_of(beds, depths, at));
+    if is_closed(marks, at) { 0 } else { drop }
+}
+
+// The four drops of a square that is not on the rim: all four neighbours are there, so that no side is tested.
+fn drops_within(
+    shape: Shape,
+    marks: &[u8],
+    beds: &[u32],
+    depths: &[u32],
+    square: usize,
+    own: u64,
+) -> [u64; 4]
+    requires { ⌜ (GroundLent (plan shape (now marks)) (now beds) (now depths)) × (square < squares shape) × (onRim shape square ≡ false) ⌝ }
+    requires { ⌜ own ≡ getD (now beds) square 0 + getD (now depths) square 0 ⌝ }
+    ensures { λ r. ⌜ ((rules : Declared.Rules) → r ≡ dropsOf (plan shape (now (marks .entry))) rules (now (beds .entry)) (now (depths .entry)) square) ⌝ }
+{
+    let columns = shape.columns;
+    [
+        drop_beside(marks, beds, depths, square - columns, own),
+        drop_beside(marks, beds, depths, square + 1, own),
+        drop_beside(marks, beds, depths, square + columns, own),
+        drop_beside(marks, beds, depths, square - 1, own),
+    ]
 }
 
 // The drop through one side of a square whose level is known.
@@ -47,10 +84,7 @@ fn side_drop(
 {
     let other = beside_on(shape, square, column, side);
     if other < squares_of(shape) {
-        if is_closed(marks, other) {
-            return 0;
-        }
-        return drop_to(own, level_of(beds, depths, other));
+        return drop_beside(marks, beds, depths, other, own);
     }
     if is_exit(marks, square) {
         return drop_off(rules, number(depths, square));
@@ -72,6 +106,9 @@ pub(crate) fn drops_of(
     ensures { λ r. ⌜ r ≡ dropsOf (plan shape (now (marks .entry))) rules (now (beds .entry)) (now (depths .entry)) square ⌝ }
 {
     let own = level_of(beds, depths, square);
+    if !on_rim(shape, square, column) {
+        return drops_within(shape, marks, beds, depths, square, own);
+    }
     [
         side_drop(
             shape,

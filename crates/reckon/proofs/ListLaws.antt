@@ -225,6 +225,10 @@ pub sum-more : (n : ℕ) (f : ℕ → ℕ) → sumBelow (n + 1) f ≡ sumBelow n
 unfolding sumBelow
 sum-more n f = rw add-one
 
+-- a sum of the first n, and one more
+pub sum-again : {s t : ℕ} (n : ℕ) (f : ℕ → ℕ) → s ≡ sumBelow n f → t ≡ s + f n → t ≡ sumBelow (n + 1) f
+sum-again n f e h = h ∙ (ap (λ (k : ℕ). k + f n) e ∙ sym (sum-more n f))
+
 pub sum-ext : (n : ℕ) (f g : ℕ → ℕ) → ((i : ℕ) → i < n → f i ≡ g i) → sumBelow n f ≡ sumBelow n g
 unfolding sumBelow
 sum-ext zero f g h = refl

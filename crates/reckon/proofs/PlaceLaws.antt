@@ -2,12 +2,12 @@
 -- Assumes nothing.
 use mathlib.Core.Path.{_≡_, refl, sym, _∙_, ap, subst}
 use Prim.Native.Nat.{ℕ, zero, suc, _+_, _*_, _/_, _^_, _≤_, _<_}
-use native.Mathlib.Nat.{le-trans, lt-of-le-of-lt, lt-of-not-le, not-le-of-lt, lt-irrefl, pow-le-pow-left, pow-le-pow-right, pow-suc, pow-zero, one-le-pow, mul-suc, mul-zero, mul-div-cancel, div-le-self, zero-add}
+use native.Mathlib.Nat.{le-trans, lt-of-le-of-lt, lt-of-lt-of-le, lt-of-not-le, not-le-of-lt, lt-irrefl, pow-le-pow-left, pow-le-pow-right, pow-suc, pow-zero, one-le-pow, mul-suc, mul-zero, mul-div-cancel, div-le-self, zero-add}
 use native.Mathlib.Decide.{ℕ-discrete}
 use native.Mathlib.Omega.{arith}
 use lib.Pow.{pow-add}
 use Rattle.reckon.specs.Roots.{Root}
-use Rattle.reckon.specs.inner.RootSearch.{SmallPower, Asked, PowerOfTen, Place, Raised}
+use Rattle.reckon.specs.inner.RootSearch.{SmallPower, Asked, PowerOfTen, Place, Above, Raised}
 use Rattle.reckon.proofs.RootLaws.{pow-cancel, zero-pow}
 
 -- what holds of squares and of cubes holds of every small power
@@ -19,6 +19,12 @@ each-power {p} P s squares cubes = go (ℕ-discrete p 2)
     go (no d) =
         let e : 3 ≡ p = omega (arith, s .two, s .three) in
         subst P e cubes
+
+pub squares : SmallPower 2
+squares = record { two = omega arith; three = omega arith }
+
+pub cubes : SmallPower 3
+cubes = record { two = omega arith; three = omega arith }
 
 -- ---- powers of ten
 
@@ -63,6 +69,14 @@ place-up {p} {n} {place} a t h =
           (pow-le-pow-right {n = 10} (omega arith) (parts-evenly k (a .power) few));
     }
 
+-- a power of ten below a place is one
+pub place-below : {p place above : ℕ} → Place p above → PowerOfTen place → place < above → Place p place
+place-below {p} t tens h = record { tens = tens; most = le-trans (pow-le-pow-left (omega arith) p) (t .most) }
+
+-- a power of ten is above the root of n where its own power is above n
+pub above-at : (k : ℕ) {p n : ℕ} → (10 ^ k) ^ p ≤ 10 ^ 18 → n < (10 ^ k) ^ p → Above p n (10 ^ k)
+above-at k most beyond = record { place = record { tens = (k, refl); most = most }; beyond = beyond }
+
 -- ---- what the search forms fits
 
 -- no number whose power is at most 10 ^ 18 is above top, and the power of twice top still fits
@@ -92,6 +106,10 @@ trial-fits place root a t h = sum-fits root place (a .power) (omega (arith, a .s
 -- above the highest digit nothing is raised yet
 pub none-raised : {p n place : ℕ} → Asked p n → n < place ^ p → Raised p n place 0
 none-raised {p} {n} a h = record { fits = zero-pow n (a .power); full = rw zero-add h }
+
+-- at a place above the root's places there is no digit to raise
+pub no-digit : {p n place above root : ℕ} → Above p n above → above ≤ place → root ^ p ≤ n → Raised p n place root
+no-digit {p} a h fits = record { fits = fits; full = lt-of-lt-of-le (a .beyond) (pow-le-pow-left (omega arith) p) }
 
 -- with the digit of the ones raised, the root is found
 pub all-raised : {p n place root : ℕ} → Place p place → place ≤ 1 → Raised p n place root → Root p n root

@@ -16,8 +16,8 @@ use Rattle.reckon.specs.Ranges.{lastClock, mostRain, mostLitres, mostTab
 use Rattle.reckon.specs.Tables.{rainKind, inflowKind, hour, rowStart, ran, rowGives, tableGives, rainBy, onSquare, inflowBy, rowFine, tableFine}
 use Rattle.reckon.specs.inner.Fits.{Fits}
 use Rattle.reckon.specs.declared.tables.Kind.{Kind}
-use Rattle.reckon.proofs.TestLaws.{pick-false, pick-same, pick-both, and-both, and-false, and-true, every-each, each-every, every-fails, all-at, all-fails}
-use Rattle.reckon.proofs.ListLaws.{sum-mono, sum-le, sum-zero}
+use Rattle.reckon.proofs.TestLaws.{pick-false, pick-same, pick-both, and-true, every-each, each-every, every-fails, all-at, all-fails}
+use Rattle.reckon.proofs.ListLaws.{sum-mono, sum-le, sum-whole, sum-zero}
 use Rattle.reckon.proofs.QuotientLaws.{div-mono}
 
 -- ---- one row
@@ -73,6 +73,13 @@ unfolding inflowBy tableGives
 inflow-le rows r c side {t} f =
     le-trans (div-le-self _ (side * side)) (omega (arith, terms-le inflowKind (onSquare rows r c) rows f (length rows / inflowKind .width) (le-refl _), f .few))
 
+-- the sum over all rows, as the code forms it
+pub inflow-made :
+    (rows : List ℕ) (r c side t : ℕ) {s j : ℕ} → s ≡ sumBelow j (term inflowKind (onSquare rows r c) rows t) → j ≡ length rows / inflowKind .width →
+    s / (side * side) ≡ inflowBy rows r c side t
+unfolding inflowBy tableGives
+inflow-made rows r c side t e h = ap (λ (x : ℕ). x / (side * side)) (sum-whole _ e h)
+
 -- a square that no inflow row is for gets nothing
 pub inflow-none :
     (rows : List ℕ) (r c side t : ℕ) → ((j : ℕ) → j < length rows / inflowKind .width → onSquare rows r c j ≡ false) → inflowBy rows r c side t ≡ 0
@@ -91,13 +98,10 @@ module _ (rows : List ℕ) (r c j : ℕ) where
   unfolding onSquare
   other-row h = rw (ne-eqb _ _ h)
 
-  pub other-column : (getD rows (inflowKind .width * j + 1) 0 ≡ c → ⊥) → onSquare rows r c j ≡ false
+  -- of a row for the square's row its column decides
+  pub by-column : getD rows (inflowKind .width * j) 0 ≡ r → onSquare rows r c j ≡ eqb (getD rows (inflowKind .width * j + 1) 0) c
   unfolding onSquare
-  other-column h = and-false (eqb (getD rows (inflowKind .width * j) 0) r) _ (ne-eqb _ _ h)
-
-  pub same-square : getD rows (inflowKind .width * j) 0 ≡ r → getD rows (inflowKind .width * j + 1) 0 ≡ c → onSquare rows r c j ≡ true
-  unfolding onSquare
-  same-square p q = and-both _ _ (eq-eqb _ _ p) (eq-eqb _ _ q)
+  by-column e = rw (eq-eqb _ _ e)
 
 -- ---- what a table has tableGives never falls
 

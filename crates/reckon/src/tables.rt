@@ -10,7 +10,7 @@ ghost use mathlib.Core.Path.{_≡_};
 ghost use Prim.Native.Nat.{_+_, _*_, _/_, _≤_, _<_};
 ghost use lib.ListN.{length, getD};
 ghost use Rattle.reckon.specs.Tests.{pick};
-ghost use Rattle.reckon.specs.Ranges.{mostSide, lastClock, mostRain};
+ghost use Rattle.reckon.specs.Ranges.{mostSide, lastClock, mostLitres, mostRain};
 ghost use Rattle.reckon.specs.Tables.{rainKind, inflowKind, ran, rowStart, rowGives, onSquare, rowFine, tableFine, RainJudged, InflowJudged, RainBy, InflowBy, RainAdded, InflowAdded};
 ghost use Rattle.reckon.specs.inner.Fits.{Fits};
 
@@ -19,6 +19,12 @@ pub struct Kind {
     pub width: usize,
     pub lead: usize,
     pub most: u64,
+}
+
+// What rows have given, summed: by the start of a step and by its end.
+struct Sums {
+    start: u64,
+    end: u64,
 }
 
 // The numbers of a row.
@@ -83,15 +89,23 @@ pub fn rain_by(rows: &[u32], t: u64) -> u64
     sum / HOUR
 }
 
+// Whether row j of an inflow table is for the square at row r, column c.
+fn row_on(rows: &[u32], j: usize, r: u64, c: u64) -> bool
+    requires { ⌜ j < length (now rows) / inflowKind .width ⌝ }
+    ensures { λ x. ⌜ x ≡ onSquare (now (rows .entry)) r c j ⌝ }
+{
+    if number(rows, INFLOW_WIDTH * j) != r {
+        return false;
+    }
+    number(rows, INFLOW_WIDTH * j + 1) == c
+}
+
 // What row j of an inflow table adds to the sum of the square at row r, column c.
 fn inflow_row(rows: &[u32], j: usize, r: u64, c: u64, t: u64) -> u64
     requires { ⌜ (j < length (now rows) / inflowKind .width) × Fits inflowKind (now rows) t ⌝ }
     ensures { λ x. ⌜ x ≡ pick (onSquare (now (rows .entry)) r c j) (rowGives (now (rows .entry)) (rowStart inflowKind j) t) 0 ⌝ }
 {
-    if number(rows, INFLOW_WIDTH * j) != r {
-        return 0;
-    }
-    if number(rows, INFLOW_WIDTH * j + 1) != c {
+    if !row_on(rows, j, r, c) {
         return 0;
     }
     row_gives(rows, INFLOW_WIDTH * j + INFLOW_LEAD, t)
@@ -122,13 +136,36 @@ pub fn rain_added(rows: &[u32], start: u64, end: u64) -> u64
     rain_by(rows, end) - rain_by(rows, start)
 }
 
-// What inflow adds between two clocks on the square at row r, column c.
+// The sums with what row j of an inflow table has given the square at row r, column c by each clock: nothing where the row is for another.
+fn sums_with(sums: Sums, rows: &[u32], j: usize, r: u64, c: u64, start: u64, end: u64) -> Sums
+    requires { ⌜ (j < length (now rows) / inflowKind .width) × (Fits inflowKind (now rows) start) × (Fits inflowKind (now rows) end) ⌝ }
+    requires { ⌜ (sums .start ≤ j * (mostLitres * lastClock)) × (sums .end ≤ j * (mostLitres * lastClock)) ⌝ }
+    ensures { λ x. ⌜ (x .start ≡ sums .start + pick (onSquare (now (rows .entry)) r c j) (rowGives (now (rows .entry)) (rowStart inflowKind j) start) 0) × (x .end ≡ sums .end + pick (onSquare (now (rows .entry)) r c j) (rowGives (now (rows .entry)) (rowStart inflowKind j) end) 0) ⌝ }
+{
+    if !row_on(rows, j, r, c) {
+        return sums;
+    }
+    let at = INFLOW_WIDTH * j + INFLOW_LEAD;
+    Sums {
+        start: sums.start + row_gives(rows, at, start),
+        end: sums.end + row_gives(rows, at, end),
+    }
+}
+
+// What inflow adds between two clocks on the square at row r, column c: one walk over the rows sums what they have given by both.
 pub fn inflow_added(rows: &[u32], r: u64, c: u64, side: u64, start: u64, end: u64) -> u64
     requires { ⌜ Fits inflowKind (now rows) end ⌝ }
     requires { ⌜ (start ≤ end) × (0 < side) × (side ≤ mostSide) ⌝ }
     ensures { λ x. ⌜ InflowAdded (now (rows .entry)) r c side start end x ⌝ }
 {
-    inflow_by(rows, r, c, side, end) - inflow_by(rows, r, c, side, start)
+    let n = rows.len() / INFLOW_WIDTH;
+    let mut sums = Sums { start: 0, end: 0 };
+    let mut j: usize = 0;
+    while j < n {
+        sums = sums_with(sums, rows, j, r, c, start, end);
+        j += 1;
+    }
+    sums.end / (side * side) - sums.start / (side * side)
 }
 
 // The row whose from, to and amount stand at a place is in range.

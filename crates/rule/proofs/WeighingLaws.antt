@@ -5,7 +5,7 @@ use mathlib.Core.Path.{_≡_, refl, sym, _∙_, ap}
 use mathlib.Core.Bool.{Bool, true, false, _||_}
 use mathlib.Core.List.{List, [], _∷_}
 use Prim.Native.Nat.{ℕ, zero, suc, _+_, _*_, _/_, _≤_, _<_, min}
-use native.Mathlib.Nat.{le-trans, mul-le-mul, mul-le-mul-left, mul-le-mul-right, div-le-self, div-mul-le-self, mul-add, add-mul, mul-zero, zero-mul, mul-comm, le-of-mul-le-mul-right, min-eq-left, min-eq-right, zero-div}
+use native.Mathlib.Nat.{le-trans, mul-le-mul, mul-le-mul-left, mul-le-mul-right, div-le-self, div-mul-le-self, mul-add, add-mul, mul-zero, zero-mul, mul-comm, mul-assoc, mul-left-comm, mul-div-cancel, mul-div-mul-right, le-of-mul-le-mul-right, min-eq-left, min-eq-right, zero-div}
 use native.Mathlib.Decide.{decLe, ℕ-discrete}
 use native.Mathlib.Omega.{arith}
 use lib.Dec.{eqb, leb}
@@ -18,7 +18,7 @@ use Rattle.reckon.proofs.QuotientLaws.{div-mono, le-scaled}
 use Rattle.reckon.proofs.RootLaws.{square, root-is, root-right, root-le, root-over, root-least, root-most}
 use Rattle.reckon.specs.Ranges.{mostDepth}
 use Rattle.rule.specs.Weighing.{lesserPositive, leastDrop, greatestDrop, dropSum, heightOf, slopeOf, criticalSpeed, manningSpeed, speedOf, mostThrough, totalOf, throughSides, nothingUnless, directedEdition, unlimitedEdition, weightedSides, directedAmount, directedAmounts, fourOf, scaledTo, directedSides, unlimitedTotal, unlimitedSides, weighed}
-use Rattle.rule.specs.inner.Totals.{totalBy}
+use Rattle.rule.specs.inner.Totals.{limitedTo, totalFrom, totalBy, halfOf}
 use Rattle.rule.specs.inner.InRange.{mostDrop, DropsInRange}
 use Rattle.rule.specs.declared.rules.Rules.{Rules}
 
@@ -91,7 +91,7 @@ held d m t v pos le (no h) =
     let l : d ≤ m = omega arith in
     rw (min-eq-left l) (omega (arith, le-scaled d pos le, div-mono v (mul-le-mul-right t l)))
 
-pub hold : (d m t v q : ℕ) → 0 < v → v ≤ t → min d (min (min d m * t / v) q) ≡ min d (min (m * t / v) q)
+hold : (d m t v q : ℕ) → 0 < v → v ≤ t → min d (min (min d m * t / v) q) ≡ min d (min (m * t / v) q)
 hold d m t v q pos le = omega (arith, held d m t v pos le (decLe m d))
 
 -- ---- the least positive drop
@@ -130,32 +130,110 @@ pub greatest-sum : (v : List ℕ) → greatestDrop v ≤ dropSum v
 unfolding greatestDrop dropSum
 greatest-sum v = omega arith
 
-pub total-le : (r : Rules) (d p k ms : ℕ) (v : List ℕ) → totalBy r d p k ms v ≤ d
+total-le : (r : Rules) (d p k ms : ℕ) (v : List ℕ) → totalBy r d p k ms v ≤ d
 unfolding totalBy totalOf unlimitedTotal
 total-le r d p k ms v = pick-both (λ (x : ℕ). x ≤ d) (eqb (r .edition) unlimitedEdition) (omega arith) (omega arith)
 
+pub limited-le : (r : Rules) (d p least speed : ℕ) {all : ℕ} → all ≡ limitedTo r d p least speed → all ≤ d
+unfolding limitedTo
+limited-le r d p least speed e = rw e (pick-both (λ (x : ℕ). x ≤ d) (eqb (r .edition) unlimitedEdition) (omega arith) (omega arith))
+
 -- ---- the total, with m held to d first
 
--- the parts as the code names them
-module _
-    (r : Rules) (d p k ms : ℕ) (v : List ℕ) {least sum steepest most all : ℕ} (drop : 0 < greatestDrop v) (least-is : least ≡ leastDrop v)
-    (sum-is : sum ≡ dropSum v) (steepest-is : steepest ≡ greatestDrop v) (most-is : most ≡ min d (mostThrough r d k ms steepest)) where
-  pub total-limited :
-      {low : ℕ} → (r .edition ≡ unlimitedEdition → ⊥) → low ≡ min (most * sum / steepest) (least + p) → all ≡ min d low → all ≡ totalBy r d p k ms v
-  unfolding totalBy totalOf
-  total-limited other el ea =
-      ea
-      ∙ (ap (λ (x : ℕ). min d x) (el ∙ rw (most-is, least-is, sum-is, steepest-is))
-      ∙ (hold d (mostThrough r d k ms (greatestDrop v)) (dropSum v) (greatestDrop v) (leastDrop v + p) drop (greatest-sum v)
-      ∙ sym (pick-false _ _ (ne-eqb _ _ other))))
+-- the cases as the code has them
+module _ (r : Rules) (d p least speed : ℕ) {x : ℕ} where
+  pub limited-third : r .edition ≡ unlimitedEdition → x ≡ min d speed → x ≡ limitedTo r d p least speed
+  unfolding limitedTo
+  limited-third third e = e ∙ sym (pick-true _ _ (eq-eqb _ _ third))
 
-  pub total-unlimited : r .edition ≡ unlimitedEdition → all ≡ min d (most * sum / steepest) → all ≡ totalBy r d p k ms v
-  unfolding totalBy unlimitedTotal
-  total-unlimited third ea =
-      ea
-      ∙ (rw (most-is, sum-is, steepest-is)
-      (held d (mostThrough r d k ms (greatestDrop v)) (dropSum v) (greatestDrop v) drop (greatest-sum v) (decLe _ d))
-      ∙ sym (pick-true _ _ (eq-eqb _ _ third)))
+  pub limited-other : {low : ℕ} → (r .edition ≡ unlimitedEdition → ⊥) → low ≡ min speed (least + p) → x ≡ min d low → x ≡ limitedTo r d p least speed
+  unfolding limitedTo
+  limited-other other el e = e ∙ (ap (λ (z : ℕ). min d z) el ∙ sym (pick-false _ _ (ne-eqb _ _ other)))
+
+module _ (r : Rules) (d p k ms : ℕ) (v : List ℕ) (some : 0 < greatestDrop v) where
+  pub total-from : {steepest most : ℕ} → steepest ≡ greatestDrop v → most ≡ min d (mostThrough r d k ms steepest) → totalFrom r d p most v ≡ totalBy r d p k ms v
+  unfolding totalFrom limitedTo totalBy totalOf unlimitedTotal
+  total-from {steepest} {most} es em =
+      let m : ℕ = mostThrough r d k ms (greatestDrop v) in
+      let e : most ≡ min d m = em ∙ ap (λ (x : ℕ). min d (mostThrough r d k ms x)) es in
+      rw (
+        e,
+        held d m (dropSum v) (greatestDrop v) some (greatest-sum v) (decLe m d),
+        hold d m (dropSum v) (greatestDrop v) (leastDrop v + p) some (greatest-sum v),
+      )
+
+-- the parts as the code names them
+pub from-made :
+    (r : Rules) (d p : ℕ) (v : List ℕ) (most : ℕ) {least sum steepest all : ℕ} {x : List ℕ} → least ≡ leastDrop v → sum ≡ dropSum v →
+    steepest ≡ greatestDrop v → all ≡ limitedTo r d p least (most * sum / steepest) → x ≡ throughSides all v →
+    x ≡ throughSides (totalFrom r d p most v) v
+unfolding totalFrom
+from-made r d p v most el em es ea ex = ex ∙ ap (λ (z : ℕ). throughSides z v) (ea ∙ rw (el, em, es))
+
+-- ---- one side alone has a drop
+
+-- of two of which at most one is positive the least positive is their sum
+positive-one : (a b : ℕ) → ((a ≡ 0 → ⊥) → b ≡ 0) → lesserPositive a b ≡ a + b
+positive-one a b one = go (ℕ-discrete a 0)
+  where
+    go : Dec (a ≡ 0) → lesserPositive a b ≡ a + b
+    go (yes e) = omega (arith, positive-first b e)
+    go (no h) = omega (arith, positive-second h (one h), one h)
+
+pub none-through : (a t : ℕ) → a * 0 / t ≡ 0
+none-through a t = rw (mul-zero a) (zero-div t)
+
+-- its share of a total, and that of a side without a drop
+half-share : (a g drop : ℕ) → 0 < g → ((drop ≡ 0 → ⊥) → drop ≡ g) → halfOf a drop ≡ a * drop / (2 * g)
+unfolding halfOf
+half-share a g drop pos one = go (ℕ-discrete drop 0)
+  where
+    go : Dec (drop ≡ 0) → pick (eqb drop 0) 0 (a / 2) ≡ a * drop / (2 * g)
+    go (yes e) = pick-true _ _ (eq-eqb drop 0 e) ∙ sym (ap (λ (x : ℕ). a * x / (2 * g)) e ∙ none-through a (2 * g))
+    go (no h) = pick-false _ _ (ne-eqb drop 0 h) ∙ sym (ap (λ (x : ℕ). a * x / (2 * g)) (one h) ∙ mul-div-mul-right a 2 pos)
+
+module _ (v : List ℕ) (one : fourOf v ≡ greatestDrop v) where
+  one-least : leastDrop v ≡ greatestDrop v
+  unfolding leastDrop greatestDrop
+  one-least =
+      rw (
+        positive-one (getD v 0 0) (getD v 1 0) (λ h. omega (arith, one, h)),
+        positive-one (getD v 2 0) (getD v 3 0) (λ h. omega (arith, one, h)),
+        positive-one (getD v 0 0 + getD v 1 0) (getD v 2 0 + getD v 3 0) (λ h. omega (arith, one, h)),
+      ) (omega (arith, one))
+
+  one-sum : dropSum v ≡ 2 * greatestDrop v
+  unfolding dropSum
+  one-sum = omega (arith, one, one-least)
+
+  -- m·T / VM is 2·m
+  pub one-total :
+      (r : Rules) (d p most : ℕ) {steepest all : ℕ} → 0 < greatestDrop v → steepest ≡ greatestDrop v → all ≡ limitedTo r d p steepest (2 * most) →
+      all ≡ totalFrom r d p most v
+  unfolding totalFrom
+  one-total r d p most pos es ea =
+      let twice : most * dropSum v / greatestDrop v ≡ 2 * most =
+      ap (λ (x : ℕ). x / greatestDrop v)
+      (ap (λ (x : ℕ). most * x) one-sum ∙ (mul-left-comm most 2 (greatestDrop v) ∙ sym (mul-assoc 2 most (greatestDrop v))))
+      ∙ mul-div-cancel (2 * most) pos in
+      ea ∙ rw (es, twice, one-least)
+
+  pub one-through :
+      (a : ℕ) {n e s w : ℕ} → 0 < greatestDrop v → n ≡ halfOf a (getD v 0 0) → e ≡ halfOf a (getD v 1 0) → s ≡ halfOf a (getD v 2 0) →
+      w ≡ halfOf a (getD v 3 0) → n ∷ e ∷ s ∷ w ∷ [] ≡ throughSides a v
+  unfolding throughSides greatestDrop
+  one-through a pos en ee es ew =
+      rw (
+        en,
+        ee,
+        es,
+        ew,
+        one-sum,
+        half-share a (greatestDrop v) (getD v 0 0) pos (λ h. omega (arith, one, h)),
+        half-share a (greatestDrop v) (getD v 1 0) pos (λ h. omega (arith, one, h)),
+        half-share a (greatestDrop v) (getD v 2 0) pos (λ h. omega (arith, one, h)),
+        half-share a (greatestDrop v) (getD v 3 0) pos (λ h. omega (arith, one, h)),
+      )
 
 -- ---- nothing leaves without water or without a drop
 
@@ -198,9 +276,6 @@ through-le a v pos = shares-le a (dropSum v) _ _ _ _ pos (omega arith)
 
 pub through-made : (v : List ℕ) {a t : ℕ} {x : List ℕ} → a ≡ t → x ≡ throughSides a v → x ≡ throughSides t v
 through-made v e ex = ex ∙ ap (λ (z : ℕ). throughSides z v) e
-
-pub none-through : (a t : ℕ) → a * 0 / t ≡ 0
-none-through a t = rw (mul-zero a) (zero-div t)
 
 none-share : (a t : ℕ) → 0 * a / t ≡ 0
 none-share a t = rw (zero-mul a) (zero-div t)

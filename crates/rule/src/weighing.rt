@@ -7,11 +7,11 @@ use reckon::roots::cube_root;
 use reckon::roots::square_root;
 ghost use mathlib.Core.Path.{_≡_};
 ghost use Prim.Native.Nat.{_*_, _/_, _<_, _≤_, min};
-ghost use lib.Dec.{leb};
+ghost use lib.Dec.{eqb, leb};
 ghost use Rattle.reckon.specs.Ranges.{mostDepth, mostLength};
-ghost use Rattle.rule.specs.Weighing.{lesserPositive, leastDrop, greatestDrop, dropSum, heightOf, slopeOf, criticalSpeed, speedOf, mostThrough, throughSides, directedAmount, scaledTo, directedSides, Weighs};
+ghost use Rattle.rule.specs.Weighing.{lesserPositive, leastDrop, greatestDrop, dropSum, heightOf, slopeOf, criticalSpeed, speedOf, mostThrough, throughSides, directedAmount, fourOf, scaledTo, directedSides, Weighs};
 ghost use Rattle.rule.specs.inner.InRange.{mostDrop, DropsInRange, SquareInRange, Weighable};
-ghost use Rattle.rule.specs.inner.Totals.{totalBy, AmountsWithin};
+ghost use Rattle.rule.specs.inner.Totals.{limitedTo, totalFrom, totalBy, halfOf, Steepest, AmountsWithin};
 
 // The acceleration of gravity as document 02 has it for speeds in µm/s under a depth in µm: c² ≤ 9,810,000·d.
 const GRAVITY: u64 = 9_810_000;
@@ -116,24 +116,11 @@ fn most_held(rules: Rules, depth: u64, high: u64, roughness: u64, lasts: u64, dr
     part(depth, moved, rules.square_side * 1_000_000_000)
 }
 
-// All that leaves by a total, where there is water and a drop: with edition 3 the least drop and the last leaving set no limit.
-fn total(
-    rules: Rules,
-    depth: u64,
-    last: u64,
-    roughness: u64,
-    lasts: u64,
-    drops: [u64; 4],
-    least: u64,
-    sum: u64,
-) -> u64
-    requires { ⌜ Weighable rules depth last roughness lasts drops ⌝ }
-    requires { ⌜ (0 < greatestDrop drops) × (least ≡ leastDrop drops) × (sum ≡ dropSum drops) ⌝ }
-    ensures { λ r. ⌜ r ≡ totalBy rules depth last roughness lasts drops ⌝ }
+// All that leaves, from what the speed lets through: with edition 3 the least drop and the last leaving set no limit.
+fn total(rules: Rules, depth: u64, last: u64, least: u64, by_speed: u64) -> u64
+    requires { ⌜ (last ≤ mostDepth) × (least ≤ mostDrop) ⌝ }
+    ensures { λ r. ⌜ r ≡ limitedTo rules depth last least «by_speed» ⌝ }
 {
-    let steepest = greatest_drop(drops);
-    let most = most_held(rules, depth, height(depth), roughness, lasts, steepest);
-    let by_speed = most * sum / steepest;
     if rules.edition == UNLIMITED_EDITION {
         return lesser(depth, by_speed);
     }
@@ -164,6 +151,71 @@ fn through_sides(total: u64, drops: [u64; 4], sum: u64) -> [u64; 4]
     ]
 }
 
+// What leaves through the four sides by their drops, from the most through the steepest side.
+fn by_drops(
+    rules: Rules,
+    depth: u64,
+    last: u64,
+    drops: [u64; 4],
+    steepest: u64,
+    most: u64,
+) -> [u64; 4]
+    requires { ⌜ Steepest depth last drops steepest most ⌝ }
+    ensures { λ r. ⌜ r ≡ throughSides (totalFrom rules depth last most drops) drops ⌝ }
+{
+    let least = least_drop(drops);
+    let sum = drop_sum(drops, least);
+    let all = total(rules, depth, last, least, most * sum / steepest);
+    through_sides(all, drops, sum)
+}
+
+// Whether one side alone has a drop, where one has: the four come to no more than the steepest.
+fn has_one_drop(drops: [u64; 4], steepest: u64) -> bool
+    requires { ⌜ DropsInRange drops ⌝ }
+    ensures { λ r. ⌜ r ≡ eqb (fourOf drops) steepest ⌝ }
+{
+    drops[0] + drops[1] + drops[2] + drops[3] == steepest
+}
+
+// One drop's share of a total: T is twice that drop.
+fn half(total: u64, drop: u64) -> u64
+    ensures { λ r. ⌜ r ≡ halfOf total drop ⌝ }
+{
+    if drop == 0 {
+        return 0;
+    }
+    total / 2
+}
+
+fn halves(total: u64, drops: [u64; 4]) -> [u64; 4]
+    requires { ⌜ (0 < greatestDrop drops) × (fourOf drops ≡ greatestDrop drops) ⌝ }
+    ensures { λ r. ⌜ r ≡ throughSides total drops ⌝ }
+{
+    [
+        half(total, drops[0]),
+        half(total, drops[1]),
+        half(total, drops[2]),
+        half(total, drops[3]),
+    ]
+}
+
+// What leaves where one side alone has a drop: VM is Vmin too, and half of T, so that nothing is divided by either.
+fn by_one_drop(
+    rules: Rules,
+    depth: u64,
+    last: u64,
+    drops: [u64; 4],
+    steepest: u64,
+    most: u64,
+) -> [u64; 4]
+    requires { ⌜ Steepest depth last drops steepest most ⌝ }
+    requires { ⌜ fourOf drops ≡ steepest ⌝ }
+    ensures { λ r. ⌜ r ≡ throughSides (totalFrom rules depth last most drops) drops ⌝ }
+{
+    let all = total(rules, depth, last, steepest, 2 * most);
+    halves(all, drops)
+}
+
 // By total: what leaves through the four sides, where there is water and a drop.
 fn by_total(
     rules: Rules,
@@ -177,10 +229,12 @@ fn by_total(
     requires { ⌜ 0 < greatestDrop drops ⌝ }
     ensures { λ r. ⌜ r ≡ throughSides (totalBy rules depth last roughness lasts drops) drops ⌝ }
 {
-    let least = least_drop(drops);
-    let sum = drop_sum(drops, least);
-    let all = total(rules, depth, last, roughness, lasts, drops, least, sum);
-    through_sides(all, drops, sum)
+    let steepest = greatest_drop(drops);
+    let most = most_held(rules, depth, height(depth), roughness, lasts, steepest);
+    if has_one_drop(drops, steepest) {
+        return by_one_drop(rules, depth, last, drops, steepest, most);
+    }
+    by_drops(rules, depth, last, drops, steepest, most)
 }
 
 // Edition 2: what one side's own drop moves.

@@ -142,6 +142,26 @@ pub record AllCalm (p : Plan) (rec : List ℕ) (from to : ℕ) : Type 0 where
 abbrev pub CalmRow : Plan → List ℕ → ℕ → ℕ → Type 0
 CalmRow p rec first near = (column : ℕ) → column < p .shape .columns → bitAt near column ≡ false → CalmAt p rec (first + column)
 
+-- nothing leaves a square, if it is not closed; and so from one square up to another, and at the columns of a row that a mask does not have
+abbrev pub QuietAt : Plan → List ℕ → ℕ → Type 0
+QuietAt p rec i = shut p i ≡ false → gone (leavesIn rec) i ≡ 0
+
+abbrev pub AllQuiet : Plan → List ℕ → ℕ → ℕ → Type 0
+AllQuiet p rec from to = (i : ℕ) → from ≤ i → i < to → QuietAt p rec i
+
+abbrev pub QuietRow : Plan → List ℕ → ℕ → ℕ → Type 0
+QuietRow p rec first mask = (column : ℕ) → column < p .shape .columns → bitAt mask column ≡ false → QuietAt p rec (first + column)
+
+-- Last leaving written from one square up to another: an amount at each that is not closed. All else is as it was.
+pub record LastsWritten (marks : List ℕ) (amount : ℕ → ℕ) (from to : ℕ) (old new : List ℕ) : Type 0 where
+  pub long : length new ≡ length old
+  pub written : (i : ℕ) → from ≤ i → i < to → closed marks i ≡ false → getD new i 0 ≡ amount i
+  pub kept : (i : ℕ) → (from ≤ i → i < to → closed marks i ≡ true) → getD new i 0 ≡ getD old i 0
+
+-- nothing left any square
+abbrev pub noneGone : ℕ → ℕ
+noneGone i = 0
+
 -- a depth that a square not closed cannot have
 unfoldable pub tooDeep : List ℕ → ℕ → ℕ → Bool
 tooDeep marks depth i = not (closed marks i || leb depth mostDepth)

@@ -21,6 +21,11 @@ pub record Place (p place : ℕ) : Type 0 where
   pub tens : PowerOfTen place
   pub most : place ^ p ≤ 10 ^ 18
 
+-- a place above the root of n
+pub record Above (p n above : ℕ) : Type 0 where
+  pub place : Place p above
+  pub beyond : n < above ^ p
+
 -- the digit at `place` is raised as far as it goes: the power of r still fits into n, that of one more does not
 pub record Raised (p n place r : ℕ) : Type 0 where
   pub fits : r ^ p ≤ n

@@ -1,130 +1,128 @@
--- `ledger::gather::gather_one` meets its contract: a square that does not fit, or one more of those that do.
+-- `ledger::gather::gather_one` meets its contract: a closed square, one on the rim, or one with all its neighbours.
 -- Assumes nothing.
-use mathlib.Core.Path.{_≡_, ap}
-use mathlib.Core.List.{List}
-use Prim.Native.Nat.{ℕ, _+_}
-use native.Mathlib.Omega.{arith}
-use borrow.Author.Tests.{not-true, not-false}
-use Rattle.ledger.specs.Runs.{Plan, plan}
-use Rattle.ledger.specs.Flows.{soakedSquare}
-use Rattle.ledger.specs.Record.{soakedIn}
-use Rattle.ledger.proofs.FlowLaws.{off-small, off-sum-small, soaked-made, soaked-square-small, soaked-sum-small}
-use Rattle.ledger.proofs.GatherLaws.{to-unfit, to-more}
+use mathlib.Core.Path.{_≡_, sym, _∙_}
+use mathlib.Core.Bool.{false}
+use Rattle.grid.specs.Squares.{onRim}
+use Rattle.grid.specs.Marks.{closed}
+use Rattle.ledger.specs.Runs.{plan}
+use Rattle.ledger.specs.Record.{leavesIn}
+use Rattle.ledger.proofs.FlowLaws.{off-none}
+use Rattle.ledger.proofs.GatherLaws.{to-closed}
 use borrow.Author.Needs.{needs}
 use Rattle.ledger.proofs.gather.gather_one.Statement.{statement}
 use Rattle.ledger.proofs.gather.gather_one.Tie as tie
 
 -- ---- the places, each from the one after it
 
-abbrev known2 : tie.After-gather-square → tie.After-shared-slice-known2
-known2 c = c .before .before .before .before
+abbrev start : tie.After-is-closed → tie.Start
+start c = c .before .before .before .before .before
 
-abbrev start : tie.After-gather-square → tie.Start
-start c = known2 c .before .before
-
-abbrev gathered : tie.Else1 → tie.After-gather-square
-gathered c = c .before .before .before
-
-abbrev sent-off : tie.After-struct-known → tie.Else1
-sent-off c = c .before .before
-
-abbrev soaking : tie.After-struct-known2 → tie.After-struct-known
-soaking c = c .before .before
+abbrev marked : tie.After-on-rim → tie.After-is-closed
+marked c = c .before .before
 
 -- ---- what is known there
 
-module _ (c : tie.After-gather-square) where
-  abbrev p : Plan
-  p = plan (start c .args .shape) (start c .args .marks .now)
+not-closed : (c : tie.After-on-rim) → let s = start (marked c) in closed (s .args .marks .now) (s .args .square) ≡ false
+not-closed c = sym (marked c .is-closed .ensures) ∙ c .before .if1 .left
 
-  abbrev rec : List ℕ
-  rec = start c .args .rec .now
-
-  abbrev i : ℕ
-  i = start c .args .square
-
-soaked-is :
-    (c : tie.After-struct-known2) → let g = gathered (sent-off (soaking c)) in
-    c .before .soaked-from .result ≡ soakedSquare (p g) (soakedIn (rec g)) (i g)
-soaked-is c =
-    let g = gathered (sent-off (soaking c)) in
-    soaked-made (rec g) (λ k. known2 g .shared-slice-known2 .given k .fits) (p g) (i g) (c .before .soaked-from .ensures)
+inside : (c : tie.Else2) → let s = start (marked (c .before)) in onRim (s .args .shape) (s .args .square) ≡ false
+inside c = sym (c .before .on-rim .ensures) ∙ c .if2 .left
 
 -- ---- the needs
 
-gather-square-requires : tie.Need-gather-square-requires
-gather-square-requires c κs = search needs
+is-closed-requires : tie.Need-is-closed-requires
+is-closed-requires c κs = search needs
+
+mul-working : tie.Need-mul-working
+mul-working c = search needs
+
+shared-slice-read-working : tie.Need-shared-slice-read-working
+shared-slice-read-working c = search needs
+
+mul-working-2 : tie.Need-mul-working-2
+mul-working-2 c = search needs
+
+slice-write-working : tie.Need-slice-write-working
+slice-write-working c = search needs
 
 same-length : tie.Need-same-length
 same-length c = search needs
 
 returns : tie.Need-returns
 returns c =
-    let g = c .before .before .before in
-    to-unfit (p g) (rec g) (start g .args .depths .now) (g .gather-square .ensures) (not-true _ (c .if1 .taken)) (omega arith)
-    (search needs)
+    let m = c .before .before in
+    let s = start m in
+    to-closed _ _ _ (s .pre .0 .0 .depths-long) (s .pre .0 .1 .inside) (s .pre .1 .0) (s .pre .1 .1) (sym (m .is-closed .ensures) ∙ c .before .if1 .taken)
+
+on-rim-requires : tie.Need-on-rim-requires
+on-rim-requires c κs = search needs
+
+came-to-requires : tie.Need-came-to-requires
+came-to-requires c κs = search needs
 
 off-from-requires : tie.Need-off-from-requires
 off-from-requires c κs = search needs
 
-add-t14 : tie.Need-add-t14
-add-t14 c =
-    let g = gathered (sent-off c) in
-    record {
-      fits =
-          omega (
-            arith,
-            start g .pre .1 .0 .off-is (start g .pre .1 .1),
-            off-sum-small (rec g) (λ k. known2 g .shared-slice-known2 .given k .fits) (p g) (i g),
-            c .before .off-from .ensures,
-            off-small (rec g) (λ k. known2 g .shared-slice-known2 .given k .fits) (p g) (i g),
-            start g .pre .0 .1 .inside,
-            start g .pre .0 .1 .fine .few,
-          );
-    }
-
-soaked-from-requires : tie.Need-soaked-from-requires
-soaked-from-requires c κs = search needs
-
-add-t16 : tie.Need-add-t16
-add-t16 c =
-    let g = gathered (sent-off (soaking c)) in
-    record {
-      fits =
-          omega (
-            arith,
-            start g .pre .1 .0 .soaked-is (start g .pre .1 .1),
-            soaked-sum-small (rec g) (λ k. known2 g .shared-slice-known2 .given k .fits) (p g) (i g),
-            soaked-is c,
-            soaked-square-small (rec g) (λ k. known2 g .shared-slice-known2 .given k .fits) (p g) (i g),
-            start g .pre .0 .1 .inside,
-            start g .pre .0 .1 .fine .few,
-          );
-    }
+gather-open-requires : tie.Need-gather-open-requires
+gather-open-requires c κs =
+    let off = c .before in
+    let rim = off .before .before .before in
+    let s = start (marked rim) in (
+      (s .pre .0 .0, s .pre .0 .1 .inside, not-closed rim),
+      ((off .before .came-to .ensures, off .off-from .ensures), s .pre .1),
+    )
 
 same-length-2 : tie.Need-same-length-2
 same-length-2 c = search needs
 
 returns-2 : tie.Need-returns-2
-returns-2 c =
-    let off = soaking c in
-    let fit = sent-off off in
-    let g = gathered fit in
-    let s = start g in
-    to-more (p g) (rec g) (s .args .depths .now) (s .pre .0 .0 .depths-long) (s .pre .0 .1 .inside) (s .pre .1 .0) (s .pre .1 .1)
-    (g .gather-square .ensures) (not-false _ (fit .if1 .left)) (ap (λ (k : ℕ). s .args .found .off + k) (off .before .off-from .ensures))
-    (ap (λ (k : ℕ). s .args .found .soaked + k) (soaked-is c))
+returns-2 c = search needs
+
+came-within-requires : tie.Need-came-within-requires
+came-within-requires c κs =
+    let s = start (marked (c .before)) in
+    ((s .pre .0 .0 .recorded, s .pre .0 .0 .closed-zeros), (s .pre .0 .1 .inside, inside c))
+
+gather-open-requires-2 : tie.Need-gather-open-requires-2
+gather-open-requires-2 c κs =
+    let came = c .before in
+    let else = came .before in
+    let rim = else .before in
+    let s = start (marked rim) in (
+      (s .pre .0 .0, s .pre .0 .1 .inside, not-closed rim),
+      (
+        (
+          came .came-within .ensures,
+          off-none (plan (s .args .shape) (s .args .marks .now)) (leavesIn (s .args .rec .now)) (s .args .square) (inside else),
+        ),
+        s .pre .1,
+      ),
+    )
+
+same-length-3 : tie.Need-same-length-3
+same-length-3 c = search needs
+
+returns-3 : tie.Need-returns-3
+returns-3 c = search needs
 
 pub gather-one-spec : {M : Type 1} → statement M
 gather-one-spec =
     tie.close
     (tie.spec
-    gather-square-requires
+    is-closed-requires
+    mul-working
+    shared-slice-read-working
+    mul-working-2
+    slice-write-working
     same-length
     returns
+    on-rim-requires
+    came-to-requires
     off-from-requires
-    add-t14
-    soaked-from-requires
-    add-t16
+    gather-open-requires
     same-length-2
-    returns-2)
+    returns-2
+    came-within-requires
+    gather-open-requires-2
+    same-length-3
+    returns-3)

@@ -147,7 +147,7 @@ returns-3 c =
 write-requires : tie.Need-write-requires
 write-requires c κs =
     let whole = summed (within (soaking (taken-up (writing c)))) in
-    (begun (at whole) .pre .0, (at whole .gather .ensures .stored (fit whole), (outflow-is whole, soaked-is whole)))
+    (begun (at whole) .pre .0, (begun (at whole) .pre .1 .1, (at whole .gather .ensures .stored (fit whole), (outflow-is whole, soaked-is whole))))
 
 same-length-7 : tie.Need-same-length-7
 same-length-7 c = search needs

@@ -51,7 +51,7 @@ abbrev size-at : tie.After-slots-in → tie.After-record-size
 size-at c = c .before
 
 abbrev start : tie.After-record-size → tie.Start
-start c = c .before .before .before .before .before .before .before
+start c = c .before .before .before .before .before .before .before .before
 
 -- ---- what is known there
 
@@ -74,7 +74,7 @@ slot-fits c =
 
 -- the working room has one number a square
 working-long : (c : tie.After-record-size) → length (start c .args .working .now) ≡ length (before c .depths)
-working-long c = ap length (start c .pre .1 .0) ∙ length-filled _ _ _ _
+working-long c = ap length (start c .pre .1 .1 .0) ∙ length-filled _ _ _ _
 
 -- ---- the needs
 
@@ -99,7 +99,7 @@ copy-into-requires c κs =
 write-lasts-requires : tie.Need-write-lasts-requires
 write-lasts-requires c κs =
     let s = start (size-at (slots-at (slot-at (place-asked (place-at (record-at c)))))) in
-    (settles-small (s .pre .0), s .pre .0 .lasts-long)
+    ((settles-small (s .pre .0), s .pre .0 .lasts-long), s .pre .1 .0)
 
 copy-into-requires-2 : tie.Need-copy-into-requires-2
 copy-into-requires-2 c κs =
@@ -108,8 +108,8 @@ copy-into-requires-2 c κs =
 lasted-requires : tie.Need-lasted-requires
 lasted-requires c κs = search needs
 
-add-t26 : tie.Need-add-t26
-add-t26 c =
+add-t28 : tie.Need-add-t28
+add-t28 c =
     let s = start (size-at (slots-at (slot-at (place-asked (place-at (record-at (new-lasts (lasts-at (new-depths (depths-at (c .before))))))))))) in
     record { fits = omega (arith, c .before .lasted .ensures, s .pre .0 .clock-to) }
 
@@ -135,10 +135,10 @@ returns c =
     let size = size-at (slots-at slot) in
     let s = start size in
     written-is (ground size) (s .args .rec .now) (s .args .held) (before size) (slots-are (slots-at slot)) (slot .slot-after .ensures)
-    (depths .copy-into2 .ensures ∙ (placed-over (s .args .depths .now) (s .args .working .now) (sym (working-long size)) ∙ s .pre .1 .0))
+    (depths .copy-into2 .ensures ∙ (placed-over (s .args .depths .now) (s .args .working .now) (sym (working-long size)) ∙ s .pre .1 .1 .0))
     (lasts .write-lasts .ensures)
     (place .slot-start .ensures ∙ ap (λ (k : ℕ). slotStart k (slot .slot-after .result)) (size .record-size .ensures)) (stored .copy-into .ensures)
-    (ap (λ (k : ℕ). s .args .run .clock + k) (lasted-at c .lasted .ensures)) (s .pre .1 .1 .0) (c .kept-after .ensures) (s .pre .1 .1 .1)
+    (ap (λ (k : ℕ). s .args .run .clock + k) (lasted-at c .lasted .ensures)) (s .pre .1 .1 .1 .0) (c .kept-after .ensures) (s .pre .1 .1 .1 .1)
 
 pub write-spec : {M : Type 1} → statement M
 write-spec =
@@ -152,7 +152,7 @@ write-spec =
     write-lasts-requires
     copy-into-requires-2
     lasted-requires
-    add-t26
+    add-t28
     kept-after-requires
     same-length
     same-length-2

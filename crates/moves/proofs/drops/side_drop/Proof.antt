@@ -1,11 +1,11 @@
--- `moves::drops::side_drop` meets its contract: a case each for a closed square, another square, and off the grid.
+-- `moves::drops::side_drop` meets its contract: a case each for a square and for off the grid.
 -- Assumes nothing.
-use mathlib.Core.Path.{sym, _∙_, ap, ap₂}
+use mathlib.Core.Path.{sym, _∙_, ap}
 use native.Mathlib.Omega.{arith}
 use borrow.Author.Needs.{needs}
-use Rattle.rule.specs.Drops.{dropTo, dropOff}
+use Rattle.rule.specs.Drops.{dropOff}
 use Rattle.ledger.specs.Runs.{Plan, plan}
-use Rattle.moves.proofs.DropLaws.{drop-closed, drop-open, drop-exit, drop-rim}
+use Rattle.moves.proofs.DropLaws.{drop-there, drop-exit, drop-rim}
 use Rattle.moves.proofs.drops.side_drop.Statement.{statement}
 use Rattle.moves.proofs.drops.side_drop.Tie as tie
 
@@ -15,7 +15,7 @@ abbrev begin : tie.After-beside-on → tie.Start
 begin c = c .before .before .before .before
 
 -- at a square, and off the grid
-abbrev inside : tie.After-is-closed → tie.After-beside-on
+abbrev inside : tie.After-drop-beside → tie.After-beside-on
 inside c = c .before .before .before
 
 abbrev outside : tie.After-is-exit → tie.After-beside-on
@@ -34,31 +34,15 @@ beside-on-requires c κs = search needs
 squares-of-requires : tie.Need-squares-of-requires
 squares-of-requires c κs = search needs
 
-is-closed-requires : tie.Need-is-closed-requires
-is-closed-requires c κs = search needs
+drop-beside-requires : tie.Need-drop-beside-requires
+drop-beside-requires c κs = search needs
 
 returns : tie.Need-returns
 returns c =
-    let at-beside-on = inside (c .before) in
+    let at-beside-on = inside c in
     let s = begin at-beside-on in
-    sym (drop-closed (p s) (s .args .rules) (s .args .beds .now) (s .args .depths .now) (s .args .square) (s .args .side) (at-beside-on .beside-on .ensures) (omega arith)
-    (sym (c .before .is-closed .ensures) ∙ c .if2 .taken))
-
-level-of-requires : tie.Need-level-of-requires
-level-of-requires c κs = search needs
-
-drop-to-requires : tie.Need-drop-to-requires
-drop-to-requires c κs = search needs
-
-returns-2 : tie.Need-returns-2
-returns-2 c =
-    let at-if2 = c .before .before in
-    let at-beside-on = inside (at-if2 .before) in
-    let s = begin at-beside-on in
-    c .drop-to .ensures
-    ∙ (ap₂ dropTo (s .pre .1) (c .before .level-of .ensures)
-    ∙ sym (drop-open (p s) (s .args .rules) (s .args .beds .now) (s .args .depths .now) (s .args .square) (s .args .side) (at-beside-on .beside-on .ensures) (omega arith)
-    (sym (at-if2 .before .is-closed .ensures) ∙ at-if2 .if2 .left)))
+    drop-there (p s) (s .args .rules) (s .args .beds .now) (s .args .depths .now) (s .args .square) (s .args .side) (at-beside-on .beside-on .ensures) (s .pre .1)
+    (omega arith) (c .drop-beside .ensures)
 
 is-exit-requires : tie.Need-is-exit-requires
 is-exit-requires c κs = search needs
@@ -69,22 +53,22 @@ number-requires c κs = search needs
 drop-off-requires : tie.Need-drop-off-requires
 drop-off-requires c κs = search needs
 
-returns-3 : tie.Need-returns-3
-returns-3 c =
-    let at-if3 = c .before .before in
-    let at-beside-on = outside (at-if3 .before) in
+returns-2 : tie.Need-returns-2
+returns-2 c =
+    let at-if2 = c .before .before in
+    let at-beside-on = outside (at-if2 .before) in
     let s = begin at-beside-on in
     c .drop-off .ensures
     ∙ (ap (dropOff (s .args .rules)) (c .before .number .ensures)
     ∙ sym (drop-exit (p s) (s .args .rules) (s .args .beds .now) (s .args .depths .now) (s .args .square) (s .args .side) (at-beside-on .beside-on .ensures) (omega arith)
-    (sym (at-if3 .before .is-exit .ensures) ∙ at-if3 .if3 .taken)))
+    (sym (at-if2 .before .is-exit .ensures) ∙ at-if2 .if2 .taken)))
 
-returns-4 : tie.Need-returns-4
-returns-4 c =
+returns-3 : tie.Need-returns-3
+returns-3 c =
     let at-beside-on = outside (c .before) in
     let s = begin at-beside-on in
     sym (drop-rim (p s) (s .args .rules) (s .args .beds .now) (s .args .depths .now) (s .args .square) (s .args .side) (at-beside-on .beside-on .ensures) (omega arith)
-    (sym (c .before .is-exit .ensures) ∙ c .if3 .left))
+    (sym (c .before .is-exit .ensures) ∙ c .if2 .left))
 
 pub side-drop-spec : {M : Type 1} → statement M
 side-drop-spec =
@@ -92,13 +76,10 @@ side-drop-spec =
     (tie.spec
     beside-on-requires
     squares-of-requires
-    is-closed-requires
+    drop-beside-requires
     returns
-    level-of-requires
-    drop-to-requires
-    returns-2
     is-exit-requires
     number-requires
     drop-off-requires
-    returns-3
-    returns-4)
+    returns-2
+    returns-3)

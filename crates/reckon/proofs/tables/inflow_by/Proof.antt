@@ -1,14 +1,14 @@
 -- `reckon::tables::inflow_by` meets its contract: the sum so far is that of the rows passed.
 -- Assumes nothing.
-use mathlib.Core.Path.{_≡_, sym, _∙_, ap, ap₂}
-use Prim.Native.Nat.{ℕ, _+_, _-_, _*_, _/_, _≤_}
+use mathlib.Core.Path.{_≡_, sym, _∙_, ap₂}
+use Prim.Native.Nat.{ℕ, _+_, _-_, _/_, _≤_}
 use native.Mathlib.Nat.{mul-le-mul, mul-pos}
 use native.Mathlib.Omega.{arith}
 use lib.ListN.{length}
 use Rattle.reckon.specs.Lists.{sumBelow}
-use Rattle.reckon.specs.Tables.{inflowKind, tableGives, onSquare, inflowBy}
-use Rattle.reckon.proofs.ListLaws.{sum-none, sum-more, sum-whole}
-use Rattle.reckon.proofs.TableLaws.{term, term-le, terms-le}
+use Rattle.reckon.specs.Tables.{inflowKind, onSquare}
+use Rattle.reckon.proofs.ListLaws.{sum-none, sum-more}
+use Rattle.reckon.proofs.TableLaws.{term, term-le, terms-le, inflow-made}
 use Rattle.reckon.proofs.tables.inflow_by.Statement.{statement}
 use Rattle.reckon.proofs.tables.inflow_by.Tie as tie
 
@@ -57,10 +57,9 @@ div-result : tie.Need-div-result Inv-loop μ-loop
 div-result c = mul-pos (c .before .before .before .pre .1 .0) (c .before .before .before .pre .1 .0)
 
 returns : tie.Need-returns Inv-loop μ-loop
-unfolding inflowBy tableGives
 returns c =
-    let side = c .before .before .before .args .side in
-    ap (λ (s : ℕ). s / (side * side)) (sum-whole _ (c .before .loop .inv .2) (omega arith))
+    let a = c .before .before .before .args in
+    inflow-made (a .rows .now) (a .r) (a .c) (a .side) (a .t) (c .before .loop .inv .2) (omega arith)
 
 pub inflow-by-spec : {M : Type 1} → statement M
 inflow-by-spec =

@@ -1,4 +1,4 @@
--- `ledger::settle::write_lasts` meets its contract: after i turns the first i squares that are not closed are written.
+-- `ledger::lasts::write_all` meets its contract: after i turns the first i squares that are not closed are written.
 -- Assumes nothing.
 use mathlib.Core.Path.{_≡_, refl}
 use Prim.Native.Nat.{_≤_, _<_, _-_}
@@ -10,8 +10,8 @@ use Rattle.grid.specs.Marks.{closed}
 use Rattle.ledger.specs.Flows.{gone}
 use Rattle.ledger.specs.Record.{leavesIn}
 use Rattle.ledger.proofs.WalkLaws.{filled-long, filled-turn, filled-whole}
-use Rattle.ledger.proofs.settle.write_lasts.Statement.{statement}
-use Rattle.ledger.proofs.settle.write_lasts.Tie as tie
+use Rattle.ledger.proofs.lasts.write_all.Statement.{statement}
+use Rattle.ledger.proofs.lasts.write_all.Tie as tie
 
 abbrev Inv-loop : tie.InvT-loop
 Inv-loop marks rec depths lasts₀ squares square₀ lasts square =
@@ -62,8 +62,8 @@ returns : tie.Need-returns Inv-loop μ-loop
 returns c =
     filled-whole _ _ _ (c .before .loop .inv .1) (omega (arith, c .before .before .squares-of .ensures, c .before .loop .inv .0, c .loop-test .left))
 
-pub write-lasts-spec : {M : Type 1} → statement M
-write-lasts-spec =
+pub write-all-spec : {M : Type 1} → statement M
+write-all-spec =
     tie.close
     (tie.spec
     Inv-loop

@@ -1,4 +1,4 @@
--- `ledger::settle::write_last` meets its contract: nothing is stored where the square is closed, and a dry one sent nothing.
+-- `ledger::lasts::write_last` meets its contract: nothing is stored where the square is closed, and a dry one sent nothing.
 -- Assumes nothing.
 use mathlib.Core.Path.{_≡_, sym, ap, _∙_}
 use Prim.Native.Nat.{ℕ}
@@ -8,8 +8,8 @@ use Rattle.reckon.proofs.TestLaws.{pick-true, pick-false}
 use Rattle.ledger.specs.Flows.{gone}
 use Rattle.ledger.specs.Record.{leavesIn}
 use borrow.Author.Needs.{needs}
-use Rattle.ledger.proofs.settle.write_last.Statement.{statement}
-use Rattle.ledger.proofs.settle.write_last.Tie as tie
+use Rattle.ledger.proofs.lasts.write_last.Statement.{statement}
+use Rattle.ledger.proofs.lasts.write_last.Tie as tie
 
 is-closed-requires : tie.Need-is-closed-requires
 is-closed-requires c κs = search needs

@@ -1,0 +1,9 @@
+//! The rival with the panel's roots, built alone: its walks are inlined, and shared with no other.
+
+mod lent;
+mod rival;
+// the other kind of roots is not used here
+#[allow(dead_code)]
+mod roots;
+
+pub static RUN_TO: lent::RunTo = lent::run_to::<rival::Rival<roots::Digits>>;
