@@ -1,41 +1,56 @@
 #!/usr/bin/env python3
-"""The map of each sample has a wall for each closed square, an exit for each exit, blue just where the answer has water, a mark for each
-standing square, and the answer's totals; one of another edition says so instead; a refused sheet has no map."""
+"""The map of each sample has a wall for each closed square, an exit for each exit, water just where the answer has it, a sign for each
+hatch and standing square, and the answer's volumes; each square tells its depth; the shades are right in black and white; an answer that
+is not the sheet's, a part of one and a refusal have no map."""
 import subprocess
 import sys
 import tempfile
 import xml.etree.ElementTree as tree
+from itertools import pairwise
 from pathlib import Path
 
 sys.path.insert(0, str(Path(__file__).resolve().parent.parent / "python"))
 
 from meadow.counted import Checks  # noqa: E402
-from meadow.lines import Answer, refused_text  # noqa: E402
+from meadow.lines import MINUTE, Answer, Sheet, answer_text, refused_text  # noqa: E402
 from meadow.programs import TOP  # noqa: E402
+from meadow.shades import CLASSES, HIGH_GROUND, LOW_GROUND, grey, ground  # noqa: E402
 from meadow.sheets import read  # noqa: E402
 
 TOOL = TOP / "tools" / "map.py"
 SAMPLES = TOP / "samples"
-KINDS = ("wall", "exit", "wet", "dry", "standing", "edition")
-# the samples that have standing squares, and how many
+KINDS = ("wall", "exit", "wet", "film", "dry", "standing", "drawn", "shut", "edition")
+# the kinds that tell a pointer what they are
+TELLING = ("wall", "wet", "film", "dry", "drawn", "shut")
+# the samples that have standing squares, and how many; and those that have hatches: drawn and shut at the end
 STANDING = {"held-pond": 22}
+HATCHES = {"walled-meadow": (0, 9), "dry-weather": (1, 0)}
+# in grey a class of water differs from the next by at least this much of 255, and dry ground is at least this bright
+CLEAR_STEP, NEARLY_WHITE = 25, 235
 
 
-def drawn(sheet, answer):
-    return subprocess.run([sys.executable, TOOL, sheet, answer], capture_output=True, text=True)
+def drawn(*files):
+    return subprocess.run([sys.executable, TOOL, *files], capture_output=True, text=True)
 
 
 def expected(sheet, answer):
     """How many of each kind the map must have."""
     marks = [square["mark"] for square in read(sheet.read_text())[0].squares.values()]
     depths = Answer(answer.read_text()).depths.values()
-    wet = sum(depth > 0 for depth in depths)
-    return dict(zip(KINDS, (marks.count("x"), marks.count("e"), wet, len(depths) - wet, STANDING.get(sheet.stem, 0), 0)))
+    film = sum(0 < depth < 1_000 for depth in depths)
+    wet = sum(depth >= 1_000 for depth in depths)
+    counts = (marks.count("x"), marks.count("e"), wet, film, len(depths) - wet - film, STANDING.get(sheet.stem, 0))
+    return dict(zip(KINDS, (*counts, *HATCHES.get(sheet.stem, (0, 0)), 0)))
 
 
 def found(svg):
     kinds = [part.get("class") for part in tree.fromstring(svg).iter() if part.get("class")]
     return {kind: kinds.count(kind) for kind in KINDS}
+
+
+def letters(svg):
+    """All that the map says, line by line."""
+    return [part.text for part in tree.fromstring(svg).iter() if part.tag.endswith("}text") or part.tag.endswith("}title")]
 
 
 def hold_samples(checks):
@@ -48,34 +63,157 @@ def hold_samples(checks):
             counts, wanted = found(made.stdout), expected(sheet, answer)
             for kind in KINDS:
                 checks.hold(counts[kind] == wanted[kind], f"{sheet.name}: {counts[kind]} of {kind} drawn, not {wanted[kind]}")
-            for name, total in Answer(answer.read_text()).totals.items():
-                checks.hold(f">{name}: {total:,}" in made.stdout, f"{sheet.name}: the map does not say {name}")
+            checks.hold(drawn(sheet).stdout == made.stdout, f"{sheet.name}: run by the tool itself it has another map")
+            checks.hold("viewBox" in tree.fromstring(made.stdout).attrib, f"{sheet.name}: the map has no viewBox")
+            told = sum(part.tag.endswith("}title") for part in tree.fromstring(made.stdout).iter())
+            checks.hold(told == sum(counts[kind] for kind in TELLING), f"{sheet.name}: {told} squares and hatches tell a pointer what they are")
 
 
-def hold_edition(checks):
+def hold_words(checks):
+    """What the maps of three samples say, each worked from the stored answer by hand."""
+    wanted = {
+        "walled-meadow": [
+            "walled-meadow: water after 3 min",
+            "on the meadow: 1,364 m³",
+            "gone by exits: 0.4 m³",
+            "deepest 45 cm at row 27, column 4",
+            "clock 3 min, after 153 steps",
+            "row 12, column 18: closed",
+            "hatch 9 at 18,4: 720 l/s from 1 min 20 s to 2 min 50 s",
+            "rain 80 mm/h from 1 to 2 min",
+            "ground 1.70 to 3.25 m, contours every 20 cm",
+            "100 m",
+            "N",
+            "3.20",
+            "no square stands",
+        ],
+        "soaking-meadow": ["soaking-meadow: water after 1 h 10 min", "soaked: 126 m³", "row 8, column 0: 1.2 cm deep, ground 0.70 m", "2,400 m²"],
+        "held-pond": ["standing, falls by 1 mm or more: 1", "standing, falls by less: 21", "900 m²"],
+    }
+    for name, lines in wanted.items():
+        said = letters(drawn(SAMPLES / f"{name}.sheet", SAMPLES / f"{name}.out").stdout)
+        for line in lines:
+            checks.hold(line in said, f"the map of {name} does not say: {line}")
+    held = " ".join(filter(None, letters(drawn(SAMPLES / "held-pond.sheet").stdout)))
+    checks.hold("22 squares stand, 1 steep; row 3, column 6 is the steepest" in held, "the held pond's map does not say in words that squares stand")
+
+
+def hold_grey(checks):
+    """Right in black and white: dry ground nearly white, each class of water clearly darker than the one before."""
+    darkest = min(grey(ground(bed, 0, 1)) for bed in (0, 1))
+    checks.hold(darkest >= NEARLY_WHITE, f"dry ground is {darkest:.0f} of 255 bright")
+    checks.hold(LOW_GROUND != HIGH_GROUND, "low and high ground have one shade")
+    shades = [darkest, *(grey(colour) for _, colour, _ in CLASSES)]
+    for brighter, darker in pairwise(shades):
+        checks.hold(brighter - darker >= CLEAR_STEP, f"in grey {brighter:.0f} and {darker:.0f} are hard to tell apart")
+    svg = drawn(SAMPLES / "walled-meadow.sheet").stdout
+    walls = {part.get("fill") for part in tree.fromstring(svg).iter() if part.get("class") == "wall"}
+    checks.hold(walls == {"url(#wall)"} and 'id="wall"' in svg, "walls are not hatched")
+    film = tree.fromstring(drawn(SAMPLES / "soaking-meadow.sheet").stdout)
+    fills = [part.get("fill") for part in film.iter() if part.get("class") == "film"]
+    checks.hold(fills and all(grey(fill) >= NEARLY_WHITE for fill in fills), "a film hides its ground")
+
+
+def hold_classes(checks, room):
+    """Depths at both ends of each class, before any step: each has its own class's shade, and a film is one from 1 µm on."""
+    depths = [0, 1, 999, *(least + off for least, _, _ in CLASSES for off in (0, 1)), *(least - 1 for least, _, _ in CLASSES[1:])]
+    sheet = Sheet(1, len(depths), 1)
+    for column, depth in enumerate(depths):
+        sheet.put((0, column), 0, 300, depth)
+    path = Path(room) / "classes.sheet"
+    path.write_text(sheet.text(0))
+    squares = [part for part in tree.fromstring(drawn(path).stdout).iter() if part.get("class") in ("wet", "film", "dry")]
+    for depth, part in zip(depths, squares, strict=True):
+        shades = [colour for least, colour, _ in CLASSES if least <= depth]
+        wanted = ("wet", shades[-1]) if shades else ("film" if depth else "dry", ground(0, 0, 0))
+        checks.hold((part.get("class"), part.get("fill")) == wanted, f"{depth} µm are drawn as {part.get('class')}, {part.get('fill')}")
+
+
+def hold_hatches(checks, room):
+    """A hatch is drawn at the end's clock where it gives water in the last millisecond before it."""
+    sheet = Sheet(1, 3, 10)
+    for column in range(3):
+        sheet.put((0, column), 1_000 * column, 300)
+    sheet.put((0, 0), 0, 300, mark="e")
+    drawn_rows = [(0, MINUTE, 5), (0, 2 * MINUTE, 5), (MINUTE - 1, 2 * MINUTE, 5)]
+    shut_rows = [(0, MINUTE - 1, 5), (MINUTE, 2 * MINUTE, 5), (0, MINUTE, 0)]
+    for row, kind in [*((row, "drawn") for row in drawn_rows), *((row, "shut") for row in shut_rows)]:
+        sheet.inflow = [(0, 1, *row)]
+        path = Path(room) / "hatch.sheet"
+        path.write_text(sheet.text(MINUTE))
+        made = drawn(path).stdout
+        checks.hold(found(made)[kind] == 1, f"a hatch with {row} is not {kind}")
+        checks.hold("rotate(180" in made, "the arrow of an exit in the west does not point west")
+
+
+def hold_edition(checks, room):
     """The held pond as a sheet of edition 3: no square stands, and the map says why."""
     held, end = read((SAMPLES / "held-pond.sheet").read_text())
     held.run["edition"] = 3
-    with tempfile.NamedTemporaryFile("w", suffix=".sheet") as sheet:
-        sheet.write(held.text(end))
-        sheet.flush()
-        counts = found(drawn(sheet.name, SAMPLES / "held-pond.out").stdout)
+    path = Path(room) / "edition.sheet"
+    path.write_text(held.text(end))
+    counts = found(drawn(path, SAMPLES / "held-pond.out").stdout)
     checks.hold((counts["standing"], counts["edition"]) == (0, 1), f"the map of edition 3 has {counts}")
 
 
-def hold_refusal(checks):
-    with tempfile.NamedTemporaryFile("w", suffix=".out") as answer:
-        answer.write(refused_text(12, 3))
-        answer.flush()
-        made = drawn(SAMPLES / "document-01.sheet", answer.name)
-    checks.hold(made.returncode == 1 and "number 12, line 3" in made.stderr, "a refusal is drawn")
+def house():
+    """Three squares of which the middle is a walled house, with 1 cm of water in the west."""
+    sheet = Sheet(1, 3, 10)
+    sheet.put((0, 0), 0, 300, 10_000)
+    sheet.put((0, 2), 0, 300)
+    return sheet
+
+
+def hold_pairs(checks, room):
+    """An answer that is not the sheet's is refused in words; among them 10 cm of water inside a walled house."""
+    sheet, answer = Path(room) / "house.sheet", Path(room) / "house.out"
+    sheet.write_text(house().text(MINUTE))
+    depths, totals = {(0, 0): 10_000, (0, 2): 0}, {"outflow": 0, "soaked": 0, "steps": 6, "clock": MINUTE}
+    right = answer_text(depths, totals)
+    wrong = {
+        "a depth for square 0 1, which is closed": answer_text({**depths, (0, 1): 100_000}, totals),
+        "no depth for square 0 2, which is not closed": answer_text({(0, 0): 10_000}, totals),
+        "a depth for square 1 0, which is off the grid": answer_text({**depths, (1, 0): 0}, totals),
+        "its clock is 120000, the sheet's end 60000": answer_text(depths, {**totals, "clock": 2 * MINUTE}),
+        "its water account is off by 1 µm": answer_text({**depths, (0, 2): 1}, totals),
+        "it has no line clock": right[: right.index("clock")],
+        "a line is doubled": right.replace("steps", "soak\t0\nsteps"),
+        "number 12, line 3": refused_text(12, 3),
+        "no line of an answer": right.replace("0\t10000", "0\t1 cm"),
+    }
+    answer.write_text(right)
+    checks.hold(drawn(sheet, answer).returncode == 0, "the right answer is not drawn")
+    for why, text in wrong.items():
+        answer.write_text(text)
+        for tool in ("map", "standing"):
+            made = subprocess.run([sys.executable, TOOL.with_name(f"{tool}.py"), sheet, answer], capture_output=True, text=True)
+            refused = made.returncode == 1 and made.stdout == "" and why in made.stderr and made.stderr.count("\n") == 1
+            checks.hold(refused, f"{tool}.py takes an answer with {why}: {made.stderr!r}")
+
+
+def hold_refused(checks, room):
+    """A sheet that meadow refuses has no map, with an old answer or without."""
+    sheet = Path(room) / "refused.sheet"
+    text = (SAMPLES / "held-pond.sheet").read_text()
+    cases = {"number 12, line 1": text.replace("\n", "\r\n"), "number 5, line 0": text.replace("run\t10\t500", "run\t10\t0")}
+    for why, damaged in cases.items():
+        sheet.write_bytes(damaged.encode("ascii"))
+        for files in ((sheet,), (sheet, SAMPLES / "held-pond.out")):
+            made = drawn(*files)
+            checks.hold(made.returncode == 1 and made.stdout == "" and why in made.stderr, f"a sheet with {why} is drawn: {made.stderr!r}")
 
 
 def main():
     checks = Checks("map")
     hold_samples(checks)
-    hold_edition(checks)
-    hold_refusal(checks)
+    hold_words(checks)
+    hold_grey(checks)
+    with tempfile.TemporaryDirectory() as room:
+        hold_classes(checks, room)
+        hold_hatches(checks, room)
+        hold_edition(checks, room)
+        hold_pairs(checks, room)
+        hold_refused(checks, room)
     checks.end()
 
 

@@ -1,7 +1,8 @@
 #!/usr/bin/env python3
 """The project's own scripts: each Python file says what it is for, the fields of a sheet's lines are listed in one of them alone, nothing
-but bin/setup installs, and a tool whose output nobody reads any more ends quietly."""
+but bin/setup installs, a tool whose output nobody reads any more ends quietly, and what it prints is UTF-8 everywhere."""
 import ast
+import os
 import re
 import subprocess
 import sys
@@ -16,7 +17,7 @@ from meadow.lines import SQUARE  # noqa: E402
 FOLDERS = ("python", "samples", "tests", "tools", "validation")
 SAMPLE = [TOP / "samples" / f"walled-meadow.{kind}" for kind in ("sheet", "out")]
 # a tool, and words with which it prints
-TOOLS = {"tools/map.py": SAMPLE, "tools/standing.py": SAMPLE, "tools/header.py": []}
+TOOLS = {f"tools/{name}.py": SAMPLE for name in ("map", "standing", "tell")} | {"tools/why.py": SAMPLE[:1], "tools/header.py": []}
 INSTALLS = re.compile(r"\b(apt|apt-get|pip|dpkg)\b.*(install|--add-architecture)")
 
 
@@ -50,6 +51,16 @@ def hold_quiet(checks):
         tool.wait()
 
 
+def hold_letters(checks):
+    """What a tool prints does not depend on the letters that a machine has."""
+    for name, words in TOOLS.items():
+        printed = [
+            subprocess.run([sys.executable, TOP / name, *words], env={**os.environ, "PYTHONIOENCODING": letters}, capture_output=True).stdout
+            for letters in ("ascii", "utf-8")
+        ]
+        checks.hold(printed[0] == printed[1] != b"", f"{name} prints something else where there are only ASCII letters")
+
+
 def main():
     checks = Checks("scripts")
     files = [path for folder in FOLDERS for path in sorted((TOP / folder).rglob("*.py"))]
@@ -58,6 +69,7 @@ def main():
     hold_one_table(checks, files)
     hold_installers(checks)
     hold_quiet(checks)
+    hold_letters(checks)
     checks.end()
 
 

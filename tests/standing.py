@@ -74,7 +74,7 @@ def hold_samples(checks):
     held = told(samples / "held-pond.sheet", samples / "held-pond.out").stdout.splitlines()
     checks.hold(held[:2] == ["standing\t22", "steep\t1"] and held[2].startswith("square\t3\t6\t"), "the held pond")
     other = told(samples / "held-pond.sheet", samples / "document-01.out")
-    checks.hold(other.returncode == 1 and "no depth for square" in other.stderr, "another sheet's answer is taken")
+    checks.hold(other.returncode == 1 and "no depth for square 1 1" in other.stderr, "another sheet's answer is taken")
 
 
 def main():

@@ -1,5 +1,5 @@
 #!/usr/bin/env python3
-"""tools/tell.py on steps and an account worked by hand, on the samples, and on answers that are wrong."""
+"""tools/tell.py on sheets, steps and an account worked by hand, on what is likely a slip, on the samples, and on answers that are wrong."""
 import re
 import subprocess
 import sys
@@ -8,6 +8,7 @@ from pathlib import Path
 
 sys.path.insert(0, str(Path(__file__).resolve().parent.parent / "python"))
 
+from meadow import units  # noqa: E402
 from meadow.counted import Checks  # noqa: E402
 from meadow.lines import HOUR, MINUTE, Sheet, answer_text  # noqa: E402
 from meadow.programs import TOP  # noqa: E402
@@ -15,6 +16,7 @@ from meadow.programs import TOP  # noqa: E402
 TOOL = TOP / "tools" / "tell.py"
 SAMPLES = TOP / "samples"
 BALANCED = "balanced to the micrometre"
+SLIP = "likely a slip: "
 
 
 def told(*files):
@@ -60,9 +62,131 @@ def hold_steps(checks, room):
         sheet.put((0, 0), 0, 300)
         text.write_text(sheet.text(end))
         said = told(text)
-        checks.hold(said.returncode == 0 and said.stdout == wanted + "\n", f"steps of {shortest} to {longest} ms: {said.stdout!r}")
+        checks.hold(said.returncode == 0 and f": {wanted}\n" in said.stdout, f"steps of {shortest} to {longest} ms: {said.stdout!r}")
     text.write_text(Sheet(1, 1, 10, shortest=0).text(MINUTE))
     checks.hold(told(text).returncode == 1 and "number 5" in told(text).stderr, "steps are told of a sheet with a shortest of 0")
+
+
+def meadow(**run):
+    """Two rows of seven squares of 10 m from 1.57 to 2.00 m, with an exit in the far corner: no slip in it."""
+    sheet = Sheet(2, 7, 10, **{"edge": 50, **run})
+    for row, column in sheet.squares:
+        sheet.put((row, column), 2_000_000 - 40_000 * column - 190_000 * row, 350, mark="e" if (row, column) == (1, 6) else "o")
+    return sheet
+
+
+def hold_words(checks, room):
+    """A sheet in a person's units, each line worked by hand: 20 mm/h for 1/6 h are 3.3 mm, 30 l/s for 240 s are 7.2 m³; beyond the end of
+    ten minutes nothing is counted."""
+    sheet = meadow()
+    sheet.put((1, 0), 1_700_000, 300, 50_000, rate=10_000)
+    sheet.rain = [(0, 10 * MINUTE, 20_000), (5 * MINUTE, 20 * MINUTE, 6_000)]
+    sheet.inflow = [(0, 1, MINUTE, 5 * MINUTE, 30), (0, 0, 0, 90_000, 1_000), (0, 0, 90_000, HOUR, 10)]
+    wanted = [
+        "2 by 7 squares of 10 m, 1,400 m²: 0 closed, 1 exit",
+        "ground 1.57 to 2.00 m, n 0.03 to 0.035, soaking 0 to 10 mm/h",
+        "water at the start: 5.0 m³, deepest 5.0 cm",
+        "rain 20 mm/h for 10 min: 3.3 mm in all",
+        "rain 6 mm/h from 5 to 20 min: 0.5 mm in all",
+        "hatch 0,0: 1,000 l/s from 0 to 1 min 30 s, 10 l/s from 1 min 30 s to 1 h, 95.1 m³ (number 1 on the map)",
+        "hatch 0,1: 30 l/s from 1 to 5 min, 7.2 m³ (number 2 on the map)",
+        "run to 10 min: at most 1,200 steps, at least 60",
+    ]
+    text = Path(room) / "sheet"
+    text.write_text(sheet.text(10 * MINUTE))
+    said = told(text).stdout.splitlines()
+    said = [line for line in said if not line.startswith(SLIP)]
+    checks.hold(said == wanted, f"the sheet in words is {said}")
+
+
+# an amount as people say it, at the ends of each scale: nothing that there is is said to be nothing
+SAID = [
+    *((units.depth, amount, said) for amount, said in ((0, "0 mm"), (1, "under 0.1 mm"), (99, "under 0.1 mm"), (100, "0.1 mm"), (9_949, "9.9 mm"))),
+    *((units.depth, amount, said) for amount, said in ((10_000, "1.0 cm"), (100_000, "10 cm"), (454_000, "45 cm"), (1_000_000, "1.00 m"))),
+    *((units.volume, amount, said) for amount, said in ((0, "0 m³"), (0.0009, "under 0.001 m³"), (0.001, "0.001 m³"), (0.4145, "0.4 m³"))),
+    *((units.volume, amount, said) for amount, said in ((99.94, "99.9 m³"), (100, "100 m³"), (1_364.2, "1,364 m³"))),
+    *((units.time, ms, said) for ms, said in ((0, "0 min"), (500, "0.5 s"), (90_000, "1 min 30 s"), (3_600_000, "1 h"), (4_200_000, "1 h 10 min"))),
+    (units.time, 604_800_000, "168 h"),
+    (units.rain_depth, 30_000, "30.0 mm"),
+    (units.rain_depth, 99, "under 0.1 mm"),
+    (units.steps, 1, "1 step"),
+    (units.steps, 1_200, "1,200 steps"),
+    (units.rain_rate, 1_000_000, "1,000 mm/h"),
+    (units.roughness, 350, "0.035"),
+    (units.height, 1_567_000, "1.57"),
+]
+SPANS = {(60_000, 300_000): "1 to 5 min", (0, 90_000): "0 to 1 min 30 s", (10_000, 100_000): "10 s to 1 min 40 s", (3_600_000, 7_200_000): "1 to 2 h"}
+
+
+def hold_units(checks):
+    """Amounts and spans of time as people say them."""
+    for say, amount, wanted in SAID:
+        checks.hold(say(amount) == wanted, f"{say.__name__} of {amount} is said as {say(amount)}")
+    for span, wanted in SPANS.items():
+        checks.hold(units.span(*span) == wanted, f"{span} is said as {units.span(*span)}")
+
+
+def house_in_outline():
+    """Five by five squares under rain, and in their middle one that is walled round; the wall reaches no rim."""
+    sheet = Sheet(5, 5, 10)
+    for row, column in sheet.squares:
+        if max(abs(row - 2), abs(column - 2)) != 1:
+            sheet.put((row, column), 1_000_000 + 10_000 * row, 350)
+    sheet.rain = [(0, MINUTE, 20_000)]
+    return sheet
+
+
+def edited(change, **run):
+    """The meadow without a slip, changed."""
+    sheet = meadow(**run)
+    change(sheet)
+    return sheet
+
+
+def set_all(name, value):
+    """A change of a field of every square."""
+    return lambda sheet: [square.update({name: value}) for square in sheet.squares.values()]
+
+
+def slips():
+    """What is likely a slip: the sheet, its end, and what is said of it; None: nothing."""
+    nothing = lambda sheet: None
+    rain = lambda rate: lambda sheet: sheet.rain.append((0, MINUTE, rate))
+    hatch = lambda *row: lambda sheet: sheet.inflow.append(row)
+    yield edited(nothing), 10 * MINUTE, None
+    yield edited(rain(99)), 10 * MINUTE, "line 17: 0.099 mm/h is hardly rain"
+    yield edited(rain(100)), 10 * MINUTE, None
+    yield edited(rain(300_000)), 10 * MINUTE, None
+    yield edited(rain(300_001)), 10 * MINUTE, "line 17: 300.001 mm/h is more than falls"
+    yield edited(set_all("roughness", 99)), 10 * MINUTE, "n is 0.0099 at row 0, column 0 and 13 other squares, outside 0.01 to 1"
+    yield edited(set_all("roughness", 100)), 10 * MINUTE, None
+    yield edited(set_all("roughness", 10_000)), 10 * MINUTE, None
+    yield edited(set_all("bed", 1_570_000)), 10 * MINUTE, "the ground is all flat, at 1.57 m"
+    yield edited(nothing, update=1_000), 9_000, "line 2: the run to 9 s is shorter than its longest step, 10 s"
+    yield edited(nothing, update=1_000), 10_000, None
+    # 60 m west of the exit; one square more is 70 m by the diagonal's length
+    yield edited(hatch(1, 0, 0, MINUTE, 30)), 10 * MINUTE, "hatch 1,0 is 60 m from the exit at row 1, column 6: the edge slope 50 decides"
+    yield edited(hatch(1, 0, 0, MINUTE, 30), edge=10_000), 10 * MINUTE, "drains like a cliff"
+    yield edited(hatch(1, 0, 0, MINUTE, 30), edge=0), 10 * MINUTE, None
+    yield edited(hatch(0, 0, 0, MINUTE, 30)), 10 * MINUTE, None
+    yield edited(hatch(0, 0, 10 * MINUTE, 20 * MINUTE, 30)), 10 * MINUTE, "line 17: this inflow gives nothing in a run to 10 min"
+    yield edited(nothing, shortest=1_001, longest=1_001), 10 * MINUTE, "line 2: every step lasts 1.001 s, long for squares of 10 m"
+    yield edited(nothing, shortest=1_000, longest=1_000), 10 * MINUTE, None
+    yield edited(nothing, tolerance=50), 10 * MINUTE, "the slope tolerance 50 is not below the edge slope 50"
+    yield edited(nothing, tolerance=49), 10 * MINUTE, None
+    yield edited(nothing, edition=3), 10 * MINUTE, "edition 3 is there to be compared"
+    yield house_in_outline(), 10 * MINUTE, "walled in on all sides: row 2, column 2, 100 m²: rain wets a house that is walled only in outline"
+
+
+def hold_slips(checks, room):
+    """Each slip is said just where it begins, and a sheet without one is left alone."""
+    text = Path(room) / "sheet"
+    for sheet, end, wanted in slips():
+        text.write_text(sheet.text(end))
+        said = told(text)
+        found = [line for line in said.stdout.splitlines() if line.startswith(SLIP)]
+        right = found == [] if wanted is None else len(found) == 1 and wanted in found[0]
+        checks.hold(said.returncode == 0 and right, f"{wanted or 'no slip'}: {found}{said.stderr}")
 
 
 def hold_samples(checks):
@@ -70,18 +194,21 @@ def hold_samples(checks):
     for sheet in sorted(SAMPLES.glob("*.sheet")):
         said = told(sheet, sheet.with_suffix(".out"))
         checks.hold(said.returncode == 0 and said.stdout.endswith(BALANCED + "\n"), f"{sheet.name} does not balance")
-        most, least = (int(number.replace(",", "")) for number in re.findall(r"(?:most|least) ([\d,]+)", said.stdout.splitlines()[0]))
+        most, least = (int(number.replace(",", "")) for number in re.findall(r"at (?:most|least) ([\d,]+)", said.stdout))
         made = int(re.search(r"^steps\t(\d+)$", sheet.with_suffix(".out").read_text(), re.M)[1])
         checks.hold(least <= made <= most, f"{sheet.name} made {made} steps, {least} to {most} were told")
     other = told(SAMPLES / "held-pond.sheet", SAMPLES / "document-01.out")
-    checks.hold(other.returncode == 1 and "are not the sheet's" in other.stderr, "another sheet's answer is taken")
+    checks.hold(other.returncode == 1 and "another sheet's" in other.stderr, "another sheet's answer is taken")
 
 
 def main():
     checks = Checks("tell")
+    hold_units(checks)
     with tempfile.TemporaryDirectory() as room:
         hold_by_hand(checks, room)
         hold_steps(checks, room)
+        hold_words(checks, room)
+        hold_slips(checks, room)
     hold_samples(checks)
     checks.end()
 

@@ -1,22 +1,22 @@
 #!/usr/bin/env python3
-"""map.py SHEET ANSWER > MAP.svg: a map of a sheet and of what `meadow` answered to it; python/meadow/drawing.py says what it shows."""
+"""map.py SHEET > MAP.svg: runs `meadow` on a sheet and draws a map of what it answers; python/meadow/drawing.py says what it shows.
+map.py SHEET ANSWER > MAP.svg: draws an answer that is there already; what was answered to another sheet is refused.
+"""
 import sys
 from pathlib import Path
 
 sys.path.insert(0, str(Path(__file__).resolve().parent.parent / "python"))
 
 from meadow.drawing import svg  # noqa: E402
-from meadow.lines import Answer  # noqa: E402
+from meadow.pairs import balanced, pair_in  # noqa: E402
 from meadow.programs import ended  # noqa: E402
-from meadow.sheets import read  # noqa: E402
 
 
 def main():
-    if len(sys.argv) != 3:
-        print("usage: map.py SHEET ANSWER > MAP.svg", file=sys.stderr)
+    if len(sys.argv) not in (2, 3):
+        print("usage: map.py SHEET [ANSWER] > MAP.svg", file=sys.stderr)
         return 2
-    sheet, answer = (Path(name).read_text(encoding="ascii") for name in sys.argv[1:])
-    sys.stdout.write(svg(read(sheet)[0], Answer(answer)))
+    sys.stdout.write(svg(balanced(pair_in(*sys.argv[1:])), Path(sys.argv[1]).stem))
     return 0
 
 

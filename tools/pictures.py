@@ -12,9 +12,8 @@ from pathlib import Path
 sys.path.insert(0, str(Path(__file__).resolve().parent.parent / "python"))
 
 from meadow.drawing import svg  # noqa: E402
-from meadow.lines import Answer  # noqa: E402
+from meadow.pairs import balanced, pair_in  # noqa: E402
 from meadow.programs import TOP, ended  # noqa: E402
-from meadow.sheets import read  # noqa: E402
 from meadow.worked_square import AMOUNTS, DROPS  # noqa: E402
 
 WATER, WALL, GROUND, INK, PALE = "#9ecae1", "#4a4a4a", "#e9ddb8", "#222222", "#777777"
@@ -159,8 +158,8 @@ def crates():
 
 def walled_meadow():
     """The map of the sample with its answer."""
-    sheet, answer = ((TOP / "samples" / f"walled-meadow.{kind}").read_text() for kind in ("sheet", "out"))
-    return svg(read(sheet)[0], Answer(answer))
+    sheet, answer = (TOP / "samples" / f"walled-meadow.{kind}" for kind in ("sheet", "out"))
+    return svg(balanced(pair_in(sheet, answer)), sheet.stem)
 
 
 PICTURES = {"walled-meadow.svg": walled_meadow, "square.svg": one_square, "ring.svg": ring, "wet-shares.svg": wet_shares}

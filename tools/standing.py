@@ -1,27 +1,26 @@
 #!/usr/bin/env python3
-"""standing.py SHEET ANSWER: counts and lists the standing squares of what `meadow` answered to a sheet.
+"""standing.py SHEET [ANSWER]: counts and lists the standing squares of what `meadow` answers, or answered, to a sheet.
 
 Prints `standing` and the count, `steep` and how many of them fall by 1 mm or more on some side, then for each, the steepest first,
 `square`, row, column, depth, least drop and greatest drop in µm. python/meadow/standing.py says what a standing square is. A sheet
-of edition 2 or 3 has none.
+of edition 2 or 3 has none. What was answered to another sheet is refused.
 """
 import sys
 from pathlib import Path
 
 sys.path.insert(0, str(Path(__file__).resolve().parent.parent / "python"))
 
-from meadow.lines import Answer  # noqa: E402
+from meadow.pairs import balanced, pair_in  # noqa: E402
 from meadow.programs import ended  # noqa: E402
-from meadow.sheets import read  # noqa: E402
 from meadow.standing import STEEP, standing_squares  # noqa: E402
 
 
 def main():
-    if len(sys.argv) != 3:
-        print("usage: standing.py SHEET ANSWER", file=sys.stderr)
+    if len(sys.argv) not in (2, 3):
+        print("usage: standing.py SHEET [ANSWER]", file=sys.stderr)
         return 2
-    sheet, answer = (Path(name).read_text(encoding="ascii") for name in sys.argv[1:])
-    found = standing_squares(read(sheet)[0], Answer(answer))
+    pair = balanced(pair_in(*sys.argv[1:]))
+    found = standing_squares(pair.sheet, pair.answer)
     print(f"standing\t{len(found)}")
     print(f"steep\t{sum(square[4] >= STEEP for square in found)}")
     for square in found:

@@ -12,6 +12,7 @@ from long_step import RUNS, level_meadow  # noqa: E402
 from meadow.drawing import svg  # noqa: E402
 from meadow.grounds import HELD_MOUTH, opened_pond  # noqa: E402
 from meadow.lines import HOUR, MINUTE, SECOND  # noqa: E402
+from meadow.pairs import pair_of  # noqa: E402
 from meadow.programs import TOP, ended, meadow  # noqa: E402
 from meadow.sheets import read  # noqa: E402
 from pond import settled  # noqa: E402
@@ -111,19 +112,19 @@ def ditch_mouth():
     return chart.text()
 
 
-def map_of(sheet, end):
+def map_of(name, sheet, end):
     """The map of a run to an end."""
-    return svg(sheet, meadow(sheet.text(end)))
+    return svg(pair_of(sheet, end, meadow(sheet.text(end))), name)
 
 
 PICTURES = {
     "wave.svg": wave,
-    "held-pond.svg": lambda: map_of(opened_pond(settled(), HELD_MOUTH), 10 * MINUTE),
+    "held-pond.svg": lambda: map_of("held pond", opened_pond(settled(), HELD_MOUTH), 10 * MINUTE),
     "ditch-mouth.svg": ditch_mouth,
     "editions.svg": editions,
-    "usual-steps.svg": lambda: map_of(level_meadow(RUNS["usual"]), 30 * MINUTE),
-    "long-steps.svg": lambda: map_of(level_meadow(RUNS["all 60 s"]), 30 * MINUTE),
-    "soaking-meadow.svg": lambda: map_of(*read(SAMPLE.read_text(encoding="ascii"))),
+    "usual-steps.svg": lambda: map_of("usual steps", level_meadow(RUNS["usual"]), 30 * MINUTE),
+    "long-steps.svg": lambda: map_of("steps of 60 s", level_meadow(RUNS["all 60 s"]), 30 * MINUTE),
+    "soaking-meadow.svg": lambda: map_of("soaking meadow", *read(SAMPLE.read_text(encoding="ascii"))),
 }
 
 

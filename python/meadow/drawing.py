@@ -1,134 +1,166 @@
-"""A map of a sheet and of what `meadow` answered to it, as SVG.
+"""A map of a sheet and of what `meadow` answered to it, as SVG, to be read in colour and in black and white.
 
-Depths are blue in steps, closed squares are walls, exits have a gold edge, dry ground is shaded by its height. Standing squares have a
-red diamond: filled where the square falls by 1 mm or more on some side, else an outline; an edition of the rule other than the first, in
-which no square stands, is said instead. No depth is computed: those that the answer has are drawn.
+Water is blue by classes of depth, the deeper the darker; a film under 1 mm is a dot on its ground; dry ground is nearly white, with
+contours; closed squares are hatched; exits have an arrow. A hatch has its number, filled where it gives water up to the end's clock.
+Standing squares have a diamond, filled where the square falls by 1 mm or more on some side. Each square says its depth to a pointer that
+rests on it. No depth is computed: those that the answer has are drawn.
 """
+from html import escape
+
+from .contours import contours, heights_of
+from .hatches import hatches_of
+from .legend import LEGEND, legend
 from .lines import CLOSED
+from .shades import CLASSES, CONTOUR, CONTOUR_NAME, INK, LINES, PALE, WALL_PAPER, WALL_STROKE, class_of, ground
+from .signs import box, diamond, exit_sign, film_dot, hatch_sign, words
 from .standing import STEEP, standing_squares
-from .weighing import WEIGHTED
+from .units import depth, height, square, time
 
-SQUARE = 22
-MARGIN = 28
-LEGEND = 260
-LEAST_HEIGHT = 388
+# the size of a square on paper at the least and at the most, and that of a map that is to be filled by fewer squares
+LEAST_SQUARE, MOST_SQUARE, FILLED = 22, 60, 480
+LEFT, TOP, FOOT, GAP = 34, 56, 40, 24
+# in small squares only every so many rows and columns have room for their numbers
 EVERY = 5
-# the least depth of each step of blue, in µm, with its colour and its name in the legend
-BLUES = [
-    (1, "#deebf7", "under 1 mm"),
-    (1_000, "#bdd7e7", "1 mm to 1 cm"),
-    (10_000, "#9ecae1", "1 to 5 cm"),
-    (50_000, "#6baed6", "5 to 10 cm"),
-    (100_000, "#3182bd", "10 to 50 cm"),
-    (500_000, "#08519c", "50 cm to 1 m"),
-    (1_000_000, "#08306b", "1 m and more"),
-]
-WALL = "#4a4a4a"
-EXIT = "#d99a00"
-STANDING = "#ff4d3d"
-LINES = '<g stroke="#f0f0f0" stroke-width="0.5">'
-LOW_GROUND = (233, 221, 184)
-HIGH_GROUND = (150, 126, 84)
+DEFINITIONS = (
+    '<defs><pattern id="wall" width="6" height="6" patternUnits="userSpaceOnUse" patternTransform="rotate(45)">'
+    f'<rect width="6" height="6" fill="{WALL_PAPER}"/><rect width="1.6" height="6" fill="{WALL_STROKE}"/></pattern></defs>'
+)
+# signs that a pointer goes through, to the square below
+UNTOUCHED = '<g pointer-events="none">'
+# the lengths that a scale bar may have, in m
+BARS = [k * 10**power for power in range(4) for k in (1, 2, 5)]
 
 
-def blue(depth):
-    return [colour for least, colour, _ in BLUES if least <= depth][-1]
+class Paper:
+    """A sheet on paper: how large a square is drawn, and where it lies. The fewer squares, the larger they are."""
+
+    def __init__(self, sheet):
+        self.sheet = sheet
+        self.size = max(LEAST_SQUARE, min(MOST_SQUARE, FILLED // max(sheet.rows, sheet.columns)))
+
+    def corner(self, place):
+        """Where a square's north-west corner lies."""
+        return LEFT + place[1] * self.size, TOP + place[0] * self.size
+
+    def middle(self, place):
+        """Where a square's middle lies."""
+        x, y = self.corner(place)
+        return x + self.size / 2, y + self.size / 2
+
+    def north(self, place):
+        """A square's north side as a path."""
+        x, y = self.corner(place)
+        return f"M{x} {y}h{self.size}"
+
+    def west(self, place):
+        """A square's west side as a path."""
+        x, y = self.corner(place)
+        return f"M{x} {y}v{self.size}"
 
 
-def ground(bed, lowest, highest):
-    share = 0 if highest == lowest else (bed - lowest) / (highest - lowest)
-    return "#" + "".join(f"{round(low + share * (high - low)):02x}" for low, high in zip(LOW_GROUND, HIGH_GROUND))
+def told(place, values, deep):
+    """What a square says to a pointer that rests on it."""
+    if values["mark"] == CLOSED:
+        return f"{square(place)}: closed"
+    water = f"{depth(deep)} deep" if deep > 0 else "dry"
+    return f"{square(place)}: {water}, ground {height(values['bed'])} m"
 
 
-def box(x, y, width, height, fill, more=""):
-    return f'<rect x="{x}" y="{y}" width="{width}" height="{height}" fill="{fill}"{more}/>'
-
-
-def words(x, y, text, more=""):
-    return f'<text x="{x}" y="{y}"{more}>{text}</text>'
-
-
-def square_at(place, square, answer, lowest, highest):
-    """A square of the sheet with the answer's water."""
-    x, y = MARGIN + place[1] * SQUARE, MARGIN + place[0] * SQUARE
-    if square["mark"] == CLOSED:
-        return box(x, y, SQUARE, SQUARE, WALL, ' class="wall"')
-    depth = answer.depth(place)
-    if depth > 0:
-        drawn = box(x, y, SQUARE, SQUARE, blue(depth), ' class="wet"')
+def square_at(paper, place, deep, ends):
+    """A square of the sheet with the answer's water; `ends` are the lowest and the highest bed."""
+    values = paper.sheet.squares[place]
+    if values["mark"] == CLOSED:
+        kind, fill = "wall", "url(#wall)"
+    elif class_of(deep) is not None:
+        kind, fill = "wet", CLASSES[class_of(deep)][1]
     else:
-        drawn = box(x, y, SQUARE, SQUARE, ground(square["bed"], lowest, highest), ' class="dry"')
-    if square["mark"] == "e":
-        drawn += box(x + 2, y + 2, SQUARE - 4, SQUARE - 4, "none", f' stroke="{EXIT}" stroke-width="3" class="exit"')
-    return drawn
+        kind, fill = "film" if deep > 0 else "dry", ground(values["bed"], *ends)
+    drawn = box(*paper.corner(place), paper.size, paper.size, fill, f' class="{kind}"', told(place, values, deep))
+    return drawn + film_dot(*paper.middle(place)) if kind == "film" else drawn
 
 
-def diamond(x, y, steep, more=""):
-    """The mark of a standing square, about the middle of a square at x, y."""
-    fill = STANDING if steep else "none"
-    points = " ".join(f"{x + SQUARE / 2 + across:g},{y + SQUARE / 2 + down:g}" for across, down in ((0, -6), (6, 0), (0, 6), (-6, 0)))
-    return f'<polygon points="{points}" fill="{fill}" stroke="{STANDING}" stroke-width="1.5"{more}/>'
+def outline(paper):
+    """A line round every closed square where it meets one that is not, or the rim."""
+    path, squares = "", paper.sheet.squares
+    for row, column in sorted(squares.keys() - set(paper.sheet.ground())):
+        sides = {(row - 1, column): paper.north((row, column)), (row + 1, column): paper.north((row + 1, column))}
+        sides |= {(row, column - 1): paper.west((row, column)), (row, column + 1): paper.west((row, column + 1))}
+        path += "".join(side for near, side in sides.items() if squares.get(near, {}).get("mark") != CLOSED)
+    return f'<path d="{path}" fill="none" stroke="{INK}" stroke-width="1.6" class="outline"/>'
 
 
-def numbers(rows, columns):
-    """Every fifth row and column by its number in the sheet."""
-    middle = SQUARE // 2 + 4
-    across = ' font-size="10" fill="#666666" text-anchor="middle"'
-    drawn = [words(MARGIN + column * SQUARE + SQUARE // 2, MARGIN - 6, column, across) for column in range(0, columns, EVERY)]
+def contour_lines(paper):
+    """The contours, each with its height once, at its west end."""
+    lines, names = "", []
+    for bed, sides in sorted(contours(paper.sheet).items()):
+        lines += "".join(paper.west(near) if near[0] == place[0] else paper.north(near) for place, near in sides)
+        x, y = paper.corner(min((near for _, near in sides), key=lambda near: (near[1], near[0])))
+        halo = f' font-size="10" fill="{CONTOUR_NAME}" stroke="#ffffff" stroke-width="3" paint-order="stroke" class="contour"'
+        names.append(words(x + 2, y + 3, height(bed), halo))
+    return [f'<path d="{lines}" fill="none" stroke="{CONTOUR}" stroke-width="1" class="contours"/>', *names]
+
+
+def numbers(paper):
+    """Rows and columns by their numbers in the sheet."""
+    every = EVERY if paper.size == LEAST_SQUARE else 1
+    across = f' font-size="10" fill="{PALE}" text-anchor="middle"'
+    drawn = [words(f"{paper.middle((0, column))[0]:g}", TOP - 6, column, across) for column in range(0, paper.sheet.columns, every)]
     down = across.replace("middle", "end")
-    return drawn + [words(MARGIN - 6, MARGIN + row * SQUARE + middle, row, down) for row in range(0, rows, EVERY)]
+    return drawn + [words(LEFT - 6, f"{paper.middle((row, 0))[1] + 4:g}", row, down) for row in range(0, paper.sheet.rows, every)]
 
 
-def legend_of_standing(x, y, standing):
-    """The two kinds of standing squares, and how many there are."""
-    drawn = []
-    for steep, name in ((True, "standing, falls by 1 mm or more"), (False, "standing, falls by less")):
-        count = sum((square[4] >= STEEP) == steep for square in standing)
-        drawn += [diamond(x + 8 - SQUARE / 2, y + 7 - SQUARE / 2, steep), words(x + 24, y + 12, f"{name}: {count}")]
-        y += 18
-    return drawn
+def scale_bar(paper):
+    """A bar of a round length, up to a third of the map's width."""
+    sheet = paper.sheet
+    length = max(bar for bar in BARS if bar <= max(1, sheet.columns * sheet.side / 3))
+    x, y = paper.corner((sheet.rows, 0))
+    wide = length / sheet.side * paper.size
+    bar = f'<path d="M{x} {y + 12}v6h{wide:g}v-6" fill="none" stroke="{INK}" class="scale"/>'
+    return [bar, words(f"{x + wide + 6:g}", y + 20, f"{length} m")]
 
 
-def legend(x, sheet, lowest, highest, totals, standing):
-    drawn = [words(x, MARGIN + 12, "depth of water", ' font-weight="bold"')]
-    y = MARGIN + 24
-    for _, colour, name in BLUES:
-        drawn += [box(x, y, 16, 14, colour), words(x + 24, y + 12, name)]
-        y += 18
-    y += 6
-    low, high = ground(lowest, lowest, highest), ground(highest, lowest, highest)
-    entries = [(low, f"dry, lowest bed {lowest / 1e6:.3f} m"), (high, f"dry, highest bed {highest / 1e6:.3f} m"), (WALL, "closed square (wall)")]
-    for colour, name in entries:
-        drawn += [box(x, y, 16, 14, colour), words(x + 24, y + 12, name)]
-        y += 18
-    drawn += [box(x + 1, y + 1, 14, 12, "none", f' stroke="{EXIT}" stroke-width="3"'), words(x + 24, y + 12, "exit")]
-    if sheet.run["edition"] == WEIGHTED:
-        drawn += legend_of_standing(x, y + 18, standing)
-    else:
-        drawn.append(words(x, y + 30, f"edition {sheet.run['edition']}: no square stands", ' class="edition"'))
-    y += 70
-    drawn.append(words(x, y, f"a square is {sheet.side} m by {sheet.side} m; north is up"))
-    for name, unit in (("clock", " ms"), ("steps", ""), ("out", " µm over one square"), ("soak", " µm over one square")):
-        if name in totals:
-            y += 18
-            drawn.append(words(x, y, f"{name}: {totals[name]:,}{unit}"))
-    return drawn
+def way_out(sheet, place):
+    """Which way an exit lies open, in quarter turns from east; of several, the first of east, west, south and north."""
+    row, column = place
+    off = {0: column == sheet.columns - 1, 2: column == 0, 1: row == sheet.rows - 1, 3: row == 0}
+    return next(quarters for quarters, open_there in off.items() if open_there)
 
 
-def svg(sheet, answer):
-    """The map's text."""
-    standing = standing_squares(sheet, answer)
-    beds = [sheet.bed(place) for place in sheet.ground()] or [0]
-    lowest, highest = min(beds), max(beds)
-    width = 2 * MARGIN + sheet.columns * SQUARE + MARGIN + LEGEND
-    height = max(2 * MARGIN + sheet.rows * SQUARE, LEAST_HEIGHT)
-    drawn = [f'<svg xmlns="http://www.w3.org/2000/svg" width="{width}" height="{height}" font-family="sans-serif" font-size="12">']
-    drawn.append(box(0, 0, width, height, "#ffffff"))
-    drawn.append(LINES)
-    drawn += [square_at(place, sheet.squares[place], answer, lowest, highest) for place in sorted(sheet.squares)]
-    drawn.append("</g>")
-    for row, column, _, _, greatest in standing:
-        drawn.append(diamond(MARGIN + column * SQUARE, MARGIN + row * SQUARE, greatest >= STEEP, ' class="standing"'))
-    drawn += numbers(sheet.rows, sheet.columns)
-    drawn += legend(2 * MARGIN + sheet.columns * SQUARE, sheet, lowest, highest, answer.totals, standing)
-    return "\n".join(drawn + ["</svg>"]) + "\n"
+def squares_signs(paper, standing):
+    """Exits and standing squares, over the water."""
+    sheet = paper.sheet
+    drawn = [exit_sign(*paper.middle(place), way_out(sheet, place), ' class="exit"') for place in sheet.exits()]
+    return drawn + [diamond(*paper.middle(found[:2]), found[4] >= STEEP, ' class="standing"') for found in standing]
+
+
+def hatch_signs(paper, pair):
+    """The hatches, each with its square's depth and its own openings for a pointer that rests on it."""
+    for hatch in hatches_of(pair.sheet):
+        below = told(hatch.place, pair.sheet.squares[hatch.place], pair.answer.depths[hatch.place])
+        said = f"hatch {hatch.number}: {hatch.openings()}; {below}"
+        yield hatch_sign(*paper.middle(hatch.place), hatch.number, hatch.runs_at(pair.end), said)
+
+
+def ground_and_water(paper, pair, standing):
+    """The map itself: squares, contours, walls, exits, standing squares and hatches."""
+    ends = heights_of(pair.sheet)
+    yield f'<g stroke="{LINES}" stroke-width="0.5">'
+    yield from (square_at(paper, place, pair.answer.depths.get(place, 0), ends) for place in sorted(pair.sheet.squares))
+    yield "</g>" + UNTOUCHED
+    yield from (*contour_lines(paper), outline(paper), *squares_signs(paper, standing))
+    yield "</g>"
+    yield from hatch_signs(paper, pair)
+
+
+def svg(pair, name):
+    """The map's text; `name` stands in its title."""
+    paper, standing = Paper(pair.sheet), standing_squares(pair.sheet, pair.answer)
+    right, bottom = paper.corner((pair.sheet.rows, pair.sheet.columns))
+    beside, needed = legend(right + GAP, TOP, pair, standing)
+    width, tall = right + GAP + LEGEND, max(bottom + FOOT, needed + FOOT // 2)
+    shape = f'width="{width}" height="{tall}" viewBox="0 0 {width} {tall}"'
+    drawn = [f'<svg xmlns="http://www.w3.org/2000/svg" {shape} font-family="sans-serif" font-size="12">', DEFINITIONS]
+    drawn.append(box(0, 0, width, tall, "#ffffff"))
+    drawn.append(words(LEFT, 22, f"{escape(name)}: water after {time(pair.end)}", ' font-size="16" font-weight="bold"'))
+    drawn += [*ground_and_water(paper, pair, standing), *numbers(paper), *scale_bar(paper), *beside, "</svg>"]
+    return "\n".join(drawn) + "\n"

@@ -99,6 +99,10 @@ class Sheet:
         """The places that are not closed, in square order."""
         return [place for place in sorted(self.squares) if self.squares[place]["mark"] != CLOSED]
 
+    def exits(self):
+        """The places of exits, in square order."""
+        return [place for place in self.ground() if self.squares[place]["mark"] == "e"]
+
     def bed(self, place):
         """The bed of a square that is not closed."""
         return self.squares[place]["bed"]
@@ -117,7 +121,7 @@ class Sheet:
 
 
 class Answer:
-    """What `meadow` printed of a sheet: depths by place, and the totals by their word. A refusal is no answer."""
+    """What `meadow` printed of a sheet: depths by place, and the totals by their word. A refusal is no answer, nor is a part of one."""
 
     def __init__(self, text):
         self.text, self.depths, self.totals = text, {}, {}
@@ -127,11 +131,21 @@ class Answer:
                 raise Unreadable(f"this is no line of an answer: {line}")
             values = values_of(kind, fields, ANSWER_LINES)
             if kind == REFUSED:
-                raise Unreadable(f"meadow refused this sheet: number {values['number']}, line {values['line']}")
+                raise Unreadable(f"meadow refused this sheet: number {values['number']}, line {values['line']}; tools/why.py says why")
             if kind == DEPTH:
                 self.depths[values["row"], values["column"]] = values["depth"]
             else:
                 (self.totals[kind],) = values.values()
+        self.hold_whole()
+
+    def hold_whole(self):
+        """Every total is there, and the text is what its values are written as: nothing is doubled, out of order or cut off."""
+        for kind in TOTALS:
+            if kind not in self.totals:
+                raise Unreadable(f"the answer is cut off: it has no line {kind}")
+        totals = {ANSWER_LINES[kind][0].name: total for kind, total in self.totals.items()}
+        if self.text != answer_text(self.depths, totals):
+            raise Unreadable("this is no answer of meadow: a line is doubled, out of order or not ended")
 
     @property
     def out(self):

@@ -21,8 +21,10 @@ def meadow(text):
 
 
 def ended(main, name):
-    """Ends a script with the status that `main` gives. A text that cannot be read is said in one line, and where nobody reads the
-    output any more the script ends and says nothing."""
+    """Ends a script with the status that `main` gives. What it prints is UTF-8 whatever the machine's letters are; a text that cannot be
+    read is said in one line, and where nobody reads the output any more the script ends and says nothing."""
+    for stream in (sys.stdout, sys.stderr):
+        stream.reconfigure(encoding="utf-8")
     try:
         status = main()
         sys.stdout.flush()
@@ -30,7 +32,10 @@ def ended(main, name):
         os.dup2(os.open(os.devnull, os.O_WRONLY), sys.stdout.fileno())
         status = 1
     except Refused as refused:
-        print(f"{name}: this is no sheet: number {refused.number}, line {refused.line}", file=sys.stderr)
+        print(f"{name}: meadow refuses this sheet: number {refused.number}, line {refused.line}; tools/why.py says why", file=sys.stderr)
+        status = 1
+    except subprocess.CalledProcessError as fault:
+        print(f"{name}: {' '.join(map(str, fault.cmd))} could not be run", file=sys.stderr)
         status = 1
     except (OSError, UnicodeDecodeError, Unreadable) as fault:
         print(f"{name}: {fault}", file=sys.stderr)

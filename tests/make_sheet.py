@@ -1,0 +1,232 @@
+#!/usr/bin/env python3
+"""tools/make_sheet.py on beds, plans and tables whose sheet is worked by hand, and on what cannot be one; tools/depths.py takes answers back
+to the map that the beds came from, micrometre by micrometre."""
+import shutil
+import subprocess
+import sys
+import tempfile
+from pathlib import Path
+
+sys.path.insert(0, str(Path(__file__).resolve().parent.parent / "python"))
+
+from meadow.counted import Checks  # noqa: E402
+from meadow.grids import grid_in  # noqa: E402
+from meadow.lines import Answer  # noqa: E402
+from meadow.programs import TOP  # noqa: E402
+from meadow.sheets import read  # noqa: E402
+
+SAMPLES = TOP / "samples"
+HEAD = "ncols 3\nnrows 2\nxllcorner 432100.50\nyllcorner -12.25\ncellsize 10\nNODATA_value -9999\n"
+BEDS = "1.2 1.1 -9999\n1.15 1.0500004 1.0000005\n"
+FILES = {
+    "beds.asc": HEAD + BEDS,
+    "beds.csv": "1,2;1,1;\n1,15;1,0500004;1,0000005\n",
+    "commas.csv": "1.2,1.1,-9999\n1.15,1.0500004,1.0000005\n",
+    "centre.asc": HEAD.replace("xllcorner 432100.50", "XLLCENTER 432105.50").replace("yllcorner", "yllcenter").replace("-12.25", "-7.25") + BEDS,
+    "wrapped.asc": HEAD.replace("\n", "\r\n") + BEDS.replace(" ", "\r\n"),
+    "high.asc": HEAD + "101.2 101.1 -9999\n101.15 101.0500004 101.0000005\n",
+    "alps.asc": HEAD + "1201.2 1201.1 -9999\n1201.15 1201.05 1200.5\n",
+    "polder.asc": HEAD + "-1.2 -1.1 -9999\n-1.15 -1.05 -2.5\n",
+    "full.asc": HEAD + BEDS.replace("-9999", "1.3"),
+    "plan.txt": "oox\nooe\n",
+    "spaced.txt": "o, o, x\no, o, e\n",
+    "wall.txt": "oox\nxoe\n",
+    "open.txt": "ooo\nooe\n",
+    "odd.txt": "ooq\nooe\n",
+    "short.txt": "oox\noo\n",
+    "one-row.txt": "oox\n",
+    "n.asc": HEAD + "0.03 0.03333 -9999\n0.035 0.035 0.03\n",
+    "few.asc": HEAD + "1.2 1.1\n",
+    "letters.asc": HEAD + BEDS.replace("1.1 ", "1,1 "),
+    "no-corner.asc": HEAD.replace("yllcorner -12.25\n", "") + BEDS,
+    "uneven.csv": "1.2,1.1\n1.15\n",
+    "half.asc": HEAD.replace("cellsize 10", "cellsize 2.5") + BEDS,
+    "large.csv": "\n".join([",".join(["1"] * 33)] * 32) + "\n",
+    "empty.csv": "",
+}
+# tabs shown as spaces
+SHEET = """grid 2 3 10
+run 10 500 10000 60000 600000 10000 1
+cell 0 0 o 1200000 350 0 0
+cell 0 1 o 1100000 350 0 0
+cell 0 2 x
+cell 1 0 o 1150000 350 0 0
+cell 1 1 o 1050000 350 0 0
+cell 1 2 e 1000001 350 0 0
+rain 0 600000 20000
+rain 90000 120000 1500
+inflow 0 0 60000 300000 30
+"""
+PLACE = "ncols 3\nnrows 2\nxllcorner 432100.50\nyllcorner -12.25\ncellsize 10\nNODATA_value -9999\ndatum 0\n"
+RUN = ["--end", "0:10", "--roughness", "0.035"]
+TABLES = ["--rain", "0:00", "0:10", "20", "--rain", "0:01:30", "0:02", "1.5", "--hatch", "0", "0", "0:01", "0:05", "30"]
+USUAL = [*RUN, "--exit", "1", "2", *TABLES]
+OF_A_CSV = ["--side", "10", "--corner", "432100.50", "-12.25"]
+NO_CORNER = PLACE.replace("432100.50", "0").replace("-12.25", "0")
+
+
+def edited(*changes):
+    """The usual sheet with some texts changed."""
+    text = SHEET
+    for old, new in changes:
+        text = text.replace(old, new)
+    return text
+
+
+# what is given, the sheet, and the side file
+MADE = [
+    (["beds.asc", *USUAL], SHEET, PLACE),
+    (["beds.csv", *USUAL, *OF_A_CSV], SHEET, PLACE),
+    (["commas.csv", *USUAL, "--side", "10"], SHEET, NO_CORNER),
+    (["centre.asc", *USUAL], SHEET, PLACE),
+    (["wrapped.asc", *USUAL], SHEET, PLACE),
+    (["beds.asc", *RUN, *TABLES, "--plan", "plan.txt"], SHEET, PLACE),
+    (["full.asc", *RUN, *TABLES, "--plan", "spaced.txt"], SHEET, PLACE),
+    (["beds.asc", *RUN, *TABLES, "--plan", "wall.txt"], edited(("cell 1 0 o 1150000 350 0 0", "cell 1 0 x")), PLACE),
+    (["high.asc", *USUAL, "--datum", "100"], SHEET, PLACE.replace("datum 0", "datum 100")),
+    (
+        ["beds.asc", *USUAL, "--roughness", "n.asc", "--depth", "0.0123454", "--soak", "2.5"],
+        edited(("350 0 0", "350 12345 2500"), ("1200000 350", "1200000 300"), ("1100000 350", "1100000 333"), ("1000001 350", "1000001 300")),
+        PLACE,
+    ),
+    (
+        ["beds.asc", *USUAL, "--run", "edge", "50", "--run", "longest", "20000"],
+        edited(("500 10000 60000 600000 10000", "500 20000 60000 600000 50")),
+        PLACE,
+    ),
+]
+# what is given, and what is said of it
+REFUSED = [
+    (["beds.csv", *USUAL], "give --side"),
+    (["beds.asc", *USUAL, "--side", "10"], "an ESRI grid says its own side and corner"),
+    (["beds.asc", *RUN, "--plan", "open.txt"], "row 0, column 2 is not closed, and its bed has no number"),
+    (["beds.asc", *RUN, "--plan", "odd.txt"], "odd.txt, row 1: 'q' is no mark"),
+    (["beds.asc", *RUN, "--plan", "short.txt"], "short.txt, row 2: it has 2 letters, and the beds have 3 columns"),
+    (["beds.asc", *RUN, "--plan", "one-row.txt"], "one-row.txt: it has 1 rows, and the beds have 2"),
+    (["beds.asc", *RUN, "--exit", "2", "2"], "the exit at row 2, column 2 is off the grid"),
+    (["beds.asc", *RUN, "--exit", "-1", "2"], "'-1' is no row"),
+    (["alps.asc", *USUAL], "row 0, column 0: a bed of 1201.2 m is not 0 to 1,000 m above 0 m: give --datum 1200"),
+    (["polder.asc", *USUAL], "give --datum -3"),
+    (["few.asc", *USUAL], "few.asc: 2 rows of 3 columns are 6 numbers, and it has 2"),
+    (["letters.asc", *USUAL], "letters.asc, line 7: '1,1' is no number"),
+    (["no-corner.asc", *USUAL], "it says no yllcorner"),
+    (["uneven.csv", *RUN, "--side", "10"], "uneven.csv, row 2: it has 1 squares, and the first row 2"),
+    (["empty.csv", *RUN, "--side", "10"], "empty.csv: it is empty"),
+    (["half.asc", *USUAL], "squares of 2.5 m: a side is 1 to 100 whole metres"),
+    (["large.csv", *RUN, "--side", "10"], "32 rows of 33 are too many"),
+    (["beds.asc", *USUAL, "--roughness", "plan.txt"], "plan.txt, line 1: 'oox' is no number"),
+    (["beds.asc", *USUAL, "--roughness", "35"], "line 3: row 0, column 0: the roughness is 350,000: write 1 to 10,000"),
+    (["beds.asc", *USUAL, "--depth", "uneven.csv"], "uneven.csv, row 2"),
+    (["beds.asc", *USUAL, "--depth", "large.csv"], "large.csv: it has 32 rows of 33, and the beds 2 of 3"),
+    (["beds.asc", *USUAL, "--hatch", "0", "0", "0:01", "0:05", "30.5"], "30.5 is between 30 and 31"),
+    (["beds.asc", *USUAL, "--hatch", "0", "2", "0:01", "0:05", "30"], "line 12: the hatch at row 0, column 2 stands on a closed square"),
+    (["beds.asc", *USUAL, "--rain", "0:05", "0:01", "20"], "before it begins"),
+    (["beds.asc", *USUAL, "--rain", "5", "10", "20"], "'5' is no time"),
+    (["beds.asc", *USUAL, "--end", "0:10:30"], "write 600000 (10 min) or 660000 (11 min)"),
+    (["beds.asc", *USUAL, "--run", "end", "5"], "a run line has no 'end'"),
+    (["beds.asc", *USUAL, "--run", "edge", "10001"], "the edge slope is 10,001"),
+    (["nosuch.asc", *USUAL], "No such file"),
+]
+
+
+def ran(tool, *words, room):
+    return subprocess.run([sys.executable, TOP / "tools" / f"{tool}.py", *words], capture_output=True, text=True, cwd=room)
+
+
+def hold_made(checks, room):
+    """Each sheet and side file as worked by hand."""
+    for at, (given, sheet, place) in enumerate(MADE):
+        made = ran("make_sheet", given[0], f"{at}.sheet", *given[1:], room=room)
+        if checks.hold(made.returncode == 0, f"{given} makes no sheet: {made.stderr}"):
+            for kind, wanted in (("sheet", sheet.replace(" ", "\t")), ("place", place)):
+                written = (room / f"{at}.{kind}").read_text()
+                checks.hold(written == wanted, f"{given} makes another {kind}: {written}")
+            checks.hold("run to 10 min: at most 1,200 steps" in made.stdout, f"{given}: the sheet is not told")
+    made = ran("make_sheet", "full.asc", "0.sheet", *RUN, room=room)
+    checks.hold(made.returncode == 1 and "is there already" in made.stderr, "a sheet that is there is written over")
+    checks.hold((room / "0.sheet").read_text() == SHEET.replace(" ", "\t"), "a sheet that is there is not left as it was")
+    made = ran("make_sheet", "full.asc", "1.sheet", *RUN, "--replace", room=room)
+    checks.hold(made.returncode == 0 and "0\t2\to\t1300000" in (room / "1.sheet").read_text(), "--replace does not write over")
+
+
+def hold_refused(checks, room):
+    """What cannot be a sheet is said in words, and nothing is written."""
+    for given, why in REFUSED:
+        made = ran("make_sheet", given[0], "refused.sheet", *given[1:], room=room)
+        checks.hold(made.returncode == 1 and why in made.stderr and made.stdout == "", f"{given}: {made.stderr!r}, not {why!r}")
+        checks.hold(not list(room.glob("refused.*")), f"{given}: something is written")
+
+
+def hold_grid(checks, room):
+    """The walled meadow's depths as an ESRI grid: every micrometre, NODATA just at closed squares, the corner digit by digit."""
+    for kind in ("sheet", "out"):
+        shutil.copy(SAMPLES / f"walled-meadow.{kind}", room)
+    sheet, _ = read((room / "walled-meadow.sheet").read_text())
+    answer = Answer((room / "walled-meadow.out").read_text())
+    bare = ran("depths", "walled-meadow.sheet", room=room)
+    checks.hold(bare.returncode == 0 and "the corner is taken as 0 0" in bare.stderr, "that there is no side file is not said")
+    shape = "ncols 30\nnrows 30\nxllcorner 5.500\nyllcorner 1234567.25\ncellsize 10\nNODATA_value -9999\n"
+    (room / "walled-meadow.place").write_text(shape + "datum 100.5\n")
+    made = ran("depths", "walled-meadow.sheet", "walled-meadow.out", room=room)
+    checks.hold(made.returncode == 0 and made.stderr == "", f"depths.py: {made.stderr}")
+    checks.hold(made.stdout.startswith(shape), "the head is not that of the side file")
+    checks.hold(bare.stdout.splitlines()[6:] == made.stdout.splitlines()[6:], "run by the tool itself it has other depths")
+    (room / "depths.asc").write_text(made.stdout)
+    grid = grid_in(room / "depths.asc")
+    for place in sheet.squares:
+        told = grid.at(place)
+        right = told is None if place not in answer.depths else told * 1_000_000 == answer.depths[place]
+        checks.hold(right, f"depths.py: square {place} has {told}, and the answer {answer.depths.get(place)}")
+
+
+def hold_csv(checks, room):
+    """The CSV's lines: the middle of square 27 4 lies 45 m east and 25 m north of the corner, and heights count from the datum."""
+    lines = ran("depths", "--csv", "walled-meadow.sheet", "walled-meadow.out", room=room).stdout.splitlines()
+    depth = Answer((room / "walled-meadow.out").read_text()).depths[27, 4]
+    bed = read((room / "walled-meadow.sheet").read_text())[0].bed((27, 4))
+    checks.hold(lines[0] == "row,column,east_m,north_m,ground_m,depth_m,level_m" and len(lines) == 871, f"the CSV has {len(lines)} lines")
+    heights = [f"{micrometres / 1e6:.6f}" for micrometres in (bed + 100_500_000, depth, bed + depth + 100_500_000)]
+    wanted = ",".join(["27", "4", "50.500", "1234592.25", *heights])
+    checks.hold(wanted in lines, f"the CSV has no line {wanted}")
+    checks.hold(not any(line.startswith("12,18,") for line in lines), "the CSV has a closed square")
+
+
+def hold_round(checks, room):
+    """Depths taken back into a sheet on the same beds are the answer's own."""
+    (room / "next.asc").write_text(ran("depths", "0.sheet", room=room).stdout)
+    made = ran("make_sheet", "beds.asc", "next.sheet", *USUAL, "--depth", "next.asc", room=room)
+    checks.hold(made.returncode == 0, f"depths are not taken back: {made.stderr}")
+    answer = subprocess.run([TOP / "bin" / "run", "meadow"], input=(room / "0.sheet").read_bytes(), stdout=subprocess.PIPE, check=True).stdout
+    after, _ = read((room / "next.sheet").read_text())
+    checks.hold({place: after.depth(place) for place in after.ground()} == Answer(answer.decode()).depths, "depths taken back are others")
+
+
+def hold_pairs(checks, room):
+    """Another sheet's answer and another sheet's side file are refused."""
+    other = ran("depths", "0.sheet", "walled-meadow.out", room=room)
+    checks.hold(other.returncode == 1 and "another sheet's" in other.stderr and other.stdout == "", "another sheet's answer is taken")
+    shutil.copy(room / "0.place", room / "walled-meadow.place")
+    other = ran("depths", "walled-meadow.sheet", room=room)
+    checks.hold(other.returncode == 1 and "is another sheet's" in other.stderr and other.stdout == "", "another sheet's side file is taken")
+    (room / "0.place").write_text(PLACE.replace("datum 0\n", ""))
+    other = ran("depths", "0.sheet", room=room)
+    checks.hold(other.returncode == 1 and "line 7" in other.stderr, "a side file without a datum is taken")
+
+
+def main():
+    checks = Checks("make_sheet")
+    with tempfile.TemporaryDirectory() as folder:
+        room = Path(folder)
+        for name, text in FILES.items():
+            (room / name).write_bytes(text.encode())
+        hold_made(checks, room)
+        hold_refused(checks, room)
+        hold_grid(checks, room)
+        hold_csv(checks, room)
+        hold_round(checks, room)
+        hold_pairs(checks, room)
+    checks.end()
+
+
+if __name__ == "__main__":
+    main()

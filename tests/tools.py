@@ -1,0 +1,128 @@
+#!/usr/bin/env python3
+"""Every command of docs/TOOLS.md prints what stands below it there, and each tool has an example; README's first command prints the answer
+byte for byte and ends with one line of sense, and its next makes the map; bin/meadow says what is wrong where there is no answer."""
+import re
+import shutil
+import subprocess
+import sys
+import tempfile
+from pathlib import Path
+
+TOP = Path(__file__).resolve().parent.parent
+sys.path.insert(0, str(TOP / "python"))
+
+from damaged import CASES, answer_of, sheet_of  # noqa: E402
+from meadow.counted import Checks  # noqa: E402
+
+PAGE, README = TOP / "docs" / "TOOLS.md", TOP / "README.md"
+SAMPLES = TOP / "samples"
+# tools that look after the project itself, and the one that bin/meadow ends with; all others are for the warden and the keeper
+OWN = {"believed", "header", "pictures", "sense", "speed"}
+FOR_PEOPLE = ["bin/meadow", *(f"tools/{path.name}" for path in sorted((TOP / "tools").glob("*.py")) if path.stem not in OWN)]
+LEFT_OUT = "..."
+# what the commands of the pages need beside them
+FOLDERS = ("bin", "crates", "docs", "python", "samples", "target", "tools")
+
+
+def room_in(folder):
+    """An empty folder with the project's own beside it."""
+    room = Path(folder) / "room"
+    room.mkdir()
+    for name in FOLDERS:
+        (room / name).symlink_to(TOP / name)
+    shutil.copy2(TOP / "crates.txt", room)
+    return room
+
+
+def ran(command, room):
+    """The status of a command, and what it prints and complains."""
+    done = subprocess.run(["bash", "-c", command], cwd=room, stdin=subprocess.DEVNULL, capture_output=True, text=True)
+    return done.returncode, done.stdout, done.stderr
+
+
+def blocks(text):
+    """The fenced blocks of a page."""
+    return re.findall(r"^```\n(.*?)^```$", text, re.S | re.M)
+
+
+def examples(block):
+    """Each command of a block, with the lines that it prints."""
+    found = []
+    for line in block.splitlines():
+        if line.startswith("$ "):
+            found.append((line[2:], []))
+        else:
+            found[-1][1].append(line)
+    return found
+
+
+def fits(lines, wanted):
+    """Whether lines are those wanted, where ... stands for any of them."""
+    pattern = "".join("(?:[^\n]*\n)*" if line == LEFT_OUT else re.escape(line + "\n") for line in wanted)
+    return re.fullmatch(pattern, "".join(line + "\n" for line in lines)) is not None
+
+
+def hold_page(checks, room):
+    """Every block of docs/TOOLS.md is commands with what they print."""
+    found = blocks(PAGE.read_text(encoding="utf-8"))
+    checks.hold(found != [] and all(block.startswith("$ ") for block in found), "docs/TOOLS.md has a block that is no command")
+    commands = [example for block in found if block.startswith("$ ") for example in examples(block)]
+    for command, wanted in commands:
+        _, printed, complained = ran(command, room)
+        told = (printed + complained).splitlines()
+        checks.hold(fits(told, wanted), f"docs/TOOLS.md: {command} prints {told}")
+    used = " ".join(command for command, _ in commands)
+    for tool in FOR_PEOPLE:
+        checks.hold(tool in used, f"docs/TOOLS.md has no example of {tool}")
+
+
+def hold_readme(checks, room):
+    """README's first command, the line of sense that it is said to end with, and the next that makes the map."""
+    text = README.read_text(encoding="utf-8")
+    commands = [line.split("#")[0].strip() for line in re.findall(r"^ {4}(.*)$", text, re.M)]
+    checks.hold(commands[:2] == ["bin/meadow samples/walled-meadow.sheet", "bash .ci/run"], f"README.md begins with {commands[:2]}")
+    status, printed, sense = ran(commands[0], room)
+    checks.hold(status == 0 and printed == (SAMPLES / "walled-meadow.out").read_text(), "README.md's first command does not print the answer")
+    checks.hold(sense.count("\n") == 1 and sense.strip() == commands[2], f"README.md's first command ends with {sense!r}, not {commands[2]!r}")
+    status, _, complained = ran(commands[3], room)
+    checks.hold(status == 0 and complained == "" and commands[3].startswith("python3 tools/map.py"), f"README.md's next command: {complained}")
+    drawn = (room / "map.svg").read_text() if (room / "map.svg").exists() else ""
+    checks.hold(drawn == (TOP / "docs" / "pictures" / "walled-meadow.svg").read_text(), "README.md's next command does not make its picture")
+
+
+def hold_samples(checks, room):
+    """Of each sample the answer byte for byte, and one line."""
+    for sheet in sorted(SAMPLES.glob("*.sheet")):
+        status, printed, sense = ran(f"bin/meadow samples/{sheet.name}", room)
+        checks.hold(status == 0 and printed == sheet.with_suffix(".out").read_text(), f"bin/meadow of {sheet.name} prints something else")
+        checks.hold(re.fullmatch(r"[^\n]+; [\d,]+ steps?\n", sense), f"bin/meadow of {sheet.name} ends with {sense!r}")
+
+
+def hold_refusals(checks, room):
+    """A refusal is printed as it is, its reason is the one line, and the status is 1."""
+    named = {name: (base, edits, answer) for name, base, _, edits, answer in CASES}
+    wanted = {"carriage-return": "carriage return", "end-no-multiple": "write 1000", "exit-off-the-rim": "row 1, column 1"}
+    for name, why in {**wanted, "run-refused-too-deep": "100 m deep"}.items():
+        base, edits, answer = named[name]
+        (room / "damaged.sheet").write_bytes(sheet_of(base, edits).encode("ascii"))
+        status, printed, sense = ran("bin/meadow damaged.sheet", room)
+        checks.hold(status == 1 and printed == answer_of(answer), f"bin/meadow of {name}: status {status}, {printed!r}")
+        right = sense.startswith(f"refused by {answer[0]}: ") and why in sense and sense.count("\n") == 1
+        checks.hold(right, f"bin/meadow of {name}: {sense!r}")
+    status, printed, sense = ran("bin/meadow nosuch.sheet", room)
+    checks.hold(status == 1 and printed == "" and "nosuch.sheet" in sense, f"bin/meadow of no file: status {status}, {sense!r}")
+    status, printed, sense = ran("bin/meadow", room)
+    checks.hold(status == 2 and "usage: bin/meadow SHEET" in sense, f"bin/meadow alone: status {status}, {sense!r}")
+
+
+def main():
+    checks = Checks("tools")
+    with tempfile.TemporaryDirectory() as folder:
+        room = room_in(folder)
+        for part in (hold_page, hold_readme, hold_samples, hold_refusals):
+            part(checks, room)
+    checks.end()
+
+
+if __name__ == "__main__":
+    main()

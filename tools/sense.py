@@ -1,0 +1,31 @@
+#!/usr/bin/env python3
+"""sense.py SHEET ANSWER: one line of sense about what `meadow` printed of a sheet: how much water is where, the deepest place, the clock
+and the steps; or, of a refusal, the likeliest reason. bin/meadow ends with it."""
+import sys
+from pathlib import Path
+
+sys.path.insert(0, str(Path(__file__).resolve().parent.parent / "python"))
+
+from meadow.lines import Answer  # noqa: E402
+from meadow.pairs import balanced, bytes_as_text, pair_of  # noqa: E402
+from meadow.programs import ended  # noqa: E402
+from meadow.reasons import reasons, refusal  # noqa: E402
+from meadow.sense import sense  # noqa: E402
+from meadow.sheets import read  # noqa: E402
+
+
+def main():
+    if len(sys.argv) != 3:
+        print("usage: sense.py SHEET ANSWER", file=sys.stderr)
+        return 2
+    text, told = map(bytes_as_text, sys.argv[1:])
+    refused = refusal(told)
+    if refused:
+        print(f"refused by {refused[0]}: {reasons(text, *refused)[0]}")
+        return 1
+    print(sense(balanced(pair_of(*read(text), Answer(told)))))
+    return 0
+
+
+if __name__ == "__main__":
+    ended(main, "sense")
