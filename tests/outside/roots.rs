@@ -119,8 +119,8 @@ const SQUARE_BITS: u32 = 38;
 const SQUARE_PIECE: u32 = 29;
 const HEIGHT_BITS: u32 = 27;
 const HEIGHT_PIECE: u32 = 17;
-static SQUARE_CHORDS: [Chord; 512] = chords_of_squares();
-static HEIGHT_CHORDS: [Chord; 1024] = chords_of_heights();
+static SQUARE_CHORDS: [Chord; 512] = chords(false);
+static HEIGHT_CHORDS: [Chord; 1024] = chords(true);
 
 /// The largest number below 2^32 whose square, or whose cube, is at most `of`.
 const fn largest(cube: bool, of: u128) -> u32 {
@@ -136,32 +136,21 @@ const fn largest(cube: bool, of: u128) -> u32 {
     root as u32
 }
 
-const fn square_at(piece: u128) -> u32 {
-    largest(false, piece << (SQUARE_PIECE + 2 * PARTS))
-}
-
-const fn height_at(piece: u128) -> u32 {
-    let depth = piece << HEIGHT_PIECE;
-    largest(true, (depth * depth) << (3 * PARTS))
-}
-
-const fn chords_of_squares() -> [Chord; 512] {
-    let mut chords = [[0; 2]; 512];
-    let mut piece = 0;
-    while piece < 512 {
-        let start = square_at(piece as u128);
-        chords[piece] = [start, square_at(piece as u128 + 1) - start];
-        piece += 1;
+/// Where a piece begins: the square root there, or the height of a depth.
+const fn start_of(height: bool, piece: usize) -> u32 {
+    if height {
+        let depth = (piece as u128) << HEIGHT_PIECE;
+        return largest(true, (depth * depth) << (3 * PARTS));
     }
-    chords
+    largest(false, (piece as u128) << (SQUARE_PIECE + 2 * PARTS))
 }
 
-const fn chords_of_heights() -> [Chord; 1024] {
-    let mut chords = [[0; 2]; 1024];
+const fn chords<const PIECES: usize>(height: bool) -> [Chord; PIECES] {
+    let mut chords = [[0; 2]; PIECES];
     let mut piece = 0;
-    while piece < 1024 {
-        let start = height_at(piece as u128);
-        chords[piece] = [start, height_at(piece as u128 + 1) - start];
+    while piece < PIECES {
+        let start = start_of(height, piece);
+        chords[piece] = [start, start_of(height, piece + 1) - start];
         piece += 1;
     }
     chords
