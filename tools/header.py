@@ -63,10 +63,10 @@ REFUSALS = [
 # KiB of stack that suffice for a call, as tests/stack.sh measures them, its thread's own start included
 STACK = {
     "flood_fresh": 16,
-    "flood_step": 144,
-    "flood_step_wet": 144,
-    "flood_run_to": 144,
-    "flood_run_to_wet": 144,
+    "flood_step": 176,
+    "flood_step_wet": 176,
+    "flood_run_to": 176,
+    "flood_run_to_wet": 176,
     "flood_take_back": 16,
     "flood_step_bounds": 16,
     "flood_arrow": 16,

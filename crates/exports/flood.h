@@ -31,10 +31,10 @@
    A call does nothing but write the arrays lent to it: it takes no memory, opens nothing, waits for nothing, and ends. Its own rooms lie
    on the stack. This much of it suffices, as tests/stack.sh measures for each on the largest grid:
      flood_fresh         16 KiB
-     flood_step         144 KiB
-     flood_step_wet     144 KiB
-     flood_run_to       144 KiB
-     flood_run_to_wet   144 KiB
+     flood_step         176 KiB
+     flood_step_wet     176 KiB
+     flood_run_to       176 KiB
+     flood_run_to_wet   176 KiB
      flood_take_back     16 KiB
      flood_step_bounds   16 KiB
      flood_arrow         16 KiB
@@ -114,7 +114,7 @@ uint32_t flood_run_to(size_t rows, size_t columns, const uint64_t *rules, size_t
     size_t lasts_numbers, uint32_t *records, size_t records_numbers, uint64_t *run, size_t run_numbers, uint64_t *steps,
     size_t steps_numbers);
 
-/* The same by the wet walk. */
+/* Steps by the wet walk to an end of the clock, and how many were made: only the sides of squares with water are worked at each. */
 uint32_t flood_run_to_wet(size_t rows, size_t columns, const uint64_t *rules, size_t rules_numbers, uint64_t end,
     const uint8_t *marks, size_t marks_numbers, const uint32_t *beds, size_t beds_numbers, const uint32_t *roughness,
     size_t roughness_numbers, const uint32_t *rates, size_t rates_numbers, const uint32_t *rain, size_t rain_numbers,

@@ -40,10 +40,10 @@ pub const fn record_numbers(rows: usize, columns: usize) -> usize {
 /// KiB of stack that suffice for each call.
 pub const STACK: [(&str, usize); 11] = [
     ("flood_fresh", 16),
-    ("flood_step", 144),
-    ("flood_step_wet", 144),
-    ("flood_run_to", 144),
-    ("flood_run_to_wet", 144),
+    ("flood_step", 176),
+    ("flood_step_wet", 176),
+    ("flood_run_to", 176),
+    ("flood_run_to_wet", 176),
     ("flood_take_back", 16),
     ("flood_step_bounds", 16),
     ("flood_arrow", 16),
@@ -158,7 +158,7 @@ pub fn flood_run_to(rows: usize, columns: usize, rules: &[u64], end: u64, marks:
     }
 }
 
-/// The same by the wet walk.
+/// Steps by the wet walk to an end of the clock, and how many were made: only the sides of squares with water are worked at each.
 pub fn flood_run_to_wet(rows: usize, columns: usize, rules: &[u64], end: u64, marks: &[u8], beds: &[u32],
     roughness: &[u32], rates: &[u32], rain: &[u32], inflow: &[u32], depths: &mut [u32], lasts: &mut [u32],
     records: &mut [u32], run: &mut [u64], steps: &mut [u64]) -> u32 {

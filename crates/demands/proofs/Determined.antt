@@ -3,11 +3,12 @@
 use mathlib.Core.Path.{_≡_, sym, ap, _∙_}
 use mathlib.Core.List.{List}
 use Prim.Native.Nat.{ℕ, _-_}
-use Rattle.reckon.proofs.RootLaws.{root-unique}
+use Rattle.reckon.proofs.RootLaws.{root-unique, begun-unique}
 use Rattle.rule.specs.declared.rules.Rules.{Rules}
 use Rattle.ledger.specs.Runs.{Plan, World, world}
-use Rattle.ledger.specs.inner.Settle.{SettlesTo}
+use Rattle.ledger.specs.inner.Settle.{SettlesTo, nextRecord}
 use Rattle.ledger.specs.TakeBack.{TakesBack}
+use Rattle.ledger.specs.declared.runs.Run.{Run}
 use Rattle.ledger.specs.declared.runs.Answer.{Answer}
 use Rattle.ledger.specs.declared.settle.Settled.{Settled}
 use Rattle.moves.specs.Given.{Given}
@@ -45,6 +46,13 @@ same-four n w = λ j. (record { refused = n j; run = w j .run }, (w j .depths, (
 
 settled-one : {p : Plan} {rec : List ℕ} {held : ℕ} {w : World} → One {Out = Four} (λ o. SettlesTo p rec held w (o .0 .refused) (worldIn o))
 settled-one a b x y = same-four (x .number ∙ sym (y .number)) (x .world-is ∙ sym (y .world-is))
+
+-- the same where the record room stays
+stored-one :
+    {p : Plan} {held : ℕ} {w : World} → One {Out = Run × (List ℕ × List ℕ)} (λ o. SettlesTo p (nextRecord p w) held w 0 (world (o .1 .0) (o .1 .1) (w .records) (o .0)))
+stored-one a b x y =
+    let e = x .world-is ∙ sym (y .world-is) in
+    λ j. (e j .run, (e j .depths, e j .lasts))
 
 step-on-one : {p : Plan} {g : Given} {w : World} → One {Out = Four} (λ o. MakesStep p g w (o .0 .refused) (worldIn o))
 step-on-one a b x y = same-four (x .number ∙ sym (y .number)) (x .world-is ∙ sym (y .world-is))
@@ -92,6 +100,8 @@ reckon-determined =
       rate-fine = λ rate. exactly;
       square-root = λ n a b. root-unique;
       cube-root = λ n a b. root-unique;
+      begun-cube-root = λ n a b. begun-unique;
+      ended-cube-root = λ n a b. root-unique;
       soak-due = λ rate start end. exactly;
       rain-by = λ rows t. exactly;
       inflow-by = λ rows r c side t. exactly;
@@ -131,6 +141,7 @@ grid-determined =
       ones = λ mask. exactly;
       next-set = λ mask column. exactly;
       next-within = λ mask column columns. exactly;
+      next-after = λ mask column columns. exactly;
       beside-set = λ rows row. exactly;
     }
 
@@ -165,12 +176,13 @@ ledger-determined =
       off-from = λ p rec square. exactly;
       put-head = λ rec held lasts. exactly;
       put-square = λ rec square leaves last added soaked. exactly;
-      put-closed = λ rec square. exactly;
       run-fine = λ k u. exactly;
       one-each = λ s numbers. exactly;
       waters-fine = λ p depths lasts. exactly;
       times-fine = λ rec. exactly;
       settle = λ p rec held w. settled-one;
+      surely-settles = λ u depths room. exactly;
+      settle-stored = λ p held w. stored-one;
       take-back = λ p w. taken-one;
     }
 
@@ -178,11 +190,14 @@ moves-determined : MovesDetermined
 moves-determined =
     record {
       step-length = λ p o depths clock held. exactly;
+      rows-apart = λ inflow. exactly;
       add-water =
           λ p g start end old a b x y.
           let same = x .fits-is ∙ sym (y .fits-is) in
-          (same, λ t. x .stored t ∙ sym (y .stored (sym same ∙ t)));
-      fill = λ walk p o depths lasts added held start ms old a b x y. (λ j. ((x .0 ∙ sym (y .0)) j, (x .1 ∙ sym (y .1)) j));
+          (same, λ t i h c. x .stored t i h c ∙ sym (y .stored (sym same ∙ t) i h c));
+      fill =
+          λ walk p o depths lasts added held start ms a b x y.
+          (x .0 ∙ sym (y .0), λ i h c w. x .3 i h c w ∙ sym (y .3 i h c w), x .1 ∙ sym (y .1), x .2 ∙ sym (y .2));
     }
 
 pub flood-determined : FloodDetermined

@@ -2,16 +2,17 @@
 -- Assumes nothing.
 use mathlib.Core.Path.{_≡_}
 use mathlib.Core.List.{List}
-use Prim.Native.Nat.{ℕ}
+use Prim.Native.Nat.{ℕ, _+_, _<_}
 use lib.Ieee.{Float}
+use lib.ListN.{getD}
 use Rattle.reckon.specs.Numbers.{Lesser, Greater, PartOf}
 use Rattle.reckon.specs.Numbers as Numbers
 use Rattle.reckon.specs.Ranges.{WaterJudged, SideJudged, RateJudged}
-use Rattle.reckon.specs.Roots.{Root}
+use Rattle.reckon.specs.Roots.{Root, Begun}
 use Rattle.reckon.specs.Soaking.{SoakDue}
 use Rattle.reckon.specs.Tables.{RainBy, InflowBy, RainAdded, InflowAdded, RainJudged, InflowJudged}
 use Rattle.trials.specs.Ring.{SlotsIn, SlotStart, SlotAfter, SlotBefore, KeptAfter, RingJudged}
-use Rattle.grid.specs.Squares.{ShapeJudged, SquaresOf, SquareFound, NextColumn, BesideOn, OppositeOf, RimJudged}
+use Rattle.grid.specs.Squares.{squares, ShapeJudged, SquaresOf, SquareFound, NextColumn, BesideOn, OppositeOf, RimJudged}
 use Rattle.grid.specs.Marks.{ClosedJudged, ExitJudged, MarksJudged, InflowSquaresJudged}
 use Rattle.grid.specs.Masks.{RowMasked, OnesOf, NextFound, Masked}
 use Rattle.grid.specs.Walks.{NextWithin, BesideSet}
@@ -24,8 +25,9 @@ use Rattle.rule.specs.Rules.{RulesJudged, GroundJudged}
 use Rattle.rule.specs.Weighing.{Weighs}
 use Rattle.rule.specs.declared.rules.Rules.{Rules}
 use Rattle.ledger.specs.Runs.{Plan, World, world, RunJudged}
-use Rattle.ledger.specs.Record.{SizeOf, HeldBefore, Lasted, Leaving, LastBefore, AddedBy, SoakedBy, GoneFrom, SentTo, CameTo, OffFrom, HeadPut, SquarePut, ClosedPut}
-use Rattle.ledger.specs.inner.Settle.{SettlesTo}
+use Rattle.ledger.specs.Record.{SizeOf, HeldBefore, Lasted, Leaving, LastBefore, AddedBy, SoakedBy, GoneFrom, SentTo, CameTo, OffFrom, HeadPut, SquarePut}
+use Rattle.ledger.specs.Flows.{shut}
+use Rattle.ledger.specs.inner.Settle.{SettlesTo, SurelyJudged, nextRecord}
 use Rattle.ledger.specs.Checks.{OneEach, WatersJudged, TimesJudged}
 use Rattle.ledger.specs.TakeBack.{TakesBack}
 use Rattle.ledger.specs.declared.runs.Run.{Run}
@@ -50,15 +52,23 @@ use Rattle.exports.specs.Steps.{ExportsFresh, ExportsStep, ExportsRun, ExportsB
 use Rattle.exports.specs.Bounds.{ExportsBounds}
 use Rattle.exports.specs.Sights.{ExportsArrow, ExportsWet}
 use Rattle.exports.specs.Sheets.{ExportsRead, ExportsMeadow}
-use mathlib.Core.Bool.{Bool, true}
-use Rattle.moves.specs.inner.Fill.{LengthWorked, RecordFilled, SendersTold}
-use Rattle.moves.specs.inner.Added.{WaterAdded}
+use mathlib.Core.Bool.{Bool, true, false}
+use Rattle.moves.specs.inner.Fill.{LengthWorked, RecordFilled, LeftKept, isWorked, workedRows, senderRows}
+use Rattle.moves.specs.inner.Added.{WaterAdded, rowsApart}
 use Rattle.answer.specs.Printed.{PutRefused, PutWorld}
 use Rattle.reckon.specs.Copying.{Copied}
 
 -- any two outcomes that a contract allows are equal
 abbrev pub One : {Out : Type 0} → (Out → Type 0) → Type 0
 One {Out} allowed = (a b : Out) → allowed a → allowed b → a ≡ b
+
+-- what `fill` gives: the record, what left each square that is worked, and the rows of the squares that are worked and of those that send
+abbrev pub Fills : Walk → Plan → Ground → List ℕ → List ℕ → List ℕ → ℕ → ℕ → ℕ → List ℕ × (List ℕ × (List ℕ × List ℕ)) → Type 0
+Fills walk p o depths lasts added held start ms out =
+    (RecordFilled p o depths lasts added held start ms (out .0))
+    × (out .1 .1 .0 ≡ workedRows walk p depths lasts added)
+    × (out .1 .1 .1 ≡ senderRows p o depths lasts ms)
+    × (LeftKept walk p o depths lasts added ms (out .1 .0))
 
 -- A field for each public function of a crate, over the very relation that its contract names. What a call hands back comes first, then
 -- each slice that it was lent to write, in the order of its parameters. Nothing is assumed of the inputs, also where a function asks for
@@ -75,6 +85,8 @@ pub record ReckonDetermined : Type 0 where
   pub rate-fine : (rate : ℕ) → One (RateJudged rate)
   pub square-root : (n : ℕ) → One (Root 2 n)
   pub cube-root : (n : ℕ) → One (Root 3 n)
+  pub begun-cube-root : (n : ℕ) → One (Begun 3 n 100)
+  pub ended-cube-root : (n : ℕ) → One (Root 3 n)
   pub soak-due : (rate start end : ℕ) → One (SoakDue rate start end)
   pub rain-by : (rows : List ℕ) (t : ℕ) → One (RainBy rows t)
   pub inflow-by : (rows : List ℕ) (r c side t : ℕ) → One (InflowBy rows r c side t)
@@ -108,6 +120,7 @@ pub record GridDetermined : Type 0 where
   pub ones : (mask : ℕ) → One (OnesOf mask)
   pub next-set : (mask column : ℕ) → One (NextFound mask column)
   pub next-within : (mask column columns : ℕ) → One (NextWithin mask column columns)
+  pub next-after : (mask column columns : ℕ) → One (NextWithin mask (column + 1) columns)
   pub beside-set : (rows : List ℕ) (row : ℕ) → One (BesideSet rows row)
 
 pub record RuleDetermined : Type 0 where
@@ -122,7 +135,7 @@ pub record RuleDetermined : Type 0 where
   pub ground-fine : (bed roughness : ℕ) → One (GroundJudged bed roughness)
   pub weigh : (r : Rules) (depth last roughness ms : ℕ) (drops : List ℕ) → One (Weighs r depth last roughness ms drops)
 
--- `settle` is lent a working room too, `working`, and what is left in that is not promised: the one exception
+-- `settle` and `settle_stored` are lent a working room too, `room`, and what is left in that is not promised: the one exception
 pub record LedgerDetermined : Type 0 where
   pub record-size : (s : Shape) → One (SizeOf s)
   pub held-before : (rec : List ℕ) → One (HeldBefore rec)
@@ -137,22 +150,31 @@ pub record LedgerDetermined : Type 0 where
   pub off-from : (p : Plan) (rec : List ℕ) (square : ℕ) → One (OffFrom p rec square)
   pub put-head : (rec : List ℕ) (held lasts : ℕ) → One (HeadPut rec held lasts)
   pub put-square : (rec : List ℕ) (square : ℕ) (leaves : List ℕ) (last added soaked : ℕ) → One (SquarePut rec square leaves last added soaked)
-  pub put-closed : (rec : List ℕ) (square : ℕ) → One (ClosedPut rec square)
   pub run-fine : (k : ℕ) (u : Run) → One (RunJudged k u)
   pub one-each : (s : Shape) (numbers : ℕ) → One (OneEach s numbers)
   pub waters-fine : (p : Plan) (depths lasts : List ℕ) → One (WatersJudged p depths lasts)
   pub times-fine : (rec : List ℕ) → One (TimesJudged rec)
   pub settle : (p : Plan) (rec : List ℕ) (held : ℕ) (w : World) →
       One {Out = Settled × (List ℕ × (List ℕ × List ℕ))} (λ o. SettlesTo p rec held w (o .0 .refused) (world (o .1 .0) (o .1 .1 .0) (o .1 .1 .1) (o .0 .run)))
+  pub surely-settles : (u : Run) (depths room : List ℕ) → One (SurelyJudged u depths room)
+  pub settle-stored : (p : Plan) (held : ℕ) (w : World) →
+      One {Out = Run × (List ℕ × List ℕ)} (λ o. SettlesTo p (nextRecord p w) held w 0 (world (o .1 .0) (o .1 .1) (w .records) (o .0)))
   pub take-back : (p : Plan) (w : World) → One {Out = Answer × (List ℕ × List ℕ)} (λ o. TakesBack p w (o .0) (o .1 .0) (o .1 .1))
 
--- `add_water` is lent a working room too: what is left in that where a square could not hold what is added is not promised
+-- `add_water` and `fill` are lent working rooms too. What `add_water` leaves in its room is determined where the square is not closed, unless a
+-- square could not hold what is added; what `fill` leaves in its room `left`, where the square is worked and not closed.
 pub record MovesDetermined : Type 0 where
   pub step-length : (p : Plan) (o : Ground) (depths : List ℕ) (clock held : ℕ) → One (LengthWorked p o depths clock held)
+  pub rows-apart : (inflow : List ℕ) → One {Out = Bool} (λ r. r ≡ rowsApart inflow)
   pub add-water : (p : Plan) (g : Given) (start end : ℕ) (old : List ℕ) (a b : Bool × List ℕ) →
-      WaterAdded p g start end old (a .0) (a .1) → WaterAdded p g start end old (b .0) (b .1) → (a .0 ≡ b .0) × (a .0 ≡ true → a .1 ≡ b .1)
-  pub fill : (walk : Walk) (p : Plan) (o : Ground) (depths lasts added : List ℕ) (held start ms : ℕ) (old : List ℕ) →
-      One {Out = List ℕ × List ℕ} (λ out. (RecordFilled p o depths lasts added held start ms (out .0)) × (SendersTold walk p o depths lasts ms old (out .1)))
+      WaterAdded p g start end old (a .0) (a .1) → WaterAdded p g start end old (b .0) (b .1) →
+      (a .0 ≡ b .0) × (a .0 ≡ true → (i : ℕ) → i < squares (p .shape) → shut p i ≡ false → getD (a .1) i 0 ≡ getD (b .1) i 0)
+  pub fill : (walk : Walk) (p : Plan) (o : Ground) (depths lasts added : List ℕ) (held start ms : ℕ) (a b : List ℕ × (List ℕ × (List ℕ × List ℕ))) →
+      Fills walk p o depths lasts added held start ms a → Fills walk p o depths lasts added held start ms b →
+      (a .0 ≡ b .0)
+      × ((i : ℕ) → i < squares (p .shape) → shut p i ≡ false → isWorked walk p depths lasts added i ≡ true → getD (a .1 .0) i 0 ≡ getD (b .1 .0) i 0)
+      × (a .1 .1 .0 ≡ b .1 .1 .0)
+      × (a .1 .1 .1 ≡ b .1 .1 .1)
 
 -- a step and a run are the same relation by every square, by the wet walk and by a walk that is given
 pub record FloodDetermined : Type 0 where

@@ -294,7 +294,7 @@ pub extern "C" fn flood_run_to(
     )
 }
 
-// The same by the wet walk.
+// Steps by the wet walk to an end of the clock, and how many were made: only the sides of squares with water are worked at each.
 #[no_mangle]
 pub extern "C" fn flood_run_to_wet(
     rows: usize,

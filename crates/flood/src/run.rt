@@ -9,6 +9,7 @@ use grid::walks::Walk;
 use ledger::record::MOST_RECORD;
 use ledger::record::record_size;
 use ledger::runs::Run;
+use moves::added::rows_apart;
 use rule::rules::Rules;
 ghost use mathlib.Core.Path.{_≡_};
 ghost use Prim.Native.Nat.{_≤_};
@@ -18,6 +19,7 @@ ghost use Rattle.grid.specs.Squares.{squares};
 ghost use Rattle.ledger.specs.Runs.{plan, world};
 ghost use Rattle.ledger.specs.Record.{recordSize};
 ghost use Rattle.moves.specs.Given.{given, ground};
+ghost use Rattle.moves.specs.inner.Added.{rowsApart};
 ghost use Rattle.flood.specs.Step.{Passes};
 ghost use Rattle.flood.specs.Run.{RunsTo};
 ghost use Rattle.flood.specs.inner.Run.{RunsOn};
@@ -29,7 +31,8 @@ pub struct Ran {
     pub run: Run,
 }
 
-// Steps by either walk while the clock is below the end, up to a step that is refused. `rec`, `senders` and `room` are working rooms.
+// Steps by either walk while the clock is below the end, up to a step that is refused. `rec`, `left`, `worked`, `senders` and `room` are working
+// rooms; `apart` tells whether no two inflow rows are for the same square.
 fn run_on(
     walk: Walk,
     shape: Shape,
@@ -42,15 +45,18 @@ fn run_on(
     rates: &[u32],
     rain: &[u32],
     inflow: &[u32],
+    apart: bool,
     depths: &mut [u32],
     lasts: &mut [u32],
     records: &mut [u32],
     rec: &mut [u32],
+    left: &mut [u32],
+    worked: &mut [u64],
     senders: &mut [u64],
     room: &mut [u32],
 ) -> Ran
     requires { ⌜ Passes (plan shape (now marks)) (given (ground rules (now beds) (now roughness) (now rates)) (now rain) (now inflow)) (world (now depths) (now lasts) (now records) run) ⌝ }
-    requires { ⌜ (length (now rec) ≡ recordSize (plan shape (now marks))) × (length (now senders) ≡ shape .rows) × (length (now room) ≡ squares shape) × (end ≤ lastClock) ⌝ }
+    requires { ⌜ (length (now rec) ≡ recordSize (plan shape (now marks))) × (length (now left) ≡ squares shape) × (length (now worked) ≡ shape .rows) × (length (now senders) ≡ shape .rows) × (length (now room) ≡ squares shape) × (apart ≡ rowsApart (now inflow)) × (end ≤ lastClock) ⌝ }
     ensures { λ r. ⌜ RunsOn (plan shape (now (marks .entry))) (given (ground rules (now (beds .entry)) (now (roughness .entry)) (now (rates .entry))) (now (rain .entry)) (now (inflow .entry))) end (world (now (depths .entry)) (now (lasts .entry)) (now (records .entry)) run) r (now (depths .exit)) (now (lasts .exit)) (now (records .exit)) ⌝ }
 {
     let mut at = run;
@@ -67,10 +73,13 @@ fn run_on(
             rates,
             rain,
             inflow,
+            apart,
             depths,
             lasts,
             records,
             rec,
+            left,
+            worked,
             senders,
             room,
         );
@@ -137,7 +146,10 @@ pub fn run_to_by(
     let size = record_size(shape);
     let squares = squares_of(shape);
     let rows = shape.rows;
+    let apart = rows_apart(inflow);
     let mut rec = [0u32; MOST_RECORD];
+    let mut left = [0u32; MOST_SQUARES];
+    let mut worked = [0u64; MOST_ALONG];
     let mut senders = [0u64; MOST_ALONG];
     let mut room = [0u32; MOST_SQUARES];
     run_on(
@@ -152,10 +164,13 @@ pub fn run_to_by(
         rates,
         rain,
         inflow,
+        apart,
         depths,
         lasts,
         records,
         &mut rec[..size],
+        &mut left[..squares],
+        &mut worked[..rows],
         &mut senders[..rows],
         &mut room[..squares],
     )

@@ -23,7 +23,7 @@ use Rattle.grid.proofs.MaskLaws.{bit-shifted}
 -- ---- the bits of masks joined, and of a mask moved by one column
 
 -- a clear bit of two masks together is clear in both
-or-clear : (a b c : ℕ) → bitAt (bitOr a b) c ≡ false → (bitAt a c ≡ false) × (bitAt b c ≡ false)
+pub or-clear : (a b c : ℕ) → bitAt (bitOr a b) c ≡ false → (bitAt a c ≡ false) × (bitAt b c ≡ false)
 unfolding bitAt
 or-clear a b c h = (
   ne-eqb (a / 2 ^ c % 2) 1 (λ z. set-not (omega (arith, together, or-step (a / 2 ^ c) (b / 2 ^ c), z))),

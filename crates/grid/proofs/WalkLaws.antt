@@ -4,10 +4,12 @@ use mathlib.Core.Path.{_≡_, refl, sym, ap, _∙_, subst}
 use mathlib.Core.Bool.{Bool, true, false, not}
 use Prim.Native.Nat.{ℕ, zero, suc, _+_, _-_, _/_, _%_, _^_, _≤_, _<_, min}
 use native.Mathlib.Decide.{decLt, ℕ-discrete}
+use native.Mathlib.Nat.{div-div-eq-div-mul}
 use native.Mathlib.Numerals.{add-one}
 use native.Mathlib.Omega.{arith}
 use lib.Dec.{eqb}
 use lib.Count.{trailingZeros, under}
+use lib.Pow.{pow-add}
 use borrow.Author.Tests.{lt-ltb, le-ltb, not-false, not-true}
 use Rattle.reckon.specs.Tests.{pick, firstFailing}
 use Rattle.reckon.proofs.TestLaws.{pick-true, pick-false, failing-le, failing-at, failing-none, failing-before, failing-fails}
@@ -96,6 +98,13 @@ module _ (mask c columns : ℕ) where
   within-set h l =
       let e : nextWithin mask c columns ≡ nextSet mask c = omega (arith, l) in
       ap (bitAt mask) e ∙ next-set mask c (omega (arith, l))
+
+  -- after a column: the zeros of the mask moved beyond it, held to the columns
+  pub after-by-zeros : c < columns → columns ≤ bits → {n : ℕ} → n ≡ c + 1 + trailingZeros bits (mask / 2 ^ c / 2 ^ 1) → min n columns ≡ nextWithin mask (c + 1) columns
+  after-by-zeros h l e =
+      let moved : trailingZeros bits (mask / 2 ^ c / 2 ^ 1) ≡ trailingZeros bits (mask / 2 ^ (c + 1)) =
+      ap (trailingZeros bits) (div-div-eq-div-mul mask (2 ^ c) (2 ^ 1) ∙ ap (λ (y : ℕ). mask / y) (sym (pow-add 2 c 1))) in
+      omega (arith, e, moved, next-by-zeros mask (c + 1) (omega arith))
 
 -- ---- the walk
 

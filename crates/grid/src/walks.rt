@@ -27,6 +27,18 @@ pub fn next_within(mask: u64, column: usize, columns: usize) -> usize
     next
 }
 
+// The next set column after a column, or the number of columns where none comes before their end.
+pub fn next_after(mask: u64, column: usize, columns: usize) -> usize
+    requires { ⌜ (column < columns) × (columns ≤ bits) ⌝ }
+    ensures { λ r. ⌜ NextWithin mask (column + 1) columns r ⌝ }
+{
+    let next = column + 1 + u64::trailing_zeros(mask >> column >> 1) as usize;
+    if columns < next {
+        return columns;
+    }
+    next
+}
+
 // The mask of the row above, 0 for none.
 fn row_above(rows: &[u64], row: usize) -> u64
     requires { ⌜ row < length (now rows) ⌝ }

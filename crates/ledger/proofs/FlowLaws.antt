@@ -1,7 +1,7 @@
 -- Laws of amounts: a side's case decides what was sent or went off the grid; and sums of 32-bit words stay far below 64 bits.
 -- Assumes nothing.
 use mathlib.Core.Path.{_≡_, refl, sym, ap, ap₂, _∙_}
-use mathlib.Core.Bool.{Bool, true, false}
+use mathlib.Core.Bool.{true, false}
 use mathlib.Core.List.{List}
 use Prim.Native.Nat.{ℕ, _+_, _-_, _*_, _≤_, _<_}
 use native.Mathlib.Nat.{mul-le-mul-right}
@@ -13,12 +13,11 @@ use Rattle.reckon.specs.Lists.{sumBelow}
 use Rattle.reckon.proofs.TestLaws.{pick-true, pick-false, pick-same, pick-both}
 use Rattle.reckon.proofs.ListLaws.{sum-le}
 use Rattle.grid.specs.Squares.{north, east, south, west, sides, mostSquares, squares, within, beside, opposite, onRim, ShapeInRange}
-use Rattle.grid.proofs.SquareLaws.{opposite-small, each-within, north-is, east-is, south-is, west-is}
+use Rattle.grid.proofs.SquareLaws.{each-within}
 use Rattle.grid.proofs.MarkLaws.{closed-past}
 use Rattle.ledger.specs.Runs.{Plan}
 use Rattle.ledger.specs.Flows.{Leaves, fourSides, shut, gone, sent, came, offSide, offSquare, offGrid, soakedSquare, soakedGrid}
 use Rattle.ledger.specs.Record.{wordPlace, addedWord, soakedWord, leavesIn, addedIn, soakedIn}
-use Rattle.ledger.specs.inner.Settle.{ClosedZeros}
 
 pub four-sides : (f : ℕ → ℕ) {a b c d : ℕ} → a ≡ f north → b ≡ f east → c ≡ f south → d ≡ f west → a + b + c + d ≡ fourSides f
 four-sides f p q r s = rw (p, q, r, s)
@@ -45,29 +44,6 @@ module _ (p : Plan) (out : Leaves) (i side : ℕ) {at : ℕ} (e : at ≡ beside 
 
 -- ---- a square that is not on the rim
 
-module _ (p : Plan) (rec : List ℕ) (zeros : ClosedZeros p rec) (i : ℕ) (off : onRim (p .shape) i ≡ false) where
-  -- a neighbour's word is what it sent: a closed one's is zero
-  word-sent :
-      (side : ℕ) → side < sides → {at : ℕ} → at ≡ beside (p .shape) i side → leavesIn rec at (opposite side) ≡ sent p (leavesIn rec) i side
-  unfolding leavesIn
-  word-sent side h {at} e = go (shut p at) refl
-    where
-      go : (b : Bool) → shut p at ≡ b → leavesIn rec at (opposite side) ≡ sent p (leavesIn rec) i side
-      go true s =
-          zeros at (opposite side) (omega (arith, e, each-within (p .shape) i off side h)) s (omega (arith, opposite-small side))
-          ∙ (sym (pick-true _ _ s) ∙ sent-some p (leavesIn rec) i side e refl)
-      go false s = sym (pick-false _ _ s) ∙ sent-some p (leavesIn rec) i side e refl
-
-  -- all four neighbours are there
-  pub came-four :
-      {n e s w : ℕ} → n ≡ leavesIn rec (i - p .shape .columns) south → e ≡ leavesIn rec (i + 1) west →
-      s ≡ leavesIn rec (i + p .shape .columns) north → w ≡ leavesIn rec (i - 1) east → n + e + s + w ≡ came p (leavesIn rec) i
-  unfolding came opposite
-  came-four a b c d =
-      four-sides (sent p (leavesIn rec) i) (a ∙ word-sent north (omega arith) (north-is (p .shape) i off))
-      (b ∙ word-sent east (omega arith) (east-is (p .shape) i off)) (c ∙ word-sent south (omega arith) (south-is (p .shape) i off))
-      (d ∙ word-sent west (omega arith) (west-is (p .shape) i off))
-
 module _ (p : Plan) (out : Leaves) (i : ℕ) (off : onRim (p .shape) i ≡ false) where
   -- nothing goes off the grid there
   pub off-none : 0 ≡ offSquare p out i
@@ -83,6 +59,10 @@ module _ (p : Plan) (out : Leaves) (i : ℕ) (off : onRim (p .shape) i ≡ false
 -- ---- a closed square, and one that is not
 
 module _ (p : Plan) (i : ℕ) where
+  pub off-open : (out : Leaves) → shut p i ≡ false → fourSides (offSide p out i) ≡ offSquare p out i
+  unfolding offSquare
+  off-open out e = sym (pick-false _ _ e)
+
   pub off-shut : (out : Leaves) → shut p i ≡ true → offSquare p out i ≡ 0
   unfolding offSquare
   off-shut out e = pick-true _ _ e

@@ -20,7 +20,7 @@ use Rattle.ledger.specs.Runs.{Plan, World}
 use Rattle.ledger.specs.Flows.{Leaves, fourSides, shut, gone, sent, came, offSide, offSquare, offGrid, soakedSquare, soakedGrid}
 use Rattle.ledger.specs.Record.{squareWords, lastWord, addedWord, soakedWord, recordSize, heldIn, lastedIn, wordPlace, leavesIn, lastIn, addedIn, soakedIn, squareRecord, recordOf}
 use Rattle.ledger.specs.After.{Moves, remains, newDepth, depthsFit, newOutflow, newSoaked, lateRefusals, stepRecord, worldAfter, worldWith}
-use Rattle.ledger.specs.inner.Settle.{movesIn, settleRefusals, settleNumber, ClosedZeros}
+use Rattle.ledger.specs.inner.Settle.{movesIn, settleRefusals, settleNumber}
 
 -- what is the same of each side is the same of the four
 four-same : {f g : ℕ → ℕ} → ((side : ℕ) → side < sides → f side ≡ g side) → fourSides f ≡ fourSides g
@@ -162,11 +162,6 @@ module _ (p : Plan) (m : Moves) (w : World) where
   pub step-came : length (p .marks) ≡ squares (p .shape) → (i : ℕ) → came p (leavesIn (stepRecord p m w)) i ≡ came p (m .leaves) i
   unfolding stepRecord
   step-came marks-long i = came-read p (w .run .length) (m .duration) (m .leaves) lastBefore (m .added) (m .soaked) marks-long i
-
-  pub step-zeros : ClosedZeros p (stepRecord p m w)
-  unfolding stepRecord
-  step-zeros i word inside closed h =
-      closed-read p (w .run .length) (m .duration) (m .leaves) lastBefore (m .added) (m .soaked) i inside closed word h
 
   module _ (i : ℕ) (inside : i < squares (p .shape)) (not-closed : shut p i ≡ false) where
     pub step-gone : gone (leavesIn (stepRecord p m w)) i ≡ gone (m .leaves) i

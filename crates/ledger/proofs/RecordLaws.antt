@@ -5,7 +5,7 @@ use mathlib.Core.Bool.{true, false}
 use mathlib.Core.List.{List, [], _∷_, _++_, append-assoc}
 use Prim.Native.Nat.{ℕ, _+_, _-_, _≤_, _<_}
 use native.Mathlib.Omega.{arith}
-use lib.ListN.{length, getD, take, drop, length-append, length-drop}
+use lib.ListN.{length, getD, take, drop, replicate, length-append, length-drop}
 use lib.Seq.{take-at, take-all, length-take-le}
 use Rattle.reckon.specs.Lists.{joined, placed}
 use Rattle.reckon.proofs.TestLaws.{pick-true, pick-false}
@@ -15,7 +15,7 @@ use Rattle.trials.proofs.RingLaws.{slot-within}
 use Rattle.grid.specs.Squares.{north, east, south, west, sides, squares}
 use Rattle.ledger.specs.Runs.{Plan}
 use Rattle.ledger.specs.Flows.{Leaves, shut}
-use Rattle.ledger.specs.Record.{headWords, squareWords, recordSize, wordPlace, squareRecord, recordOf, roomSlots, HeadPut, SquarePut, ClosedPut}
+use Rattle.ledger.specs.Record.{headWords, squareWords, recordSize, wordPlace, squareRecord, recordOf, roomSlots, HeadPut, SquarePut}
 use Rattle.ledger.specs.inner.Walks.{Begun}
 
 -- ---- words placed
@@ -76,7 +76,7 @@ module _ {p : Plan} {held lasted : ℕ} {out : Leaves} {last added soaked : ℕ 
         (rw (f north (omega arith), f east (omega arith), f south (omega arith), f west (omega arith), q, r, t) (sym (pick-false _ _ c)))
         e b
 
-    pub begun-closed : shut p i ≡ true → ClosedPut old i new → Begun p held lasted out last added soaked (i + 1) new
+    pub begun-closed : shut p i ≡ true → new ≡ placed old (wordPlace i north) (replicate squareWords 0) → Begun p held lasted out last added soaked (i + 1) new
     unfolding squareRecord
     begun-closed c e = begun-next _ h refl (sym (pick-true _ _ c)) e b
 

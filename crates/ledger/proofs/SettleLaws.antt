@@ -18,7 +18,7 @@ use Rattle.ledger.specs.Runs.{Plan, World, world, ofDepths}
 use Rattle.ledger.specs.Flows.{shut, gone, offGrid, soakedGrid}
 use Rattle.ledger.specs.Record.{recordSize, lastedIn, leavesIn, soakedIn, roomSlots, Recorded}
 use Rattle.ledger.specs.After.{remains, newDepth, depthsFit, newOutflow, newSoaked, worldWith}
-use Rattle.ledger.specs.inner.Settle.{movesIn, settleRefusals, settleNumber, settled, Settles, SettlesTo, depthsBy, Gathers, SmallLeaving}
+use Rattle.ledger.specs.inner.Settle.{movesIn, settleRefusals, settleNumber, settled, Settles, SettlesTo, depthsBy, Spreads}
 use Rattle.ledger.proofs.RecordLaws.{slots-of, slot-fits}
 
 -- ---- what is asked of the parts
@@ -27,11 +27,9 @@ module _ {p : Plan} {rec : List ℕ} {held : ℕ} {w : World} (s : Settles p rec
   pub settles-recorded : Recorded p rec
   settles-recorded = record { fine = s .fine; marks-long = s .marks-long; record-long = s .record-long }
 
-  pub settles-gathers : Gathers p rec (w .depths)
-  settles-gathers = record { recorded = settles-recorded; depths-long = s .depths-long; covered = s .covered; closed-zeros = s .closed-zeros }
-
-  pub settles-small : SmallLeaving p rec (w .depths)
-  settles-small = record { gathers = settles-gathers; small = s .depths-to }
+  pub settles-spreads : Spreads p rec (w .depths)
+  settles-spreads =
+      record { recorded = settles-recorded; depths-long = s .depths-long; depths-to = s .depths-to; covered = s .covered; added-to = s .added-to }
 
 -- ---- the numbers and the world
 

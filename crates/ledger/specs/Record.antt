@@ -129,7 +129,7 @@ CameTo p rec i r = r ≡ came p (leavesIn rec) i
 abbrev pub OffFrom : Plan → List ℕ → ℕ → ℕ → Type 0
 OffFrom p rec i r = r ≡ offSquare p (leavesIn rec) i
 
--- a record before and after its head, a square, or a closed square is written
+-- a record before and after its head or a square is written
 abbrev pub HeadPut : List ℕ → ℕ → ℕ → List ℕ → Type 0
 HeadPut old held lasted new = new ≡ placed old 0 (held ∷ lasted ∷ [])
 
@@ -138,6 +138,3 @@ SquarePut old i leaves last added soaked new =
     new ≡
     placed old (wordPlace i north)
     (getD leaves north 0 ∷ getD leaves east 0 ∷ getD leaves south 0 ∷ getD leaves west 0 ∷ last ∷ added ∷ soaked ∷ [])
-
-abbrev pub ClosedPut : List ℕ → ℕ → List ℕ → Type 0
-ClosedPut old i new = new ≡ placed old (wordPlace i north) (replicate squareWords 0)

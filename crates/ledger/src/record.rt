@@ -8,7 +8,7 @@ ghost use Rattle.grid.specs.Squares.{ShapeInRange, OnSquare, east, north, sides
 ghost use Rattle.grid.specs.Marks.{closed};
 ghost use Rattle.ledger.specs.Runs.{plan};
 ghost use Rattle.ledger.specs.Flows.{gone, offSide};
-ghost use Rattle.ledger.specs.Record.{AddedBy, CameTo, ClosedPut, GoneFrom, HeadPut, HeldBefore, LastBefore, Lasted, Leaving, OffFrom, Recorded, SentTo, SizeOf, SoakedBy, SquarePut, addedWord, headWords, lastWord, leavesIn, soakedIn, soakedWord, squareWords, wordPlace};
+ghost use Rattle.ledger.specs.Record.{AddedBy, CameTo, GoneFrom, HeadPut, HeldBefore, LastBefore, Lasted, Leaving, OffFrom, Recorded, SentTo, SizeOf, SoakedBy, SquarePut, addedWord, headWords, lastWord, leavesIn, soakedIn, soakedWord, squareWords, wordPlace};
 use grid::marks::is_closed;
 use grid::squares::EAST;
 use grid::squares::MOST_SQUARES;
@@ -262,14 +262,5 @@ pub fn put_square(
         added,
         soaked as u32,
     ];
-    copy_into(&words, rec, word_place(square, NORTH));
-}
-
-// Writes a closed square: zeros.
-pub fn put_closed(rec: &mut [u32], square: usize)
-    requires { ⌜ wordPlace square squareWords ≤ length (now rec) ⌝ }
-    ensures { λ _. ⌜ ClosedPut (now (rec .entry)) square (now (rec .exit)) ⌝ }
-{
-    let words = [0u32; SQUARE_WORDS];
     copy_into(&words, rec, word_place(square, NORTH));
 }

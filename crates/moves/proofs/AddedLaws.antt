@@ -1,24 +1,25 @@
 -- Laws of the added water: rain reaches every square not closed, an inflow row its own square; a square that no row is for gets no
--- inflow, and no row is for a closed square.
+-- inflow, and where the rows stand apart a row's square gets that row's inflow alone.
 -- Assumes nothing.
 use mathlib.Core.Path.{_≡_, refl, sym, ap, ap₂, _∙_, subst}
-use mathlib.Core.Bool.{Bool, true, false, _||_, not, or-false}
+use mathlib.Core.Bool.{Bool, true, false, _&&_, _||_, not, or-false}
 use mathlib.Core.List.{List}
 use Prim.Native.Nat.{ℕ, _+_, _-_, _*_, _/_, _%_, _≤_, _<_}
-use native.Mathlib.Nat.{add-zero}
-use native.Mathlib.Decide.{ℕ-discrete}
+use native.Mathlib.Nat.{add-zero, zero-add}
+use native.Mathlib.Decide.{decLt, ℕ-discrete}
 use native.Mathlib.Omega.{arith}
 use lib.Dec.{leb, eqb}
-use lib.ListN.{length, getD, set, length-set}
-use lib.Seq.{ext-getD, getD-set-same, getD-set-other, set-getD}
-use borrow.Author.Tests.{eqb-true, eq-eqb, leb-true, le-leb, lt-leb, not-true, not-false, ltb-true}
+use lib.ListN.{length, getD, set, take, drop, length-set, length-drop}
+use lib.Seq.{ext-getD, getD-set-same, getD-set-other, getD-take, getD-drop, length-take-le}
+use borrow.Author.Tests.{eqb-true, eq-eqb, ne-eqb, leb-true, le-leb, lt-leb, lt-ltb, not-true, not-false, ltb-true}
 use Rattle.reckon.specs.Tests.{pick, allBelow}
-use Rattle.reckon.specs.Lists.{filled}
+use Rattle.reckon.specs.Lists.{tabulate, filled, sumBelow}
 use Rattle.reckon.specs.Ranges.{mostDepth}
-use Rattle.reckon.specs.Tables.{rainKind, inflowKind, onSquare, rainAdded, inflowAdded, inflowBy}
+use Rattle.reckon.specs.Tables.{rainKind, inflowKind, rowStart, ran, rowGives, tableGives, onSquare, rainAdded, inflowAdded, inflowBy}
 use Rattle.reckon.specs.inner.Fits.{Fits}
-use Rattle.reckon.proofs.TestLaws.{not-both, pick-true, pick-false, no-more, and-left, and-right, and-both, or-right, or-of, every-each, all-none, all-at, all-of, all-fails, all-beside, all-some}
-use Rattle.reckon.proofs.ListLaws.{length-filled, filled-in, filled-skipped, is-filled, filled-store, filled-keep}
+use Rattle.reckon.proofs.TestLaws.{not-both, pick-true, no-more, and-left, and-right, and-both, or-right, or-of, every-each, all-none, all-at, all-of, all-ext, all-fails, all-beside, all-whole, all-some}
+use Rattle.reckon.proofs.ListLaws.{length-tabulate, getD-tabulate, is-tabulate, length-filled, filled-in, filled-skipped, sum-ext}
+use Rattle.reckon.proofs.SumLaws.{sum-one}
 use Rattle.reckon.proofs.TableLaws.{inflow-none, rain-le, fine-fits}
 use Rattle.grid.specs.Squares.{squares, squareAt}
 use Rattle.grid.specs.Marks.{closed, inflowWords, inflowRow, inflowColumn, inflowSquareFine, inflowSquaresFine}
@@ -27,54 +28,166 @@ use Rattle.grid.proofs.SquareLaws.{square-in, square-within, row-of, column-of}
 use Rattle.rule.specs.declared.rules.Rules.{Rules}
 use Rattle.ledger.specs.Runs.{Plan}
 use Rattle.ledger.specs.Flows.{shut}
-use Rattle.moves.specs.inner.Added.{amountAt, unreached, rowSquare, tables, addedFits, Rained, RainedAll, PouredRow, PouredAll, Pours, Between, WaterAdded}
+use Rattle.moves.specs.inner.Added.{amountAt, unreached, rowSquare, rowAlone, rowsApart, tables, addedFits, RainedAll, PouredRow, PouredAll, Pours, Between, WaterAdded}
 use Rattle.moves.specs.Given.{Given}
 use Rattle.moves.specs.Moves.{addedFor}
 
--- ---- the rain of one square
+-- ---- rain
 
--- a closed square's own number stored again is no change
-stored-unless : (b : Bool) (l : List ℕ) (i x : ℕ) → set l i (pick b (getD l i 0) x) ≡ pick b l (set l i x)
-unfolding pick
-stored-unless true l i x = set-getD l i 0
-stored-unless false l i x = refl
+-- a room filled to its end, no place skipped
+pub stored-whole :
+    (amount : ℕ) (old : List ℕ) {n : ℕ} {new : List ℕ} → new ≡ filled n (λ k. false) (λ k. amount) old → n ≡ length old → new ≡ tabulate (length old) (λ i. amount)
+stored-whole amount old {n} e h =
+    is-tabulate (length old) (λ i. amount) _ (ap length e ∙ length-filled n (λ k. false) (λ k. amount) old)
+    (λ i l. ap (λ (x : List ℕ). getD x i 0) e ∙ filled-in n (λ k. false) (λ k. amount) old i l (omega arith) refl)
 
-module _ {marks : List ℕ} {rain i : ℕ} (old : List ℕ) (shut-is : Bool) where
-  pub rain-too-deep : mostDepth < rain → shut-is ≡ closed marks i → Rained marks rain i old shut-is old
+module _ {marks old : List ℕ} {rain : ℕ} where
+  -- more rain than a square can hold: nothing is stored, and that is fine where every square is closed
+  pub rain-too-deep : {shut-all : Bool} → mostDepth < rain → shut-all ≡ allBelow (length marks) (closed marks) → RainedAll marks rain old shut-all old
   rain-too-deep h e =
       record {
-        fits-is = e ∙ (sym (or-false (closed marks i)) ∙ ap (λ (b : Bool). closed marks i || b) (sym (lt-leb rain mostDepth h)));
-        stored = λ t. sym (pick-true old (set old i rain) (sym e ∙ t));
+        fits-is = e ∙ all-ext (length marks) (closed marks) _ (λ i l. sym (or-false (closed marks i)) ∙ ap (λ (b : Bool). closed marks i || b) (sym (lt-leb rain mostDepth h)));
+        stored = λ t i l c. not-both (all-at (length marks) (closed marks) (sym e ∙ t) i l) c;
         long = refl;
       }
 
   pub rain-stored :
-      {x : ℕ} → rain ≤ mostDepth → shut-is ≡ closed marks i → x ≡ pick shut-is (getD old i 0) rain → Rained marks rain i old true (set old i x)
-  rain-stored {x} h e v =
+      {new : List ℕ} → length old ≡ length marks → rain ≤ mostDepth → new ≡ tabulate (length old) (λ i. rain) → RainedAll marks rain old true new
+  rain-stored l h e =
       record {
-        fits-is = sym (or-of (closed marks i) (leb rain mostDepth) (λ z. le-leb rain mostDepth h));
-        stored =
-            λ t.
-            ap (set old i) v
-            ∙ (stored-unless shut-is old i rain ∙ ap (λ (b : Bool). pick b old (set old i rain)) e);
-        long = length-set old i x;
+        fits-is = sym (all-of (length marks) _ (λ i k. or-of (closed marks i) _ (λ z. le-leb rain mostDepth h)));
+        stored = λ t i k c. ap (λ (x : List ℕ). getD x i 0) e ∙ getD-tabulate (length old) (λ j. rain) i (omega arith);
+        long = ap length e ∙ length-tabulate (length old) (λ i. rain);
       }
 
--- ---- rain, square by square
+-- ---- rows that stand apart
 
-module _ (marks old : List ℕ) (rain i : ℕ) where
-  abbrev after : ℕ → List ℕ
-  after n = filled n (closed marks) (λ k. rain) old
+-- a row is for the square that it names
+pub row-is-on :
+    (inflow : List ℕ) {row column : ℕ} (j : ℕ) → row ≡ inflowRow inflow j → column ≡ inflowColumn inflow j → onSquare inflow row column j ≡ true
+unfolding onSquare
+row-is-on inflow j a b = and-both _ _ (eq-eqb _ _ (sym a)) (eq-eqb _ _ (sym b))
 
-  pub rained-turn :
-      {room new : List ℕ} {done : Bool} → i < length old → room ≡ after i → Rained marks rain i room done new → done ≡ true → new ≡ after (i + 1)
-  rained-turn {room} {new} h e d t = go (closed marks i) refl
-    where
-      go : (b : Bool) → closed marks i ≡ b → new ≡ after (i + 1)
-      go true c =
-          d .stored t ∙ (pick-true _ _ c ∙ (e ∙ filled-keep (closed marks) (λ k. rain) old i h (λ f. not-both c f)))
-      go false c =
-          d .stored t ∙ (pick-false _ _ c ∙ (ap (λ (l : List ℕ). set l i rain) e ∙ filled-store (closed marks) (λ k. rain) old i h c refl))
+-- the rows before row j, as the code tests them: one is for its square, or none is
+module _ (inflow : List ℕ) (j : ℕ) {row column : ℕ} (r : row ≡ inflowRow inflow j) (c : column ≡ inflowColumn inflow j) where
+  pub alone-fails : (k : ℕ) → k < j → onSquare inflow row column k ≡ true → rowAlone inflow j ≡ false
+  unfolding rowAlone
+  alone-fails k h e = all-fails j _ k h (ap not (sym (ap₂ (λ (a b : ℕ). onSquare inflow a b k) r c) ∙ e))
+
+  pub alone-whole : {k : ℕ} → allBelow k (λ i. not (onSquare inflow row column i)) ≡ true → k ≡ j → rowAlone inflow j ≡ true
+  unfolding rowAlone
+  alone-whole {k} e h =
+      all-whole (λ i. not (onSquare inflow (inflowRow inflow j) (inflowColumn inflow j) i))
+      (sym (ap₂ (λ (a b : ℕ). allBelow k (λ i. not (onSquare inflow a b i))) r c) ∙ e) h
+
+module _ (inflow : List ℕ) (row column : ℕ) where
+  abbrev rowCount : ℕ
+  rowCount = length inflow / inflowWords
+
+  abbrev on : ℕ → Bool
+  on = onSquare inflow row column
+
+  -- and for no other
+  on-row : (k : ℕ) → on k ≡ true → inflowRow inflow k ≡ row
+  unfolding onSquare
+  on-row k e = eqb-true _ _ (and-left _ _ e)
+
+  on-column : (k : ℕ) → on k ≡ true → inflowColumn inflow k ≡ column
+  unfolding onSquare
+  on-column k e = eqb-true _ _ (and-right (eqb (inflowRow inflow k) row) _ e)
+
+  module _ (apart : rowsApart inflow ≡ true) where
+    -- of two rows that stand apart one at most is for a square
+    not-two : (k j : ℕ) → k < j → j < rowCount → on k ≡ true → on j ≡ true → ⊥
+    unfolding rowsApart rowAlone
+    not-two k j l h a b =
+        not-both {A = ⊥} (row-is-on inflow k (on-row j b ∙ sym (on-row k a)) (on-column j b ∙ sym (on-column k a)))
+        (not-true _ (all-at j _ (all-at rowCount _ apart j h) k l))
+
+    module _ (j : ℕ) (h : j < rowCount) (here : on j ≡ true) where
+      only-row : (k : ℕ) → k < rowCount → on k ≡ eqb k j
+      only-row k l = go (ℕ-discrete k j)
+        where
+          other : (k ≡ j → ⊥) → Dec (k < j) → on k ≡ true → ⊥
+          other d (yes m) t = not-two k j m h t here
+          other d (no m) t = not-two j k (omega arith) l here t
+
+          go : Dec (k ≡ j) → on k ≡ eqb k j
+          go (yes e) = ap on e ∙ (here ∙ sym (eq-eqb k j e))
+          go (no d) = no-more (on k) (other d (decLt k j)) ∙ sym (ne-eqb k j d)
+
+      -- so the sum over all rows is what that one gives
+      apart-gives : (t : ℕ) → tableGives inflowKind on inflow t ≡ rowGives inflow (rowStart inflowKind j) t
+      unfolding tableGives
+      apart-gives t =
+          sum-ext rowCount _ _ (λ k l. ap (λ (b : Bool). pick b (rowGives inflow (rowStart inflowKind k) t) 0) (only-row k l))
+          ∙ (sum-one rowCount j (λ k. rowGives inflow (rowStart inflowKind k) t) ∙ pick-true _ _ (lt-ltb j rowCount h))
+
+-- ---- the part of a table that is one row
+
+module _ (inflow : List ℕ) (j : ℕ) (h : j < length inflow / inflowWords) where
+  abbrev rowPart : List ℕ
+  rowPart = take (inflowWords * j + inflowWords - inflowWords * j) (drop (inflowWords * j) inflow)
+
+  part-words : inflowWords * j + inflowWords - inflowWords * j ≡ inflowWords
+  part-words = omega arith
+
+  part-long : length rowPart ≡ inflowWords
+  part-long =
+      length-take-le (inflowWords * j + inflowWords - inflowWords * j) (drop (inflowWords * j) inflow) (omega (arith, part-words, length-drop (inflowWords * j) inflow))
+      ∙ part-words
+
+  part-count : length rowPart / inflowWords ≡ 1
+  part-count = omega (arith, part-long)
+
+  part-at : (i : ℕ) → i < inflowWords → getD rowPart i 0 ≡ getD inflow (inflowWords * j + i) 0
+  part-at i l =
+      getD-take (inflowWords * j + inflowWords - inflowWords * j) (drop (inflowWords * j) inflow) i 0 (omega (arith, part-words, l))
+      ∙ getD-drop (inflowWords * j) inflow i 0
+
+  -- its from, to and amount are the row's
+  part-row : (t : ℕ) → rowGives rowPart (rowStart inflowKind 0) t ≡ rowGives inflow (rowStart inflowKind j) t
+  unfolding rowGives
+  part-row t =
+      ap₂ (λ (a n : ℕ). a * n) (part-at 4 (omega arith) ∙ ap (λ (k : ℕ). getD inflow k 0) (omega arith))
+      (ap₂ (λ (from to : ℕ). ran from to t) (part-at 2 (omega arith)) (part-at 3 (omega arith) ∙ ap (λ (k : ℕ). getD inflow k 0) (omega arith)))
+
+  -- it is in range where the whole table is
+  pub part-fits : {t : ℕ} → Fits inflowKind inflow t → Fits inflowKind rowPart t
+  part-fits f =
+      record {
+        few = omega (arith, part-count);
+        amounts =
+            λ k l.
+            let z : k ≡ 0 = omega (arith, part-count, l) in
+            let e : getD rowPart (rowStart inflowKind k + 2) 0 ≡ getD inflow (rowStart inflowKind j + 2) 0
+            = ap (λ (i : ℕ). getD rowPart (rowStart inflowKind i + 2) 0) z
+            ∙ (part-at 4 (omega arith) ∙ ap (λ (i : ℕ). getD inflow i 0) (omega arith)) in
+            omega (arith, e, f .amounts j h);
+        clock = f .clock;
+      }
+
+  module _ (row column : ℕ) (here : onSquare inflow row column j ≡ true) where
+    part-on : onSquare rowPart row column 0 ≡ onSquare inflow row column j
+    unfolding onSquare
+    part-on =
+        ap₂ (λ (a b : ℕ). eqb a row && eqb b column) (part-at 0 (omega arith) ∙ ap (λ (k : ℕ). getD inflow k 0) (omega arith)) (part-at 1 (omega arith))
+
+    -- one row, and it counts
+    part-gives : (t : ℕ) → tableGives inflowKind (onSquare rowPart row column) rowPart t ≡ rowGives inflow (rowStart inflowKind j) t
+    unfolding tableGives sumBelow
+    part-gives t =
+        ap (λ (n : ℕ). sumBelow n (λ k. pick (onSquare rowPart row column k) (rowGives rowPart (rowStart inflowKind k) t) 0)) part-count
+        ∙ (zero-add _ ∙ (pick-true _ _ (part-on ∙ here) ∙ part-row t))
+
+    module _ (apart : rowsApart inflow ≡ true) (side : ℕ) where
+      part-by : (t : ℕ) → inflowBy rowPart row column side t ≡ inflowBy inflow row column side t
+      unfolding inflowBy
+      part-by t = ap (λ (x : ℕ). x / (side * side)) (part-gives t ∙ sym (apart-gives inflow row column apart j h here t))
+
+      -- where the rows stand apart, what inflow adds to the square of row j is what that row by itself adds
+      pub part-added : (start end : ℕ) → inflowAdded rowPart row column side start end ≡ inflowAdded inflow row column side start end
+      part-added start end = ap₂ (λ (a b : ℕ). a - b) (part-by end) (part-by start)
 
 -- ---- a row and its square
 
@@ -267,16 +380,6 @@ module _ (p : Plan) (r : Rules) (rain inflow : List ℕ) (start end : ℕ) (b : 
     amount-is : (i : ℕ) → amountAt s r inflow start end fell i ≡ added i
     amount-is i = ap (λ (x : ℕ). amountAt s r inflow start end x i) e ∙ is-amount i
 
-    -- no row is for a closed square
-    closed-unreached : (i : ℕ) → shut p i ≡ true → unreached s r inflow start end fell rows i ≡ true
-    unfolding unreached
-    closed-unreached i c =
-        all-of rows _
-        (λ j h.
-        ap not
-        (no-more (onSquare inflow (i / s .columns) (i % s .columns) j)
-        (λ t. not-both {A = ⊥} (ap (shut p) (row-for s inflow j i t) ∙ c) (row-fine j h .2))))
-
     -- a square is reached by a row, or by none
     reached-by :
         (i : ℕ) → unreached s r inflow start end fell rows i ≡ false → (j : ℕ) × ((j < rows) × (squareAt s (inflowRow inflow j) (inflowColumn inflow j) ≡ i))
@@ -314,41 +417,20 @@ module _ (p : Plan) (r : Rules) (rain inflow : List ℕ) (start end : ℕ) (b : 
         (fits-at u (rowSquare s r inflow start end fell j) (square-within s (f .0) (f .1)) (f .2)))))
         (sym (q .fits-is) ∙ t)))
 
-    stands : done ≡ true → new ≡ filled (squares s) (shut p) added old
-    stands t =
-        q .stored t
-        ∙ is-filled (squares s) (shut p) added old _
-        (length-filled (squares s) (unreached s r inflow start end fell rows) (amountAt s r inflow start end fell) mid ∙ a .long)
-        (λ i h. at i h (omega arith) (shut p i) refl)
+    stands : done ≡ true → (i : ℕ) → i < squares s → shut p i ≡ false → getD new i 0 ≡ added i
+    stands t i h c = ap (λ (l : List ℕ). getD l i 0) (q .stored t) ∙ (go (unreached s r inflow start end fell rows i) refl ∙ amount-is i)
       where
-        marks-all : length (p .marks) ≡ squares s
-        marks-all = b .waters .marks-long
+        inside : i < length mid
+        inside = omega (arith, a .long)
 
-        mid-is : mid ≡ filled (length (p .marks)) (closed (p .marks)) (λ k. fell) old
-        mid-is = a .stored all-fit
-
-        at :
-            (i : ℕ) → i < length old → i < squares s → (c : Bool) → shut p i ≡ c →
+        go :
+            (u : Bool) → unreached s r inflow start end fell rows i ≡ u →
             getD (filled (squares s) (unreached s r inflow start end fell rows) (amountAt s r inflow start end fell) mid) i 0
-            ≡ pick (leb (squares s) i || shut p i) (getD old i 0) (added i)
-        at i h k true c =
-            filled-skipped (squares s) (unreached s r inflow start end fell rows) (amountAt s r inflow start end fell) mid i (omega (arith, a .long)) (closed-unreached i c)
-            ∙ (ap (λ (l : List ℕ). getD l i 0) mid-is
-            ∙ (filled-skipped (length (p .marks)) (closed (p .marks)) (λ k. fell) old i h c ∙ sym (pick-true _ _ (rw (lt-leb (squares s) i k, c)))))
-        at i h k false c = go (unreached s r inflow start end fell rows i) refl
-          where
-            go :
-                (u : Bool) → unreached s r inflow start end fell rows i ≡ u →
-                getD (filled (squares s) (unreached s r inflow start end fell rows) (amountAt s r inflow start end fell) mid) i 0
-                ≡ pick (leb (squares s) i || shut p i) (getD old i 0) (added i)
-            go true u =
-                filled-skipped (squares s) (unreached s r inflow start end fell rows) (amountAt s r inflow start end fell) mid i (omega (arith, a .long)) u
-                ∙ (ap (λ (l : List ℕ). getD l i 0) mid-is
-                ∙ (filled-in (length (p .marks)) (closed (p .marks)) (λ k. fell) old i h (omega arith) c
-                ∙ (sym (dry-of-rows s r inflow start end fell i u) ∙ (amount-is i ∙ sym (pick-false _ _ (rw (lt-leb (squares s) i k, c)))))))
-            go false u =
-                filled-in (squares s) (unreached s r inflow start end fell rows) (amountAt s r inflow start end fell) mid i (omega (arith, a .long)) k u
-                ∙ (amount-is i ∙ sym (pick-false _ _ (rw (lt-leb (squares s) i k, c))))
+            ≡ amountAt s r inflow start end fell i
+        go true u =
+            filled-skipped (squares s) (unreached s r inflow start end fell rows) (amountAt s r inflow start end fell) mid i inside u
+            ∙ (a .stored all-fit i (omega (arith, b .waters .marks-long)) c ∙ sym (dry-of-rows s r inflow start end fell i u))
+        go false u = filled-in (squares s) (unreached s r inflow start end fell rows) (amountAt s r inflow start end fell) mid i inside h u
 
     pub wetted : WaterAdded p g start end old done new
     wetted = record { fits-is = fits-both done refl; stored = stands; long = q .long ∙ a .long }

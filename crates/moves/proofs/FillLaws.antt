@@ -1,15 +1,23 @@
--- Laws of the record that a step works out: it is the step's record, since the rooms hold what is added and lasts is the step's.
+-- Laws of the record that a step works out, in a room that was cleared: square by square it is filled, a square with nothing to write stands
+-- already, and the whole is the step's record, since the rooms hold what is added and lasts is the step's.
 -- Assumes nothing.
 use mathlib.Core.Path.{_≡_, refl, sym, ap, _∙_, subst}
 use mathlib.Core.Bool.{Bool, true, false, not}
 use mathlib.Core.List.{List, [], _∷_}
-use Prim.Native.Nat.{ℕ, _+_, _-_, _^_, _≤_, _<_, min}
+use Prim.Native.Nat.{ℕ, zero, suc, _+_, _-_, _^_, _≤_, _<_, min}
+use native.Mathlib.Decide.{decLt, ℕ-discrete}
+use native.Mathlib.Numerals.{add-one}
 use native.Mathlib.Omega.{arith}
 use lib.Dec.{eqb}
-use lib.ListN.{length, getD}
+use lib.ListN.{length, getD, set, replicate, getD-replicate}
+use lib.Seq.{ext-getD, getD-set-same, getD-set-other}
+use borrow.Author.Tests.{eq-eqb}
+use Rattle.reckon.specs.Tests.{pick}
 use Rattle.reckon.specs.Ranges.{mostDepth}
 use Rattle.reckon.specs.Soaking.{soakDue}
-use Rattle.reckon.proofs.ListLaws.{filled-in, joined-ext}
+use Rattle.reckon.specs.Lists.{placed}
+use Rattle.reckon.proofs.TestLaws.{not-both, pick-true, pick-false}
+use Rattle.reckon.proofs.ListLaws.{joined-ext, length-placed, placed-before, placed-in, placed-after}
 use Rattle.grid.specs.Squares.{north, east, south, west, squares}
 use Rattle.grid.proofs.MarkLaws.{unless-closed}
 use Rattle.rule.specs.Weighing.{weighed}
@@ -18,16 +26,16 @@ use Rattle.rule.specs.declared.rules.Rules.{Rules}
 use Rattle.rule.proofs.WeighingLaws.{weighed-dry, weighed-le}
 use Rattle.ledger.specs.Runs.{Plan, World, seenOf}
 use Rattle.ledger.specs.Flows.{Leaves, fourSides, shut, gone}
-use Rattle.ledger.specs.Record.{squareRecord, recordOf, SquarePut}
+use Rattle.ledger.specs.Record.{squareWords, wordPlace, recordSize, squareRecord, recordOf, HeadPut, SquarePut}
 use Rattle.ledger.specs.After.{stepRecord}
 use Rattle.ledger.specs.inner.Settle.{sends}
 use Rattle.ledger.specs.inner.Walks.{Begun}
-use Rattle.ledger.proofs.RecordLaws.{begun-open, begun-closed}
+use Rattle.ledger.proofs.RecordLaws.{begun-none, begun-open, begun-closed, begun-whole}
 use Rattle.moves.specs.Given.{Ground, Given}
 use Rattle.moves.specs.Drops.{dropsOf}
 use Rattle.moves.specs.Moves.{squareCandidates, candidates, leavesFor, soakedFor, addedFor, stepLength, stepDuration, stepMoves}
 use Rattle.moves.specs.inner.Added.{tables, addedFits, WaterAdded}
-use Rattle.moves.specs.inner.Fill.{firm, LengthWorked, FilledOne, FilledTo, FilledOn}
+use Rattle.moves.specs.inner.Fill.{firm, LengthWorked, Cleared, FilledOne, FilledTo, FilledOn, RecordFilled, IdleAt}
 use Rattle.moves.specs.inner.Ready.{MeadowInRange}
 use Rattle.moves.proofs.MoveLaws.{weights, leaves-open, covered, soaked-open}
 
@@ -98,28 +106,141 @@ module _ (p : Plan) (o : Ground) (depths lasts : List ℕ) (start ms i : ℕ) (e
   unfolding sends
   sends-made q = rw (q, e)
 
--- a turn of the loop over squares
-pub fill-turn :
-    (p : Plan) (o : Ground) (depths lasts added : List ℕ) (held start ms i : ℕ) {old new : List ℕ} → i < squares (p .shape) →
-    Begun p held ms (leavesFor p o depths lasts ms) (λ k. getD lasts k 0) (λ k. getD added k 0) (soakedFor p o depths lasts start ms) i old →
-    FilledOne p o depths lasts added start ms i old new →
-    Begun p held ms (leavesFor p o depths lasts ms) (λ k. getD lasts k 0) (λ k. getD added k 0) (soakedFor p o depths lasts start ms) (i + 1) new
-fill-turn p o depths lasts added held start ms i {old} {new} h b f = go (shut p i) refl
-  where
-    go : (c : Bool) → shut p i ≡ c → Begun p held ms (leavesFor p o depths lasts ms) (λ k. getD lasts k 0) (λ k. getD added k 0) (soakedFor p o depths lasts start ms) (i + 1) new
-    go true c = begun-closed h b c (f .closed-put c)
-    go false c =
-        begun-open h b c
-        (weighed (o .rules) (getD depths i 0) (getD lasts i 0) (getD (o .roughness) i 0) ms (dropsOf p (o .rules) (o .beds) depths i))
-        (λ side l. sym (leaves-open p o depths lasts ms i side c)) refl refl refl (f .open-put c)
+-- ---- closed and dry squares
 
--- squares written from one on
+none-at : (side : ℕ) → _≡_ {A = ℕ} (getD (0 ∷ 0 ∷ 0 ∷ 0 ∷ []) side 0) 0
+none-at zero = refl
+none-at (suc zero) = refl
+none-at (suc (suc zero)) = refl
+none-at (suc (suc (suc zero))) = refl
+none-at (suc (suc (suc (suc side)))) = refl
+
+module _ (p : Plan) (o : Ground) (depths lasts : List ℕ) (ms : ℕ) where
+  abbrev out : Leaves
+  out = leavesFor p o depths lasts ms
+
+  pub dry-leaves : (i side : ℕ) → shut p i ≡ false → getD depths i 0 ≡ 0 → out i side ≡ 0
+  dry-leaves i side c d =
+      leaves-open p o depths lasts ms i side c
+      ∙ (ap (λ (l : List ℕ). getD l side 0) (weighed-dry (o .rules) (getD depths i 0) (getD lasts i 0) (getD (o .roughness) i 0) ms (dropsOf p (o .rules) (o .beds) depths i) d)
+      ∙ none-at side)
+
+  pub dry-gone : (i : ℕ) → shut p i ≡ false → getD depths i 0 ≡ 0 → gone out i ≡ 0
+  dry-gone i c d = omega (arith, covered p o depths lasts ms i c, d)
+
+  -- neither sends
+  pub dry-silent : (i : ℕ) → (shut p i ≡ false → getD depths i 0 ≡ 0) → sends p out i ≡ false
+  unfolding sends
+  dry-silent i d = go (shut p i) refl
+    where
+      go : (b : Bool) → shut p i ≡ b → sends p out i ≡ false
+      go true c = rw c
+      go false c = rw (c, eq-eqb (gone out i) 0 (dry-gone i c (d c)))
+
+-- ---- the words after those that stand
+
+-- zeros over zeros change nothing
+zeros-over :
+    (rec : List ℕ) (a : ℕ) → a + squareWords ≤ length rec → ((k : ℕ) → a ≤ k → getD rec k 0 ≡ 0) → rec ≡ placed rec a (replicate squareWords 0)
+zeros-over rec a fits none =
+    ext-getD 0 rec (placed rec a zeros) (sym (length-placed rec a zeros fits)) (λ k l. at k (decLt k a) (decLt k (a + squareWords)))
+  where
+    zeros : List ℕ
+    zeros = replicate squareWords 0
+
+    at : (k : ℕ) → Dec (k < a) → Dec (k < a + squareWords) → getD rec k 0 ≡ getD (placed rec a zeros) k 0
+    at k (yes l) m = sym (placed-before rec a zeros fits k l)
+    at k (no l) (yes m) =
+        let e : a + (k - a) ≡ k = omega arith in
+        let j : k - a < squareWords = omega arith in
+        none k (omega arith)
+        ∙ sym (ap (λ (x : ℕ). getD (placed rec a zeros) x 0) (sym e) ∙ (placed-in rec a zeros fits (k - a) j ∙ getD-replicate squareWords (k - a) 0 0 j))
+    at k (no l) (no m) = sym (placed-after rec a zeros fits k (omega arith))
+
+-- a square's words leave those after them
+words-past :
+    (old : List ℕ) (i : ℕ) (leaves : List ℕ) (last added soaked : ℕ) {new : List ℕ} → wordPlace i squareWords ≤ length old →
+    SquarePut old i leaves last added soaked new → (k : ℕ) → wordPlace (i + 1) north ≤ k → getD new k 0 ≡ getD old k 0
+words-past old i leaves last added soaked h put k l = ap (λ (r : List ℕ). getD r k 0) put ∙ placed-after old (wordPlace i north) _ (omega arith) k (omega arith)
+
+-- ---- a record filled square by square
+
+module _ (p : Plan) (o : Ground) (depths lasts added : List ℕ) (held start ms : ℕ) where
+  -- the head, in a room that was cleared
+  pub filled-head :
+      (old : List ℕ) {rec : List ℕ} → length old ≡ recordSize p → Cleared old → HeadPut old held ms rec →
+      FilledTo p o depths lasts added held start ms 0 rec
+  filled-head old l none put =
+      record {
+        begun = begun-none old l put;
+        clean = λ k g. ap (λ (r : List ℕ). getD r k 0) put ∙ (placed-after old 0 (held ∷ ms ∷ []) (omega (arith, l)) k (omega arith) ∙ none k);
+      }
+
+  pub filled-whole : {i : ℕ} {rec : List ℕ} → i ≡ squares (p .shape) → FilledTo p o depths lasts added held start ms i rec → RecordFilled p o depths lasts added held start ms rec
+  filled-whole e f = begun-whole e (f .begun)
+
+  module _ (i : ℕ) (h : i < squares (p .shape)) where
+    -- a square of which there is nothing to write has its zeros already
+    idle-turn :
+        {rec : List ℕ} → IdleAt p depths lasts added i → FilledTo p o depths lasts added held start ms i rec → FilledTo p o depths lasts added held start ms (i + 1) rec
+    idle-turn {rec} idle f = record { begun = go (shut p i) refl; clean = λ k l. f .clean k (omega arith) }
+      where
+        same : rec ≡ placed rec (wordPlace i north) (replicate squareWords 0)
+        same = zeros-over rec (wordPlace i north) (omega (arith, f .begun .long, h)) (f .clean)
+
+        go :
+            (c : Bool) → shut p i ≡ c →
+            Begun p held ms (leavesFor p o depths lasts ms) (λ k. getD lasts k 0) (λ k. getD added k 0) (soakedFor p o depths lasts start ms) (i + 1) rec
+        go true c = begun-closed h (f .begun) c same
+        go false c =
+            let none = idle c in
+            begun-open h (f .begun) c (0 ∷ 0 ∷ 0 ∷ 0 ∷ []) (λ side l. none-at side ∙ sym (dry-leaves p o depths lasts ms i side c (none .0))) (sym (none .1)) (sym (none .2))
+            (soaked-dry p o depths lasts start ms i c (none .0)) same
+
+    -- a square that is worked
+    fill-turn :
+        {old new before after : List ℕ} {sent : Bool} → FilledTo p o depths lasts added held start ms i old →
+        FilledOne p o depths lasts added start ms i old new before after sent → FilledTo p o depths lasts added held start ms (i + 1) new
+    fill-turn {old} {new} f one = go (shut p i) refl
+      where
+        weighing : List ℕ
+        weighing = weights p o depths lasts ms i
+
+        go : (c : Bool) → shut p i ≡ c → FilledTo p o depths lasts added held start ms (i + 1) new
+        go true c =
+            subst (λ (rec : List ℕ). FilledTo p o depths lasts added held start ms (i + 1) rec) (sym (one .closed-kept c)) (idle-turn (λ e. not-both c e) f)
+        go false c =
+            record {
+              begun = begun-open h (f .begun) c weighing (λ side l. sym (leaves-open p o depths lasts ms i side c)) refl refl refl (one .open-put c);
+              clean =
+                  λ k l. words-past old i weighing (getD lasts i 0) (getD added i 0) (soakedFor p o depths lasts start ms i)
+                  (omega (arith, f .begun .long, h)) (one .open-put c) k l
+                  ∙ f .clean k (omega arith);
+            }
+
+-- squares done from one on
 module _ (p : Plan) (o : Ground) (depths lasts added : List ℕ) (start ms from : ℕ) where
   -- one more
   pub filled-more :
-      (i : ℕ) {old mid new : List ℕ} → i < squares (p .shape) → FilledOn p o depths lasts added start ms from i old mid →
-      FilledOne p o depths lasts added start ms i mid new → FilledOn p o depths lasts added start ms from (i + 1) old new
+      (i : ℕ) {old mid new before after : List ℕ} {sent : Bool} → i < squares (p .shape) → FilledOn p o depths lasts added start ms from i old mid →
+      FilledOne p o depths lasts added start ms i mid new before after sent → FilledOn p o depths lasts added start ms from (i + 1) old new
   filled-more i h b f held s = fill-turn p o depths lasts added held start ms i h (b held s) f
+
+  -- some that are passed over
+  pub filled-idle :
+      (n m : ℕ) {old new : List ℕ} → n ≤ m → m ≤ squares (p .shape) → ((i : ℕ) → n ≤ i → i < m → IdleAt p depths lasts added i) →
+      FilledOn p o depths lasts added start ms from n old new → FilledOn p o depths lasts added start ms from m old new
+  filled-idle n zero {old} {new} h l idle b =
+      subst (λ (k : ℕ). FilledOn p o depths lasts added start ms from k old new) (let e : n ≡ 0 = omega arith in e) b
+  filled-idle n (suc m) {old} {new} h l idle b =
+      go (ℕ-discrete n (suc m)) (λ g. filled-idle n m {old = old} {new = new} g (omega arith) (λ i k j. idle i k (omega arith)) b)
+    where
+      go :
+          Dec (n ≡ suc m) → (n ≤ m → FilledOn p o depths lasts added start ms from m old new) → FilledOn p o depths lasts added start ms from (suc m) old new
+      go (yes e) ih = subst (λ (k : ℕ). FilledOn p o depths lasts added start ms from k old new) e b
+      go (no e) ih =
+          subst (λ (k : ℕ). FilledOn p o depths lasts added start ms from k old new) (add-one m)
+          (λ held s. idle-turn p o depths lasts added held start ms m l (idle m (omega arith) (omega arith)) (ih (omega arith) held s))
 
   -- more of them
   pub filled-then :
@@ -131,6 +252,29 @@ module _ (p : Plan) (o : Ground) (depths lasts added : List ℕ) (start ms from 
   pub filled-on :
       {i j : ℕ} {old new : List ℕ} → i ≡ j → FilledOn p o depths lasts added start ms from i old new → FilledOn p o depths lasts added start ms from j old new
   filled-on {old = old} {new} e = subst (λ (k : ℕ). FilledOn p o depths lasts added start ms from k old new) e
+
+-- ---- what left a square that is worked
+
+-- as the code stores it
+pub left-set :
+    (p : Plan) (before : List ℕ) (i : ℕ) {four amount : ℕ} → shut p i ≡ false → four ≡ amount → set before i four ≡ pick (shut p i) before (set before i amount)
+left-set p before i c e = ap (set before i) e ∙ sym (pick-false _ _ c)
+
+module _ (p : Plan) (o : Ground) (depths lasts added : List ℕ) (start ms i : ℕ) {old new before after : List ℕ} {sent : Bool}
+    (one : FilledOne p o depths lasts added start ms i old new before after sent) where
+  pub left-here : i < length before → shut p i ≡ false → getD after i 0 ≡ gone (leavesFor p o depths lasts ms) i
+  left-here h c =
+      ap (λ (l : List ℕ). getD l i 0) (one .left-is ∙ pick-false _ _ c) ∙ getD-set-same before i (gone (leavesFor p o depths lasts ms) i) 0 h
+
+  pub left-elsewhere : (k : ℕ) → (k ≡ i → ⊥) → getD after k 0 ≡ getD before k 0
+  left-elsewhere k d = ap (λ (l : List ℕ). getD l k 0) (one .left-is) ∙ go (shut p i) refl
+    where
+      set-there : List ℕ
+      set-there = set before i (gone (leavesFor p o depths lasts ms) i)
+
+      go : (b : Bool) → shut p i ≡ b → getD (pick (shut p i) before set-there) k 0 ≡ getD before k 0
+      go true c = ap (λ (l : List ℕ). getD l k 0) (pick-true before set-there c)
+      go false c = ap (λ (l : List ℕ). getD l k 0) (pick-false before set-there c) ∙ getD-set-other before i k (gone (leavesFor p o depths lasts ms) i) 0 d
 
 -- ---- the step's own times and record, from what the code finds
 
@@ -169,24 +313,26 @@ module _ (p : Plan) (g : Given) (w : World) where
   unfolding addedFor
   same-added start end i = refl
 
+  -- what stands in the room is what the step adds
+  pub room-made :
+      (ms : ℕ) {end : ℕ} {old room : List ℕ} {fits : Bool} → end ≡ w .run .clock + ms →
+      WaterAdded p (tables (g .lie .rules) (g .rain) (g .inflow)) (w .run .clock) end old fits room → fits ≡ true →
+      (i : ℕ) → i < squares (p .shape) → shut p i ≡ false → getD room i 0 ≡ addedFor p g (w .run .clock) (w .run .clock + ms) i
+  room-made ms {end} n t f i h c = t .stored f i h c ∙ (same-added (w .run .clock) end i ∙ ap (λ (x : ℕ). addedFor p g (w .run .clock) x i) n)
+
   pub record-made :
-      {ms end : ℕ} {old room rec : List ℕ} {fits : Bool} → ms ≡ stepDuration p g (seenOf w) → end ≡ w .run .clock + ms → length old ≡ squares (p .shape) →
+      {ms end : ℕ} {old room rec : List ℕ} {fits : Bool} → ms ≡ stepDuration p g (seenOf w) → end ≡ w .run .clock + ms →
       WaterAdded p (tables (g .lie .rules) (g .rain) (g .inflow)) (w .run .clock) end old fits room → fits ≡ true →
       rec ≡ recordOf p (w .run .length) ms (leavesFor p (g .lie) (w .depths) (w .lasts) ms) (λ i. getD (w .lasts) i 0) (λ i. getD room i 0)
       (soakedFor p (g .lie) (w .depths) (w .lasts) (w .run .clock) ms) →
       rec ≡ stepRecord p (stepMoves p g (seenOf w)) w
   unfolding stepRecord
-  record-made {ms} {end} {old} {room} e n o t f q =
+  record-made {ms} {room = room} e n t f q =
       q
-      ∙ (record-same p (w .run .length) ms (leavesFor p (g .lie) (w .depths) (w .lasts) ms) (λ i. getD (w .lasts) i 0) (λ i. getD room i 0) (addedFor p g (w .run .clock) (w .run .clock + ms)) (soakedFor p (g .lie) (w .depths) (w .lasts) (w .run .clock) ms) at
+      ∙ (record-same p (w .run .length) ms (leavesFor p (g .lie) (w .depths) (w .lasts) ms) (λ i. getD (w .lasts) i 0) (λ i. getD room i 0)
+      (addedFor p g (w .run .clock) (w .run .clock + ms)) (soakedFor p (g .lie) (w .depths) (w .lasts) (w .run .clock) ms) (room-made ms n t f)
       ∙ ap
       (λ (x : ℕ).
       recordOf p (w .run .length) x (leavesFor p (g .lie) (w .depths) (w .lasts) x) (λ i. getD (w .lasts) i 0) (addedFor p g (w .run .clock) (w .run .clock + x))
       (soakedFor p (g .lie) (w .depths) (w .lasts) (w .run .clock) x))
       e)
-    where
-      at : (i : ℕ) → i < squares (p .shape) → shut p i ≡ false → getD room i 0 ≡ addedFor p g (w .run .clock) (w .run .clock + ms) i
-      at i h c =
-          ap (λ (l : List ℕ). getD l i 0) (t .stored f)
-          ∙ (filled-in (squares (p .shape)) (shut p) (addedFor p (tables (g .lie .rules) (g .rain) (g .inflow)) (w .run .clock) end) old i (omega arith) h c
-          ∙ (same-added (w .run .clock) end i ∙ ap (λ (x : ℕ). addedFor p g (w .run .clock) x i) n))

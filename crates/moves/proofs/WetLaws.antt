@@ -1,69 +1,42 @@
--- Laws of the wet walk: squares that are closed or dry send nothing, soak nothing and have no candidate, and the walk passes over no other.
+-- Laws of the walks: which squares a walk works, by their bits; that the others send nothing, soak nothing, have no candidate and stand in a
+-- cleared record already; and a row's columns and all rows done one after the other.
 -- Assumes nothing.
-use mathlib.Core.Path.{_≡_, refl, sym, ap, _∙_}
-use mathlib.Core.Bool.{Bool, true, false}
-use mathlib.Core.List.{List, [], _∷_}
-use Prim.Native.Nat.{ℕ, zero, suc, _+_, _-_, _*_, _/_, _%_, _^_, _≤_, _<_, min}
-use native.Mathlib.Nat.{add-zero, div-lt-iff-lt-mul}
+use mathlib.Core.Path.{_≡_, refl, sym, ap, ap₂, _∙_, subst}
+use mathlib.Core.Bool.{Bool, true, false, _&&_, not}
+use mathlib.Core.List.{List}
+use Prim.Native.Nat.{ℕ, zero, suc, _+_, _-_, _*_, _/_, _%_, _^_, _≤_, _<_}
+use native.Mathlib.Nat.{div-lt-iff-lt-mul}
 use native.Mathlib.Decide.{decLt, ℕ-discrete}
 use native.Mathlib.Numerals.{add-one}
 use native.Mathlib.Omega.{arith}
+use lib.Bits.{bitOr, and-le-l, and-le-r, or-add-and}
+use lib.Dec.{eqb}
 use lib.ListN.{length, getD}
 use lib.Pow.{pow-mono}
-use borrow.Author.Tests.{leb-false, lt-ltb, le-ltb, eq-eqb}
+use borrow.Author.Tests.{leb-false, eqb-true, eq-eqb, not-false}
 use Rattle.reckon.specs.Tests.{pick}
-use Rattle.reckon.proofs.TestLaws.{not-both, pick-true, pick-false}
+use Rattle.reckon.specs.Lists.{tabulate}
+use Rattle.reckon.proofs.TestLaws.{not-both, and-left, and-right, and-false, and-true}
 use Rattle.reckon.proofs.ListLaws.{getD-tabulate}
+use Rattle.grid.specs.declared.squares.Shape.{Shape}
 use Rattle.grid.specs.declared.walks.Walk.{Walk}
 use Rattle.grid.specs.declared.walks.Walk.the-variants.{All, Wet}
 use Rattle.grid.specs.Squares.{squares, ShapeInRange}
+use Rattle.grid.specs.Marks.{closed}
 use Rattle.grid.specs.Masks.{bits, isWet, digit, maskFrom, rowMask, bitAt}
 use Rattle.grid.specs.Walks.{leastWet, nextWithin, bitOf}
-use Rattle.grid.proofs.SquareLaws.{square-in, column-within}
-use Rattle.grid.proofs.MaskLaws.{Rowed, rows-whole, mask-in, mask-more, mask-idle, mask-small, wet-closed, wet-open}
-use Rattle.grid.proofs.WalkLaws.{within-from, within-passes, within-set}
+use Rattle.grid.proofs.SquareLaws.{square-in, column-within, row-of, column-of, row-fits}
+use Rattle.grid.proofs.MaskLaws.{Rowed, rows-whole, mask-in, mask-more, mask-idle, mask-small, wet-open}
+use Rattle.grid.proofs.WalkLaws.{within-from, within-passes}
 use Rattle.rule.specs.Length.{leastFrom}
-use Rattle.rule.proofs.WeighingLaws.{weighed-dry}
 use Rattle.ledger.specs.Runs.{Plan}
 use Rattle.ledger.specs.Flows.{Leaves, shut, gone}
-use Rattle.ledger.specs.Record.{SquarePut}
 use Rattle.ledger.specs.inner.Settle.{sends}
-use Rattle.ledger.specs.inner.Walks.{Begun}
-use Rattle.ledger.proofs.RecordLaws.{begun-open, begun-closed}
 use Rattle.moves.specs.Given.{Ground}
-use Rattle.moves.specs.Drops.{dropsOf}
 use Rattle.moves.specs.Moves.{squareCandidates, candidates, leavesFor, soakedFor}
-use Rattle.moves.specs.inner.Fill.{leastBelow, Still, DriesPut, DryTo, senderBit, senderRows, sendersBy, SendersTold}
-use Rattle.moves.proofs.FillLaws.{soaked-dry}
+use Rattle.moves.specs.inner.Fill.{leastBelow, DryTo, FilledOne, FilledColumns, stirs, worksOn, isWorked, workedRows, IdleAt, IdleRow, IdleBy, LeftTo, LeftKept, senderRows}
+use Rattle.moves.proofs.FillLaws.{soaked-dry, dry-gone, dry-silent, filled-more, filled-idle, filled-on, left-here, left-elsewhere}
 use Rattle.moves.proofs.LengthLaws.{least-closed, least-dry, least-begin, least-more, least-all}
-use Rattle.moves.proofs.MoveLaws.{leaves-open, covered}
-
--- ---- closed and dry squares written
-
-none-at : (side : ℕ) → _≡_ {A = ℕ} (getD (0 ∷ 0 ∷ 0 ∷ 0 ∷ []) side 0) 0
-none-at zero = refl
-none-at (suc zero) = refl
-none-at (suc (suc zero)) = refl
-none-at (suc (suc (suc zero))) = refl
-none-at (suc (suc (suc (suc side)))) = refl
-
-module _ (p : Plan) (lasts added : List ℕ) (from : ℕ) where
-  -- one more
-  pub dries-more :
-      (i : ℕ) {old mid new : List ℕ} → from ≤ i → i < squares (p .shape) → DriesPut p lasts added from i old mid →
-      SquarePut mid i (0 ∷ 0 ∷ 0 ∷ 0 ∷ []) (pick (shut p i) 0 (getD lasts i 0)) (pick (shut p i) 0 (getD added i 0)) 0 new →
-      DriesPut p lasts added from (i + 1) old new
-  unfolding pick
-  dries-more i {old} {mid} {new} g h d put held lasted out soaked still b =
-      go (shut p i) refl (d held lasted out soaked (λ k f l. still k f (omega arith)) b)
-    where
-      go :
-          (c : Bool) → shut p i ≡ c → Begun p held lasted out (λ k. getD lasts k 0) (λ k. getD added k 0) soaked i mid →
-          Begun p held lasted out (λ k. getD lasts k 0) (λ k. getD added k 0) soaked (i + 1) new
-      go true c s = begun-closed h s c (put ∙ rw c)
-      go false c s =
-          let none = still i g (omega arith) c in
-          begun-open h s c (0 ∷ 0 ∷ 0 ∷ 0 ∷ []) (λ side l. none-at side ∙ sym (none .0 side l)) (pick-false _ _ c) (pick-false _ _ c) (sym (none .1)) put
 
 -- ---- what the wet rows pass over
 
@@ -72,30 +45,19 @@ module _ (p : Plan) (depths : List ℕ) where
   not-wet : (i : ℕ) → isWet (p .marks) depths leastWet i ≡ false → shut p i ≡ false → getD depths i 0 ≡ 0
   not-wet i w c = let l = leb-false leastWet (getD depths i 0) (sym (wet-open (p .marks) depths leastWet i c) ∙ w) in omega (arith, l)
 
-  wet-is-open : (i : ℕ) → isWet (p .marks) depths leastWet i ≡ true → shut p i ≡ false
-  wet-is-open i w = go (shut p i) refl
-    where
-      go : (b : Bool) → shut p i ≡ b → shut p i ≡ false
-      go true c = not-both w (wet-closed (p .marks) depths leastWet i c)
-      go false c = c
-
   module _ (first : ℕ) {wet : ℕ} (m : wet ≡ maskFrom (isWet (p .marks) depths leastWet) first (p .shape .columns)) where
     wet-bit : {c : ℕ} {b : Bool} → c < p .shape .columns → bitAt wet c ≡ b → isWet (p .marks) depths leastWet (first + c) ≡ b
     wet-bit {c} l e = sym (ap (λ (x : ℕ). bitAt x c) m ∙ mask-in (isWet (p .marks) depths leastWet) first l) ∙ e
 
     -- from a column up to the next set one
     pub next-dry :
-        {column next : ℕ} → p .shape .columns ≤ bits → column ≤ p .shape .columns → next ≡ nextWithin wet column (p .shape .columns) →
-        DryTo p depths first column next
-    next-dry {column} {next} high l e =
+        {column next : ℕ} → column ≤ p .shape .columns → next ≡ nextWithin wet column (p .shape .columns) → DryTo p depths first column next
+    next-dry {column} {next} l e =
         let upTo : next ≤ p .shape .columns = omega (arith, e) in
         record {
           ordered = omega (arith, e, within-from wet column (p .shape .columns) l);
           within = upTo;
           dry = λ c g h. not-wet (first + c) (wet-bit (omega (arith, upTo)) (within-passes wet column (p .shape .columns) c g (omega (arith, e))));
-          open-next =
-              λ h. wet-is-open (first + next)
-              (wet-bit h (ap (bitAt wet) e ∙ within-set wet column (p .shape .columns) high (omega (arith, e, h))));
         }
 
   -- the same by squares
@@ -104,112 +66,237 @@ module _ (p : Plan) (depths : List ℕ) where
       let e : first + (i - first) ≡ i = omega arith in
       ap (λ (k : ℕ). getD depths k 0) (sym e) ∙ d .dry (i - first) (omega arith) (omega arith) (ap (shut p) e ∙ c)
 
--- ---- what a dry square sends and soaks
+-- ---- the rows of squares that say yes
 
-module _ (p : Plan) (o : Ground) (depths lasts : List ℕ) (start ms : ℕ) where
+-- a square's bit in them
+bit-by-rows :
+    (s : Shape) (says : ℕ → Bool) {i : ℕ} → ShapeInRange s → i < squares s → bitOf s (tabulate (s .rows) (rowMask s says)) i ≡ says i
+unfolding bitOf
+bit-by-rows s says {i} fine h =
+    ap (λ (mask : ℕ). bitAt mask (i % s .columns)) (getD-tabulate (s .rows) (rowMask s says) (i / s .columns) (div-lt-iff-lt-mul (fine .columns-low) .1 h))
+    ∙ (mask-in says (i / s .columns * s .columns) (column-within s i (fine .columns-low) refl) ∙ ap says (square-in s i))
+
+-- and in its row's mask
+bit-in-row : (s : Shape) (rows : List ℕ) (row : ℕ) {first column : ℕ} → first ≡ row * s .columns → column < s .columns → bitOf s rows (first + column) ≡ bitAt (getD rows row 0) column
+unfolding bitOf
+bit-in-row s rows row {first} {column} e l =
+    ap (λ (k : ℕ). bitAt (getD rows ((k + column) / s .columns) 0) ((k + column) % s .columns)) e
+    ∙ ap₂ (λ (r c : ℕ). bitAt (getD rows r 0) c) (row-of s row l) (column-of s row l)
+
+-- ---- which squares a walk works
+
+-- both of two numbers are 0 where their digits joined are
+or-none : (a b : ℕ) → bitOr a b ≡ 0 → (a ≡ 0) × (b ≡ 0)
+or-none a b e = (omega (arith, or-add-and a b, and-le-r a b), omega (arith, or-add-and a b, and-le-l a b))
+
+module _ (marks depths lasts added : List ℕ) (i : ℕ) where
+  abbrev together : ℕ
+  together = bitOr (bitOr (getD depths i 0) (getD lasts i 0)) (getD added i 0)
+
+  -- as the code asks
+  pub stirs-none : together ≡ 0 → false ≡ stirs marks depths lasts added i
+  unfolding stirs
+  stirs-none e =
+      let two = or-none (bitOr (getD depths i 0) (getD lasts i 0)) (getD added i 0) e in
+      let one = or-none (getD depths i 0) (getD lasts i 0) (two .0) in
+      sym (and-false (not (closed marks i)) _ (rw (eq-eqb (getD depths i 0) 0 (one .0), eq-eqb (getD lasts i 0) 0 (one .1), eq-eqb (getD added i 0) 0 (two .1))))
+
+  all-none : (eqb (getD depths i 0) 0 && eqb (getD lasts i 0) 0 && eqb (getD added i 0) 0) ≡ true → (getD depths i 0 ≡ 0) × (getD lasts i 0 ≡ 0) × (getD added i 0 ≡ 0)
+  all-none e =
+      let two = and-left (eqb (getD depths i 0) 0 && eqb (getD lasts i 0) 0) (eqb (getD added i 0) 0) e in (
+        eqb-true _ _ (and-left (eqb (getD depths i 0) 0) (eqb (getD lasts i 0) 0) two),
+        eqb-true _ _ (and-right (eqb (getD depths i 0) 0) (eqb (getD lasts i 0) 0) two),
+        eqb-true _ _ (and-right (eqb (getD depths i 0) 0 && eqb (getD lasts i 0) 0) (eqb (getD added i 0) 0) e),
+      )
+
+  pub stirs-some : (together ≡ 0 → ⊥) → not (closed marks i) ≡ stirs marks depths lasts added i
+  unfolding stirs
+  stirs-some d = go (eqb (getD depths i 0) 0 && eqb (getD lasts i 0) 0 && eqb (getD added i 0) 0) refl
+    where
+      go :
+          (b : Bool) → (eqb (getD depths i 0) 0 && eqb (getD lasts i 0) 0 && eqb (getD added i 0) 0) ≡ b →
+          not (closed marks i) ≡ (not (closed marks i) && not (eqb (getD depths i 0) 0 && eqb (getD lasts i 0) 0 && eqb (getD added i 0) 0))
+      go true e = let none = all-none e in absurd (d (ap₂ bitOr (ap₂ bitOr (none .0) (none .1)) (none .2)))
+      go false e = sym (ap (λ (b : Bool). not (closed marks i) && not b) e ∙ and-true (not (closed marks i)))
+
+  idle-works :
+      (walk : Walk) → worksOn walk marks depths lasts added i ≡ false → closed marks i ≡ false → (getD depths i 0 ≡ 0) × (getD lasts i 0 ≡ 0) × (getD added i 0 ≡ 0)
+  unfolding worksOn stirs
+  idle-works All w c = not-both refl w
+  idle-works Wet w c =
+      let rest : Bool = eqb (getD depths i 0) 0 && eqb (getD lasts i 0) 0 && eqb (getD added i 0) 0 in
+      all-none (not-false _ (sym (ap (λ (b : Bool). not b && not rest) c) ∙ w))
+
+  pub works-all : {walk : Walk} → walk ≡ All → 1 ≡ digit (worksOn walk marks depths lasts added i)
+  unfolding worksOn digit pick
+  works-all e = rw e refl
+
+  pub works-wet : {walk : Walk} {b : Bool} {n : ℕ} → walk ≡ Wet → b ≡ stirs marks depths lasts added i → n ≡ digit b → n ≡ digit (worksOn walk marks depths lasts added i)
+  unfolding worksOn
+  works-wet e h n = n ∙ (ap digit h ∙ rw e refl)
+
+module _ (walk : Walk) (p : Plan) (depths lasts added : List ℕ) where
+  -- all rows marked
+  pub rows-marked :
+      (old : List ℕ) (row : ℕ) {rows : List ℕ} {first : ℕ} → length old ≡ p .shape .rows → p .shape .rows ≤ row →
+      Rowed (worksOn walk (p .marks) depths lasts added) (p .shape .columns) old rows row first → rows ≡ workedRows walk p depths lasts added
+  unfolding workedRows
+  rows-marked old row l h r = rows-whole (p .shape) (worksOn walk (p .marks) depths lasts added) old row l h r
+
+  -- a square's bit in them
+  pub worked-bit-is :
+      {i : ℕ} → ShapeInRange (p .shape) → i < squares (p .shape) → bitOf (p .shape) (workedRows walk p depths lasts added) i ≡ isWorked walk p depths lasts added i
+  unfolding workedRows
+  worked-bit-is fine h = bit-by-rows (p .shape) (isWorked walk p depths lasts added) fine h
+
+  -- a square that a walk does not work is closed, or has nothing to work or to write
+  pub idle-at : (i : ℕ) → isWorked walk p depths lasts added i ≡ false → IdleAt p depths lasts added i
+  idle-at i w c = idle-works (p .marks) depths lasts added i walk w c
+
+  pub idle-by : {rows : List ℕ} → ShapeInRange (p .shape) → rows ≡ workedRows walk p depths lasts added → IdleBy p depths lasts added rows
+  idle-by fine e i h b = idle-at i (sym (worked-bit-is fine h) ∙ (ap (λ (r : List ℕ). bitOf (p .shape) r i) (sym e) ∙ b))
+
+  pub left-kept :
+      (o : Ground) (ms : ℕ) (left : List ℕ) {rows : List ℕ} → ShapeInRange (p .shape) → rows ≡ workedRows walk p depths lasts added →
+      LeftTo p o depths lasts ms rows (squares (p .shape)) left → LeftKept walk p o depths lasts added ms left
+  left-kept o ms left fine e l i h c w = l i h c (ap (λ (r : List ℕ). bitOf (p .shape) r i) e ∙ (worked-bit-is fine h ∙ w))
+
+  -- nothing leaves it, and nothing soaks there
+  pub idle-gone : (o : Ground) (ms i : ℕ) → isWorked walk p depths lasts added i ≡ false → shut p i ≡ false → gone (leavesFor p o depths lasts ms) i ≡ 0
+  idle-gone o ms i w c = dry-gone p o depths lasts ms i c (idle-at i w c .0)
+
+  pub idle-soaked : (o : Ground) (start ms i : ℕ) → isWorked walk p depths lasts added i ≡ false → shut p i ≡ false → soakedFor p o depths lasts start ms i ≡ 0
+  idle-soaked o start ms i w c = sym (soaked-dry p o depths lasts start ms i c (idle-at i w c .0))
+
+-- ---- a row's columns done
+
+module _ (p : Plan) (o : Ground) (depths lasts added : List ℕ) (start ms first mask : ℕ) (old before : List ℕ) where
   abbrev out : Leaves
   out = leavesFor p o depths lasts ms
 
-  dry-leaves : (i side : ℕ) → shut p i ≡ false → getD depths i 0 ≡ 0 → out i side ≡ 0
-  dry-leaves i side c d =
-      leaves-open p o depths lasts ms i side c
-      ∙ (ap (λ (l : List ℕ). getD l side 0) (weighed-dry (o .rules) (getD depths i 0) (getD lasts i 0) (getD (o .roughness) i 0) ms (dropsOf p (o .rules) (o .beds) depths i) d)
-      ∙ none-at side)
-
-  dry-silent : (i : ℕ) → (shut p i ≡ false → getD depths i 0 ≡ 0) → sends p out i ≡ false
-  unfolding sends
-  dry-silent i d = go (shut p i) refl
-    where
-      go : (b : Bool) → shut p i ≡ b → sends p out i ≡ false
-      go true c = rw c
-      go false c = rw (c, eq-eqb (gone out i) 0 (omega (arith, covered p o depths lasts ms i c, d c)))
-
-  module _ {first column next : ℕ} (d : DryTo p depths first column next) where
-    pub dry-still : Still p out (soakedFor p o depths lasts start ms) (first + column) (first + next)
-    dry-still i g h c =
-        let z = dry-at p depths d i g h c in
-        ((λ side l. dry-leaves i side c z), sym (soaked-dry p o depths lasts start ms i c z))
-
-    -- the bit of the column that is come to
-    pub bit-none : next ≡ p .shape .columns → 0 ≡ senderBit p out first next
-    unfolding senderBit
-    bit-none e = sym (pick-false _ _ (le-ltb next (p .shape .columns) (omega (arith, e))))
-
-    pub bit-some : {sent : Bool} → next < p .shape .columns → sent ≡ sends p out (first + next) → digit sent * 2 ^ next ≡ senderBit p out first next
-    unfolding senderBit
-    bit-some l e = ap (λ (b : Bool). digit b * 2 ^ next) e ∙ sym (pick-true _ _ (lt-ltb next (p .shape .columns) l))
-
-    -- the mask of the senders so far
-    silent-to : maskFrom (sends p out) first next ≡ maskFrom (sends p out) first column
-    silent-to = mask-idle (sends p out) first column next (d .ordered) (λ c g h. dry-silent (first + c) (d .dry c g h))
-
-    pub senders-more :
-        {senders bit : ℕ} → senders ≡ maskFrom (sends p out) first (min column (p .shape .columns)) → bit ≡ senderBit p out first next →
-        senders + bit ≡ maskFrom (sends p out) first (min (next + 1) (p .shape .columns))
-    unfolding senderBit
-    senders-more {senders} {bit} e b = go (decLt next (p .shape .columns))
-      where
-        so-far : senders ≡ maskFrom (sends p out) first next
-        so-far =
-            e
-            ∙ (ap (maskFrom (sends p out) first) (let q : min column (p .shape .columns) ≡ column = omega (arith, d .ordered, d .within) in q)
-            ∙ sym silent-to)
-
-        go : Dec (next < p .shape .columns) → senders + bit ≡ maskFrom (sends p out) first (min (next + 1) (p .shape .columns))
-        go (yes l) =
-            ap (λ (x : ℕ). senders + x) (b ∙ pick-true _ _ (lt-ltb next (p .shape .columns) l))
-            ∙ (ap (λ (x : ℕ). x + digit (sends p out (first + next)) * 2 ^ next) so-far
-            ∙ (sym (mask-more (sends p out) first next)
-            ∙ ap (maskFrom (sends p out) first) (let q : next + 1 ≡ min (next + 1) (p .shape .columns) = omega arith in q)))
-        go (no l) =
-            ap (λ (x : ℕ). senders + x) (b ∙ pick-false _ _ (le-ltb next (p .shape .columns) (omega arith)))
-            ∙ (add-zero senders
-            ∙ (so-far ∙ ap (maskFrom (sends p out) first) (let q : next ≡ min (next + 1) (p .shape .columns) = omega (arith, d .within) in q)))
-
-  -- the mask of no column
-  pub senders-none : (first : ℕ) {n : ℕ} → n ≡ 0 → 0 ≡ maskFrom (sends p out) first n
+  -- none yet
+  senders-none : 0 ≡ maskFrom (sends p out) first 0
   unfolding maskFrom
-  senders-none first e = ap (maskFrom (sends p out) first) (sym e)
+  senders-none = refl
 
-  -- such a mask has room in 64 bits
-  pub senders-fit : (first n : ℕ) {senders : ℕ} → n ≤ bits → senders ≡ maskFrom (sends p out) first n → senders < 2 ^ bits
-  senders-fit first n h e = omega (arith, e, mask-small (sends p out) first n, pow-mono {i = n} {j = bits} h)
+  pub columns-none : FilledColumns p o depths lasts added start ms first mask 0 old old before before 0
+  columns-none =
+      record {
+        filled = filled-on p o depths lasts added start ms first (let e : first ≡ first + 0 = omega arith in e) (λ held f. f);
+        left-at = λ column l. absurd (omega arith);
+        left-before = λ i l. refl;
+        senders-are = senders-none;
+      }
 
--- ---- the rows of the senders
+  module _ {c : ℕ} {new after : List ℕ} {senders : ℕ} (f : FilledColumns p o depths lasts added start ms first mask c old new before after senders)
+      (fits : first + p .shape .columns ≤ squares (p .shape)) where
+    -- some that are passed over, up to the next set one
+    pub columns-idle :
+        (next : ℕ) → c ≤ p .shape .columns → IdleRow p depths lasts added first mask → next ≡ nextWithin mask c (p .shape .columns) →
+        FilledColumns p o depths lasts added start ms first mask next old new before after senders
+    columns-idle next l idle e =
+        record {
+          filled = filled-idle p o depths lasts added start ms first (first + c) (first + next) (omega (arith, ordered)) (omega (arith, upTo, fits)) at-squares (f .filled);
+          left-at = λ column g b. at-left column g b (decLt column c);
+          left-before = f .left-before;
+          senders-are = f .senders-are ∙ sym (mask-idle (sends p out) first c next ordered (λ k g h. dry-silent p o depths lasts ms (first + k) (λ z. at k g h z .0)));
+        }
+      where
+        ordered : c ≤ next
+        ordered = omega (arith, e, within-from mask c (p .shape .columns) l)
 
-module _ (p : Plan) (o : Ground) (depths lasts : List ℕ) (ms : ℕ) (old : List ℕ) where
+        upTo : next ≤ p .shape .columns
+        upTo = omega (arith, e)
+
+        clear-at : (k : ℕ) → c ≤ k → k < next → bitAt mask k ≡ false
+        clear-at k g h = within-passes mask c (p .shape .columns) k g (omega (arith, e, h))
+
+        at : (k : ℕ) → c ≤ k → k < next → IdleAt p depths lasts added (first + k)
+        at k g h = idle k (omega (arith, upTo, h)) (clear-at k g h)
+
+        at-squares : (i : ℕ) → first + c ≤ i → i < first + next → IdleAt p depths lasts added i
+        at-squares i g h = subst (IdleAt p depths lasts added) (let z : first + (i - first) ≡ i = omega arith in z) (at (i - first) (omega arith) (omega arith))
+
+        at-left :
+            (column : ℕ) → column < next → bitAt mask column ≡ true → Dec (column < c) → shut p (first + column) ≡ false →
+            getD after (first + column) 0 ≡ gone out (first + column)
+        at-left column g b (yes z) = f .left-at column z b
+        at-left column g b (no z) = not-both b (clear-at column (omega arith) g)
+
+    -- one more
+    pub columns-more :
+        {newer later : List ℕ} {sent : Bool} {bit : ℕ} → c < p .shape .columns → length after ≡ squares (p .shape) →
+        FilledOne p o depths lasts added start ms (first + c) new newer after later sent → bit ≡ digit sent * 2 ^ c →
+        FilledColumns p o depths lasts added start ms first mask (c + 1) old newer before later (senders + bit)
+    columns-more {newer} {later} {sent} l long one q =
+        record {
+          filled =
+              filled-on p o depths lasts added start ms first (let e : first + c + 1 ≡ first + (c + 1) = omega arith in e)
+              (filled-more p o depths lasts added start ms first (first + c) (omega (arith, l, fits)) (f .filled) one);
+          left-at = λ column g b z. at column g b z (ℕ-discrete column c);
+          left-before = λ i g. left-elsewhere p o depths lasts added start ms (first + c) one i (λ z. omega (arith, g, z)) ∙ f .left-before i g;
+          senders-are =
+              ap₂ (λ (x y : ℕ). x + y) (f .senders-are) (q ∙ ap (λ (b : Bool). digit b * 2 ^ c) (one .sent-is)) ∙ sym (mask-more (sends p out) first c);
+        }
+      where
+        at :
+            (column : ℕ) → column < c + 1 → bitAt mask column ≡ true → shut p (first + column) ≡ false → Dec (column ≡ c) →
+            getD later (first + column) 0 ≡ gone out (first + column)
+        at column g b z (yes e) =
+            subst (λ (k : ℕ). getD later (first + k) 0 ≡ gone out (first + k)) (sym e)
+            (left-here p o depths lasts added start ms (first + c) one (omega (arith, l, fits, long)) (ap (λ (k : ℕ). shut p (first + k)) (sym e) ∙ z))
+        at column g b z (no e) =
+            left-elsewhere p o depths lasts added start ms (first + c) one (first + column) (λ q. e (omega (arith, q))) ∙ f .left-at column (omega arith) b z
+
+    -- the mask of the senders has room in 64 bits
+    pub senders-fit : c ≤ bits → senders < 2 ^ bits
+    senders-fit h = omega (arith, f .senders-are, mask-small (sends p out) first c, pow-mono {i = c} {j = bits} h)
+
+-- ---- all rows done
+
+module _ (p : Plan) (o : Ground) (depths lasts added : List ℕ) (start ms : ℕ) (rows : List ℕ) where
+  -- a row's mask, where the masks of all rows are known
+  pub idle-row :
+      (row : ℕ) {first mask : ℕ} → row < p .shape .rows → first ≡ row * p .shape .columns → mask ≡ getD rows row 0 →
+      IdleBy p depths lasts added rows → IdleRow p depths lasts added first mask
+  idle-row row {first} {mask} h e m idle column l b =
+      idle (first + column) (omega (arith, row-fits (p .shape) h, e, l))
+      (bit-in-row (p .shape) rows row e l ∙ (ap (λ (x : ℕ). bitAt x column) (sym m) ∙ b))
+
+  pub left-none : (left : List ℕ) → LeftTo p o depths lasts ms rows 0 left
+  left-none left i l = absurd (omega arith)
+
+  pub left-row :
+      (row : ℕ) {first mask senders : ℕ} {old new before after : List ℕ} → first ≡ row * p .shape .columns → mask ≡ getD rows row 0 →
+      LeftTo p o depths lasts ms rows first before →
+      FilledColumns p o depths lasts added start ms first mask (p .shape .columns) old new before after senders →
+      LeftTo p o depths lasts ms rows (first + p .shape .columns) after
+  left-row row {first} {mask} {after = after} e m l f i h c b = go (decLt i first)
+    where
+      go : Dec (i < first) → getD after i 0 ≡ gone (leavesFor p o depths lasts ms) i
+      go (yes z) = f .left-before i z ∙ l i z c b
+      go (no z) =
+          let q : first + (i - first) ≡ i = omega arith in
+          let j : i - first < p .shape .columns = omega arith in
+          subst (λ (k : ℕ). getD after k 0 ≡ gone (leavesFor p o depths lasts ms) k) q
+          (f .left-at (i - first) j
+          (ap (λ (x : ℕ). bitAt x (i - first)) m ∙ (sym (bit-in-row (p .shape) rows row e j) ∙ (ap (bitOf (p .shape) rows) q ∙ b)))
+          (ap (shut p) q ∙ c))
+
+module _ (p : Plan) (o : Ground) (depths lasts : List ℕ) (ms : ℕ) where
   -- all rows told
   pub rows-told :
-      (row : ℕ) {rows : List ℕ} {first : ℕ} → length old ≡ p .shape .rows → p .shape .rows ≤ row →
+      (old : List ℕ) (row : ℕ) {rows : List ℕ} {first : ℕ} → length old ≡ p .shape .rows → p .shape .rows ≤ row →
       Rowed (sends p (leavesFor p o depths lasts ms)) (p .shape .columns) old rows row first → rows ≡ senderRows p o depths lasts ms
   unfolding senderRows
-  rows-told row l h r = rows-whole (p .shape) (sends p (leavesFor p o depths lasts ms)) old row l h r
+  rows-told old row l h r = rows-whole (p .shape) (sends p (leavesFor p o depths lasts ms)) old row l h r
 
-  -- by either walk
-  pub told-none : {walk : Walk} → walk ≡ All → SendersTold walk p o depths lasts ms old old
-  unfolding sendersBy
-  told-none e = rw e refl
-
-  pub told-wet : {walk : Walk} {new : List ℕ} → walk ≡ Wet → new ≡ senderRows p o depths lasts ms → SendersTold walk p o depths lasts ms old new
-  unfolding sendersBy
-  told-wet e r = rw e r
-
-  pub told-rows : {walk : Walk} {new : List ℕ} → walk ≡ Wet → SendersTold walk p o depths lasts ms old new → new ≡ senderRows p o depths lasts ms
-  unfolding sendersBy
-  told-rows e t = t ∙ rw e refl
-
--- a square's bit in them
-pub sender-bit-is :
-    (p : Plan) (o : Ground) (depths lasts : List ℕ) (ms : ℕ) {i : ℕ} → ShapeInRange (p .shape) → i < squares (p .shape) →
-    bitOf (p .shape) (senderRows p o depths lasts ms) i ≡ sends p (leavesFor p o depths lasts ms) i
-unfolding senderRows bitOf
-sender-bit-is p o depths lasts ms {i} fine h =
-    ap (λ (mask : ℕ). bitAt mask (i % p .shape .columns)) (getD-tabulate (p .shape .rows) (rowMask (p .shape) says) (i / p .shape .columns) (div-lt-iff-lt-mul (fine .columns-low) .1 h))
-    ∙ (mask-in says (i / p .shape .columns * p .shape .columns) (column-within (p .shape) i (fine .columns-low) refl)
-    ∙ ap says (square-in (p .shape) i))
-  where
-    says : ℕ → Bool
-    says = sends p (leavesFor p o depths lasts ms)
+  -- a square's bit in them
+  pub sender-bit-is :
+      {i : ℕ} → ShapeInRange (p .shape) → i < squares (p .shape) →
+      bitOf (p .shape) (senderRows p o depths lasts ms) i ≡ sends p (leavesFor p o depths lasts ms) i
+  unfolding senderRows
+  sender-bit-is fine h = bit-by-rows (p .shape) (sends p (leavesFor p o depths lasts ms)) fine h
 
 -- ---- candidates of the squares passed over
 

@@ -9,43 +9,27 @@ use reckon::tables::inflow_added;
 use reckon::tables::rain_added;
 use rule::rules::Rules;
 ghost use mathlib.Core.Path.{_≡_};
-ghost use Prim.Native.Nat.{_/_, _<_};
+ghost use mathlib.Core.Bool.{true};
+ghost use Prim.Native.Nat.{_/_, _≤_, _<_};
 ghost use lib.ListN.{length};
-ghost use Rattle.reckon.specs.Tests.{pick};
+ghost use Rattle.reckon.specs.Tests.{allBelow};
+ghost use Rattle.reckon.specs.Lists.{tabulate};
+ghost use Rattle.reckon.specs.Ranges.{mostSide};
+ghost use Rattle.reckon.specs.Tables.{inflowAdded, inflowKind, onSquare};
+ghost use Rattle.reckon.specs.inner.Fits.{Fits};
 ghost use Rattle.grid.specs.Squares.{squares};
-ghost use Rattle.grid.specs.Marks.{inflowWords};
+ghost use Rattle.grid.specs.Marks.{closed, inflowWords};
 ghost use Rattle.ledger.specs.Runs.{plan};
-ghost use Rattle.moves.specs.inner.Added.{Between, PouredAll, PouredRow, Pours, Rained, RainedAll, WaterAdded, tables};
+ghost use Rattle.moves.specs.inner.Added.{Between, PouredAll, PouredRow, Pours, RainedAll, WaterAdded, rowAlone, rowsApart, tables};
 
-// The old number of a closed square, else the new one: a choice and not a branch, so that a walk over all squares is quick.
-pub(crate) fn unless_closed(closed: bool, new: u32, old: u32) -> u32
-    ensures { λ r. ⌜ r ≡ pick closed old new ⌝ }
-{
-    if closed { old } else { new }
-}
-
-// Stores the rain at a square that is not closed, unless it is more than a square can hold.
-fn rain_square(marks: &[u8], rain: u64, square: usize, room: &mut [u32]) -> bool
-    requires { ⌜ (square < length (now marks)) × (square < length (now room)) ⌝ }
-    ensures { λ r. ⌜ Rained (now (marks .entry)) rain square (now (room .entry)) r (now (room .exit)) ⌝ }
-{
-    let closed = is_closed(marks, square);
-    if (MOST_DEPTH as u64) < rain {
-        return closed;
-    }
-    room[square] = unless_closed(closed, rain as u32, room[square]);
-    true
-}
-
-// Stores the rain at every square that is not closed.
-fn rain_all(marks: &[u8], rain: u64, room: &mut [u32]) -> bool
-    requires { ⌜ length (now room) ≡ length (now marks) ⌝ }
-    ensures { λ r. ⌜ RainedAll (now (marks .entry)) rain (now (room .entry)) r (now (room .exit)) ⌝ }
+// Whether every square is closed.
+fn all_closed(marks: &[u8]) -> bool
+    ensures { λ r. ⌜ r ≡ allBelow (length (now (marks .entry))) (closed (now (marks .entry))) ⌝ }
 {
     let squares = marks.len();
     let mut square = 0;
     while square < squares {
-        if !rain_square(marks, rain, square, room) {
+        if !is_closed(marks, square) {
             return false;
         }
         square += 1;
@@ -53,23 +37,116 @@ fn rain_all(marks: &[u8], rain: u64, room: &mut [u32]) -> bool
     true
 }
 
+// Stores one amount at every place of a room.
+fn store_all(amount: u32, room: &mut [u32])
+    ensures { λ _. ⌜ now (room .exit) ≡ tabulate (length (now (room .entry))) (λ i. amount) ⌝ }
+{
+    let places = room.len();
+    let mut place = 0;
+    while place < places {
+        room[place] = amount;
+        place += 1;
+    }
+}
+
+// Stores the rain at every square, unless a square not closed could not hold it. What stands at a
+// closed square of the room decides nothing, so no mark is looked at.
+fn rain_all(marks: &[u8], rain: u64, room: &mut [u32]) -> bool
+    requires { ⌜ length (now room) ≡ length (now marks) ⌝ }
+    ensures { λ r. ⌜ RainedAll (now (marks .entry)) rain (now (room .entry)) r (now (room .exit)) ⌝ }
+{
+    if (MOST_DEPTH as u64) < rain {
+        return all_closed(marks);
+    }
+    store_all(rain as u32, room);
+    true
+}
+
+// Whether inflow row k is for the square at a row and a column.
+fn row_is_for(inflow: &[u32], k: usize, row: u64, column: u64) -> bool
+    requires { ⌜ k < length (now inflow) / inflowWords ⌝ }
+    ensures { λ r. ⌜ r ≡ onSquare (now (inflow .entry)) row column k ⌝ }
+{
+    if number(inflow, INFLOW_WIDTH * k) != row {
+        return false;
+    }
+    number(inflow, INFLOW_WIDTH * k + 1) == column
+}
+
+// Whether no row before inflow row j is for the square of row j.
+fn row_alone(inflow: &[u32], j: usize) -> bool
+    requires { ⌜ j < length (now inflow) / inflowWords ⌝ }
+    ensures { λ r. ⌜ r ≡ rowAlone (now (inflow .entry)) j ⌝ }
+{
+    let row = number(inflow, INFLOW_WIDTH * j);
+    let column = number(inflow, INFLOW_WIDTH * j + 1);
+    let mut k = 0;
+    while k < j {
+        if row_is_for(inflow, k, row, column) {
+            return false;
+        }
+        k += 1;
+    }
+    true
+}
+
+// Whether no two inflow rows are for the same square: then what is added to a row's square is that row's alone.
+pub fn rows_apart(inflow: &[u32]) -> bool
+    ensures { λ r. ⌜ r ≡ rowsApart (now (inflow .entry)) ⌝ }
+{
+    let rows = inflow.len() / INFLOW_WIDTH;
+    let mut j = 0;
+    while j < rows {
+        if !row_alone(inflow, j) {
+            return false;
+        }
+        j += 1;
+    }
+    true
+}
+
+// What inflow adds to the square of inflow row j: where the rows stand apart, what that row adds; else a sum over all rows.
+fn poured(
+    inflow: &[u32],
+    apart: bool,
+    j: usize,
+    row: u64,
+    column: u64,
+    side: u64,
+    start: u64,
+    end: u64,
+) -> u64
+    requires { ⌜ (apart ≡ rowsApart (now inflow)) × (j < length (now inflow) / inflowWords) × (onSquare (now inflow) row column j ≡ true) ⌝ }
+    requires { ⌜ (Fits inflowKind (now inflow) end) × (start ≤ end) × (0 < side) × (side ≤ mostSide) ⌝ }
+    ensures { λ r. ⌜ r ≡ inflowAdded (now (inflow .entry)) row column side start end ⌝ }
+{
+    if !apart {
+        return inflow_added(inflow, row, column, side, start, end);
+    }
+    let at = INFLOW_WIDTH * j;
+    let past = at + INFLOW_WIDTH;
+    let alone = &inflow[at..past];
+    inflow_added(alone, row, column, side, start, end)
+}
+
 // Stores what is added to the square of inflow row j, unless that could not hold it.
 fn pour_row(
     shape: Shape,
     rules: Rules,
     inflow: &[u32],
+    apart: bool,
     start: u64,
     end: u64,
     rain: u64,
     j: usize,
     room: &mut [u32],
 ) -> bool
-    requires { ⌜ (Pours shape rules (now inflow) start end rain) × (length (now room) ≡ squares shape) × (j < length (now inflow) / inflowWords) ⌝ }
+    requires { ⌜ (Pours shape rules (now inflow) start end rain) × (length (now room) ≡ squares shape) × (j < length (now inflow) / inflowWords) × (apart ≡ rowsApart (now inflow)) ⌝ }
     ensures { λ r. ⌜ PouredRow shape rules (now (inflow .entry)) start end rain j (now (room .entry)) r (now (room .exit)) ⌝ }
 {
     let row = number(inflow, INFLOW_WIDTH * j);
     let column = number(inflow, INFLOW_WIDTH * j + 1);
-    let amount = rain + inflow_added(inflow, row, column, rules.square_side, start, end);
+    let amount = rain + poured(inflow, apart, j, row, column, rules.square_side, start, end);
     if (MOST_DEPTH as u64) < amount {
         return false;
     }
@@ -83,18 +160,19 @@ fn pour_all(
     shape: Shape,
     rules: Rules,
     inflow: &[u32],
+    apart: bool,
     start: u64,
     end: u64,
     rain: u64,
     room: &mut [u32],
 ) -> bool
-    requires { ⌜ (Pours shape rules (now inflow) start end rain) × (length (now room) ≡ squares shape) ⌝ }
+    requires { ⌜ (Pours shape rules (now inflow) start end rain) × (length (now room) ≡ squares shape) × (apart ≡ rowsApart (now inflow)) ⌝ }
     ensures { λ r. ⌜ PouredAll shape rules (now (inflow .entry)) start end rain (now (room .entry)) r (now (room .exit)) ⌝ }
 {
     let rows = inflow.len() / INFLOW_WIDTH;
     let mut j = 0;
     while j < rows {
-        if !pour_row(shape, rules, inflow, start, end, rain, j, room) {
+        if !pour_row(shape, rules, inflow, apart, start, end, rain, j, room) {
             return false;
         }
         j += 1;
@@ -102,24 +180,27 @@ fn pour_all(
     true
 }
 
-// Stores what a step from start to end adds to each square not closed; false where a square could not hold it.
+// Stores what a step from start to end adds to each square not closed; false where a square could not hold it. The caller knows whether the rows
+// stand apart: tables do not change while a run goes on.
 pub fn add_water(
     shape: Shape,
     rules: Rules,
     marks: &[u8],
     rain: &[u32],
     inflow: &[u32],
+    apart: bool,
     start: u64,
     end: u64,
     room: &mut [u32],
 ) -> bool
     requires { ⌜ Between (plan shape (now marks)) (tables rules (now rain) (now inflow)) start end ⌝ }
     requires { ⌜ length (now room) ≡ squares shape ⌝ }
+    requires { ⌜ apart ≡ rowsApart (now inflow) ⌝ }
     ensures { λ r. ⌜ WaterAdded (plan shape (now (marks .entry))) (tables rules (now (rain .entry)) (now (inflow .entry))) start end (now (room .entry)) r (now (room .exit)) ⌝ }
 {
     let fallen = rain_added(rain, start, end);
     if !rain_all(marks, fallen, room) {
         return false;
     }
-    pour_all(shape, rules, inflow, start, end, fallen, room)
+    pour_all(shape, rules, inflow, apart, start, end, fallen, room)
 }

@@ -92,8 +92,8 @@ fn side_drop(
     0
 }
 
-// The four drops of a square, north, east, south, west.
-pub(crate) fn drops_of(
+// The four drops of a square, north, east, south, west, each side tested.
+pub(crate) fn drops_by_sides(
     shape: Shape,
     rules: Rules,
     marks: &[u8],
@@ -106,9 +106,6 @@ pub(crate) fn drops_of(
     ensures { λ r. ⌜ r ≡ dropsOf (plan shape (now (marks .entry))) rules (now (beds .entry)) (now (depths .entry)) square ⌝ }
 {
     let own = level_of(beds, depths, square);
-    if !on_rim(shape, square, column) {
-        return drops_within(shape, marks, beds, depths, square, own);
-    }
     [
         side_drop(
             shape,
@@ -135,4 +132,24 @@ pub(crate) fn drops_of(
         ),
         side_drop(shape, rules, marks, beds, depths, square, column, WEST, own),
     ]
+}
+
+// The four drops of a square, where it can be without a test of each side. One caller: so the compiler works it there, with no call.
+pub(crate) fn drops_of(
+    shape: Shape,
+    rules: Rules,
+    marks: &[u8],
+    beds: &[u32],
+    depths: &[u32],
+    square: usize,
+    column: usize,
+) -> [u64; 4]
+    requires { ⌜ (GroundLent (plan shape (now marks)) (now beds) (now depths)) × (OnSquare shape square column) × (EdgeInRange rules) ⌝ }
+    ensures { λ r. ⌜ r ≡ dropsOf (plan shape (now (marks .entry))) rules (now (beds .entry)) (now (depths .entry)) square ⌝ }
+{
+    if on_rim(shape, square, column) {
+        return drops_by_sides(shape, rules, marks, beds, depths, square, column);
+    }
+    let own = level_of(beds, depths, square);
+    drops_within(shape, marks, beds, depths, square, own)
 }

@@ -1,15 +1,11 @@
-// The record of a step, worked from the water before it.
-use crate::added::unless_closed;
+// The record of a step, worked from the water before it: one walk over the squares that have something to work or to write, all others
+// standing in a record that is cleared first.
 use crate::drops::drops_of;
 use grid::marks::is_closed;
-use grid::masks::row_mask;
 use grid::squares::Shape;
-use grid::squares::next_column;
-use grid::squares::squares_of;
-use grid::walks::LEAST_WET;
 use grid::walks::Walk;
+use grid::walks::next_after;
 use grid::walks::next_within;
-use ledger::record::put_closed;
 use ledger::record::put_head;
 use ledger::record::put_square;
 use reckon::numbers::lesser;
@@ -19,23 +15,18 @@ use rule::rules::Rules;
 use rule::weighing::weigh;
 ghost use mathlib.Core.Path.{_≡_};
 ghost use mathlib.Core.Bool.{false};
-ghost use mathlib.Core.List.{[], _∷_};
 ghost use Prim.Native.Nat.{_+_, _*_, _^_, _<_, _≤_, min};
 ghost use lib.ListN.{getD, length};
-ghost use Rattle.reckon.specs.Tests.{pick};
 ghost use Rattle.reckon.specs.Ranges.{mostDepth, mostLength};
 ghost use Rattle.reckon.specs.Soaking.{Soaks, soakDue};
 ghost use Rattle.grid.specs.Squares.{OnSquare, squares};
 ghost use Rattle.grid.specs.Marks.{closed};
-ghost use Rattle.grid.specs.Masks.{RowMasked, bits, digit, maskFrom};
-ghost use Rattle.grid.specs.Walks.{InRow, leastWet};
+ghost use Rattle.grid.specs.Masks.{bits, digit, maskFrom};
+ghost use Rattle.grid.specs.Walks.{InRow};
 ghost use Rattle.ledger.specs.Runs.{plan};
 ghost use Rattle.ledger.specs.Flows.{fourSides};
-ghost use Rattle.ledger.specs.Record.{SquarePut, squareWords, wordPlace};
-ghost use Rattle.ledger.specs.inner.Settle.{sends};
 ghost use Rattle.moves.specs.Given.{ground};
-ghost use Rattle.moves.specs.Moves.{leavesFor};
-ghost use Rattle.moves.specs.inner.Fill.{DriesPut, DryTo, FilledOn, FilledOne, Fills, Lent, RecordFilled, SendersTold, senderBit, senderRows};
+ghost use Rattle.moves.specs.inner.Fill.{Cleared, FilledColumns, FilledOn, FilledOne, Fills, HasRow, HasRows, HasSquare, IdleBy, IdleRow, LeftKept, LeftTo, RecordFilled, senderRows, stirs, workedRows, worksOn};
 
 // What leaves through the four sides together.
 fn four_leaving(leaves: [u64; 4]) -> u64
@@ -53,7 +44,7 @@ fn soaks(rate: u64, start: u64, duration: u64, left: u64) -> u64
     lesser(soak_due(rate, start, start + duration), left)
 }
 
-// Works the words of a square that is not closed; the answer tells whether it sends anything.
+// Works the words of a square that is not closed, and keeps what left it; the answer tells whether anything did.
 fn work_square(
     shape: Shape,
     rules: Rules,
@@ -69,10 +60,11 @@ fn work_square(
     square: usize,
     column: usize,
     rec: &mut [u32],
+    left: &mut [u32],
 ) -> bool
     requires { ⌜ Fills (plan shape (now marks)) (ground rules (now beds) (now roughness) (now rates)) (now depths) (now lasts) (now added) start duration (now rec) ⌝ }
-    requires { ⌜ (OnSquare shape square column) × (closed (now marks) square ≡ false) ⌝ }
-    ensures { λ r. ⌜ (FilledOne (plan shape (now (marks .entry))) (ground rules (now (beds .entry)) (now (roughness .entry)) (now (rates .entry))) (now (depths .entry)) (now (lasts .entry)) (now (added .entry)) start duration square (now (rec .entry)) (now (rec .exit))) × (r ≡ sends (plan shape (now (marks .entry))) (leavesFor (plan shape (now (marks .entry))) (ground rules (now (beds .entry)) (now (roughness .entry)) (now (rates .entry))) (now (depths .entry)) (now (lasts .entry)) duration) square) ⌝ }
+    requires { ⌜ (OnSquare shape square column) × (closed (now marks) square ≡ false) × (length (now left) ≡ squares shape) ⌝ }
+    ensures { λ r. ⌜ FilledOne (plan shape (now (marks .entry))) (ground rules (now (beds .entry)) (now (roughness .entry)) (now (rates .entry))) (now (depths .entry)) (now (lasts .entry)) (now (added .entry)) start duration square (now (rec .entry)) (now (rec .exit)) (now (left .entry)) (now (left .exit)) r ⌝ }
 {
     let depth = number(depths, square);
     let drops = drops_of(shape, rules, marks, beds, depths, square, column);
@@ -87,12 +79,11 @@ fn work_square(
     let gone = four_leaving(leaves);
     let soaked = soaks(number(rates, square), start, duration, depth - gone);
     put_square(rec, square, leaves, lasts[square], added[square], soaked);
+    left[square] = gone as u32;
     gone != 0
 }
 
-// ---- all squares, one after the other
-
-// Works one square's words of the record.
+// Works one square: a closed one has its zeros already, a dry one sends and soaks nothing.
 fn fill_square(
     shape: Shape,
     rules: Rules,
@@ -108,18 +99,19 @@ fn fill_square(
     square: usize,
     column: usize,
     rec: &mut [u32],
-)
+    left: &mut [u32],
+) -> bool
     requires { ⌜ Fills (plan shape (now marks)) (ground rules (now beds) (now roughness) (now rates)) (now depths) (now lasts) (now added) start duration (now rec) ⌝ }
-    requires { ⌜ OnSquare shape square column ⌝ }
-    ensures { λ _. ⌜ FilledOne (plan shape (now (marks .entry))) (ground rules (now (beds .entry)) (now (roughness .entry)) (now (rates .entry))) (now (depths .entry)) (now (lasts .entry)) (now (added .entry)) start duration square (now (rec .entry)) (now (rec .exit)) ⌝ }
+    requires { ⌜ (OnSquare shape square column) × (length (now left) ≡ squares shape) ⌝ }
+    ensures { λ r. ⌜ FilledOne (plan shape (now (marks .entry))) (ground rules (now (beds .entry)) (now (roughness .entry)) (now (rates .entry))) (now (depths .entry)) (now (lasts .entry)) (now (added .entry)) start duration square (now (rec .entry)) (now (rec .exit)) (now (left .entry)) (now (left .exit)) r ⌝ }
 {
     if is_closed(marks, square) {
-        put_closed(rec, square);
-        return;
+        return false;
     }
     if depths[square] == 0 {
         put_square(rec, square, [0, 0, 0, 0], lasts[square], added[square], 0);
-        return;
+        left[square] = 0;
+        return false;
     }
     work_square(
         shape,
@@ -136,89 +128,93 @@ fn fill_square(
         square,
         column,
         rec,
-    );
+        left,
+    )
 }
 
-// Works the words of every square.
-fn fill_all(
-    shape: Shape,
-    rules: Rules,
+// ---- which squares are worked
+
+// Whether a square has anything to work or to write. One test of the three numbers together, since most squares of a dry meadow have none.
+fn stirs(marks: &[u8], depths: &[u32], lasts: &[u32], added: &[u32], square: usize) -> bool
+    requires { ⌜ HasSquare (now marks) (now depths) (now lasts) (now added) square ⌝ }
+    ensures { λ r. ⌜ r ≡ stirs (now (marks .entry)) (now (depths .entry)) (now (lasts .entry)) (now (added .entry)) square ⌝ }
+{
+    if depths[square] | lasts[square] | added[square] == 0 {
+        return false;
+    }
+    !is_closed(marks, square)
+}
+
+// 1 for a square that a walk works, else 0.
+fn worked_digit(
+    walk: Walk,
     marks: &[u8],
-    beds: &[u32],
-    roughness: &[u32],
-    rates: &[u32],
     depths: &[u32],
     lasts: &[u32],
     added: &[u32],
-    start: u64,
-    duration: u64,
-    rec: &mut [u32],
-)
-    requires { ⌜ Fills (plan shape (now marks)) (ground rules (now beds) (now roughness) (now rates)) (now depths) (now lasts) (now added) start duration (now rec) ⌝ }
-    ensures { λ _. ⌜ FilledOn (plan shape (now (marks .entry))) (ground rules (now (beds .entry)) (now (roughness .entry)) (now (rates .entry))) (now (depths .entry)) (now (lasts .entry)) (now (added .entry)) start duration 0 (squares shape) (now (rec .entry)) (now (rec .exit)) ⌝ }
+    square: usize,
+) -> u64
+    requires { ⌜ HasSquare (now marks) (now depths) (now lasts) (now added) square ⌝ }
+    ensures { λ r. ⌜ r ≡ digit (worksOn walk (now (marks .entry)) (now (depths .entry)) (now (lasts .entry)) (now (added .entry)) square) ⌝ }
 {
-    let squares = squares_of(shape);
-    let mut square = 0;
-    let mut column = 0;
-    while square < squares {
-        fill_square(
-            shape,
-            rules,
-            marks,
-            beds,
-            roughness,
-            rates,
-            depths,
-            lasts,
-            added,
-            start,
-            duration,
-            square,
-            column,
-            rec,
-        );
-        square += 1;
-        column = next_column(shape, column);
+    match walk {
+        Walk::All => 1,
+        Walk::Wet => {
+            if stirs(marks, depths, lasts, added, square) {
+                return 1;
+            }
+            0
+        }
     }
 }
 
-// ---- the wet walk
-
-// Writes a square that is closed or dry: nothing leaves it and nothing soaks. Its mark chooses and does not branch.
-fn put_dry(marks: &[u8], lasts: &[u32], added: &[u32], square: usize, rec: &mut [u32])
-    requires { ⌜ (square < length (now marks)) × (square < length (now lasts)) × (square < length (now added)) × (wordPlace square squareWords ≤ length (now rec)) ⌝ }
-    ensures { λ _. ⌜ SquarePut (now (rec .entry)) square (0 ∷ 0 ∷ 0 ∷ 0 ∷ []) (pick (closed (now (marks .entry)) square) 0 (getD (now (lasts .entry)) square 0)) (pick (closed (now (marks .entry)) square) 0 (getD (now (added .entry)) square 0)) 0 (now (rec .exit)) ⌝ }
-{
-    let closed = is_closed(marks, square);
-    put_square(
-        rec,
-        square,
-        [0, 0, 0, 0],
-        unless_closed(closed, lasts[square], 0),
-        unless_closed(closed, added[square], 0),
-        0,
-    );
-}
-
-// Writes the squares from one up to another, all closed or dry.
-fn put_dries(
-    shape: Shape,
+// The mask of the squares of a row that a walk works.
+fn worked_row(
+    walk: Walk,
     marks: &[u8],
+    depths: &[u32],
     lasts: &[u32],
     added: &[u32],
-    from: usize,
-    to: usize,
-    rec: &mut [u32],
-)
-    requires { ⌜ (Lent shape (now marks) (now lasts) (now added) (now rec)) × (from ≤ to) × (to ≤ squares shape) ⌝ }
-    ensures { λ _. ⌜ DriesPut (plan shape (now (marks .entry))) (now (lasts .entry)) (now (added .entry)) from to (now (rec .entry)) (now (rec .exit)) ⌝ }
+    first: usize,
+    columns: usize,
+) -> u64
+    requires { ⌜ HasRow (now marks) (now depths) (now lasts) (now added) first columns ⌝ }
+    ensures { λ r. ⌜ r ≡ maskFrom (worksOn walk (now (marks .entry)) (now (depths .entry)) (now (lasts .entry)) (now (added .entry))) first columns ⌝ }
 {
-    let mut square = from;
-    while square < to {
-        put_dry(marks, lasts, added, square, rec);
-        square += 1;
+    let mut mask: u64 = 0;
+    let mut ahead = columns;
+    while 0 < ahead {
+        ahead -= 1;
+        mask = mask * 2 + worked_digit(walk, marks, depths, lasts, added, first + ahead);
+    }
+    mask
+}
+
+// Marks the squares that a walk works, row by row. A pass of its own: beside the work on a square the loop would not stay in registers.
+fn mark_worked(
+    walk: Walk,
+    shape: Shape,
+    marks: &[u8],
+    depths: &[u32],
+    lasts: &[u32],
+    added: &[u32],
+    worked: &mut [u64],
+)
+    requires { ⌜ HasRows (plan shape (now marks)) (now depths) (now lasts) (now added) (now worked) ⌝ }
+    ensures { λ _. ⌜ now (worked .exit) ≡ workedRows walk (plan shape (now (marks .entry))) (now (depths .entry)) (now (lasts .entry)) (now (added .entry)) ⌝ }
+{
+    let rows = shape.rows;
+    let columns = shape.columns;
+    let mut row = 0;
+    let mut first = 0;
+    while row < rows {
+        worked[row] = worked_row(walk, marks, depths, lasts, added, first, columns);
+        row += 1;
+        first += columns;
     }
 }
+
+// ---- the walk
 
 // The bit of a column, 0 where it sent nothing.
 fn sender_bit(sent: bool, column: usize) -> u64
@@ -231,60 +227,7 @@ fn sender_bit(sent: bool, column: usize) -> u64
     0
 }
 
-// A row from a column up to the next one with water, and that one, unless the row ends before; the answer is its bit where it sends.
-fn fill_up_to(
-    shape: Shape,
-    rules: Rules,
-    marks: &[u8],
-    beds: &[u32],
-    roughness: &[u32],
-    rates: &[u32],
-    depths: &[u32],
-    lasts: &[u32],
-    added: &[u32],
-    start: u64,
-    duration: u64,
-    first: usize,
-    column: usize,
-    next: usize,
-    rec: &mut [u32],
-) -> u64
-    requires { ⌜ Fills (plan shape (now marks)) (ground rules (now beds) (now roughness) (now rates)) (now depths) (now lasts) (now added) start duration (now rec) ⌝ }
-    requires { ⌜ (InRow shape first) × (DryTo (plan shape (now marks)) (now depths) first column next) ⌝ }
-    ensures { λ r. ⌜ (FilledOn (plan shape (now (marks .entry))) (ground rules (now (beds .entry)) (now (roughness .entry)) (now (rates .entry))) (now (depths .entry)) (now (lasts .entry)) (now (added .entry)) start duration (first + column) (first + min (next + 1) (shape .columns)) (now (rec .entry)) (now (rec .exit))) × (r ≡ senderBit (plan shape (now (marks .entry))) (leavesFor (plan shape (now (marks .entry))) (ground rules (now (beds .entry)) (now (roughness .entry)) (now (rates .entry))) (now (depths .entry)) (now (lasts .entry)) duration) first next) ⌝ }
-{
-    put_dries(
-        shape,
-        marks,
-        lasts,
-        added,
-        first + column,
-        first + next,
-        rec,
-    );
-    if next == shape.columns {
-        return 0;
-    }
-    let sent = work_square(
-        shape,
-        rules,
-        marks,
-        beds,
-        roughness,
-        rates,
-        depths,
-        lasts,
-        added,
-        start,
-        duration,
-        first + next,
-        next,
-        rec,
-    );
-    sender_bit(sent, next)
-}
-
-// A row, by its columns with water; the answer is the mask of those that send.
+// A row, by its columns that are worked; the answer is the mask of those that send.
 fn fill_row(
     shape: Shape,
     rules: Rules,
@@ -298,19 +241,19 @@ fn fill_row(
     start: u64,
     duration: u64,
     first: usize,
-    wet: u64,
+    worked: u64,
     rec: &mut [u32],
+    left: &mut [u32],
 ) -> u64
     requires { ⌜ Fills (plan shape (now marks)) (ground rules (now beds) (now roughness) (now rates)) (now depths) (now lasts) (now added) start duration (now rec) ⌝ }
-    requires { ⌜ (InRow shape first) × (RowMasked (now marks) (now depths) leastWet first (shape .columns) wet) ⌝ }
-    ensures { λ r. ⌜ (FilledOn (plan shape (now (marks .entry))) (ground rules (now (beds .entry)) (now (roughness .entry)) (now (rates .entry))) (now (depths .entry)) (now (lasts .entry)) (now (added .entry)) start duration first (first + shape .columns) (now (rec .entry)) (now (rec .exit))) × (r ≡ maskFrom (sends (plan shape (now (marks .entry))) (leavesFor (plan shape (now (marks .entry))) (ground rules (now (beds .entry)) (now (roughness .entry)) (now (rates .entry))) (now (depths .entry)) (now (lasts .entry)) duration)) first (shape .columns)) ⌝ }
+    requires { ⌜ (InRow shape first) × (IdleRow (plan shape (now marks)) (now depths) (now lasts) (now added) first worked) × (length (now left) ≡ squares shape) ⌝ }
+    ensures { λ r. ⌜ FilledColumns (plan shape (now (marks .entry))) (ground rules (now (beds .entry)) (now (roughness .entry)) (now (rates .entry))) (now (depths .entry)) (now (lasts .entry)) (now (added .entry)) start duration first worked (shape .columns) (now (rec .entry)) (now (rec .exit)) (now (left .entry)) (now (left .exit)) r ⌝ }
 {
     let columns = shape.columns;
     let mut senders: u64 = 0;
-    let mut column = 0;
+    let mut column = next_within(worked, 0, columns);
     while column < columns {
-        let next = next_within(wet, column, columns);
-        senders += fill_up_to(
+        let sent = fill_square(
             shape,
             rules,
             marks,
@@ -322,18 +265,19 @@ fn fill_row(
             added,
             start,
             duration,
-            first,
+            first + column,
             column,
-            next,
             rec,
+            left,
         );
-        column = next + 1;
+        senders += sender_bit(sent, column);
+        column = next_after(worked, column, columns);
     }
     senders
 }
 
-// Works the words of every square by the wet rows, which it makes from the depths, and tells the rows of the squares that send.
-fn fill_wet(
+// All rows, each by its columns that are worked; tells the rows of the squares that send.
+fn fill_rows(
     shape: Shape,
     rules: Rules,
     marks: &[u8],
@@ -345,19 +289,20 @@ fn fill_wet(
     added: &[u32],
     start: u64,
     duration: u64,
+    worked: &[u64],
     rec: &mut [u32],
+    left: &mut [u32],
     senders: &mut [u64],
 )
     requires { ⌜ Fills (plan shape (now marks)) (ground rules (now beds) (now roughness) (now rates)) (now depths) (now lasts) (now added) start duration (now rec) ⌝ }
-    requires { ⌜ length (now senders) ≡ shape .rows ⌝ }
-    ensures { λ _. ⌜ (FilledOn (plan shape (now (marks .entry))) (ground rules (now (beds .entry)) (now (roughness .entry)) (now (rates .entry))) (now (depths .entry)) (now (lasts .entry)) (now (added .entry)) start duration 0 (squares shape) (now (rec .entry)) (now (rec .exit))) × (now (senders .exit) ≡ senderRows (plan shape (now (marks .entry))) (ground rules (now (beds .entry)) (now (roughness .entry)) (now (rates .entry))) (now (depths .entry)) (now (lasts .entry)) duration) ⌝ }
+    requires { ⌜ (IdleBy (plan shape (now marks)) (now depths) (now lasts) (now added) (now worked)) × (length (now worked) ≡ shape .rows) × (length (now left) ≡ squares shape) × (length (now senders) ≡ shape .rows) ⌝ }
+    ensures { λ _. ⌜ (FilledOn (plan shape (now (marks .entry))) (ground rules (now (beds .entry)) (now (roughness .entry)) (now (rates .entry))) (now (depths .entry)) (now (lasts .entry)) (now (added .entry)) start duration 0 (squares shape) (now (rec .entry)) (now (rec .exit))) × (LeftTo (plan shape (now (marks .entry))) (ground rules (now (beds .entry)) (now (roughness .entry)) (now (rates .entry))) (now (depths .entry)) (now (lasts .entry)) duration (now (worked .entry)) (squares shape) (now (left .exit))) × (now (senders .exit) ≡ senderRows (plan shape (now (marks .entry))) (ground rules (now (beds .entry)) (now (roughness .entry)) (now (rates .entry))) (now (depths .entry)) (now (lasts .entry)) duration) ⌝ }
 {
     let rows = shape.rows;
     let columns = shape.columns;
     let mut row = 0;
     let mut first = 0;
     while row < rows {
-        let wet = row_mask(marks, depths, LEAST_WET, first, columns);
         senders[row] = fill_row(
             shape,
             rules,
@@ -371,17 +316,31 @@ fn fill_wet(
             start,
             duration,
             first,
-            wet,
+            worked[row],
             rec,
+            left,
         );
         row += 1;
         first += columns;
     }
 }
 
-// ---- by either walk
+// ---- the record
 
-// Works the whole record, all squares from the water before the step; the wet walk tells the rows of the squares that send.
+// Clears a record's room.
+fn clear(rec: &mut [u32])
+    ensures { λ _. ⌜ Cleared (now (rec .exit)) ⌝ }
+{
+    let words = rec.len();
+    let mut word = 0;
+    while word < words {
+        rec[word] = 0;
+        word += 1;
+    }
+}
+
+// Works the whole record, all squares from the water before the step, by either walk; tells the rows of the squares that were worked and of
+// those that send, and keeps what left each square that was worked.
 pub fn fill(
     walk: Walk,
     shape: Shape,
@@ -397,42 +356,32 @@ pub fn fill(
     start: u64,
     duration: u64,
     rec: &mut [u32],
+    left: &mut [u32],
+    worked: &mut [u64],
     senders: &mut [u64],
 )
     requires { ⌜ Fills (plan shape (now marks)) (ground rules (now beds) (now roughness) (now rates)) (now depths) (now lasts) (now added) start duration (now rec) ⌝ }
-    requires { ⌜ (held ≤ mostLength) × (length (now senders) ≡ shape .rows) ⌝ }
-    ensures { λ _. ⌜ (RecordFilled (plan shape (now (marks .entry))) (ground rules (now (beds .entry)) (now (roughness .entry)) (now (rates .entry))) (now (depths .entry)) (now (lasts .entry)) (now (added .entry)) held start duration (now (rec .exit))) × (SendersTold walk (plan shape (now (marks .entry))) (ground rules (now (beds .entry)) (now (roughness .entry)) (now (rates .entry))) (now (depths .entry)) (now (lasts .entry)) duration (now (senders .entry)) (now (senders .exit))) ⌝ }
+    requires { ⌜ (held ≤ mostLength) × (length (now left) ≡ squares shape) × (length (now worked) ≡ shape .rows) × (length (now senders) ≡ shape .rows) ⌝ }
+    ensures { λ _. ⌜ (RecordFilled (plan shape (now (marks .entry))) (ground rules (now (beds .entry)) (now (roughness .entry)) (now (rates .entry))) (now (depths .entry)) (now (lasts .entry)) (now (added .entry)) held start duration (now (rec .exit))) × (now (worked .exit) ≡ workedRows walk (plan shape (now (marks .entry))) (now (depths .entry)) (now (lasts .entry)) (now (added .entry))) × (now (senders .exit) ≡ senderRows (plan shape (now (marks .entry))) (ground rules (now (beds .entry)) (now (roughness .entry)) (now (rates .entry))) (now (depths .entry)) (now (lasts .entry)) duration) × (LeftKept walk (plan shape (now (marks .entry))) (ground rules (now (beds .entry)) (now (roughness .entry)) (now (rates .entry))) (now (depths .entry)) (now (lasts .entry)) (now (added .entry)) duration (now (left .exit))) ⌝ }
 {
+    clear(rec);
     put_head(rec, held, duration);
-    match walk {
-        Walk::All => fill_all(
-            shape,
-            rules,
-            marks,
-            beds,
-            roughness,
-            rates,
-            depths,
-            lasts,
-            added,
-            start,
-            duration,
-            rec,
-        ),
-        Walk::Wet => fill_wet(
-            shape,
-            rules,
-            marks,
-            beds,
-            roughness,
-            rates,
-            depths,
-            lasts,
-            added,
-            start,
-            duration,
-            rec,
-            senders,
-        ),
-    }
+    mark_worked(walk, shape, marks, depths, lasts, added, worked);
+    fill_rows(
+        shape,
+        rules,
+        marks,
+        beds,
+        roughness,
+        rates,
+        depths,
+        lasts,
+        added,
+        start,
+        duration,
+        worked,
+        rec,
+        left,
+        senders,
+    );
 }

@@ -1,5 +1,5 @@
 // Step length: the least candidate of all squares, held or worked afresh.
-use crate::drops::drops_of;
+use crate::drops::drops_by_sides;
 use grid::marks::is_closed;
 use grid::masks::row_mask;
 use grid::squares::Shape;
@@ -7,6 +7,7 @@ use grid::squares::next_column;
 use grid::squares::squares_of;
 use grid::walks::LEAST_WET;
 use grid::walks::Walk;
+use grid::walks::next_after;
 use grid::walks::next_within;
 use reckon::numbers::number;
 use rule::length::held_length;
@@ -46,7 +47,7 @@ fn shorter_by(
     if depth == 0 {
         return best;
     }
-    let drops = drops_of(shape, rules, marks, beds, depths, square, column);
+    let drops = drops_by_sides(shape, rules, marks, beds, depths, square, column);
     shorter(rules, best, depth, number(roughness, square), drops)
 }
 
@@ -116,7 +117,7 @@ fn least_in_row(
             first + column,
             column,
         );
-        column = next_within(wet, column + 1, columns);
+        column = next_after(wet, column, columns);
     }
     best
 }

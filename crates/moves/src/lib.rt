@@ -1,5 +1,6 @@
 // What a step moves, worked from the water before it; nothing lent but working rooms is written.
 //   length::step_length   the length that a step holds
+//   added::rows_apart     whether no two inflow rows are for the same square
 //   added::add_water      what a step adds to each square
 //   fill::fill            a step's record: what leaves each square through each side, and what soaks
 pub mod added;

@@ -1,12 +1,12 @@
 -- Laws of a list placed over another, by the library's copy: stored number by number, and placed over all of it.
 -- Assumes nothing.
 use mathlib.Core.Path.{_≡_, sym, ap, ap₂, _∙_}
-use mathlib.Core.List.{List, _++_, append-assoc, append-nil}
+use mathlib.Core.List.{List, _++_, append-assoc}
 use Prim.Native.Nat.{ℕ, _+_, _≤_, _<_}
 use native.Mathlib.Numerals.{add-one}
 use native.Mathlib.Omega.{arith}
 use lib.ListN.{length, getD, set, take, drop}
-use lib.Seq.{sets, sets-eq, paste, paste-suc, length-paste, drop-drop, drop-length, take-all}
+use lib.Seq.{sets, sets-eq, paste, paste-suc, length-paste, drop-drop, take-all}
 use Rattle.reckon.specs.Lists.{placed}
 
 -- ---- a copy, number by number
@@ -35,8 +35,3 @@ unfolding placed
 stored-placed l a v h =
     sets-eq v l a h
     ∙ (append-assoc (take a l) v (drop (a + length v) l) ∙ ap (λ (r : List ℕ). take a l ++ (v ++ r)) (sym (drop-drop (length v) a l)))
-
--- a list placed over one of its length leaves nothing of it
-pub placed-over : (old new : List ℕ) → length old ≡ length new → placed old 0 new ≡ new
-unfolding placed
-placed-over old new e = ap (λ (r : List ℕ). new ++ r) (ap (λ (k : ℕ). drop k old) (sym e) ∙ drop-length old) ∙ append-nil new

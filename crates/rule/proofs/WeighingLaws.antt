@@ -1,10 +1,10 @@
--- Laws of the weighing: how large each part can be, that m may be held to d first, and what every use above rests on, whatever the
--- edition: the four sum to at most the depth, and a side without a drop sends nothing.
+-- Laws of the weighing: how large each part can be, that m may be held to d first, that a greater height lets no less through, and what
+-- every use above rests on, whatever the edition: the four sum to at most the depth, and a side without a drop sends nothing.
 -- Assumes nothing.
 use mathlib.Core.Path.{_≡_, refl, sym, _∙_, ap}
 use mathlib.Core.Bool.{Bool, true, false, _||_}
 use mathlib.Core.List.{List, [], _∷_}
-use Prim.Native.Nat.{ℕ, zero, suc, _+_, _*_, _/_, _≤_, _<_, min}
+use Prim.Native.Nat.{ℕ, zero, suc, _+_, _*_, _/_, _^_, _≤_, _<_, min}
 use native.Mathlib.Nat.{le-trans, mul-le-mul, mul-le-mul-left, mul-le-mul-right, div-le-self, div-mul-le-self, mul-add, add-mul, mul-zero, zero-mul, mul-comm, mul-assoc, mul-left-comm, mul-div-cancel, mul-div-mul-right, le-of-mul-le-mul-right, min-eq-left, min-eq-right, zero-div}
 use native.Mathlib.Decide.{decLe, ℕ-discrete}
 use native.Mathlib.Omega.{arith}
@@ -12,14 +12,15 @@ use lib.Dec.{eqb, leb}
 use lib.ListN.{getD}
 use borrow.Author.Tests.{eq-eqb, ne-eqb, leb-true, leb-false, le-leb, lt-leb}
 use Rattle.reckon.specs.Tests.{pick}
-use Rattle.reckon.specs.Roots.{Root}
+use Rattle.reckon.specs.Numbers.{heldPart}
+use Rattle.reckon.specs.Roots.{Root, Begun}
 use Rattle.reckon.proofs.TestLaws.{pick-true, pick-false, pick-both, pick-ap}
 use Rattle.reckon.proofs.QuotientLaws.{div-mono, le-scaled}
-use Rattle.reckon.proofs.RootLaws.{square, root-is, root-right, root-le, root-over, root-least, root-most}
+use Rattle.reckon.proofs.RootLaws.{square, root-is, root-right, root-le, root-over, root-least, root-most, begun-below}
 use Rattle.reckon.specs.Ranges.{mostDepth}
 use Rattle.rule.specs.Weighing.{lesserPositive, leastDrop, greatestDrop, dropSum, heightOf, slopeOf, criticalSpeed, manningSpeed, speedOf, mostThrough, totalOf, throughSides, nothingUnless, directedEdition, unlimitedEdition, weightedSides, directedAmount, directedAmounts, fourOf, scaledTo, directedSides, unlimitedTotal, unlimitedSides, weighed}
-use Rattle.rule.specs.inner.Totals.{limitedTo, totalFrom, totalBy, halfOf}
-use Rattle.rule.specs.inner.InRange.{mostDrop, DropsInRange}
+use Rattle.rule.specs.inner.Totals.{speedBy, mostBy, limitOf, totalWith, totalBy, halfOf}
+use Rattle.rule.specs.inner.InRange.{mostDrop, mostSlope, DropsInRange}
 use Rattle.rule.specs.declared.rules.Rules.{Rules}
 
 -- ---- the three roots: what the functions give, and how large they are
@@ -31,6 +32,11 @@ height-is h a = root-is (omega arith) (omega (arith, mul-le-mul h h)) a
 pub height-le : {d : ℕ} → d ≤ mostDepth → heightOf d ≤ 215443
 unfolding heightOf
 height-le {d} h = root-le 215443 (root-right 3 (d * d) (omega arith) (omega (arith, mul-le-mul h h))) (omega (arith, mul-le-mul h h))
+
+-- what is begun of it is at most the whole
+pub height-begun : {d r : ℕ} → d ≤ mostDepth → Begun 3 (d * d) 100 r → r ≤ heightOf d
+unfolding heightOf
+height-begun {d} h b = begun-below b (root-right 3 (d * d) (omega arith) (omega (arith, mul-le-mul h h)))
 
 -- water has a height
 pub height-pos : {d : ℕ} → d ≤ mostDepth → 0 < d → 0 < heightOf d
@@ -45,8 +51,8 @@ pub slope-root : (r : Rules) {drop : ℕ} → drop ≤ mostDrop → Root 2 (100 
 unfolding slopeOf
 slope-root r {drop} h = root-right 2 _ (omega arith) (omega (arith, div-le-self (100 * drop) (r .«square_side»)))
 
-pub slope-le : (r : Rules) {drop : ℕ} → drop ≤ mostDrop → slopeOf r drop ≤ 331662
-slope-le r {drop} h = root-le 331662 (slope-root r h) (omega (arith, div-le-self (100 * drop) (r .«square_side»)))
+pub slope-le : (r : Rules) {drop : ℕ} → drop ≤ mostDrop → slopeOf r drop ≤ mostSlope
+slope-le r {drop} h = root-le mostSlope (slope-root r h) (omega (arith, div-le-self (100 * drop) (r .«square_side»)))
 
 pub critical-is : {d s : ℕ} → d ≤ mostDepth → Root 2 (9810000 * d) s → s ≡ criticalSpeed d
 unfolding criticalSpeed
@@ -59,29 +65,49 @@ critical-root h = root-right 2 _ (omega arith) (omega arith)
 critical-le : {d : ℕ} → d ≤ mostDepth → criticalSpeed d ≤ 31320919
 critical-le h = root-le 31320919 (critical-root h) (omega arith)
 
-pub speed-le : {d : ℕ} (r : Rules) (k drop : ℕ) → d ≤ mostDepth → speedOf r d k drop ≤ 31320919
-unfolding speedOf
-speed-le r k drop h = omega (arith, critical-le h)
+-- ---- the speed by a height and a slope, and that a greater height has no lesser one
 
--- ---- which speed is the smaller, told by the square of Manning's
+pub speed-le : {d : ℕ} (h s k : ℕ) → d ≤ mostDepth → speedBy d h s k ≤ 31320919
+unfolding speedBy
+speed-le h s k deep = omega (arith, critical-le deep)
 
-module _ (r : Rules) (d k drop : ℕ) where
-  pub manning-made : {h s : ℕ} → h ≡ heightOf d → s ≡ slopeOf r drop → 100 * h * s / k ≡ manningSpeed r d k drop
-  unfolding manningSpeed
-  manning-made eh es = rw (eh, es)
+-- which is the smaller, told by the square of Manning's
+module _ (d h s k : ℕ) {b : Bool} (deep : d ≤ mostDepth) (told : b ≡ leb (100 * h * s / k * (100 * h * s / k)) (9810000 * d)) where
+  pub manning-smaller : b ≡ true → 100 * h * s / k ≡ speedBy d h s k
+  unfolding speedBy
+  manning-smaller e =
+      let v : ℕ = 100 * h * s / k in
+      let low : v ≤ criticalSpeed d = root-least v (critical-root deep) (rw (square v) (leb-true _ _ (sym told ∙ e))) in
+      omega (arith, low)
 
-  module _ {v : ℕ} {b : Bool} (deep : d ≤ mostDepth) (is : v ≡ manningSpeed r d k drop) (told : b ≡ leb (v * v) (9810000 * d)) where
-    pub manning-smaller : b ≡ true → v ≡ speedOf r d k drop
-    unfolding speedOf
-    manning-smaller e =
-        let low : v ≤ criticalSpeed d = root-least v (critical-root deep) (rw (square v) (leb-true _ _ (sym told ∙ e))) in
-        omega (arith, is, low)
+  pub critical-smaller : {c : ℕ} → b ≡ false → c ≡ criticalSpeed d → c ≡ speedBy d h s k
+  unfolding speedBy
+  critical-smaller e ec =
+      let v : ℕ = 100 * h * s / k in
+      let high : criticalSpeed d ≤ v = root-most v (critical-root deep) (rw (square v) (leb-false _ _ (sym told ∙ e))) in
+      omega (arith, high, ec)
 
-    pub critical-smaller : {c : ℕ} → b ≡ false → c ≡ criticalSpeed d → c ≡ speedOf r d k drop
-    unfolding speedOf
-    critical-smaller e ec =
-        let high : criticalSpeed d ≤ v = root-most v (critical-root deep) (rw (square v) (leb-false _ _ (sym told ∙ e))) in
-        omega (arith, is, high, ec)
+speed-mono : (d s k : ℕ) {h g : ℕ} → h ≤ g → speedBy d h s k ≤ speedBy d g s k
+unfolding speedBy
+speed-mono d s k le = omega (arith, div-mono k (mul-le-mul-right s (mul-le-mul-left 100 le)))
+
+module _ (r : Rules) (d k ms : ℕ) where
+  pub most-le : (h s : ℕ) → mostBy r d h s k ms ≤ d
+  unfolding mostBy
+  most-le h s = omega arith
+
+  pub most-made : (h s : ℕ) {v x : ℕ} → v ≡ speedBy d h s k → x ≡ heldPart d (v * ms) (r .«square_side» * 10 ^ 9) → x ≡ mostBy r d h s k ms
+  unfolding mostBy heldPart
+  most-made h s ev ex = ex ∙ rw ev
+
+  most-mono : (s : ℕ) {h g : ℕ} → h ≤ g → mostBy r d h s k ms ≤ mostBy r d g s k ms
+  unfolding mostBy
+  most-mono s le = omega (arith, div-mono (r .«square_side» * 10 ^ 9) (mul-le-mul-right d (mul-le-mul-right ms (speed-mono d s k le))))
+
+  -- by the whole height it is the document's m, held to d
+  pub most-whole : (drop : ℕ) {h s x : ℕ} → h ≡ heightOf d → s ≡ slopeOf r drop → x ≡ mostBy r d h s k ms → x ≡ min d (mostThrough r d k ms drop)
+  unfolding mostBy speedBy mostThrough speedOf manningSpeed
+  most-whole drop eh es ex = ex ∙ rw (eh, es)
 
 -- ---- m may be held to d first
 
@@ -130,45 +156,68 @@ pub greatest-sum : (v : List ℕ) → greatestDrop v ≤ dropSum v
 unfolding greatestDrop dropSum
 greatest-sum v = omega arith
 
-total-le : (r : Rules) (d p k ms : ℕ) (v : List ℕ) → totalBy r d p k ms v ≤ d
+pub total-le : (r : Rules) (d p k ms : ℕ) (v : List ℕ) → totalBy r d p k ms v ≤ d
 unfolding totalBy totalOf unlimitedTotal
 total-le r d p k ms v = pick-both (λ (x : ℕ). x ≤ d) (eqb (r .edition) unlimitedEdition) (omega arith) (omega arith)
 
-pub limited-le : (r : Rules) (d p least speed : ℕ) {all : ℕ} → all ≡ limitedTo r d p least speed → all ≤ d
-unfolding limitedTo
-limited-le r d p least speed e = rw e (pick-both (λ (x : ℕ). x ≤ d) (eqb (r .edition) unlimitedEdition) (omega arith) (omega arith))
-
 -- ---- the total, with m held to d first
 
--- the cases as the code has them
-module _ (r : Rules) (d p least speed : ℕ) {x : ℕ} where
-  pub limited-third : r .edition ≡ unlimitedEdition → x ≡ min d speed → x ≡ limitedTo r d p least speed
-  unfolding limitedTo
-  limited-third third e = e ∙ sym (pick-true _ _ (eq-eqb _ _ third))
+-- m·T / VM is 2·m where T is twice VM
+pub by-twice : (most : ℕ) {sum steepest : ℕ} → 0 < steepest → sum ≡ 2 * steepest → 2 * most ≡ most * sum / steepest
+by-twice most {sum} {steepest} pos e =
+    sym
+    (ap (λ (x : ℕ). x / steepest) (ap (λ (x : ℕ). most * x) e ∙ (mul-left-comm most 2 steepest ∙ sym (mul-assoc 2 most steepest)))
+    ∙ mul-div-cancel (2 * most) pos)
 
-  pub limited-other : {low : ℕ} → (r .edition ≡ unlimitedEdition → ⊥) → low ≡ min speed (least + p) → x ≡ min d low → x ≡ limitedTo r d p least speed
-  unfolding limitedTo
-  limited-other other el e = e ∙ (ap (λ (z : ℕ). min d z) el ∙ sym (pick-false _ _ (ne-eqb _ _ other)))
+-- the limit's cases as the code has them
+module _ (r : Rules) (d p least : ℕ) where
+  pub limit-third : r .edition ≡ unlimitedEdition → d ≡ limitOf r d p least
+  unfolding limitOf
+  limit-third third = sym (pick-true _ _ (eq-eqb _ _ third))
 
-module _ (r : Rules) (d p k ms : ℕ) (v : List ℕ) (some : 0 < greatestDrop v) where
-  pub total-from : {steepest most : ℕ} → steepest ≡ greatestDrop v → most ≡ min d (mostThrough r d k ms steepest) → totalFrom r d p most v ≡ totalBy r d p k ms v
-  unfolding totalFrom limitedTo totalBy totalOf unlimitedTotal
-  total-from {steepest} {most} es em =
+  pub limit-other : {x : ℕ} → (r .edition ≡ unlimitedEdition → ⊥) → x ≡ min d (least + p) → x ≡ limitOf r d p least
+  unfolding limitOf
+  limit-other other e = e ∙ sym (pick-false _ _ (ne-eqb _ _ other))
+
+  limit-both : (x : ℕ) → min (limitOf r d p least) x ≡ pick (eqb (r .edition) unlimitedEdition) (min d x) (min d (min x (least + p)))
+  unfolding limitOf
+  limit-both x =
+      pick-ap (λ (t : ℕ). min t x) (eqb (r .edition) unlimitedEdition) d (min d (least + p))
+      ∙ ap (λ (t : ℕ). pick (eqb (r .edition) unlimitedEdition) (min d x) t) (omega arith)
+
+-- the total's cases as the code has them: the limit, where what is begun of the height reaches it, and else by the whole height
+module _ (r : Rules) (d p k ms steepest least sum : ℕ) {limit s : ℕ} (el : limit ≡ limitOf r d p least) (es : s ≡ slopeOf r steepest) where
+  pub total-early :
+      {h m x : ℕ} → h ≤ heightOf d → m ≡ mostBy r d h s k ms → x ≡ m * sum / steepest → limit ≤ x →
+      limit ≡ totalWith r d p k ms steepest least sum
+  unfolding totalWith
+  total-early {h} {m} {x} low em ex reached =
+      let whole : ℕ = min d (mostThrough r d k ms steepest) in
+      let more : m ≤ whole = omega (arith, em, most-mono r d k ms s low, most-whole r d k ms steepest refl es refl) in
+      omega (arith, el, ex, reached, div-mono steepest (mul-le-mul-right sum more))
+
+  pub total-late :
+      {h m x all : ℕ} → h ≡ heightOf d → m ≡ mostBy r d h s k ms → x ≡ m * sum / steepest → all ≡ min limit x →
+      all ≡ totalWith r d p k ms steepest least sum
+  unfolding totalWith
+  total-late eh em ex ea = ea ∙ rw (el, ex, most-whole r d k ms steepest eh es em)
+
+-- the document's total, by the parts as the code names them
+module _ (r : Rules) (d p k ms : ℕ) (v : List ℕ) where
+  pub total-made :
+      {steepest least sum all : ℕ} → 0 < greatestDrop v → steepest ≡ greatestDrop v → least ≡ leastDrop v → sum ≡ dropSum v →
+      all ≡ totalWith r d p k ms steepest least sum → all ≡ totalBy r d p k ms v
+  unfolding totalWith totalBy totalOf unlimitedTotal
+  total-made some eg el es ea =
       let m : ℕ = mostThrough r d k ms (greatestDrop v) in
-      let e : most ≡ min d m = em ∙ ap (λ (x : ℕ). min d (mostThrough r d k ms x)) es in
-      rw (
-        e,
+      ea ∙ rw (
+        eg,
+        el,
+        es,
+        limit-both r d p (leastDrop v) (min d m * dropSum v / greatestDrop v),
         held d m (dropSum v) (greatestDrop v) some (greatest-sum v) (decLe m d),
         hold d m (dropSum v) (greatestDrop v) (leastDrop v + p) some (greatest-sum v),
       )
-
--- the parts as the code names them
-pub from-made :
-    (r : Rules) (d p : ℕ) (v : List ℕ) (most : ℕ) {least sum steepest all : ℕ} {x : List ℕ} → least ≡ leastDrop v → sum ≡ dropSum v →
-    steepest ≡ greatestDrop v → all ≡ limitedTo r d p least (most * sum / steepest) → x ≡ throughSides all v →
-    x ≡ throughSides (totalFrom r d p most v) v
-unfolding totalFrom
-from-made r d p v most el em es ea ex = ex ∙ ap (λ (z : ℕ). throughSides z v) (ea ∙ rw (el, em, es))
 
 -- ---- one side alone has a drop
 
@@ -205,18 +254,6 @@ module _ (v : List ℕ) (one : fourOf v ≡ greatestDrop v) where
   one-sum : dropSum v ≡ 2 * greatestDrop v
   unfolding dropSum
   one-sum = omega (arith, one, one-least)
-
-  -- m·T / VM is 2·m
-  pub one-total :
-      (r : Rules) (d p most : ℕ) {steepest all : ℕ} → 0 < greatestDrop v → steepest ≡ greatestDrop v → all ≡ limitedTo r d p steepest (2 * most) →
-      all ≡ totalFrom r d p most v
-  unfolding totalFrom
-  one-total r d p most pos es ea =
-      let twice : most * dropSum v / greatestDrop v ≡ 2 * most =
-      ap (λ (x : ℕ). x / greatestDrop v)
-      (ap (λ (x : ℕ). most * x) one-sum ∙ (mul-left-comm most 2 (greatestDrop v) ∙ sym (mul-assoc 2 most (greatestDrop v))))
-      ∙ mul-div-cancel (2 * most) pos in
-      ea ∙ rw (es, twice, one-least)
 
   pub one-through :
       (a : ℕ) {n e s w : ℕ} → 0 < greatestDrop v → n ≡ halfOf a (getD v 0 0) → e ≡ halfOf a (getD v 1 0) → s ≡ halfOf a (getD v 2 0) →

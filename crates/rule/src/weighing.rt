@@ -3,15 +3,17 @@ use crate::rules::Rules;
 use reckon::numbers::greater;
 use reckon::numbers::lesser;
 use reckon::numbers::part;
+use reckon::roots::begun_cube_root;
 use reckon::roots::cube_root;
+use reckon::roots::ended_cube_root;
 use reckon::roots::square_root;
 ghost use mathlib.Core.Path.{_≡_};
 ghost use Prim.Native.Nat.{_*_, _/_, _<_, _≤_, min};
 ghost use lib.Dec.{eqb, leb};
 ghost use Rattle.reckon.specs.Ranges.{mostDepth, mostLength};
-ghost use Rattle.rule.specs.Weighing.{lesserPositive, leastDrop, greatestDrop, dropSum, heightOf, slopeOf, criticalSpeed, speedOf, mostThrough, throughSides, directedAmount, fourOf, scaledTo, directedSides, Weighs};
-ghost use Rattle.rule.specs.inner.InRange.{mostDrop, DropsInRange, SquareInRange, Weighable};
-ghost use Rattle.rule.specs.inner.Totals.{limitedTo, totalFrom, totalBy, halfOf, Steepest, AmountsWithin};
+ghost use Rattle.rule.specs.Weighing.{lesserPositive, leastDrop, greatestDrop, dropSum, heightOf, slopeOf, criticalSpeed, mostThrough, throughSides, directedAmount, fourOf, scaledTo, directedSides, Weighs};
+ghost use Rattle.rule.specs.inner.InRange.{mostDrop, mostSlope, DropsInRange, SquareInRange, Weighable};
+ghost use Rattle.rule.specs.inner.Totals.{speedBy, mostBy, limitOf, totalWith, totalBy, halfOf, Totalled, AmountsWithin};
 
 // The acceleration of gravity as document 02 has it for speeds in µm/s under a depth in µm: c² ≤ 9,810,000·d.
 const GRAVITY: u64 = 9_810_000;
@@ -94,37 +96,84 @@ fn is_subcritical(depth: u64, speed: u64) -> bool
     speed * speed <= GRAVITY * depth
 }
 
-// The smaller of critical and Manning speed, µm/s, from the square's height. In most squares it is Manning's, and the critical root is
-// not found.
-fn speed(rules: Rules, depth: u64, high: u64, roughness: u64, drop: u64) -> u64
-    requires { ⌜ (SquareInRange rules depth roughness) × (drop ≤ mostDrop) × (high ≡ heightOf depth) ⌝ }
-    ensures { λ r. ⌜ r ≡ speedOf rules depth roughness drop ⌝ }
+// The smaller of critical and Manning speed, µm/s, by a height that may be only begun and by a slope. In most squares it is Manning's, and
+// the critical root is not found.
+fn speed(depth: u64, high: u64, steep: u64, roughness: u64) -> u64
+    requires { ⌜ (depth ≤ mostDepth) × (high ≤ heightOf depth) × (steep ≤ mostSlope) × (1 ≤ roughness) ⌝ }
+    ensures { λ r. ⌜ r ≡ speedBy depth high steep roughness ⌝ }
 {
-    let manning = 100 * high * slope(rules, drop) / roughness;
+    let manning = 100 * high * steep / roughness;
     if is_subcritical(depth, manning) {
         return manning;
     }
     critical_speed(depth)
 }
 
-// The most through a side, held to the depth: as it stands it passes 64 bits.
+// The most through a side by that speed, held to the depth: as it stands it passes 64 bits.
+fn most_by(rules: Rules, depth: u64, high: u64, steep: u64, roughness: u64, lasts: u64) -> u64
+    requires { ⌜ (SquareInRange rules depth roughness) × (high ≤ heightOf depth) × (steep ≤ mostSlope) × (lasts ≤ mostLength) ⌝ }
+    ensures { λ r. ⌜ r ≡ mostBy rules depth high steep roughness lasts ⌝ }
+{
+    let moved = speed(depth, high, steep, roughness) * lasts;
+    part(depth, moved, rules.square_side * 1_000_000_000)
+}
+
+// The most through a side by the square's height and the side's drop.
 fn most_held(rules: Rules, depth: u64, high: u64, roughness: u64, lasts: u64, drop: u64) -> u64
     requires { ⌜ (SquareInRange rules depth roughness) × (drop ≤ mostDrop) × (lasts ≤ mostLength) × (high ≡ heightOf depth) ⌝ }
     ensures { λ r. ⌜ r ≡ min depth (mostThrough rules depth roughness lasts drop) ⌝ }
 {
-    let moved = speed(rules, depth, high, roughness, drop) * lasts;
-    part(depth, moved, rules.square_side * 1_000_000_000)
+    most_by(rules, depth, high, slope(rules, drop), roughness, lasts)
 }
 
-// All that leaves, from what the speed lets through: with edition 3 the least drop and the last leaving set no limit.
-fn total(rules: Rules, depth: u64, last: u64, least: u64, by_speed: u64) -> u64
+// What may leave at any speed: with edition 3 the least drop and the last leaving set no limit.
+fn limit(rules: Rules, depth: u64, last: u64, least: u64) -> u64
     requires { ⌜ (last ≤ mostDepth) × (least ≤ mostDrop) ⌝ }
-    ensures { λ r. ⌜ r ≡ limitedTo rules depth last least «by_speed» ⌝ }
+    ensures { λ r. ⌜ r ≡ limitOf rules depth last least ⌝ }
 {
     if rules.edition == UNLIMITED_EDITION {
-        return lesser(depth, by_speed);
+        return depth;
     }
-    lesser(depth, lesser(by_speed, least + last))
+    lesser(depth, least + last)
+}
+
+// What the speed lets through, from the most through the steepest side. Where T is twice VM, as with one drop alone, nothing is divided.
+fn by_speed(most: u64, sum: u64, steepest: u64) -> u64
+    requires { ⌜ (most ≤ mostDepth) × (sum ≤ 5 * mostDrop) × (0 < steepest) × (steepest ≤ mostDrop) ⌝ }
+    ensures { λ r. ⌜ r ≡ most * sum / steepest ⌝ }
+{
+    if sum == 2 * steepest {
+        return 2 * most;
+    }
+    most * sum / steepest
+}
+
+// All that leaves. A greater height lets no less through: where the height that is begun already reaches the limit, its last two digits
+// are not found.
+fn total(
+    rules: Rules,
+    depth: u64,
+    last: u64,
+    roughness: u64,
+    lasts: u64,
+    steepest: u64,
+    least: u64,
+    sum: u64,
+) -> u64
+    requires { ⌜ Totalled rules depth last roughness lasts steepest least sum ⌝ }
+    ensures { λ r. ⌜ r ≡ totalWith rules depth last roughness lasts steepest least sum ⌝ }
+{
+    let limit = limit(rules, depth, last, least);
+    let steep = slope(rules, steepest);
+    let square = depth * depth;
+    let begun = begun_cube_root(square);
+    let at_least = most_by(rules, depth, begun, steep, roughness, lasts);
+    if limit <= by_speed(at_least, sum, steepest) {
+        return limit;
+    }
+    let high = ended_cube_root(square, begun);
+    let most = most_by(rules, depth, high, steep, roughness, lasts);
+    lesser(limit, by_speed(most, sum, steepest))
 }
 
 // A share of an amount: so many parts of the sum of parts.
@@ -149,24 +198,6 @@ fn through_sides(total: u64, drops: [u64; 4], sum: u64) -> [u64; 4]
         share(total, drops[2], sum),
         share(total, drops[3], sum),
     ]
-}
-
-// What leaves through the four sides by their drops, from the most through the steepest side.
-fn by_drops(
-    rules: Rules,
-    depth: u64,
-    last: u64,
-    drops: [u64; 4],
-    steepest: u64,
-    most: u64,
-) -> [u64; 4]
-    requires { ⌜ Steepest depth last drops steepest most ⌝ }
-    ensures { λ r. ⌜ r ≡ throughSides (totalFrom rules depth last most drops) drops ⌝ }
-{
-    let least = least_drop(drops);
-    let sum = drop_sum(drops, least);
-    let all = total(rules, depth, last, least, most * sum / steepest);
-    through_sides(all, drops, sum)
 }
 
 // Whether one side alone has a drop, where one has: the four come to no more than the steepest.
@@ -199,23 +230,6 @@ fn halves(total: u64, drops: [u64; 4]) -> [u64; 4]
     ]
 }
 
-// What leaves where one side alone has a drop: VM is Vmin too, and half of T, so that nothing is divided by either.
-fn by_one_drop(
-    rules: Rules,
-    depth: u64,
-    last: u64,
-    drops: [u64; 4],
-    steepest: u64,
-    most: u64,
-) -> [u64; 4]
-    requires { ⌜ Steepest depth last drops steepest most ⌝ }
-    requires { ⌜ fourOf drops ≡ steepest ⌝ }
-    ensures { λ r. ⌜ r ≡ throughSides (totalFrom rules depth last most drops) drops ⌝ }
-{
-    let all = total(rules, depth, last, steepest, 2 * most);
-    halves(all, drops)
-}
-
 // By total: what leaves through the four sides, where there is water and a drop.
 fn by_total(
     rules: Rules,
@@ -230,11 +244,13 @@ fn by_total(
     ensures { λ r. ⌜ r ≡ throughSides (totalBy rules depth last roughness lasts drops) drops ⌝ }
 {
     let steepest = greatest_drop(drops);
-    let most = most_held(rules, depth, height(depth), roughness, lasts, steepest);
+    let least = least_drop(drops);
+    let sum = drop_sum(drops, least);
+    let all = total(rules, depth, last, roughness, lasts, steepest, least, sum);
     if has_one_drop(drops, steepest) {
-        return by_one_drop(rules, depth, last, drops, steepest, most);
+        return halves(all, drops);
     }
-    by_drops(rules, depth, last, drops, steepest, most)
+    through_sides(all, drops, sum)
 }
 
 // Edition 2: what one side's own drop moves.

@@ -1,12 +1,12 @@
 -- What the functions that work the added water ask and give: whether each square can hold it, and where it then stands.
 -- Assumes nothing.
 use mathlib.Core.Path.{_≡_}
-use mathlib.Core.Bool.{Bool, true, _||_, not}
+use mathlib.Core.Bool.{Bool, true, false, _||_, not}
 use mathlib.Core.List.{List, []}
 use Prim.Native.Nat.{ℕ, _+_, _/_, _%_, _≤_, _<_, _^_}
 use lib.Dec.{leb}
-use lib.ListN.{length, set}
-use Rattle.reckon.specs.Tests.{pick, allBelow}
+use lib.ListN.{length, getD, set}
+use Rattle.reckon.specs.Tests.{allBelow}
 use Rattle.reckon.specs.Lists.{filled}
 use Rattle.reckon.specs.Ranges.{mostDepth, mostSide, lastClock}
 use Rattle.reckon.specs.Tables.{inflowKind, onSquare, inflowAdded}
@@ -23,16 +23,21 @@ use Rattle.moves.specs.Moves.{addedFor}
 
 -- ---- rain
 
--- rain stored at a square, unless it is closed or could not hold it; and at all squares
-pub record Rained (marks : List ℕ) (rain i : ℕ) (old : List ℕ) (r : Bool) (new : List ℕ) : Type 0 where
-  pub fits-is : r ≡ (closed marks i || leb rain mostDepth)
-  pub stored : r ≡ true → new ≡ pick (closed marks i) old (set old i rain)
-  pub long : length new ≡ length old
-
+-- rain stored: whether each square not closed can hold it, and if so it stands there; what stands at a closed square decides nothing
 pub record RainedAll (marks : List ℕ) (rain : ℕ) (old : List ℕ) (r : Bool) (new : List ℕ) : Type 0 where
   pub fits-is : r ≡ allBelow (length marks) (λ i. closed marks i || leb rain mostDepth)
-  pub stored : r ≡ true → new ≡ filled (length marks) (closed marks) (λ i. rain) old
+  pub stored : r ≡ true → (i : ℕ) → i < length marks → closed marks i ≡ false → getD new i 0 ≡ rain
   pub long : length new ≡ length old
+
+-- ---- rows that stand apart
+
+-- no row before row j is for the square of row j
+unfoldable pub rowAlone : List ℕ → ℕ → Bool
+rowAlone inflow j = allBelow j (λ k. not (onSquare inflow (inflowRow inflow j) (inflowColumn inflow j) k))
+
+-- no two rows are for the same square
+unfoldable pub rowsApart : List ℕ → Bool
+rowsApart inflow = allBelow (length inflow / inflowWords) (rowAlone inflow)
 
 -- ---- inflow
 
@@ -87,8 +92,8 @@ module _ (p : Plan) (g : Given) (start end : ℕ) where
   unfoldable pub addedFits : Bool
   addedFits = allBelow (squares (p .shape)) (λ i. shut p i || leb (addedFor p g start end i) mostDepth)
 
-  -- all worked: whether each square can hold what is added, and if so it stands at each square not closed
+  -- all worked: whether each square can hold what is added, and if so it stands at each square not closed; at closed squares anything may stand
   pub record WaterAdded (old : List ℕ) (done : Bool) (new : List ℕ) : Type 0 where
     pub fits-is : done ≡ addedFits
-    pub stored : done ≡ true → new ≡ filled (squares (p .shape)) (shut p) (addedFor p g start end) old
+    pub stored : done ≡ true → (i : ℕ) → i < squares (p .shape) → shut p i ≡ false → getD new i 0 ≡ addedFor p g start end i
     pub long : length new ≡ length old

@@ -1,25 +1,26 @@
 -- What the functions that work a step's length and its record ask and give.
 -- Assumes nothing.
 use mathlib.Core.Path.{_≡_}
-use mathlib.Core.Bool.{true, false}
+use mathlib.Core.Bool.{Bool, true, false, _&&_, not}
 use mathlib.Core.List.{List, []}
-use Prim.Native.Nat.{ℕ, _+_, _*_, _^_, _≤_, _<_}
-use lib.Dec.{ltb}
-use lib.ListN.{length, getD}
+use Prim.Native.Nat.{ℕ, _+_, _≤_, _<_}
+use lib.Dec.{eqb}
+use lib.ListN.{length, getD, set}
 use Rattle.reckon.specs.Tests.{pick}
 use Rattle.reckon.specs.Lists.{joined, tabulate}
 use Rattle.reckon.specs.Ranges.{mostLength, lastClock}
-use Rattle.grid.specs.declared.squares.Shape.{Shape}
 use Rattle.grid.specs.declared.walks.Walk.{Walk}
 use Rattle.grid.specs.declared.walks.Walk.the-variants.{All, Wet}
-use Rattle.grid.specs.Squares.{sides, squares, ShapeInRange}
-use Rattle.grid.specs.Masks.{digit, rowMask}
+use Rattle.grid.specs.Squares.{north, squares, ShapeInRange}
+use Rattle.grid.specs.Marks.{closed}
+use Rattle.grid.specs.Masks.{bits, bitAt, maskFrom, rowMask}
+use Rattle.grid.specs.Walks.{bitOf}
 use Rattle.rule.specs.Weighing.{weighed}
 use Rattle.rule.specs.Length.{leastFrom, lengthAt}
 use Rattle.rule.specs.declared.rules.Rules.{Rules}
-use Rattle.ledger.specs.Runs.{Plan, plan}
-use Rattle.ledger.specs.Flows.{Leaves, shut}
-use Rattle.ledger.specs.Record.{recordOf, recordSize, SquarePut, ClosedPut}
+use Rattle.ledger.specs.Runs.{Plan}
+use Rattle.ledger.specs.Flows.{shut, gone}
+use Rattle.ledger.specs.Record.{recordOf, recordSize, wordPlace, SquarePut}
 use Rattle.ledger.specs.inner.Settle.{sends}
 use Rattle.ledger.specs.inner.Walks.{Begun}
 use Rattle.moves.specs.Given.{Ground, ground}
@@ -41,6 +42,12 @@ leastBelow p o depths n = leastFrom (o .rules .longest) (joined n (squareCandida
 abbrev pub LengthWorked : Plan → Ground → List ℕ → ℕ → ℕ → ℕ → Type 0
 LengthWorked p o depths clock held r = r ≡ lengthAt (o .rules) clock held (candidates p o depths)
 
+-- a row's columns up to the next one with water are closed or dry, and that one is not closed
+pub record DryTo (p : Plan) (depths : List ℕ) (first column next : ℕ) : Type 0 where
+  pub ordered : column ≤ next
+  pub within : next ≤ p .shape .columns
+  pub dry : (c : ℕ) → column ≤ c → c < next → shut p (first + c) ≡ false → getD depths (first + c) 0 ≡ 0
+
 -- ---- the record
 
 -- the ground and the water are lent whole and in range, and so are the added amounts, the step's end and a record of its size
@@ -51,21 +58,27 @@ pub record Fills (p : Plan) (o : Ground) (depths lasts added : List ℕ) (start 
   pub end-to : start + ms ≤ lastClock
   pub record-long : length rec ≡ recordSize p
 
--- a square written to the record
-pub record FilledOne (p : Plan) (o : Ground) (depths lasts added : List ℕ) (start ms i : ℕ) (old new : List ℕ) : Type 0 where
-  pub closed-put : shut p i ≡ true → ClosedPut old i new
+-- every word of a room is 0
+abbrev pub Cleared : List ℕ → Type 0
+Cleared l = (i : ℕ) → getD l i 0 ≡ 0
+
+-- a square worked: its words of the record, what left it into a room, and whether anything did; a closed one changes neither
+pub record FilledOne (p : Plan) (o : Ground) (depths lasts added : List ℕ) (start ms i : ℕ) (old new before after : List ℕ) (sent : Bool) : Type 0 where
+  pub closed-kept : shut p i ≡ true → new ≡ old
   pub open-put :
       shut p i ≡ false →
       SquarePut old i
       (weighed (o .rules) (getD depths i 0) (getD lasts i 0) (getD (o .roughness) i 0) ms (dropsOf p (o .rules) (o .beds) depths i))
       (getD lasts i 0) (getD added i 0) (soakedFor p o depths lasts start ms i) new
+  pub left-is : after ≡ pick (shut p i) before (set before i (gone (leavesFor p o depths lasts ms) i))
+  pub sent-is : sent ≡ sends p (leavesFor p o depths lasts ms) i
 
--- the head and the first n squares stand
-abbrev pub FilledTo : Plan → Ground → List ℕ → List ℕ → List ℕ → ℕ → ℕ → ℕ → ℕ → List ℕ → Type 0
-FilledTo p o depths lasts added held start ms n rec =
-    Begun p held ms (leavesFor p o depths lasts ms) (λ i. getD lasts i 0) (λ i. getD added i 0) (soakedFor p o depths lasts start ms) n rec
+-- the head and the first n squares stand, and each word after them is 0
+pub record FilledTo (p : Plan) (o : Ground) (depths lasts added : List ℕ) (held start ms n : ℕ) (rec : List ℕ) : Type 0 where
+  pub begun : Begun p held ms (leavesFor p o depths lasts ms) (λ i. getD lasts i 0) (λ i. getD added i 0) (soakedFor p o depths lasts start ms) n rec
+  pub clean : (k : ℕ) → wordPlace n north ≤ k → getD rec k 0 ≡ 0
 
--- the squares from one up to another written: a record that stood up to the one stands up to the other, whatever length it holds
+-- the squares from one up to another done: a record that stood up to the one stands up to the other, whatever length it holds
 abbrev pub FilledOn : Plan → Ground → List ℕ → List ℕ → List ℕ → ℕ → ℕ → ℕ → ℕ → List ℕ → List ℕ → Type 0
 FilledOn p o depths lasts added start ms from to old new =
     (held : ℕ) → FilledTo p o depths lasts added held start ms from old → FilledTo p o depths lasts added held start ms to new
@@ -75,47 +88,82 @@ abbrev pub RecordFilled : Plan → Ground → List ℕ → List ℕ → List ℕ
 RecordFilled p o depths lasts added held start ms rec =
     rec ≡ recordOf p held ms (leavesFor p o depths lasts ms) (λ i. getD lasts i 0) (λ i. getD added i 0) (soakedFor p o depths lasts start ms)
 
--- ---- the wet walk
+-- ---- which squares a walk works
 
--- what the dry squares' words are written from, lent whole
-pub record Lent (s : Shape) (marks lasts added rec : List ℕ) : Type 0 where
-  pub fine : ShapeInRange s
-  pub marks-long : length marks ≡ squares s
-  pub lasts-long : length lasts ≡ squares s
-  pub added-long : length added ≡ squares s
-  pub record-long : length rec ≡ recordSize (plan s marks)
+module _ (marks depths lasts added : List ℕ) where
+  -- a square that a step has something to work or to write of
+  unfoldable pub stirs : ℕ → Bool
+  stirs i = not (closed marks i) && not (eqb (getD depths i 0) 0 && eqb (getD lasts i 0) 0 && eqb (getD added i 0) 0)
 
--- nothing leaves the squares from one up to another, and nothing soaks there
-abbrev pub Still : Plan → Leaves → (ℕ → ℕ) → ℕ → ℕ → Type 0
-Still p out soaked from to =
-    (i : ℕ) → from ≤ i → i < to → shut p i ≡ false → ((side : ℕ) → side < sides → out i side ≡ 0) × (soaked i ≡ 0)
+  -- the four lists have a square, or a row of at most 64 squares
+  pub record HasSquare (i : ℕ) : Type 0 where
+    pub marks-long : i < length marks
+    pub depths-long : i < length depths
+    pub lasts-long : i < length lasts
+    pub added-long : i < length added
 
--- such squares written: any record that stood up to the one stands up to the other
-abbrev pub DriesPut : Plan → List ℕ → List ℕ → ℕ → ℕ → List ℕ → List ℕ → Type 0
-DriesPut p lasts added from to old new =
-    (held lasted : ℕ) (out : Leaves) (soaked : ℕ → ℕ) → Still p out soaked from to →
-    Begun p held lasted out (λ i. getD lasts i 0) (λ i. getD added i 0) soaked from old →
-    Begun p held lasted out (λ i. getD lasts i 0) (λ i. getD added i 0) soaked to new
+  pub record HasRow (first columns : ℕ) : Type 0 where
+    pub columns-high : columns ≤ bits
+    pub marks-long : first + columns ≤ length marks
+    pub depths-long : first + columns ≤ length depths
+    pub lasts-long : first + columns ≤ length lasts
+    pub added-long : first + columns ≤ length added
 
--- a row's columns up to the next one with water are closed or dry, and that one is not closed
-pub record DryTo (p : Plan) (depths : List ℕ) (first column next : ℕ) : Type 0 where
-  pub ordered : column ≤ next
-  pub within : next ≤ p .shape .columns
-  pub dry : (c : ℕ) → column ≤ c → c < next → shut p (first + c) ≡ false → getD depths (first + c) 0 ≡ 0
-  pub open-next : next < p .shape .columns → shut p (first + next) ≡ false
+-- one walk works all squares, the other those that stir
+unfoldable pub worksOn : Walk → List ℕ → List ℕ → List ℕ → List ℕ → ℕ → Bool
+worksOn All marks depths lasts added i = true
+worksOn Wet marks depths lasts added i = stirs marks depths lasts added i
 
--- the bit of a column whose square sends
-unfoldable pub senderBit : Plan → Leaves → ℕ → ℕ → ℕ
-senderBit p out first next = pick (ltb next (p .shape .columns)) (digit (sends p out (first + next)) * 2 ^ next) 0
+-- the four lists have the whole grid, and a slice has a number a row
+pub record HasRows (p : Plan) (depths lasts added rows : List ℕ) : Type 0 where
+  pub fine : ShapeInRange (p .shape)
+  pub marks-long : length (p .marks) ≡ squares (p .shape)
+  pub depths-long : length depths ≡ squares (p .shape)
+  pub lasts-long : length lasts ≡ squares (p .shape)
+  pub added-long : length added ≡ squares (p .shape)
+  pub rows-long : length rows ≡ p .shape .rows
+
+module _ (walk : Walk) (p : Plan) (depths lasts added : List ℕ) where
+  abbrev pub isWorked : ℕ → Bool
+  isWorked i = worksOn walk (p .marks) depths lasts added i
+
+  -- the rows of the squares that are worked
+  unfoldable pub workedRows : List ℕ
+  workedRows = tabulate (p .shape .rows) (rowMask (p .shape) isWorked)
+
+-- nothing to work or to write of a square, if it is not closed; and so where a mask of a row, or those of all rows, have no bit
+module _ (p : Plan) (depths lasts added : List ℕ) where
+  abbrev pub IdleAt : ℕ → Type 0
+  IdleAt i = shut p i ≡ false → (getD depths i 0 ≡ 0) × (getD lasts i 0 ≡ 0) × (getD added i 0 ≡ 0)
+
+  abbrev pub IdleRow : ℕ → ℕ → Type 0
+  IdleRow first mask = (column : ℕ) → column < p .shape .columns → bitAt mask column ≡ false → IdleAt (first + column)
+
+  abbrev pub IdleBy : List ℕ → Type 0
+  IdleBy rows = (i : ℕ) → i < squares (p .shape) → bitOf (p .shape) rows i ≡ false → IdleAt i
+
+-- ---- what the walk tells
 
 -- the rows of the squares that send
 unfoldable pub senderRows : Plan → Ground → List ℕ → List ℕ → ℕ → List ℕ
 senderRows p o depths lasts ms = tabulate (p .shape .rows) (rowMask (p .shape) (sends p (leavesFor p o depths lasts ms)))
 
--- the wet walk tells them, the other nothing
-unfoldable pub sendersBy : Walk → List ℕ → List ℕ → List ℕ
-sendersBy All old rows = old
-sendersBy Wet old rows = rows
+-- a row's first columns done: in the record; what left those that a mask has, in a room that is as it was for the squares before the row; and
+-- the mask of those that send
+pub record FilledColumns (p : Plan) (o : Ground) (depths lasts added : List ℕ) (start ms first mask columns : ℕ) (old new before after : List ℕ) (senders : ℕ) : Type 0 where
+  pub filled : FilledOn p o depths lasts added start ms first (first + columns) old new
+  pub left-at :
+      (column : ℕ) → column < columns → bitAt mask column ≡ true → shut p (first + column) ≡ false →
+      getD after (first + column) 0 ≡ gone (leavesFor p o depths lasts ms) (first + column)
+  pub left-before : (i : ℕ) → i < first → getD after i 0 ≡ getD before i 0
+  pub senders-are : senders ≡ maskFrom (sends p (leavesFor p o depths lasts ms)) first columns
 
-abbrev pub SendersTold : Walk → Plan → Ground → List ℕ → List ℕ → ℕ → List ℕ → List ℕ → Type 0
-SendersTold walk p o depths lasts ms old new = new ≡ sendersBy walk old (senderRows p o depths lasts ms)
+-- what left each of the first n squares that the masks of rows have and that is not closed
+abbrev pub LeftTo : Plan → Ground → List ℕ → List ℕ → ℕ → List ℕ → ℕ → List ℕ → Type 0
+LeftTo p o depths lasts ms rows n left =
+    (i : ℕ) → i < n → shut p i ≡ false → bitOf (p .shape) rows i ≡ true → getD left i 0 ≡ gone (leavesFor p o depths lasts ms) i
+
+-- and each that a walk works
+abbrev pub LeftKept : Walk → Plan → Ground → List ℕ → List ℕ → List ℕ → ℕ → List ℕ → Type 0
+LeftKept walk p o depths lasts added ms left =
+    (i : ℕ) → i < squares (p .shape) → shut p i ≡ false → isWorked walk p depths lasts added i ≡ true → getD left i 0 ≡ gone (leavesFor p o depths lasts ms) i

@@ -39,6 +39,10 @@ pub record EdgeInRange (r : Rules) : Type 0 where
 abbrev pub mostDrop : ℕ
 mostDrop = 1_100_000_000
 
+-- no slope is above that of such a drop between squares of 1 m
+abbrev pub mostSlope : ℕ
+mostSlope = 331_662
+
 pub record DropsInRange (v : List ℕ) : Type 0 where
   pub north : getD v 0 0 ≤ mostDrop
   pub east : getD v 1 0 ≤ mostDrop

@@ -1,40 +1,49 @@
--- What the weighing's inner functions give and ask: the total of the editions that weigh by one, and amounts that are each at most d.
+-- What the weighing's inner functions give and ask: the total of the editions that weigh by one, speeds by a height that may be only
+-- begun, and amounts that are each at most d.
 -- No definition and no answer of the document names these.
 -- Assumes nothing.
-use mathlib.Core.Path.{_≡_}
 use mathlib.Core.List.{List}
-use Prim.Native.Nat.{ℕ, _+_, _*_, _/_, _≤_, _<_, min}
+use Prim.Native.Nat.{ℕ, _+_, _*_, _/_, _^_, _≤_, _<_, min}
 use lib.Dec.{eqb}
 use lib.ListN.{getD}
 use Rattle.reckon.specs.Tests.{pick}
-use Rattle.reckon.specs.Ranges.{mostDepth}
-use Rattle.rule.specs.Weighing.{leastDrop, greatestDrop, dropSum, totalOf, unlimitedEdition, unlimitedTotal}
-use Rattle.rule.specs.inner.InRange.{DropsInRange}
+use Rattle.reckon.specs.Ranges.{mostDepth, mostLength}
+use Rattle.rule.specs.Weighing.{criticalSpeed, mostThrough, totalOf, unlimitedEdition, unlimitedTotal}
+use Rattle.rule.specs.inner.InRange.{mostDrop, SquareInRange}
 use Rattle.rule.specs.declared.rules.Rules.{Rules}
 
 unfoldable pub totalBy : Rules → ℕ → ℕ → ℕ → ℕ → List ℕ → ℕ
 totalBy r d p k ms v = pick (eqb (r .edition) unlimitedEdition) (unlimitedTotal r d k ms v) (totalOf r d p k ms v)
 
--- the total by what the speed lets through and by the least drop
-unfoldable pub limitedTo : Rules → ℕ → ℕ → ℕ → ℕ → ℕ
-limitedTo r d p least speed = pick (eqb (r .edition) unlimitedEdition) (min d speed) (min d (min speed (least + p)))
+-- the smaller speed by a height h, be it only begun, and a slope s
+unfoldable pub speedBy : ℕ → ℕ → ℕ → ℕ → ℕ
+speedBy d h s k = min (criticalSpeed d) (100 * h * s / k)
 
--- the total by the most through the steepest side
-unfoldable pub totalFrom : Rules → ℕ → ℕ → ℕ → List ℕ → ℕ
-totalFrom r d p most v = limitedTo r d p (leastDrop v) (most * dropSum v / greatestDrop v)
+-- the most through a side by that speed, held to d
+unfoldable pub mostBy : Rules → ℕ → ℕ → ℕ → ℕ → ℕ → ℕ
+mostBy r d h s k ms = min d (speedBy d h s k * ms * d / (r .«square_side» * 10 ^ 9))
+
+-- what may leave at any speed
+unfoldable pub limitOf : Rules → ℕ → ℕ → ℕ → ℕ
+limitOf r d p least = pick (eqb (r .edition) unlimitedEdition) d (min d (least + p))
+
+-- the total by the steepest drop, the least and the sum T, with m held to d
+unfoldable pub totalWith : Rules → ℕ → ℕ → ℕ → ℕ → ℕ → ℕ → ℕ → ℕ
+totalWith r d p k ms steepest least sum = min (limitOf r d p least) (min d (mostThrough r d k ms steepest) * sum / steepest)
 
 -- a side's share where one side alone has a drop
 unfoldable pub halfOf : ℕ → ℕ → ℕ
 halfOf total drop = pick (eqb drop 0) 0 (total / 2)
 
--- what is known once the steepest drop, and the most through its side, are found
-pub record Steepest (d p : ℕ) (v : List ℕ) (steepest most : ℕ) : Type 0 where
-  pub drops : DropsInRange v
-  pub depth-to : d ≤ mostDepth
+-- what a total asks of the square and of the three numbers that it takes of the drops
+pub record Totalled (r : Rules) (d p k ms steepest least sum : ℕ) : Type 0 where
+  pub square : SquareInRange r d k
   pub last-to : p ≤ mostDepth
-  pub steepest-is : steepest ≡ greatestDrop v
-  pub some : 0 < greatestDrop v
-  pub most-to : most ≤ d
+  pub lasts-to : ms ≤ mostLength
+  pub steepest-from : 0 < steepest
+  pub steepest-to : steepest ≤ mostDrop
+  pub least-to : least ≤ mostDrop
+  pub sum-to : sum ≤ 5 * mostDrop
 
 pub record AmountsWithin (d : ℕ) (a : List ℕ) : Type 0 where
   pub north : getD a 0 0 ≤ d

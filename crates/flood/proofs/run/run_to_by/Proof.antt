@@ -10,7 +10,7 @@ use Rattle.ledger.specs.Record.{mostRecord}
 use Rattle.moves.specs.Given.{Given, ground, given}
 use Rattle.flood.specs.Refusals.{runChecks}
 use Rattle.flood.proofs.CheckLaws.{run-checks-step, run-checks-end, end-is}
-use Rattle.flood.proofs.StepLaws.{is-ready, record-part, squares-part, part-long}
+use Rattle.flood.proofs.StepLaws.{is-ready, Parts, part-long, parts-in}
 use Rattle.flood.proofs.RunToLaws.{run-checked, run-passed}
 use Rattle.flood.proofs.run.run_to_by.Statement.{statement}
 use Rattle.flood.proofs.run.run_to_by.Tie as tie
@@ -20,11 +20,14 @@ use Rattle.flood.proofs.run.run_to_by.Tie as tie
 abbrev begin : tie.After-check → tie.Start
 begin c = c .before .before .before .before .before .before .before .before .before .before .before .before .before
 
+abbrev told : tie.After-run-on-arg3 → tie.After-rows-apart
+told c = c .before .before .before
+
 abbrev to-run : tie.After-run-on-arg3 → tie.After-squares-of
-to-run c = c .before .before .before
+to-run c = told c .before
 
 abbrev finished : tie.After-room2 → tie.After-run-on
-finished c = c .before .before .before .before .before .before .before .before .before
+finished c = c .before .before .before .before .before .before .before .before .before .before .before
 
 -- ---- what is known there
 
@@ -50,11 +53,16 @@ passed c = sym (c .before .check .ensures) ∙ c .if1 .left
 fine : (c : tie.Else1) → ShapeInRange (start c .args .shape)
 fine c = let s = start c in is-ready (p s) (g s) (w s) (run-checks-step (p s) (g s) (s .args .end) (w s) (passed c)) .waters .fine
 
+fits : (c : tie.After-squares-of) → Parts (start (past c) .args .shape) mostSquares (c .before .record-size .result) (c .squares-of .result)
+fits c =
+    let f = fine (past c) in
+    parts-in (start (past c) .args .shape) mostSquares (c .before .record-size .ensures) (c .squares-of .ensures) f (f .few)
+
 record-fits : (c : tie.After-squares-of) → c .before .record-size .result ≤ mostRecord
-record-fits c = record-part (start (past c) .args .shape) (fine (past c)) (c .before .record-size .ensures)
+record-fits c = fits c .record-in
 
 squares-fit : (c : tie.After-squares-of) → c .squares-of .result ≤ mostSquares
-squares-fit c = squares-part (start (past c) .args .shape) (fine (past c)) (c .squares-of .ensures)
+squares-fit c = fits c .squares-in
 
 rows-fit : (c : tie.After-squares-of) → start (past c) .args .shape .rows ≤ mostAlong
 rows-fit c = fine (past c) .rows-high
@@ -84,34 +92,53 @@ record-size-requires c κs = fine c
 squares-of-requires : tie.Need-squares-of-requires
 squares-of-requires c κs = fine (c .before)
 
+rows-apart-requires : tie.Need-rows-apart-requires
+rows-apart-requires c κs = search needs
+
 array-borrow-prefix-rec : tie.Need-array-borrow-prefix-rec
 array-borrow-prefix-rec c = record-fits (to-run c)
 
 slice-aggregate-run-on : tie.Need-slice-aggregate-run-on
 slice-aggregate-run-on c = sym (part-long mostRecord (record-fits (to-run (c .before))))
 
-array-borrow-prefix-senders : tie.Need-array-borrow-prefix-senders
-array-borrow-prefix-senders c = rows-fit (to-run (c .before))
+array-borrow-prefix-left : tie.Need-array-borrow-prefix-left
+array-borrow-prefix-left c = squares-fit (to-run (c .before))
 
 slice-aggregate-run-on-2 : tie.Need-slice-aggregate-run-on-2
-slice-aggregate-run-on-2 c = sym (part-long mostAlong (rows-fit (to-run (c .before .before))))
+slice-aggregate-run-on-2 c = sym (part-long mostSquares (squares-fit (to-run (c .before .before))))
 
-array-borrow-prefix-room : tie.Need-array-borrow-prefix-room
-array-borrow-prefix-room c = squares-fit (to-run (c .before .before))
+array-borrow-prefix-worked : tie.Need-array-borrow-prefix-worked
+array-borrow-prefix-worked c = rows-fit (to-run (c .before .before))
 
 slice-aggregate-run-on-3 : tie.Need-slice-aggregate-run-on-3
-slice-aggregate-run-on-3 c = sym (part-long mostSquares (squares-fit (to-run (c .before .before .before))))
+slice-aggregate-run-on-3 c = sym (part-long mostAlong (rows-fit (to-run (c .before .before .before))))
+
+array-borrow-prefix-senders : tie.Need-array-borrow-prefix-senders
+array-borrow-prefix-senders c = rows-fit (to-run (c .before .before .before))
+
+slice-aggregate-run-on-4 : tie.Need-slice-aggregate-run-on-4
+slice-aggregate-run-on-4 c = sym (part-long mostAlong (rows-fit (to-run (c .before .before .before .before))))
+
+array-borrow-prefix-room : tie.Need-array-borrow-prefix-room
+array-borrow-prefix-room c = squares-fit (to-run (c .before .before .before .before))
+
+slice-aggregate-run-on-5 : tie.Need-slice-aggregate-run-on-5
+slice-aggregate-run-on-5 c = sym (part-long mostSquares (squares-fit (to-run (c .before .before .before .before .before))))
 
 run-on-requires : tie.Need-run-on-requires
 run-on-requires c κs =
-    let at-squares-of = to-run (c .before .before .before) in
+    let at-told = told (c .before .before .before .before .before) in
+    let at-squares-of = at-told .before in
     let e = passed (past at-squares-of) in
     let s = start (past at-squares-of) in (
       record { checked = run-checks-step (p s) (g s) (s .args .end) (w s) e },
       (
         part-long mostRecord (record-fits at-squares-of) ∙ at-squares-of .before .record-size .ensures,
+        part-long mostSquares (squares-fit at-squares-of) ∙ at-squares-of .squares-of .ensures,
+        part-long mostAlong (rows-fit at-squares-of),
         part-long mostAlong (rows-fit at-squares-of),
         part-long mostSquares (squares-fit at-squares-of) ∙ at-squares-of .squares-of .ensures,
+        at-told .rows-apart .ensures,
         end-is (s .args .rules) (s .args .end) (run-checks-end (p s) (g s) (s .args .end) (w s) e) .0,
       ),
     )
@@ -128,7 +155,7 @@ same-length-6 c = search needs
 returns-2 : tie.Need-returns-2
 returns-2 c =
     let at-run-on = finished c in
-    let at-if1 = past (to-run (at-run-on .before .before .before .before)) in
+    let at-if1 = past (to-run (at-run-on .before .before .before .before .before .before)) in
     let s = start at-if1 in
     record { ends = run-passed (p s) (g s) (s .args .end) (w s) (at-if1 .before .check .ensures) (at-if1 .if1 .left) (at-run-on .run-on .ensures .ends) }
 
@@ -143,12 +170,17 @@ run-to-by-spec =
     returns
     record-size-requires
     squares-of-requires
+    rows-apart-requires
     array-borrow-prefix-rec
     slice-aggregate-run-on
-    array-borrow-prefix-senders
+    array-borrow-prefix-left
     slice-aggregate-run-on-2
-    array-borrow-prefix-room
+    array-borrow-prefix-worked
     slice-aggregate-run-on-3
+    array-borrow-prefix-senders
+    slice-aggregate-run-on-4
+    array-borrow-prefix-room
+    slice-aggregate-run-on-5
     run-on-requires
     same-length-4
     same-length-5

@@ -1,16 +1,15 @@
 -- `ledger::settle::write` meets its contract: the slot that is written lies in the room, and the parts written make the world after.
 -- Assumes nothing.
-use mathlib.Core.Path.{_≡_, sym, ap, _∙_}
+use mathlib.Core.Path.{_≡_, ap, _∙_}
 use Prim.Native.Nat.{ℕ, _+_, _≤_}
 use native.Mathlib.Omega.{arith}
 use lib.ListN.{length}
-use Rattle.reckon.proofs.ListLaws.{length-filled}
-use Rattle.reckon.proofs.CopyLaws.{placed-over}
 use Rattle.trials.specs.Ring.{slotStart}
 use Rattle.ledger.specs.Runs.{Plan, World, plan, world}
 use Rattle.ledger.specs.Record.{roomSlots}
 use Rattle.ledger.proofs.RecordLaws.{slots-of}
-use Rattle.ledger.proofs.SettleLaws.{settles-small, written-is, next-fits}
+use Rattle.ledger.proofs.ReachLaws.{lasts-written, depths-written}
+use Rattle.ledger.proofs.SettleLaws.{written-is, next-fits}
 use borrow.Author.Needs.{needs}
 use Rattle.ledger.proofs.settle.write.Statement.{statement}
 use Rattle.ledger.proofs.settle.write.Tie as tie
@@ -20,19 +19,13 @@ use Rattle.ledger.proofs.settle.write.Tie as tie
 abbrev lasted-at : tie.After-kept-after → tie.After-lasted
 lasted-at c = c .before .before
 
-abbrev depths-at : tie.After-lasted → tie.After-copy-into2
+abbrev depths-at : tie.After-lasted → tie.After-write-depths
 depths-at c = c .before .before .before
 
-abbrev new-depths : tie.After-copy-into2 → tie.After-copy-into-arg2
-new-depths c = c .before
+abbrev lasts-at : tie.After-write-depths → tie.After-write-lasts
+lasts-at c = c .before .before .before .before
 
-abbrev lasts-at : tie.After-copy-into-arg2 → tie.After-write-lasts
-lasts-at c = c .before .before .before
-
-abbrev new-lasts : tie.After-write-lasts → tie.After-write-lasts-arg2
-new-lasts c = c .before
-
-abbrev record-at : tie.After-write-lasts-arg2 → tie.After-copy-into
+abbrev record-at : tie.After-write-lasts → tie.After-copy-into
 record-at c = c .before .before .before .before
 
 abbrev place-at : tie.After-copy-into → tie.After-slot-start
@@ -51,7 +44,7 @@ abbrev size-at : tie.After-slots-in → tie.After-record-size
 size-at c = c .before
 
 abbrev start : tie.After-record-size → tie.Start
-start c = c .before .before .before .before .before .before .before .before
+start c = c .before .before .before .before .before .before .before .before .before .before
 
 -- ---- what is known there
 
@@ -71,10 +64,6 @@ slot-fits c =
     let z = size-at (slots-at c) in
     next-fits (ground z) (before z .records) (z .record-size .ensures) (slots-at c .slots-in .ensures) (start z .pre .0 .newest-in)
     (c .slot-after .ensures)
-
--- the working room has one number a square
-working-long : (c : tie.After-record-size) → length (start c .args .working .now) ≡ length (before c .depths)
-working-long c = ap length (start c .pre .1 .1 .0) ∙ length-filled _ _ _ _
 
 -- ---- the needs
 
@@ -98,19 +87,24 @@ copy-into-requires c κs =
 
 write-lasts-requires : tie.Need-write-lasts-requires
 write-lasts-requires c κs =
-    let s = start (size-at (slots-at (slot-at (place-asked (place-at (record-at c)))))) in
-    ((settles-small (s .pre .0), s .pre .0 .lasts-long), s .pre .1 .0)
+    let s = start (size-at (slots-at (slot-at (place-asked (place-at (c .before .before .before)))))) in
+    let told = s .pre .1 .0 in
+    ((s .pre .0 .fine, s .pre .0 .marks-long, told .left-long, s .pre .0 .lasts-long), told .worked-long)
 
-copy-into-requires-2 : tie.Need-copy-into-requires-2
-copy-into-requires-2 c κs =
-    omega (arith, working-long (size-at (slots-at (slot-at (place-asked (place-at (record-at (new-lasts (lasts-at c)))))))))
+write-depths-requires : tie.Need-write-depths-requires
+write-depths-requires c κs =
+    let s = start (size-at (slots-at (slot-at (place-asked (place-at (record-at (c .before .before .before))))))) in
+    let told = s .pre .1 .0 in
+    ((s .pre .0 .fine, s .pre .0 .marks-long, s .pre .1 .1 .0 .long, s .pre .0 .depths-long), (told .worked-long, told .senders-long))
 
 lasted-requires : tie.Need-lasted-requires
-lasted-requires c κs = search needs
+lasted-requires c κs =
+    let s = start (size-at (slots-at (slot-at (place-asked (place-at (record-at (lasts-at (c .before .before)))))))) in
+    omega (arith, s .pre .0 .record-long)
 
-add-t28 : tie.Need-add-t28
-add-t28 c =
-    let s = start (size-at (slots-at (slot-at (place-asked (place-at (record-at (new-lasts (lasts-at (new-depths (depths-at (c .before))))))))))) in
+add-t27 : tie.Need-add-t27
+add-t27 c =
+    let s = start (size-at (slots-at (slot-at (place-asked (place-at (record-at (lasts-at (depths-at (c .before))))))))) in
     record { fits = omega (arith, c .before .lasted .ensures, s .pre .0 .clock-to) }
 
 kept-after-requires : tie.Need-kept-after-requires
@@ -128,15 +122,16 @@ same-length-3 c = search needs
 returns : tie.Need-returns
 returns c =
     let depths = depths-at (lasted-at c) in
-    let lasts = lasts-at (new-depths depths) in
-    let stored = record-at (new-lasts lasts) in
+    let lasts = lasts-at depths in
+    let stored = record-at lasts in
     let place = place-at stored in
     let slot = slot-at (place-asked place) in
     let size = size-at (slots-at slot) in
     let s = start size in
+    let told = s .pre .1 .0 in
     written-is (ground size) (s .args .rec .now) (s .args .held) (before size) (slots-are (slots-at slot)) (slot .slot-after .ensures)
-    (depths .copy-into2 .ensures ∙ (placed-over (s .args .depths .now) (s .args .working .now) (sym (working-long size)) ∙ s .pre .1 .1 .0))
-    (lasts .write-lasts .ensures)
+    (depths-written told (s .pre .0 .fine) (s .pre .0 .marks-long) (s .pre .1 .1 .0) (depths .write-depths .ensures))
+    (lasts-written told (lasts .write-lasts .ensures))
     (place .slot-start .ensures ∙ ap (λ (k : ℕ). slotStart k (slot .slot-after .result)) (size .record-size .ensures)) (stored .copy-into .ensures)
     (ap (λ (k : ℕ). s .args .run .clock + k) (lasted-at c .lasted .ensures)) (s .pre .1 .1 .1 .0) (c .kept-after .ensures) (s .pre .1 .1 .1 .1)
 
@@ -150,9 +145,9 @@ write-spec =
     slot-start-requires
     copy-into-requires
     write-lasts-requires
-    copy-into-requires-2
+    write-depths-requires
     lasted-requires
-    add-t28
+    add-t27
     kept-after-requires
     same-length
     same-length-2

@@ -55,7 +55,8 @@ pour-all-requires c κs =
     let at-rain-all = rained (c .before .before) in
     let s = start at-rain-all in (
       pours (p s) (s .args .rules) (s .args .rain .now) (s .args .inflow .now) (s .args .start) (s .args .end) (s .pre .0) (fallen at-rain-all .rain-added .ensures),
-      at-rain-all .rain-all .ensures .long ∙ s .pre .1,
+      at-rain-all .rain-all .ensures .long ∙ s .pre .1 .0,
+      s .pre .1 .1,
     )
 
 same-length-2 : tie.Need-same-length-2
@@ -67,7 +68,7 @@ returns-2 c =
     let at-rain-all = rained (at-if1 .before) in
     let s = start at-rain-all in
     wetted (p s) (s .args .rules) (s .args .rain .now) (s .args .inflow .now) (s .args .start) (s .args .end) (s .pre .0) (fallen at-rain-all .rain-added .ensures)
-    (s .pre .1) (not-false _ (at-if1 .if1 .left)) (at-rain-all .rain-all .ensures) (poured c .pour-all .ensures)
+    (s .pre .1 .0) (not-false _ (at-if1 .if1 .left)) (at-rain-all .rain-all .ensures) (poured c .pour-all .ensures)
 
 pub add-water-spec : {M : Type 1} → statement M
 add-water-spec =

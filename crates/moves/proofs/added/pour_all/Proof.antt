@@ -19,14 +19,14 @@ use Rattle.moves.proofs.added.pour_all.Statement.{statement}
 use Rattle.moves.proofs.added.pour_all.Tie as tie
 
 abbrev Inv-loop : tie.InvT-loop
-Inv-loop shape rules inflow start end rain room₀ rows j₀ room j =
+Inv-loop shape rules inflow apart start end rain room₀ rows j₀ room j =
     (j ≤ length inflow / inflowWords)
     × (length room ≡ squares shape)
     × (room ≡ filled (squares shape) (unreached shape rules inflow start end rain j) (amountAt shape rules inflow start end rain) room₀)
     × (allBelow j (λ k. leb (amountAt shape rules inflow start end rain (rowSquare shape rules inflow start end rain k)) mostDepth) ≡ true)
 
 abbrev μ-loop : tie.MeasureT-loop
-μ-loop shape rules inflow start end rain room₀ rows j₀ room j = length inflow / inflowWords - j
+μ-loop shape rules inflow apart start end rain room₀ rows j₀ room j = length inflow / inflowWords - j
 
 loop-holds : tie.Need-loop-holds Inv-loop μ-loop
 loop-holds c =
@@ -34,7 +34,9 @@ loop-holds c =
     (omega arith, start .pre .1, pour-none (start .args .shape) (start .args .rules) (start .args .inflow .now) (start .args .start) (start .args .end) (start .args .rain) (start .args .room .now), all-none _)
 
 pour-row-requires : tie.Need-pour-row-requires Inv-loop μ-loop
-pour-row-requires c κs = (c .before .before .before .before .before .pre .0, c .before .before .loop .inv .1, omega arith)
+pour-row-requires c κs =
+    let start = c .before .before .before .before .before in
+    (start .pre .0, c .before .before .loop .inv .1, omega arith, start .pre .2)
 
 same-length : tie.Need-same-length Inv-loop μ-loop
 same-length c =

@@ -11,7 +11,7 @@ use Rattle.reckon.proofs.TestLaws.{not-both}
 use Rattle.reckon.proofs.TableLaws.{inflow-le}
 use Rattle.grid.specs.Squares.{squares, squareAt}
 use Rattle.grid.proofs.SquareLaws.{square-within}
-use Rattle.moves.proofs.AddedLaws.{amount-made}
+use Rattle.moves.proofs.AddedLaws.{row-is-on, amount-made}
 use Rattle.moves.specs.inner.Added.{amountAt, rowSquare}
 use Rattle.moves.proofs.added.pour_row.Statement.{statement}
 use Rattle.moves.proofs.added.pour_row.Tie as tie
@@ -21,12 +21,12 @@ use Rattle.moves.proofs.added.pour_row.Tie as tie
 abbrev begin : tie.After-number → tie.Start
 begin c = c .before .before .before
 
-abbrev to-square : tie.After-square-at → tie.After-inflow-added
+abbrev to-square : tie.After-square-at → tie.After-poured
 to-square c = c .before .before
 
 -- ---- what is known there
 
-abbrev start : tie.After-inflow-added → tie.Start
+abbrev start : tie.After-poured → tie.Start
 start c = begin (c .before .before)
 
 -- the square of the row, and what is added to it
@@ -36,12 +36,12 @@ at s = rowSquare (s .args .shape) (s .args .rules) (s .args .inflow .now) (s .ar
 abbrev amount : tie.Start → ℕ
 amount s = amountAt (s .args .shape) (s .args .rules) (s .args .inflow .now) (s .args .start) (s .args .end) (s .args .rain) (at s)
 
-amount-is : (c : tie.After-inflow-added) → start c .args .rain + c .inflow-added .result ≡ amount (start c)
+amount-is : (c : tie.After-poured) → start c .args .rain + c .poured .result ≡ amount (start c)
 amount-is c =
     let s = start c in
     amount-made (s .args .shape) (s .args .rules) (s .args .inflow .now) (s .args .start) (s .args .end) (s .args .rain) (s .args .j)
     (s .pre .0 .column-in (s .args .j) (s .pre .2)) (c .before .before .number .ensures) (c .before .number2 .ensures)
-    (c .inflow-added .ensures)
+    (c .poured .ensures)
 
 within : (c : tie.After-square-at) → c .square-at .result < squares (start (to-square c) .args .shape)
 within c =
@@ -72,8 +72,13 @@ add-number c = search needs
 number-requires-2 : tie.Need-number-requires-2
 number-requires-2 c κs = search needs
 
-inflow-added-requires : tie.Need-inflow-added-requires
-inflow-added-requires c κs = search needs
+poured-requires : tie.Need-poured-requires
+poured-requires c κs =
+    let s = begin (c .before) in
+    let a = s .pre .0 in (
+      (s .pre .3, s .pre .2, row-is-on (s .args .inflow .now) (s .args .j) (c .before .number .ensures) (c .number2 .ensures)),
+      (a .table, a .ordered, a .side-from, a .side-to),
+    )
 
 add-amount : tie.Need-add-amount
 add-amount c =
@@ -82,7 +87,7 @@ add-amount c =
       arith,
       inflow-le (s .args .inflow .now) (c .before .before .number .result) (c .before .number2 .result) (s .args .rules .«square_side»)
           (s .pre .0 .table),
-      c .inflow-added .ensures,
+      c .poured .ensures,
     )
 
 cast-if1 : tie.Need-cast-if1
@@ -137,7 +142,7 @@ pour-row-spec =
     mul-number-2
     add-number
     number-requires-2
-    inflow-added-requires
+    poured-requires
     add-amount
     cast-if1
     returns

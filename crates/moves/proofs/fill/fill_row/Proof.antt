@@ -1,45 +1,47 @@
--- `moves::fill::fill_row` meets its contract: the columns passed stand in the record, and their senders in the mask.
+-- `moves::fill::fill_row` meets its contract: of the columns passed the record, the room and the mask tell, and those between two that are
+-- worked stand already.
 -- Assumes nothing.
-use mathlib.Core.Path.{_≡_, refl, ap, _∙_}
-use Prim.Native.Nat.{ℕ, _+_, _-_, min}
+use mathlib.Core.Path.{_≡_, refl, _∙_, subst}
+use Prim.Native.Nat.{ℕ, _+_, _-_, _≤_}
 use native.Mathlib.Omega.{arith}
 use lib.ListN.{length}
-use Rattle.grid.specs.Masks.{maskFrom}
+use Rattle.grid.specs.Squares.{squares}
+use Rattle.grid.proofs.SquareLaws.{row-column}
+use Rattle.grid.proofs.WalkLaws.{within-from}
 use Rattle.ledger.specs.Runs.{Plan, plan}
-use Rattle.ledger.specs.inner.Settle.{sends}
 use Rattle.moves.specs.Given.{Ground, ground}
-use Rattle.moves.specs.Moves.{leavesFor}
-use Rattle.moves.specs.inner.Fill.{DryTo, FilledOn}
-use Rattle.moves.proofs.FillLaws.{filled-then, filled-on}
-use Rattle.moves.proofs.WetLaws.{next-dry, senders-none, senders-more, senders-fit}
+use Rattle.moves.specs.inner.Fill.{FilledColumns}
+use Rattle.moves.proofs.WetLaws.{columns-none, columns-idle, columns-more, senders-fit}
 use Rattle.moves.proofs.fill.fill_row.Statement.{statement}
 use Rattle.moves.proofs.fill.fill_row.Tie as tie
 
 abbrev Inv-loop : tie.InvT-loop
-Inv-loop shape rules marks beds roughness rates depths lasts added start duration first wet rec₀ columns senders₀ column₀ rec senders column =
-    (length rec ≡ length rec₀)
-    × FilledOn (plan shape marks) (ground rules beds roughness rates) depths lasts added start duration first (first + min column columns) rec₀ rec
-    × (senders ≡ maskFrom (sends (plan shape marks) (leavesFor (plan shape marks) (ground rules beds roughness rates) depths lasts duration)) first (min column columns))
+Inv-loop shape rules marks beds roughness rates depths lasts added start duration first worked rec₀ left₀ columns senders₀ column₀ rec left senders column =
+    (column ≤ columns)
+    × (length rec ≡ length rec₀)
+    × (length left ≡ length left₀)
+    × FilledColumns (plan shape marks) (ground rules beds roughness rates) depths lasts added start duration first worked column rec₀ rec left₀ left senders
 
 abbrev μ-loop : tie.MeasureT-loop
-μ-loop shape rules marks beds roughness rates depths lasts added start duration first wet rec₀ columns senders₀ column₀ rec senders column = columns - column
+μ-loop shape rules marks beds roughness rates depths lasts added start duration first worked rec₀ left₀ columns senders₀ column₀ rec left senders column =
+    columns - column
 
 -- ---- the places, each by the one before it
 
-abbrev begin : tie.After-slice-known Inv-loop μ-loop → tie.Start Inv-loop μ-loop
-begin c = c .before .before .before .before .before .before .before .before
+abbrev begin : tie.After-slice-known2 Inv-loop μ-loop → tie.Start Inv-loop μ-loop
+begin c = c .before .before .before .before .before .before .before .before .before
 
 abbrev start : tie.At-loop Inv-loop μ-loop → tie.Start Inv-loop μ-loop
-start c = begin (c .before)
+start c = begin (c .before .before)
 
-abbrev turn : tie.After-next-within Inv-loop μ-loop → tie.At-loop Inv-loop μ-loop
+abbrev turn : tie.After-fill-square-arg2 Inv-loop μ-loop → tie.In-loop Inv-loop μ-loop
 turn c = c .before .before
 
-abbrev to-next : tie.After-fill-up-to Inv-loop μ-loop → tie.After-next-within Inv-loop μ-loop
-to-next c = c .before .before
+abbrev filled : tie.After-slice-known4 Inv-loop μ-loop → tie.After-fill-square Inv-loop μ-loop
+filled c = c .before .before .before .before
 
-abbrev filled : tie.After-slice-known2 Inv-loop μ-loop → tie.After-fill-up-to Inv-loop μ-loop
-filled c = c .before .before
+abbrev told : tie.After-sender-bit Inv-loop μ-loop → tie.After-fill-square Inv-loop μ-loop
+told c = filled (c .before)
 
 -- ---- what is known there
 
@@ -49,112 +51,126 @@ p s = plan (s .args .shape) (s .args .marks .now)
 abbrev o : tie.Start Inv-loop μ-loop → Ground
 o s = ground (s .args .rules) (s .args .beds .now) (s .args .roughness .now) (s .args .rates .now)
 
--- the columns up to the next
-module _ (c : tie.After-next-within Inv-loop μ-loop) where
+-- in a turn
+module _ (c : tie.In-loop Inv-loop μ-loop) where
   abbrev s : tie.Start Inv-loop μ-loop
-  s = start (turn c)
+  s = start (c .before)
 
   abbrev column : ℕ
-  column = turn c .loop .column
+  column = c .before .loop .column
 
-  passes : DryTo (p s) (s .args .depths .now) (s .args .first) column (c .next-within .result)
-  passes =
-      next-dry (p s) (s .args .depths .now) (s .args .first) (s .pre .1 .1) (s .pre .0 .flows .lies .sited .fine .columns-high)
-      (omega (arith, c .before .loop-test .taken)) (c .next-within .ensures)
+  room-long : length (c .before .loop .left) ≡ squares (s .args .shape)
+  room-long = c .before .loop .inv .2 ∙ s .pre .1 .2
 
-  here : min column (s .args .shape .columns) ≡ column
-  here = omega (arith, c .before .loop-test .taken)
+-- one column more, where the square is worked and its bit is told
+module _ (c : tie.After-sender-bit Inv-loop μ-loop) where
+  abbrev here : tie.In-loop Inv-loop μ-loop
+  here = turn (told c .before)
 
--- the senders so far, and those up to the next column
-more-senders :
-    (c : tie.After-fill-up-to Inv-loop μ-loop) →
-    let n = to-next c in
-    let z = s n in
-    turn n .loop .senders + c .fill-up-to .result
-    ≡ maskFrom (sends (p z) (leavesFor (p z) (o z) (z .args .depths .now) (z .args .lasts .now) (z .args .duration))) (z .args .first)
-    (min (n .next-within .result + 1) (z .args .shape .columns))
-more-senders c =
-    let n = to-next c in
-    let z = s n in
-    senders-more (p z) (o z) (z .args .depths .now) (z .args .lasts .now) (z .args .start) (z .args .duration) (passes n) (turn n .loop .inv .2)
-    (c .fill-up-to .ensures .1)
+  abbrev z : tie.Start Inv-loop μ-loop
+  z = s here
+
+  one-more :
+      FilledColumns (p z) (o z) (z .args .depths .now) (z .args .lasts .now) (z .args .added .now) (z .args .start) (z .args .duration) (z .args .first) (z .args .worked)
+      (column here + 1) (z .args .rec .now) (told c .fill-square .last .1 .1 .1 .1 .1 .1 .1 .1 .1 .1 .1 .1 .1 .0) (z .args .left .now)
+      (told c .fill-square .last .1 .1 .1 .1 .1 .1 .1 .1 .1 .1 .1 .1 .1 .1 .0) (here .before .loop .senders + c .sender-bit .result)
+  one-more =
+      columns-more (p z) (o z) (z .args .depths .now) (z .args .lasts .now) (z .args .added .now) (z .args .start) (z .args .duration) (z .args .first) (z .args .worked)
+      (z .args .rec .now) (z .args .left .now) (here .before .loop .inv .3) (z .pre .1 .0 .fits) (here .loop-test .taken) (room-long here)
+      (told c .fill-square .ensures) (c .sender-bit .ensures)
 
 -- ---- the answers
 
+next-within-requires : tie.Need-next-within-requires Inv-loop μ-loop
+next-within-requires c κs = (omega arith, begin c .pre .0 .flows .lies .sited .fine .columns-high)
+
 loop-holds : tie.Need-loop-holds Inv-loop μ-loop
 loop-holds c =
-    let z = begin c in
-    let none : min 0 (z .args .shape .columns) ≡ 0 = omega arith in (
+    let y = begin (c .before) in (
+      omega (arith, c .next-within .ensures),
       refl,
-      filled-on (p z) (o z) (z .args .depths .now) (z .args .lasts .now) (z .args .added .now) (z .args .start) (z .args .duration) (z .args .first)
-          (let e : z .args .first ≡ z .args .first + min 0 (z .args .shape .columns) = omega arith in e) (λ held b. b),
-      senders-none (p z) (o z) (z .args .depths .now) (z .args .lasts .now) (z .args .start) (z .args .duration) (z .args .first) none,
+      refl,
+      columns-idle (p y) (o y) (y .args .depths .now) (y .args .lasts .now) (y .args .added .now) (y .args .start) (y .args .duration) (y .args .first) (y .args .worked)
+          (y .args .rec .now) (y .args .left .now)
+          (columns-none (p y) (o y) (y .args .depths .now) (y .args .lasts .now) (y .args .added .now) (y .args .start) (y .args .duration) (y .args .first)
+          (y .args .worked) (y .args .rec .now) (y .args .left .now))
+          (y .pre .1 .0 .fits) (c .next-within .result) (omega arith) (y .pre .1 .1) (c .next-within .ensures),
     )
 
-next-within-requires : tie.Need-next-within-requires Inv-loop μ-loop
-next-within-requires c κs = (omega (arith, c .loop-test .taken), start (c .before) .pre .0 .flows .lies .sited .fine .columns-high)
+add-fill-square : tie.Need-add-fill-square Inv-loop μ-loop
+add-fill-square c = let y = s c in omega (arith, y .pre .1 .0 .fits, y .pre .0 .flows .lies .sited .fine .few, c .loop-test .taken)
 
-fill-up-to-requires : tie.Need-fill-up-to-requires Inv-loop μ-loop
-fill-up-to-requires c κs =
-    let n = c .before in
-    let f = s n .pre .0 in (
+fill-square-requires : tie.Need-fill-square-requires Inv-loop μ-loop
+fill-square-requires c κs =
+    let at = turn c in
+    let y = s at in
+    let f = y .pre .0 in (
       record {
         flows = f .flows;
         added-long = f .added-long;
         duration-for = f .duration-for;
         end-to = f .end-to;
-        record-long = turn n .loop .inv .0 ∙ f .record-long;
+        record-long = at .before .loop .inv .1 ∙ f .record-long;
       },
-      (s n .pre .1 .0, passes n),
+      (row-column (y .args .shape) (f .flows .lies .sited .fine) (y .pre .1 .0) (at .loop-test .taken), room-long at),
     )
+
+sender-bit-requires : tie.Need-sender-bit-requires Inv-loop μ-loop
+sender-bit-requires c κs =
+    let at = turn (filled c .before) in
+    omega (arith, at .loop-test .taken, s at .pre .0 .flows .lies .sited .fine .columns-high)
 
 add-senders : tie.Need-add-senders Inv-loop μ-loop
 add-senders c =
-    let n = to-next (filled c) in
-    let z = s n in
+    let y = z c in
     record {
       fits =
-          senders-fit (p z) (o z) (z .args .depths .now) (z .args .lasts .now) (z .args .start) (z .args .duration) (z .args .first)
-          (min (n .next-within .result + 1) (z .args .shape .columns)) (omega (arith, z .pre .0 .flows .lies .sited .fine .columns-high))
-          (more-senders (filled c));
+          senders-fit (p y) (o y) (y .args .depths .now) (y .args .lasts .now) (y .args .added .now) (y .args .start) (y .args .duration) (y .args .first) (y .args .worked)
+          (y .args .rec .now) (y .args .left .now) (one-more c) (y .pre .1 .0 .fits)
+          (omega (arith, here c .loop-test .taken, y .pre .0 .flows .lies .sited .fine .columns-high));
     }
 
-add-column : tie.Need-add-column Inv-loop μ-loop
-add-column c =
-    let n = to-next (filled c) in
-    omega (arith, passes n .within, s n .pre .0 .flows .lies .sited .fine .columns-high)
+next-after-requires : tie.Need-next-after-requires Inv-loop μ-loop
+next-after-requires c κs = (here c .loop-test .taken, z c .pre .0 .flows .lies .sited .fine .columns-high)
 
 loop-less : tie.Need-loop-less Inv-loop μ-loop
 loop-less c =
-    let n = to-next (filled c) in
-    omega (arith, passes n .ordered, n .before .loop-test .taken)
+    let at = here (c .before) in
+    let y = s at in
+    omega (
+      arith,
+      c .next-after .ensures,
+      within-from (y .args .worked) (column at + 1) (y .args .shape .columns) (omega (arith, at .loop-test .taken)),
+      at .loop-test .taken,
+    )
 
 loop-again : tie.Need-loop-again Inv-loop μ-loop
 loop-again c =
-    let done = filled c in
-    let n = to-next done in
-    let z = s n in (
-      done .fill-up-to .kept .1 .1 .1 .1 .1 .1 .1 .1 .1 .1 .1 .1 .1 .1 .0 ∙ turn n .loop .inv .0,
-      filled-on (p z) (o z) (z .args .depths .now) (z .args .lasts .now) (z .args .added .now) (z .args .start) (z .args .duration) (z .args .first) (omega arith)
-          (filled-then (p z) (o z) (z .args .depths .now) (z .args .lasts .now) (z .args .added .now) (z .args .start) (z .args .duration) (z .args .first)
-          (ap (λ (k : ℕ). z .args .first + k) (here n)) (turn n .loop .inv .1) (done .fill-up-to .ensures .0)),
-      more-senders done
-          ∙ ap (maskFrom (sends (p z) (leavesFor (p z) (o z) (z .args .depths .now) (z .args .lasts .now) (z .args .duration))) (z .args .first)) (omega arith),
+    let turned = c .before in
+    let at = here turned in
+    let y = s at in (
+      omega (arith, c .next-after .ensures),
+      told turned .fill-square .kept .1 .1 .1 .1 .1 .1 .1 .1 .1 .1 .1 .1 .1 .0 ∙ at .before .loop .inv .1,
+      told turned .fill-square .kept .1 .1 .1 .1 .1 .1 .1 .1 .1 .1 .1 .1 .1 .1 .0 ∙ at .before .loop .inv .2,
+      columns-idle (p y) (o y) (y .args .depths .now) (y .args .lasts .now) (y .args .added .now) (y .args .start) (y .args .duration) (y .args .first) (y .args .worked)
+          (y .args .rec .now) (y .args .left .now) (one-more turned) (y .pre .1 .0 .fits) (c .next-after .result) (omega (arith, at .loop-test .taken))
+          (y .pre .1 .1) (c .next-after .ensures),
     )
 
 same-length : tie.Need-same-length Inv-loop μ-loop
-same-length c = c .before .loop .inv .0
+same-length c = c .before .loop .inv .1
+
+same-length-2 : tie.Need-same-length-2 Inv-loop μ-loop
+same-length-2 c = c .before .loop .inv .2
 
 returns : tie.Need-returns Inv-loop μ-loop
 returns c =
     let at = c .before in
-    let z = start at in
-    let e : min (at .loop .column) (z .args .shape .columns) ≡ z .args .shape .columns = omega (arith, c .loop-test .left) in (
-      filled-on (p z) (o z) (z .args .depths .now) (z .args .lasts .now) (z .args .added .now) (z .args .start) (z .args .duration) (z .args .first)
-          (ap (λ (k : ℕ). z .args .first + k) e) (at .loop .inv .1),
-      at .loop .inv .2
-          ∙ ap (maskFrom (sends (p z) (leavesFor (p z) (o z) (z .args .depths .now) (z .args .lasts .now) (z .args .duration))) (z .args .first)) e,
-    )
+    let y = start at in
+    subst
+    (λ (k : ℕ). FilledColumns (p y) (o y) (y .args .depths .now) (y .args .lasts .now) (y .args .added .now) (y .args .start) (y .args .duration) (y .args .first)
+    (y .args .worked) k (y .args .rec .now) (at .loop .rec) (y .args .left .now) (at .loop .left) (at .loop .senders))
+    (let e : at .loop .column ≡ y .args .shape .columns = omega (arith, at .loop .inv .0, c .loop-test .left) in e) (at .loop .inv .3)
 
 pub fill-row-spec : {M : Type 1} → statement M
 fill-row-spec =
@@ -162,12 +178,15 @@ fill-row-spec =
     (tie.spec
     Inv-loop
     μ-loop
-    loop-holds
     next-within-requires
-    fill-up-to-requires
+    loop-holds
+    add-fill-square
+    fill-square-requires
+    sender-bit-requires
     add-senders
-    add-column
+    next-after-requires
     loop-less
     loop-again
     same-length
+    same-length-2
     returns)

@@ -1,21 +1,20 @@
--- `moves::fill::fill_square` meets its contract: a closed square is written as zeros, a dry one sends and soaks nothing, any other is
--- worked.
+-- `moves::fill::fill_square` meets its contract: a closed square changes nothing, a dry one sends and soaks nothing, any other is worked.
 -- Assumes nothing.
-use mathlib.Core.Path.{_≡_, sym, _∙_}
+use mathlib.Core.Path.{_≡_, refl, sym, _∙_}
 use mathlib.Core.Bool.{false}
 use borrow.Author.Needs.{needs}
-use Rattle.reckon.proofs.TestLaws.{not-both}
+use Rattle.reckon.proofs.TestLaws.{not-both, pick-true}
 use Rattle.ledger.specs.Runs.{Plan, plan}
 use Rattle.ledger.specs.Flows.{shut}
 use Rattle.moves.specs.Given.{Ground, ground}
-use Rattle.moves.proofs.FillLaws.{put-dry, soaked-dry}
+use Rattle.moves.proofs.FillLaws.{put-dry, soaked-dry, dry-gone, dry-silent, left-set}
 use Rattle.moves.proofs.fill.fill_square.Statement.{statement}
 use Rattle.moves.proofs.fill.fill_square.Tie as tie
 
 -- ---- the places, each by the one before it
 
 abbrev begin : tie.After-is-closed → tie.Start
-begin c = c .before .before .before .before .before .before .before .before .before
+begin c = c .before .before .before .before .before .before .before .before .before .before
 
 abbrev dry : tie.After-slice-known3 → tie.After-put-square
 dry c = c .before .before
@@ -45,18 +44,16 @@ is-open c = sym (c .before .is-closed .ensures) ∙ c .if1 .left
 is-closed-requires : tie.Need-is-closed-requires
 is-closed-requires c κs = search needs
 
-put-closed-requires : tie.Need-put-closed-requires
-put-closed-requires c κs = search needs
-
-same-length : tie.Need-same-length
-same-length c = search needs
-
 returns : tie.Need-returns
 returns c =
-    let at-put-closed = c .before .before in
-    let at-if1 = at-put-closed .before .before in
-    let e = sym (at-if1 .before .is-closed .ensures) ∙ at-if1 .if1 .taken in
-    record { closed-put = λ z. at-put-closed .put-closed .ensures; open-put = λ z. not-both e z }
+    let s = begin (c .before) in
+    let e = sym (c .before .is-closed .ensures) ∙ c .if1 .taken in
+    record {
+      closed-kept = λ z. refl;
+      open-put = λ z. not-both e z;
+      left-is = sym (pick-true _ _ e);
+      sent-is = sym (dry-silent (p s) (o s) (s .args .depths .now) (s .args .lasts .now) (s .args .duration) (s .args .square) (λ z. not-both e z));
+    }
 
 mul-if2 : tie.Need-mul-if2
 mul-if2 c = search needs
@@ -79,6 +76,15 @@ shared-slice-read-put-square-2 c = search needs
 put-square-requires : tie.Need-put-square-requires
 put-square-requires c κs = search needs
 
+mul-left : tie.Need-mul-left
+mul-left c = search needs
+
+slice-write-left : tie.Need-slice-write-left
+slice-write-left c = search needs
+
+same-length : tie.Need-same-length
+same-length c = search needs
+
 same-length-2 : tie.Need-same-length-2
 same-length-2 c = search needs
 
@@ -86,33 +92,40 @@ returns-2 : tie.Need-returns-2
 returns-2 c =
     let at-if2 = to-put (dry c .before) in
     let s = start (judged at-if2) in
+    let e = is-open (judged at-if2) in
     let none = at-if2 .if2 .taken in
     record {
-      closed-put = λ e. not-both e (is-open (judged at-if2));
+      closed-kept = λ z. not-both z e;
       open-put =
-          λ e. put-dry (s .args .rules) _ _ (s .args .duration) _ (s .args .rec .now) (s .args .square) _ _
-          none (soaked-dry (p s) (o s) (s .args .depths .now) (s .args .lasts .now) (s .args .start) (s .args .duration) (s .args .square) e none)
+          λ z. put-dry (s .args .rules) _ _ (s .args .duration) _ (s .args .rec .now) (s .args .square) _ _
+          none (soaked-dry (p s) (o s) (s .args .depths .now) (s .args .lasts .now) (s .args .start) (s .args .duration) (s .args .square) z none)
           (dry c .put-square .ensures);
+      left-is =
+          left-set (p s) (s .args .left .now) (s .args .square) e
+          (sym (dry-gone (p s) (o s) (s .args .depths .now) (s .args .lasts .now) (s .args .duration) (s .args .square) e none));
+      sent-is = sym (dry-silent (p s) (o s) (s .args .depths .now) (s .args .lasts .now) (s .args .duration) (s .args .square) (λ z. none));
     }
 
 work-square-requires : tie.Need-work-square-requires
 work-square-requires c κs =
-    let at-if1 = c .before .before .before in
-    (start at-if1 .pre .0, (start at-if1 .pre .1, is-open at-if1))
+    let at-if1 = c .before .before .before .before in
+    let s = start at-if1 in
+    (s .pre .0, (s .pre .1 .0, is-open at-if1, s .pre .1 .1))
 
 same-length-3 : tie.Need-same-length-3
 same-length-3 c = search needs
 
+same-length-4 : tie.Need-same-length-4
+same-length-4 c = search needs
+
 returns-3 : tie.Need-returns-3
-returns-3 c = c .before .before .work-square .ensures .0
+returns-3 c = c .before .before .before .before .work-square .ensures
 
 pub fill-square-spec : {M : Type 1} → statement M
 fill-square-spec =
     tie.close
     (tie.spec
     is-closed-requires
-    put-closed-requires
-    same-length
     returns
     mul-if2
     shared-slice-read-if2
@@ -121,8 +134,12 @@ fill-square-spec =
     mul-put-square-2
     shared-slice-read-put-square-2
     put-square-requires
+    mul-left
+    slice-write-left
+    same-length
     same-length-2
     returns-2
     work-square-requires
     same-length-3
+    same-length-4
     returns-3)

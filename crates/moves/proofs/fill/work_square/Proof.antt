@@ -16,14 +16,14 @@ use Rattle.moves.specs.Drops.{dropsOf}
 use Rattle.moves.specs.Moves.{leavesFor}
 use Rattle.moves.proofs.DropLaws.{weighable}
 use Rattle.moves.proofs.MoveLaws.{weights}
-use Rattle.moves.proofs.FillLaws.{weighed-made, put-wet, words-fit, gone-made, gone-covered, soaked-made, sends-made}
+use Rattle.moves.proofs.FillLaws.{weighed-made, put-wet, words-fit, gone-made, gone-covered, soaked-made, sends-made, left-set}
 use Rattle.moves.proofs.fill.work_square.Statement.{statement}
 use Rattle.moves.proofs.fill.work_square.Tie as tie
 
 -- ---- the places, each by the one before it
 
 abbrev begin : tie.After-number → tie.Start
-begin c = c .before .before .before .before .before .before .before .before .before
+begin c = c .before .before .before .before .before .before .before .before .before .before
 
 abbrev dropped : tie.After-number3 → tie.After-drops-of
 dropped c = c .before .before
@@ -40,7 +40,7 @@ rated c = c .before
 abbrev to-put : tie.After-shared-slice-known9 → tie.After-soaks
 to-put c = c .before .before .before
 
-abbrev finished : tie.After-slice-known2 → tie.After-put-square
+abbrev finished : tie.After-slice-known3 → tie.After-put-square
 finished c = c .before .before
 
 -- ---- what is known there
@@ -172,8 +172,25 @@ put-square-requires c κs =
           (omega (arith, soaked .soaks .ensures)) (w .weigh .ensures),
     )
 
+-- what left fits a word, and the square is one of the room's
+cast-left : tie.Need-cast-left
+cast-left c =
+    let l = leaving (rated (to-put (finished c .before))) in
+    omega (arith, left l, shallow (l .before), weighing (l .before) .number .ensures)
+
+mul-left : tie.Need-mul-left
+mul-left c = record { fits = omega (arith, few (to-put (finished c .before))) }
+
+slice-write-left : tie.Need-slice-write-left
+slice-write-left c =
+    let y = z (leaving (rated (to-put (finished c .before)))) in
+    omega (arith, y .pre .1 .0 .inside, y .pre .1 .2)
+
 same-length : tie.Need-same-length
 same-length c = search needs
+
+same-length-2 : tie.Need-same-length-2
+same-length-2 c = search needs
 
 returns : tie.Need-returns
 returns c =
@@ -181,17 +198,17 @@ returns c =
     let l = leaving (rated soaked) in
     let w = l .before in
     let y = s w in
-    let lasts = y .args .lasts .now in (
-      record {
-        closed-put = λ e. not-both e (y .pre .1 .1);
-        open-put =
-            λ e. put-wet (y .args .rules) (getD lasts (i w) 0) (getD (y .args .roughness .now) (i w) 0) (y .args .duration)
-            (dropsOf (p y) (y .args .rules) (y .args .beds .now) (d w) (i w)) (getD (d w) (i w) 0) (y .args .rec .now) (i w) _ _ (weighed-is w)
-            (soaked-made (p y) (o y) (d w) lasts (y .args .start) (y .args .duration) (i w) e (rated soaked .number4 .ensures) (weighing w .number .ensures)
-            (gone-is l) (soaked .soaks .ensures)) (finished c .put-square .ensures);
-      },
-      sends-made (p y) (o y) (d w) lasts (y .args .start) (y .args .duration) (i w) (y .pre .1 .1) (gone-is l),
-    )
+    let lasts = y .args .lasts .now in
+    record {
+      closed-kept = λ e. not-both e (y .pre .1 .1);
+      open-put =
+          λ e. put-wet (y .args .rules) (getD lasts (i w) 0) (getD (y .args .roughness .now) (i w) 0) (y .args .duration)
+          (dropsOf (p y) (y .args .rules) (y .args .beds .now) (d w) (i w)) (getD (d w) (i w) 0) (y .args .rec .now) (i w) _ _ (weighed-is w)
+          (soaked-made (p y) (o y) (d w) lasts (y .args .start) (y .args .duration) (i w) e (rated soaked .number4 .ensures) (weighing w .number .ensures)
+          (gone-is l) (soaked .soaks .ensures)) (finished c .put-square .ensures);
+      left-is = left-set (p y) (y .args .left .now) (i w) (y .pre .1 .1) (gone-is l);
+      sent-is = sends-made (p y) (o y) (d w) lasts (y .args .start) (y .args .duration) (i w) (y .pre .1 .1) (gone-is l);
+    }
 
 pub work-square-spec : {M : Type 1} → statement M
 work-square-spec =
@@ -211,5 +228,9 @@ work-square-spec =
     mul-put-square-2
     shared-slice-read-put-square-2
     put-square-requires
+    cast-left
+    mul-left
+    slice-write-left
     same-length
+    same-length-2
     returns)

@@ -45,7 +45,7 @@ on-to :
     next ≡ nextWithin (s .args .wet) column (s .args .shape .columns) →
     (next ≤ s .args .shape .columns) × (best ≡ leastBelow (p s) (o s) (s .args .depths .now) (s .args .first + next))
 on-to s column next l e n =
-    let d = next-dry (p s) (s .args .depths .now) (s .args .first) (s .pre .1 .0 .1) (s .pre .0 .sited .fine .columns-high) l n in (
+    let d = next-dry (p s) (s .args .depths .now) (s .args .first) (s .pre .1 .0 .1) l n in (
       d .within,
       e ∙ sym (below-idle (p s) (o s) (s .args .depths .now) (s .args .first + column) (s .args .first + next) (omega (arith, d .ordered)) (dry-at (p s) (s .args .depths .now) d)),
     )
@@ -71,27 +71,24 @@ shorter-by-requires c κs =
       row-column (s .args .shape) (s .pre .0 .sited .fine) (s .pre .1 .0 .0) (c .loop-test .taken),
     )
 
-add-next-within : tie.Need-add-next-within Inv-loop μ-loop
-add-next-within c = let s = start (turn c) in omega (arith, s .pre .0 .sited .fine .columns-high, c .before .loop-test .taken)
-
-next-within-requires-2 : tie.Need-next-within-requires-2 Inv-loop μ-loop
-next-within-requires-2 c κs = (omega (arith, c .before .loop-test .taken), start (turn c) .pre .0 .sited .fine .columns-high)
+next-after-requires : tie.Need-next-after-requires Inv-loop μ-loop
+next-after-requires c κs = (c .before .loop-test .taken, start (turn c) .pre .0 .sited .fine .columns-high)
 
 loop-less : tie.Need-loop-less Inv-loop μ-loop
 loop-less c =
     let column = turn (c .before) .loop .column in
     let s = start (turn (c .before)) in
-    omega (arith, c .next-within2 .ensures, within-from (s .args .wet) (column + 1) (s .args .shape .columns) (omega (arith, c .before .before .loop-test .taken)), c .before .before .loop-test .taken)
+    omega (arith, c .next-after .ensures, within-from (s .args .wet) (column + 1) (s .args .shape .columns) (omega (arith, c .before .before .loop-test .taken)), c .before .before .loop-test .taken)
 
 loop-again : tie.Need-loop-again Inv-loop μ-loop
 loop-again c =
     let at-loop = turn (c .before) in
     let s = start at-loop in
     let column = at-loop .loop .column in
-    on-to s (column + 1) (c .next-within2 .result) (omega (arith, c .before .before .loop-test .taken))
+    on-to s (column + 1) (c .next-after .result) (omega (arith, c .before .before .loop-test .taken))
     (below-more (p s) (o s) (s .args .depths .now) (s .args .first + column) (at-loop .loop .inv .1) (c .before .shorter-by .ensures)
     ∙ ap (leastBelow (p s) (o s) (s .args .depths .now)) (let e : s .args .first + column + 1 ≡ s .args .first + (column + 1) = omega arith in e))
-    (c .next-within2 .ensures)
+    (c .next-after .ensures)
 
 returns : tie.Need-returns Inv-loop μ-loop
 returns c =
@@ -111,8 +108,7 @@ least-in-row-spec =
     loop-holds
     add-shorter-by
     shorter-by-requires
-    add-next-within
-    next-within-requires-2
+    next-after-requires
     loop-less
     loop-again
     returns)

@@ -56,8 +56,8 @@ returns-2 c =
     (least-dry (p s) (o s) (s .args .depths .now) (s .args .best) (s .args .square) (is-open at-if1)
     (sym (c .before .number .ensures) ∙ c .if2 .taken))
 
-drops-of-requires : tie.Need-drops-of-requires
-drops-of-requires c κs = search needs
+drops-by-sides-requires : tie.Need-drops-by-sides-requires
+drops-by-sides-requires c κs = search needs
 
 number-requires-2 : tie.Need-number-requires-2
 number-requires-2 c κs = search needs
@@ -67,7 +67,7 @@ shorter-requires c κs =
     let at-number = weighed c in
     let s = start (at-number .before) in
     candidacy (p s) (o s) (s .args .depths .now) (s .pre .0) (s .args .square) (s .pre .1 .inside) (is-open (at-number .before))
-    (at-number .number .ensures) (c .number2 .ensures) (c .before .drops-of .ensures)
+    (at-number .number .ensures) (c .number2 .ensures) (c .before .drops-by-sides .ensures)
 
 returns-3 : tie.Need-returns-3
 returns-3 c =
@@ -79,7 +79,7 @@ returns-3 c =
     ∙ sym
     (c .shorter .ensures
     ∙ shorter-made (s .args .rules) (s .args .best) (at-number .number .ensures) (at-number2 .number2 .ensures)
-    (at-number2 .before .drops-of .ensures)))
+    (at-number2 .before .drops-by-sides .ensures)))
 
 pub shorter-by-spec : {M : Type 1} → statement M
 shorter-by-spec =
@@ -89,7 +89,7 @@ shorter-by-spec =
     returns
     number-requires
     returns-2
-    drops-of-requires
+    drops-by-sides-requires
     number-requires-2
     shorter-requires
     returns-3)
