@@ -6,7 +6,9 @@ pub mod Determined
 pub mod EnginesAgree
 pub mod Exported
 pub mod Loader
+pub mod Played
 pub mod RunStops
 pub mod StepCount
 pub mod Table
+pub mod WetAre
 pub mod WorkedCases

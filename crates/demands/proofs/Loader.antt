@@ -71,6 +71,19 @@ module _ (s : List ℕ) (lent : Rooms) where
   unfolding sheetOf
   sheet-number = number-by (lineOne s .found) (roomsFine (shapeOf s) (lineOne s .side) lent) (badLine s) (checksOf s) _ checks-are
 
+  read-by : (first roomy : Bool) (bad check : ℕ) → sheetNumber (answer first roomy bad check) ≡ 0 → answer first roomy bad check ≡ Read (headingOf s)
+  unfolding sheetNumber judged pick
+  read-by false roomy bad check z = absurd (omega (arith, z))
+  read-by true false bad check z = absurd (omega (arith, z))
+  read-by true true (suc bad) check z = absurd (omega (arith, z))
+  read-by true true zero zero z = refl
+  read-by true true zero (suc check) z = absurd (omega (arith, z))
+
+  -- no number is that of a sheet that is read
+  pub sheet-read : sheetNumber (sheetOf s lent) ≡ 0 → sheetOf s lent ≡ Read (headingOf s)
+  unfolding sheetOf
+  sheet-read z = read-by (lineOne s .found) (roomsFine (shapeOf s) (lineOne s .side) lent) (badLine s) (checksOf s) z
+
   line-first : (first roomy : Bool) (bad check : ℕ) → first ≡ false → sheetLine (answer first roomy bad check) ≡ 1
   unfolding sheetLine pick
   line-first false roomy bad check e = refl

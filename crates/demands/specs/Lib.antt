@@ -7,6 +7,8 @@ pub mod Determined
 pub mod EnginesAgree
 pub mod Exported
 pub mod Loader
+pub mod Played
 pub mod StepCount
 pub mod Table
+pub mod WetAre
 pub mod Worked
