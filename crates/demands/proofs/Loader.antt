@@ -28,6 +28,7 @@ use Rattle.sheet.specs.declared.reading.Sheet.the-variants.{Read, Refused}
 use Rattle.sheet.proofs.SheetLaws.{rooms-cells}
 use Rattle.sheet.proofs.NumberLaws.{never-one, never-six}
 use Rattle.exports.specs.Sheets.{sheetNumber, sheetLine}
+use Rattle.demands.specs.Table.{rowsBetween}
 use Rattle.demands.specs.Loader.{endRefusals, sheetRefusals, SheetSays, MeadowSays, LoaderRefuses, lineStart, MarksAreLetters, ClosedLeft, AsLong, LoaderWalls}
 use Rattle.demands.proofs.Table.{table-says}
 use Rattle.sheet.proofs.LetterLaws.{cell-headed}
@@ -50,7 +51,7 @@ two-to-five true true true true true false f g = absurd (g refl)
 two-to-five true true true true true true f g = refl
 
 module _ (s : List ℕ) (lent : Rooms) where
-  checks-are : roomsFine (shapeOf s) (lineOne s .side) lent ≡ true → checksOf s ≡ refusal (take 4 (drop 1 (endRefusals s)))
+  checks-are : roomsFine (shapeOf s) (lineOne s .side) lent ≡ true → checksOf s ≡ refusal (rowsBetween 2 5 (endRefusals s))
   unfolding checksIn checkRefusals
   checks-are f = two-to-five _ _ _ _ _ _ (never-one s lent f) (never-six s lent f)
 
