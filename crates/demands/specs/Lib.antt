@@ -6,6 +6,7 @@ pub mod Demand3
 pub mod Determined
 pub mod EnginesAgree
 pub mod Exported
+pub mod Fields
 pub mod Loader
 pub mod Played
 pub mod StepCount
