@@ -1,7 +1,7 @@
 #!/usr/bin/env python3
-"""The pages are true of the sources: every public function stands in docs/CONTRACTS.md and in the determinacy records, every file and
-name that docs/METHOD.md cites is there, its ranges and its worked square are those of document 01 in Python, the pictures are as made,
-no table has a cell too long to read, every path that a page names exists, and README's first sheet gives README's answer."""
+"""The pages are true of the sources: every public function stands in docs/CONTRACTS.md, every file and name that docs/METHOD.md cites is
+there, its ranges and its worked square are those of document 01 in Python, the pictures are as made, no table has a cell too long to read,
+every path that a page names exists, and README's first sheet gives README's answer."""
 import re
 import sys
 from pathlib import Path
@@ -14,13 +14,11 @@ from meadow.counted import Checks  # noqa: E402
 from meadow.programs import printed  # noqa: E402
 from meadow.ranges import RANGES  # noqa: E402
 from meadow.worked_square import AMOUNTS  # noqa: E402
+from rattle.functions import library_functions  # noqa: E402
 
 CRATES = TOP / "crates"
 METHOD = TOP / "docs" / "METHOD.md"
 CONTRACTS = TOP / "docs" / "CONTRACTS.md"
-PUBLIC = re.compile(r'^pub (?:extern "C" )?fn (\w+)', re.M)
-# the exported functions have this before the name of the call
-EXPORTED = "flood_"
 # "some 30 words"
 MOST_WORDS = 35
 SHORT_CELLS = ("CONTRACTS.md", "DEMANDS.md")
@@ -74,14 +72,6 @@ def ticked(text):
     return re.findall(r"`([^`]+)`", text)
 
 
-def library_functions():
-    """(crate, module::function) of each public function of a library crate; those of a crate's root have no module."""
-    for source in sorted(CRATES.glob("*/src/*.rt")):
-        if not (source.parent / "main.rt").exists():
-            for name in PUBLIC.findall(source.read_text(encoding="utf-8")):
-                yield source.parent.parent.name, name if source.stem == "lib" else f"{source.stem}::{name}"
-
-
 def hold_contracts(checks, functions):
     """A row for each public function, in its crate's section, and none besides."""
     sections = re.split(r"^## ", CONTRACTS.read_text(encoding="utf-8"), flags=re.M)
@@ -94,24 +84,6 @@ def hold_contracts(checks, functions):
     for crate, name in sorted(functions | told):
         checks.hold((crate, name) in told, f"docs/CONTRACTS.md has no row for {crate}::{name}")
         checks.hold((crate, name) in functions, f"docs/CONTRACTS.md has a row for {crate}::{name}, which is no public function")
-
-
-def determined():
-    """(crate, field) of each field of a determinacy record, by the crate's name in lower case and without underscores."""
-    for path in sorted((CRATES / "demands" / "specs").glob("*.antt")):
-        records = re.split(r"^(?:pub )?record (\w+?)Determined\b", path.read_text(encoding="utf-8"), flags=re.M)
-        for crate, body in zip(records[1::2], records[2::2]):
-            body = re.split(r"^\S", body.split("\n", 1)[1], maxsplit=1, flags=re.M)[0]
-            yield from ((crate.lower(), field) for field in re.findall(r"^  pub ([\w-]+) :", body, re.M))
-
-
-def hold_determined(checks, functions):
-    """A field for each public function, and none besides."""
-    fields = set(determined())
-    wanted = {(crate.replace("_", ""), name.split("::")[-1].removeprefix(EXPORTED).replace("_", "-")) for crate, name in functions}
-    for crate, name in sorted(fields | wanted):
-        checks.hold((crate, name) in fields, f"no determinacy record has a field {name} for {crate}")
-        checks.hold((crate, name) in wanted, f"the determinacy record of {crate} has a field {name}, which is no public function")
 
 
 def defined(path, name):
@@ -200,10 +172,9 @@ def hold_first_sheet(checks):
 
 def main():
     checks = Checks("pages")
-    functions = set(library_functions())
+    functions = {(function.crate, function.path) for function in library_functions(TOP)}
     checks.hold(functions != set(), "there is no public function")
     hold_contracts(checks, functions)
-    hold_determined(checks, functions)
     hold_method(checks)
     hold_pictures(checks)
     hold_cells(checks)

@@ -15,12 +15,13 @@ DEMANDS = "demands"
 
 
 class Function(NamedTuple):
-    """A public function: its parameters in order with their types, its clauses, and what its file imports."""
+    """A public function: its parameters in order with their types, the type of what it hands back, its clauses, and what its file imports."""
 
     crate: str
     module: str
     name: str
     parameters: dict
+    result: str
     requires: list
     ensures: list
     imports: tuple
@@ -58,8 +59,9 @@ def functions_of(crate, path):
         end = closing(text, found.end())
         parameters = dict(re.findall(r"(\w+): ((?:&mut |&)?(?:\[[^\]]*\]|[\w:]+))", text[found.end() : end]))
         contract = re.split(r"\{$", text[end:], maxsplit=1, flags=re.M)[0]
+        result = re.match(r"\)(?: -> ([^\n{]+))?", contract)[1] or ""
         clauses = {kind: [body for each, body in CLAUSE.findall(contract) if each == kind] for kind in ("requires", "ensures")}
-        yield Function(crate, path.stem, found[1], parameters, clauses["requires"], clauses["ensures"], imports)
+        yield Function(crate, path.stem, found[1], parameters, result.strip(), clauses["requires"], clauses["ensures"], imports)
 
 
 def library_functions(top):
