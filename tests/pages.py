@@ -1,7 +1,7 @@
 #!/usr/bin/env python3
 """The pages are true of the sources: every public function stands in docs/CONTRACTS.md, every file and name that docs/METHOD.md cites is
 there, its ranges and its worked square are those of document 01 in Python, the pictures are as made, no table has a cell too long to read,
-every path that a page names exists, and README's first sheet gives README's answer."""
+every path and every name in backticks is there, and README's first sheet gives README's answer."""
 import re
 import sys
 from pathlib import Path
@@ -47,6 +47,13 @@ UNITS = {
 }
 PATH = re.compile(r"`((?:\.ci|bin|crates|docs|python|samples|tests|tools|validation)/[\w./-]+?)/?`")
 LINK = re.compile(r"\]\((?!http|#)([^)#]+)\)")
+FENCED = re.compile(r"^```.*?^```", re.S | re.M)
+NAME = re.compile(r"[A-Za-z_][\w′'-]*")
+SOURCES = (".ci", "bin", "crates", "python", "samples", "tests", "tools", "validation")
+# docs/CHANGES.md tells what was, with names that have gone since
+OF_THE_PAST = {"CHANGES.md"}
+# names of the kit, which stand in no source of this project
+OF_THE_KIT = {"rattle-kit-5b"}
 
 
 def cells(line):
@@ -160,6 +167,48 @@ def hold_paths(checks):
             checks.hold(path.exists(), f"{page.relative_to(TOP)} names {path.relative_to(TOP)}, which is not there")
 
 
+def source_names():
+    """Every word that stands in a source or is the name of one, but for this file."""
+    names = set(NAME.findall((TOP / "crates.txt").read_text(encoding="utf-8")))
+    for path in (path for folder in SOURCES for path in (TOP / folder).rglob("*")):
+        names |= {path.name, path.stem}
+        if path.is_file() and path.suffix != ".pyc" and path != Path(__file__).resolve():
+            names |= {name.rstrip("'-") for name in NAME.findall(path.read_text(encoding="utf-8"))}
+    return names
+
+
+def is_there(path):
+    """Whether there is what a path of Rattle names: crate::module::function, crate::module, module::function, or something of a type."""
+    *crate, module, name = path.split("::")
+    if not crate and (CRATES / module).exists():
+        crate, module = [module], "*"
+    sources = list(CRATES.glob(f"{crate[0] if crate else '*'}/src/{module}.rt"))
+    if not crate and not sources:
+        return True
+    return any(name in NAME.findall(source.read_text(encoding="utf-8")) for source in sources)
+
+
+def hold_code(checks):
+    """What a page has in backticks is in the sources: each word of it, and each path where it says."""
+    names = source_names() | OF_THE_KIT
+    for page in (TOP / "README.md", *sorted((TOP / "docs").glob("*.md"))):
+        if page.name in OF_THE_PAST:
+            continue
+        for code in sorted(set(ticked(FENCED.sub("", page.read_text(encoding="utf-8"))))):
+            missing = [name for name in NAME.findall(code) if name.rstrip("'-") not in names]
+            checks.hold(not missing, f"{page.relative_to(TOP)} has `{code}`, and no source has {missing}")
+            for path in re.findall(r"\w+(?:::\w+)+", code):
+                checks.hold(is_there(path), f"{page.relative_to(TOP)} has `{path}`, which is not there")
+
+
+def hold_entries(checks, functions):
+    """The entry points that docs/CONTRACTS.md lists are those that the sources have; the exported ones have a section of their own."""
+    (told,) = re.findall(r"^- \*\*Entry points\*\*.*$", CONTRACTS.read_text(encoding="utf-8"), re.M)
+    for function in functions:
+        if function.crate != "exports":
+            checks.hold((function.name in ticked(told)) == function.is_entry, f"docs/CONTRACTS.md lists {function.name} as an entry point, or does not")
+
+
 def hold_first_sheet(checks):
     """README's first sheet gives the answer that README shows, tabs being shown as spaces."""
     text = (TOP / "README.md").read_text(encoding="utf-8")
@@ -172,13 +221,15 @@ def hold_first_sheet(checks):
 
 def main():
     checks = Checks("pages")
-    functions = {(function.crate, function.path) for function in library_functions(TOP)}
-    checks.hold(functions != set(), "there is no public function")
-    hold_contracts(checks, functions)
+    functions = list(library_functions(TOP))
+    checks.hold(functions != [], "there is no public function")
+    hold_contracts(checks, {(function.crate, function.path) for function in functions})
+    hold_entries(checks, functions)
     hold_method(checks)
     hold_pictures(checks)
     hold_cells(checks)
     hold_paths(checks)
+    hold_code(checks)
     hold_first_sheet(checks)
     checks.end()
 
