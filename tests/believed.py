@@ -133,6 +133,9 @@ def hold_counts(checks):
     checks.hold(found.get("low") == [8, 2, 0, 2], f"low: {found.get('low')}")
     checks.hold(found.get("flood") == [2, 0, 0, 0], f"flood: {found.get('flood')}")
     checks.hold(found.get("total") == [10, 2, 0, 2] and "beside them 5 lines of demands" in printed, f"total: {printed}")
+    above = {"crates.txt": PROJECT["crates.txt"] + "said: low flood demands\n", "crates/said/specs/Said.antt": "pub record Said : Type 0 where\n"}
+    status, printed = told({**PROJECT, **above, "crates/said/src/lib.rt": f"pub {GIVES_IT}"})
+    checks.hold(status == 0 and "beside them 6 lines of demands, said" in printed, f"a crate above the demands: {printed}")
     checks.hold("Judged" in told(PROJECT, ["--idle"])[1] and "Judged" not in printed, "--idle does not name what only a layer function gives")
 
 

@@ -10,8 +10,8 @@ TOP = Path(__file__).resolve().parent.parent
 sys.path.insert(0, str(TOP / "python"))
 
 from meadow.counted import Checks  # noqa: E402
-from rattle import imported  # noqa: E402
-from rattle.functions import DEMANDS, library_functions  # noqa: E402
+from rattle import DEMANDS, imported  # noqa: E402
+from rattle.functions import library_functions  # noqa: E402
 from rattle.specs import Specs  # noqa: E402
 
 # the exported functions have this before the name of the call

@@ -6,7 +6,8 @@
 What must be believed is what the demands and the contracts of the entry points reach, name by name, through the definitions of specs/.
 Beside it stand the lines that only contracts of layer functions reach, and those of specs/inner/ (what only our own functions ask and
 give). Imports, lists of modules, comments and blank lines are not counted, nor is a Worked.antt (cases worked by hand, which are proved).
-The crate `demands` restates the letter and is counted apart; its Determined.antt names every contract there is, and is no demand by itself.
+The crate `demands` restates the letter and is counted apart, as is every crate above it; its Determined.antt names every contract there is,
+and is no demand by itself.
 
 With --idle the definitions that no demand and no entry point reaches are named. Ends with status 1 where a file outside specs/inner/ looks
 into it, a definition that must be believed stands in it, a definition outside it is reached by no contract at all, or what must be believed
@@ -19,8 +20,8 @@ from pathlib import Path
 TOP = Path(__file__).resolve().parent.parent
 sys.path.insert(0, str(TOP / "python"))
 
-from rattle import crates, imported  # noqa: E402
-from rattle.functions import DEMANDS, library_functions  # noqa: E402
+from rattle import DEMANDS, crates, imported, statements  # noqa: E402
+from rattle.functions import library_functions  # noqa: E402
 from rattle.specs import Specs  # noqa: E402
 
 MOST = 2300
@@ -30,7 +31,8 @@ BELIEVED, LAYER, IDLE, INNER = "believed", "layers", "reached by nothing", "inne
 
 def roots(top, specs):
     """What the demands and the entry points name, and what the contracts of the other public functions name."""
-    demands = {key for key in specs.definitions if key[0] == DEMANDS and key[:2] != DETERMINED}
+    said = statements(top)
+    demands = {key for key in specs.definitions if key[0] in said and key[:2] != DETERMINED}
     entries, layers = set(), set()
     for function in library_functions(top):
         clauses = "\n".join(function.requires + function.ensures)
@@ -43,9 +45,9 @@ def places(top, specs):
     first, second = roots(top, specs)
     beyond = lambda key: key[:2] == DETERMINED
     needed, known = specs.reached(first, beyond), specs.reached(second, beyond)
-    found, hidden = {}, []
+    found, hidden, said = {}, [], statements(top)
     for key, each in specs.definitions.items():
-        if each.module == WORKED or each.crate == DEMANDS:
+        if each.module == WORKED or each.crate in said:
             continue
         if each.is_inner:
             found[key] = INNER
@@ -85,8 +87,9 @@ def counted(top, specs, found):
         if any(counts):
             print(row(crate, counts))
     totals = [sum(lines[crate, column] for crate in crates(top)) for column in columns]
-    apart = sum(len(each.lines) for each in specs.definitions.values() if each.crate == DEMANDS and each.module != WORKED)
-    print(row("total", totals) + f"   to believe at most {MOST}, and beside them {apart} lines of {DEMANDS}")
+    said = statements(top)
+    apart = sum(len(each.lines) for each in specs.definitions.values() if each.crate in said and each.module != WORKED)
+    print(row("total", totals) + f"   to believe at most {MOST}, and beside them {apart} lines of {', '.join(said)}")
     return totals[0]
 
 

@@ -2,6 +2,7 @@
 them names. Tools and tests that look after the project rest on it."""
 import re
 
+DEMANDS = "demands"
 MODULE = re.compile(r"Rattle·(\w+?)(?:·specs)?\.specs\.(\S+)")
 
 
@@ -12,9 +13,15 @@ def module_of(path):
 
 
 def crates(top):
-    """The crates that crates.txt lists, the lowest first."""
+    """{crate: those that it may look at}, as crates.txt lists them, the lowest first."""
     lines = (top / "crates.txt").read_text(encoding="utf-8").splitlines()
-    return [line.split(":")[0] for line in lines if line.strip() and not line.startswith("#")]
+    rows = [line.partition(":") for line in lines if line.strip() and not line.startswith("#")]
+    return {name: others.split() for name, _, others in rows}
+
+
+def statements(top):
+    """The crates that only say what holds of the libraries: the demands, and what stands above them. Nobody calls their functions."""
+    return [name for name, others in crates(top).items() if DEMANDS in (name, *others)]
 
 
 def imported(text):

@@ -2,7 +2,7 @@
 import re
 from typing import NamedTuple
 
-from . import crates, imported
+from . import crates, imported, statements
 
 HEAD = re.compile(r'^pub (?:extern "C" )?(?:const )?fn (\w+)\(', re.M)
 CLAUSE = re.compile(r"^    (requires|ensures) \{(.*?)\}$", re.M | re.S)
@@ -10,8 +10,6 @@ SLICE = re.compile(r"&(mut )?\[")
 # crates of which only our own crates call the functions, but for the one named; every other function that asks nothing is an entry point
 LAYERS = ("reckon", "trials", "grid", "rule", "ledger", "moves", "text")
 ENTRY_OF_A_LAYER = ("ledger", "take_back")
-# its functions are demands, which nobody calls
-DEMANDS = "demands"
 
 
 class Function(NamedTuple):
@@ -65,9 +63,9 @@ def functions_of(crate, path):
 
 
 def library_functions(top):
-    """Every public function of every crate that is no program."""
-    for crate in crates(top):
+    """Every public function of every library."""
+    for crate in (name for name in crates(top) if name not in statements(top)):
         source = top / "crates" / crate / "src"
-        if crate != DEMANDS and not (source / "main.rt").exists():
+        if not (source / "main.rt").exists():
             for path in sorted(source.glob("*.rt")):
                 yield from functions_of(crate, path)
