@@ -62,6 +62,7 @@ use Rattle.demands.proofs.Demand1.{demand-1}
 use Rattle.demands.proofs.Demand2.{demand-2}
 use Rattle.demands.proofs.Demand3.{demand-3}
 use Rattle.demands.proofs.Exported.{seen-number, told-number}
+use Rattle.demands.proofs.Fields.{sheet-told}
 use Rattle.demands.proofs.Loader.{loader-walls}
 use Rattle.demands.proofs.Played.{step-left, back-left, plays-step, plays-run, plays-back}
 use Rattle.demands.proofs.StepCount.{step-count}
@@ -215,7 +216,7 @@ after-read {s} {before} {a} {after} x =
       as-it-was = λ d.
           let refused = read-refused a d in
           demand-1 .loader .leaves s before after (refused .0) (refused .1 .0) (subst (λ (b : Sheet). Reads s before b after) (refused .1 .1) x);
-      letters = λ h e. loader-walls .letters s before after h (subst (λ (b : Sheet). Reads s before b after) e x);
+      fields = λ h e. sheet-told .read s before after h (subst (λ (b : Sheet). Reads s before b after) e x);
       none-altered = λ h e. loader-walls .none-altered s before after h (subst (λ (b : Sheet). Reads s before b after) e x);
     }
 

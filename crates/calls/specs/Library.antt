@@ -45,7 +45,8 @@ use Rattle.demands.specs.Table.{FirstFails, TableSays}
 use Rattle.demands.specs.Demand1.{StopsBefore}
 use Rattle.demands.specs.Demand2.{StepGives}
 use Rattle.demands.specs.Demand3.{stepping, running, takingBack, Fresh}
-use Rattle.demands.specs.Loader.{SheetSays, MeadowSays, MarksAreLetters, ClosedLeft}
+use Rattle.demands.specs.Loader.{SheetSays, MeadowSays, ClosedLeft}
+use Rattle.demands.specs.Fields.{SheetFields}
 use Rattle.demands.specs.Played.{Played}
 use Rattle.demands.specs.WetAre.{WetAre}
 
@@ -121,7 +122,8 @@ pub record AfterWet (p : Plan) (depths : List ℕ) (least : ℕ) (old : List ℕ
 pub record AfterRead (s : List ℕ) (before : Rooms) (a : Sheet) (after : Rooms) : Type 0 where
   pub exactly-when : SheetSays s before (sheetNumber a) (sheetLine a)
   pub as-it-was : (sheetNumber a ≡ 0 → ⊥) → after ≡ before
-  pub letters : (h : Heading) → a ≡ Read h → MarksAreLetters s (h .shape) (after .cells .marks)
+  -- each field of its lines is the number that was stored for it
+  pub fields : (h : Heading) → a ≡ Read h → SheetFields s h after
   pub none-altered : (h : Heading) → a ≡ Read h → ClosedLeft (before .cells) (after .cells)
 
 -- the text at the room's start, and the rest of the room

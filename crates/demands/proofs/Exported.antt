@@ -9,7 +9,8 @@ use lib.Dec.{T, eqb, leb}
 use lib.ListN.{length}
 use lib.Ieee.{Float}
 use borrow.Author.Tests.{eqb-true, ne-eqb, le-leb, lt-leb}
-use Rattle.reckon.specs.Tests.{pick, Row, _unless_, refusal, numbered}
+use Rattle.reckon.specs.Tests.{pick, Row, _unless_, refusal}
+use Rattle.reckon.specs.inner.Rows.{numbered}
 use Rattle.reckon.specs.Lists.{placed}
 use Rattle.reckon.proofs.TestLaws.{pick-true, pick-false, every-each}
 use Rattle.rule.specs.declared.rules.Rules.{Rules}

@@ -15,7 +15,7 @@ use Rattle.grid.specs.Squares.{squares, sides}
 use Rattle.rule.specs.Length.{lengthAt, durationFor}
 use Rattle.rule.specs.Weighing.{heightOf, slopeOf, criticalSpeed, weightedSides, directedSides, unlimitedSides}
 use Rattle.rule.specs.declared.rules.Rules.{Rules}
-use Rattle.ledger.specs.Runs.{Plan, World, Seen, seenOf}
+use Rattle.ledger.specs.Runs.{Plan, World, Seen}
 use Rattle.ledger.specs.Flows.{Leaves, shut, gone, came, offGrid, soakedGrid}
 use Rattle.ledger.specs.Record.{squareWords, recordSize, heldIn, lastedIn, wordPlace, leavesIn, lastIn, addedIn, soakedIn, roomSlots, newestRecord}
 use Rattle.ledger.specs.TakeBack.{backNumber, takenBack}
