@@ -1,7 +1,8 @@
 #!/usr/bin/env python3
 """Every public function of a library says what it gives: it has a contract, which speaks of its answer, of each slice that it was lent to
 write as it is afterwards, and of every other slice; and the determinacy records have a field for it, over the very relation that its
-contract names. Changed functions, of which each has a fault that the test must find, show that it looks."""
+contract names. Every entry point is called by a function of the crate `calls`, which promises of it what the demands say. Changed functions, of
+which each has a fault that the test must find, show that it looks."""
 import re
 import sys
 from pathlib import Path
@@ -19,6 +20,10 @@ EXPORTED = "flood_"
 # Rooms of which a contract promises nothing, because nobody reads what is left in them (docs/CONTRACTS.md says why), and slices that a
 # `requires` asks to say only what the record says already, so that nothing depends on them.
 NOT_SAID = {("ledger", f"settle::{name}", slice) for name in ("settle", "settle_stored") for slice in ("room", "left", "worked", "senders")}
+
+
+# Calls that an entry point makes of another with all that it is lent: what they promise is promised there.
+UNDER_ANOTHER = ("step_by", "run_to_by")
 
 
 def claim(clause):
@@ -108,6 +113,20 @@ def hold_field(hold, specs, records, function):
     hold(not others, f"the field of {name} is over a relation that its contract does not name: {sorted(others)}")
 
 
+def hold_tied(hold, functions, calls):
+    """Each entry point has its function in `calls`, whose whole body is that call; and there is no other function there."""
+    wanted = {f"after_{function.name}": function for function in functions if function.is_entry and function.name not in UNDER_ANOTHER}
+    for name, function in wanted.items():
+        hold(re.fullmatch(rf"{function.name}\([\w\s,]*\)", calls.get(name, "")), f"no function of `calls` makes the call {function.crate}::{function.path}")
+    hold(set(calls) <= set(wanted), f"`calls` has a function for no entry point: {sorted(set(calls) - set(wanted))}")
+
+
+def bodies(top):
+    """{function: its body} of the crate `calls`."""
+    texts = [path.read_text(encoding="utf-8") for path in sorted((top / "crates" / "calls" / "src").glob("*.rt"))]
+    return {name: body.strip() for text in texts for name, body in re.findall(r"^pub fn (\w+)\(.*?^\{\n(.*?)^\}", text, re.M | re.S)}
+
+
 def hold_all(hold, specs, records, functions):
     for function in functions:
         hold_contract(hold, function)
@@ -145,6 +164,12 @@ def main():
     records, functions = Records(specs), list(library_functions(TOP))
     checks.hold(functions != [], "there is no public function")
     hold_all(checks.hold, specs, records, functions)
+    calls = bodies(TOP)
+    hold_tied(checks.hold, functions, calls)
+    for name in calls:
+        found = []
+        hold_tied(lambda right, _: found.append(bool(right)), functions, {**calls, name: "0"})
+        checks.hold(not all(found), f"a fault is not found: {name} makes no call")
     for fault, function in faults(functions):
         found = []
         hold = lambda right, _: found.append(bool(right)) or right

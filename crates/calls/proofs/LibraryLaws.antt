@@ -3,19 +3,20 @@
 use mathlib.Core.Path.{_≡_, refl, sym, ap, ap₂, _∙_, subst}
 use mathlib.Core.Bool.{Bool, true, false}
 use mathlib.Core.List.{List, [], _∷_, _++_}
-use Prim.Native.Nat.{ℕ, zero, suc, _+_, _<_, _≤_}
+use Prim.Native.Nat.{ℕ, zero, suc, _%_, _<_, _≤_}
 use native.Mathlib.Omega.{arith}
 use lib.Dec.{eqb}
 use lib.ListN.{length, getD, take, drop}
 use lib.Seq.{take-at, drop-at, length-take-le}
-use borrow.Author.Tests.{eq-eqb, ne-eqb}
+use borrow.Author.Tests.{eq-eqb, le-leb}
 use Rattle.reckon.specs.Tests.{pick, Row, refusal}
 use Rattle.reckon.specs.Lists.{placed}
-use Rattle.reckon.proofs.TestLaws.{not-both, pick-true}
+use Rattle.reckon.proofs.TestLaws.{not-both, each-every, pick-true}
 use Rattle.reckon.proofs.ListLaws.{filled-in}
 use Rattle.grid.specs.Squares.{squares}
 use Rattle.grid.specs.Masks.{wetMasks}
 use Rattle.grid.specs.declared.walks.Walk.{Walk}
+use Rattle.rule.specs.Length.{isUpdate}
 use Rattle.rule.specs.declared.rules.Rules.{Rules}
 use Rattle.ledger.specs.Runs.{Plan, World, plan, world, answered}
 use Rattle.ledger.specs.Flows.{shut}
@@ -148,11 +149,11 @@ pub after-check : (p : Plan) (g : Given) (end : ℕ) (w : World) {r : ℕ} → C
 after-check p g end w s = rw s (demand-1 .exactly-when p .check g end w)
 
 pub after-bounds : (r : Rules) (clock end : ℕ) {a : Bounds} → BoundsSteps r clock end a → AfterBounds r clock end a
-unfolding boundsOf
+unfolding boundsOf figures spansWhole isUpdate
 after-bounds r clock end {a} s =
     record {
       exactly-when = λ l. rw (number l) table;
-      told = λ z e. s ∙ bounded-of (boundsNumber r clock end) (spansWhole r clock end) (figures r clock end) z e;
+      told = λ z e l. s ∙ bounded-of (boundsNumber r clock end) (spansWhole r clock end) (figures r clock end) z (whole e l);
       counted = λ b e p g w same at.
           step-count .counted p g end w .told b (rw (same, at) (sym s ∙ e));
     }
@@ -160,6 +161,9 @@ after-bounds r clock end {a} s =
     number : boundsTold a < 100 → boundsTold a ≡ boundsNumber r clock end
     number l =
         ap boundsTold s ∙ told-number (boundsNumber r clock end) (spansWhole r clock end) (figures r clock end) (subst (λ (x : Bounds). boundsTold x < 100) s l)
+
+    whole : clock % r .update ≡ 0 → clock ≤ end → spansWhole r clock end ≡ true
+    whole e l = each-every _ (eq-eqb _ _ e, (le-leb _ _ l, tt))
 
     table : TableSays (boundsRefusals r clock end) (boundsNumber r clock end)
     table = demand-1 .exactly-when (plan (record { rows = 0; columns = 0 }) []) .step-bounds r clock end

@@ -4,10 +4,11 @@
 use mathlib.Core.Path.{_≡_}
 use mathlib.Core.Bool.{true, false}
 use mathlib.Core.List.{List, _++_}
-use Prim.Native.Nat.{ℕ, _≤_, _<_}
+use Prim.Native.Nat.{ℕ, _%_, _≤_, _<_}
 use lib.ListN.{length, getD, take, drop}
 use Rattle.reckon.specs.Tests.{refusal}
 use Rattle.grid.specs.Squares.{squares}
+use Rattle.rule.specs.Bounds.{mostSteps, leastSteps}
 use Rattle.rule.specs.declared.rules.Rules.{Rules}
 use Rattle.ledger.specs.Runs.{Plan, World, world, seenOf}
 use Rattle.ledger.specs.Flows.{shut}
@@ -21,7 +22,7 @@ use Rattle.ledger.specs.declared.runs.Answer.the-variants.{Done}
 use Rattle.moves.specs.Given.{Given}
 use Rattle.moves.specs.Moves.{stepMoves}
 use Rattle.flood.specs.Refusals.{stepChecks, runChecks}
-use Rattle.flood.specs.Bounds.{boundsRefusals, boundsNumber, spansWhole, figures}
+use Rattle.flood.specs.Bounds.{boundsRefusals, boundsNumber}
 use Rattle.flood.specs.Run.{ended, runTo, freshRefusals, freshRun}
 use Rattle.flood.specs.declared.run.Ran.{Ran}
 use Rattle.flood.specs.declared.bounds.StepBounds.{StepBounds}
@@ -101,7 +102,9 @@ pub record AfterFresh (p : Plan) (r : Rules) (before records : List ℕ) (a : An
 
 pub record AfterBounds (r : Rules) (clock end : ℕ) (a : Bounds) : Type 0 where
   pub exactly-when : boundsTold a < 100 → TableSays (boundsRefusals r clock end) (boundsTold a)
-  pub told : boundsNumber r clock end ≡ 0 → spansWhole r clock end ≡ true → a ≡ Bounded (figures r clock end)
+  -- "For a run from a clock that is a multiple of U to an end E not before it"
+  pub told : boundsNumber r clock end ≡ 0 → clock % r .update ≡ 0 → clock ≤ end →
+      a ≡ Bounded (record { most = mostSteps r clock end; least = leastSteps r clock end })
   -- "the steps counted are at most .. and at least": of every run by these rules from that clock
   pub counted : (b : StepBounds) → a ≡ Bounded b → (p : Plan) (g : Given) (w : World) → g .lie .rules ≡ r → w .run .clock ≡ clock →
       (runTo p g end w .steps ≤ b .most) × (runTo p g end w .number ≡ 0 → b .least ≤ runTo p g end w .steps)

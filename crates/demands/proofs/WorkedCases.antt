@@ -40,8 +40,10 @@ use Rattle.sight.specs.Refusals.{depthsFine, sharedRefusals}
 use Rattle.sight.specs.Speeds.{quotientOf}
 use Rattle.sight.specs.Speeds as Speeds
 use Rattle.sight.specs.Arrows.{outThrough, nearDepth, throughSide, allStill, arrowBy, sighted, seenBy, askedFine, arrowEarlyRefusals, arrowRefusals, arrowNumber, seenAt}
-use Rattle.demands.specs.Worked.{documentSheet, documentOutput, exitSheet, levelSheet, soakSheet, Told, told, SheetCases, ExitCases, LevelCases, NumberCases, EditionCases, SoakCases, wholeSheet, printedWorld, columnSheet, TextCases, DitchCases, ColumnCases, ProvedCases}
+use Rattle.demands.specs.Worked.{documentSheet, documentOutput, exitSheet, levelSheet, soakSheet, Told, told, SheetCases, ExitCases, LevelCases, NumberCases, EditionCases, SoakCases, wholeSheet, printedWorld, columnSheet, TextCases, DitchCases, ColumnCases, LentCases, ProvedCases}
 use Rattle.text.specs.Bytes.{bytesOf}
+use Rattle.exports.specs.Sights.{sightNumber, speedsIn}
+use Rattle.exports.specs.Bounds.{boundsTold, figuresIn}
 
 -- ---- what the texts say
 
@@ -231,6 +233,24 @@ edition-cases : EditionCases
 unfolding pick rootFrom rootOf heightOf slopeOf lesserPositive leastDrop greatestDrop dropSum criticalSpeed manningSpeed speedOf mostThrough totalOf throughSides nothingUnless weightedSides directedAmount directedAmounts scaledTo directedSides unlimitedTotal unlimitedSides weighed
 edition-cases = record { directed-alone = refl; directed-scaled = refl; limited = refl; unlimited = refl }
 
+lent-cases : LentCases
+unfolding sightNumber speedsIn boundsTold figuresIn freshRun
+lent-cases =
+    record {
+      shape = refl;
+      rules = refl;
+      run = refl;
+      run-told = refl;
+      heading-told = refl;
+      closed-told = refl;
+      dry-told = refl;
+      still-told = refl;
+      speeds-told = refl;
+      bounds-told = refl;
+      unbounded-told = refl;
+      fresh = refl;
+    }
+
 pub proved-cases : ProvedCases
 proved-cases =
     record {
@@ -244,4 +264,5 @@ proved-cases =
       texts = text-cases;
       ditch-mouth = ditch-cases;
       column = subst ColumnCases (sym (texts .column)) (others .column);
+      lent = lent-cases;
     }

@@ -23,13 +23,18 @@ use Rattle.moves.specs.Given.{Given}
 use Rattle.moves.specs.Drops.{dropsOf}
 use Rattle.moves.specs.Moves.{stepMoves}
 use Rattle.flood.specs.Step.{stepNumber, stepped}
+use Rattle.flood.specs.Run.{freshRun}
+use Rattle.flood.specs.declared.bounds.Bounds.the-variants.{Bounded, NotBounded}
 use Rattle.sight.specs.Speeds.{zero64, quotientOf}
 use Rattle.sight.specs.Arrows.{view, seenAt}
-use Rattle.sight.specs.declared.arrows.Sight.the-variants.{Moving}
+use Rattle.sight.specs.declared.arrows.Sight.the-variants.{Closed, Dry, Still, Moving}
 use Rattle.text.specs.Bytes.{bytesOf}
 use Rattle.sheet.specs.Sheet.{Rooms, cellsRooms, shapeOf, lineTwo, rainTable, inflowTable, said, planIn, givenIn, startIn}
 use Rattle.answer.specs.Printed.{madeText}
 use Rattle.answer.specs.Program.{meadowText}
+use Rattle.exports.specs.Numbers.{shapeFrom, rulesFrom, runValueFrom, runNumbers, headingNumbers}
+use Rattle.exports.specs.Sights.{sightNumber, speedsIn}
+use Rattle.exports.specs.Bounds.{boundsTold, figuresIn}
 
 -- ---- texts
 
@@ -253,6 +258,34 @@ pub record DitchCases : Type 0 where
 pub record ColumnCases (t : Told) : Type 0 where
   pub arrow : seenAt (onPlan t) 1 (view (once t .depths) (once t .records) (once t .run)) 0 0 ≡ Moving (record { east = zero64; north = fin true 1_116_892_707_587_883 (negsuc 53) })
 
+-- what other languages lend and are told, each number its own place; and a run that is fresh
+pub record LentCases : Type 0 where
+  pub shape : shapeFrom 1 2 ≡ record { rows = 1; columns = 2 }
+  pub rules : rulesFrom (1 ∷ 2 ∷ 3 ∷ 4 ∷ 5 ∷ 6 ∷ 7 ∷ [])
+      ≡ record { «square_side» = 1; tolerance = 2; shortest = 3; longest = 4; update = 5; edge = 6; edition = 7 }
+  pub run : runValueFrom (1 ∷ 2 ∷ 3 ∷ 4 ∷ 5 ∷ 6 ∷ []) ≡ record { clock = 1; length = 2; outflow = 3; kept = 4; newest = 5; soaked = 6 }
+  pub run-told : runNumbers (record { clock = 1; length = 2; outflow = 3; kept = 4; newest = 5; soaked = 6 }) ≡ 1 ∷ 2 ∷ 3 ∷ 4 ∷ 5 ∷ 6 ∷ []
+  pub heading-told :
+      headingNumbers
+      (record {
+        shape = record { rows = 1; columns = 2 };
+        rules = record { «square_side» = 3; tolerance = 4; shortest = 5; longest = 6; update = 7; edge = 8; edition = 9 };
+        end = 10;
+        «rain_rows» = 11;
+        «inflow_rows» = 12;
+      })
+      ≡ 1 ∷ 2 ∷ 3 ∷ 4 ∷ 5 ∷ 6 ∷ 7 ∷ 8 ∷ 9 ∷ 10 ∷ 11 ∷ 12 ∷ []
+  -- "closed; dry (own depth 0); still (all four nets 0); moving, with the arrow"
+  pub closed-told : sightNumber Closed ≡ 101
+  pub dry-told : sightNumber Dry ≡ 102
+  pub still-told : sightNumber Still ≡ 103
+  pub speeds-told : speedsIn (Moving (record { east = eastSpeed; north = zero64 })) [] ≡ eastSpeed ∷ zero64 ∷ []
+  -- #112: the most, then the least
+  pub bounds-told : figuresIn (Bounded (record { most = 12; least = 6 })) [] ≡ 12 ∷ 6 ∷ []
+  pub unbounded-told : boundsTold NotBounded ≡ 104
+  -- "clock 0, length = the longest of the rules it starts with, outflow 0, kept 0, newest K − 1"
+  pub fresh : freshRun ditch 4 ≡ record { clock = 0; length = 700; outflow = 0; kept = 0; newest = 3; soaked = 0 }
+
 -- all cases marked P, those of the editions and those of soaking
 pub record ProvedCases : Type 0 where
   -- the sheet's output, whole
@@ -266,3 +299,4 @@ pub record ProvedCases : Type 0 where
   pub texts : TextCases
   pub ditch-mouth : DitchCases
   pub column : ColumnCases (told columnSheet)
+  pub lent : LentCases
