@@ -4,12 +4,12 @@
 use mathlib.Core.Path.{_≡_, refl, sym, ap, _∙_, subst}
 use mathlib.Core.Bool.{Bool, true, false, _&&_}
 use mathlib.Core.List.{List, [], _∷_}
-use Prim.Native.Nat.{ℕ, zero, suc, _≤_, _<_}
+use Prim.Native.Nat.{ℕ, zero, suc, _%_, _≤_, _<_}
 use native.Mathlib.Omega.{arith}
 use lib.Dec.{eqb, leb}
 use lib.ListN.{length, getD}
 use lib.Ieee.{Float}
-use borrow.Author.Tests.{eq-eqb, le-leb, leb-true}
+use borrow.Author.Tests.{eq-eqb, le-leb, lt-leb, leb-true}
 use Rattle.reckon.specs.Tests.{pick}
 use Rattle.reckon.specs.Lists.{placed}
 use Rattle.reckon.proofs.TestLaws.{and-left, and-right, and-both, no-more, pick-true, pick-false}
@@ -25,8 +25,8 @@ use Rattle.ledger.specs.declared.runs.Run.{Run}
 use Rattle.ledger.specs.declared.runs.Answer.the-variants.{Done}
 use Rattle.moves.specs.Given.{Given}
 use Rattle.flood.specs.Step.{Steps, stepNumber, stepped}
-use Rattle.flood.specs.Bounds.{boundsOf, toldBounds}
-use Rattle.flood.specs.Run.{Ended, ended, RunsTo, runTo, freshRun, freshLasts}
+use Rattle.flood.specs.Bounds.{figures, boundsOf, toldBounds}
+use Rattle.flood.specs.Run.{Ended, ended, RunsTo, Freshens, runTo, freshNumber, freshRun, freshLasts}
 use Rattle.flood.specs.declared.run.Ran.{Ran}
 use Rattle.flood.specs.declared.bounds.StepBounds.{StepBounds}
 use Rattle.flood.specs.declared.bounds.Bounds.{Bounds}
@@ -39,10 +39,10 @@ use Rattle.sheet.specs.declared.reading.Sheet.the-variants.{Read}
 use Rattle.answer.specs.Program.{meadowText, mostPrinted}
 use Rattle.exports.specs.Numbers.{rulesFrom, runValueFrom, runNumbers, runSize, headingNumbers}
 use Rattle.exports.specs.Refusals.{numberIf, unlessRefused, unlessChecks, lastCheck}
-use Rattle.exports.specs.Steps.{ExportsFresh, ExportsStep, ExportsRun, ExportsBack, bothSized, ranSized}
+use Rattle.exports.specs.Steps.{answerNumber, ExportsFresh, ExportsStep, ExportsRun, ExportsBack, bothSized, ranSized}
 use Rattle.exports.specs.Bounds.{ExportsBounds, boundsTold, figuresIn, boundsSized}
 use Rattle.exports.specs.Sights.{ExportsArrow, ExportsWet}
-use Rattle.exports.specs.Sheets.{ExportsRead, ExportsMeadow, headingIn, sheetNumber, sheetSized}
+use Rattle.exports.specs.Sheets.{ExportsRead, ExportsMeadow, headingIn, sheetNumber, sheetLine, sheetSized}
 use Rattle.demands.specs.Demand2.{StepGives}
 use Rattle.demands.specs.Demand3.{stepping, takingBack}
 use Rattle.demands.specs.Played.{Played, runAfter}
@@ -55,7 +55,7 @@ use Rattle.demands.proofs.Loader.{sheet-read}
 use Rattle.demands.proofs.Played.{back-records, back-left, plays-step, plays-back}
 use Rattle.demands.proofs.StepCount.{step-count}
 use Rattle.demands.proofs.WetAre.{wet-are}
-use Rattle.calls.proofs.LibraryLaws.{done-of, after-run, after-read, after-meadow}
+use Rattle.calls.proofs.LibraryLaws.{done-of, after-fresh, after-bounds, after-run, after-read, after-meadow}
 
 -- ---- numbers and slices
 
@@ -95,7 +95,7 @@ anywhere = plan (record { rows = 0; columns = 0 }) []
 
 pub after-flood-fresh : (p : Plan) (r : Rules) (before records rules old : List ℕ) {number : ℕ} {lasts run : List ℕ} →
     ExportsFresh p r before records rules old number lasts run → AfterFloodFresh p r before records rules old number lasts run
-unfolding freshRun
+unfolding freshRun answerNumber
 after-flood-fresh p r before records rules old {number} {lasts} {run} x =
     let made : number ≡ 0 → runValueFrom run ≡ freshRun r (roomSlots p records) = λ z. run-told _ (made-of _ _ (x .number-is) (x .run-is) z) in
     let left = demand-1 .exports-leave p .fresh r before records rules old number lasts run x in
@@ -103,12 +103,19 @@ after-flood-fresh p r before records rules old {number} {lasts} {run} x =
       exactly-when = demand-1 .exports-exactly-when p .fresh r before records rules old number lasts run x;
       as-it-was = left;
       made = made;
+      none-left = λ z i h e.
+          let fresh = number-none (bothSized rules old) (x .number-is) z .1 in
+          ap (λ (l : List ℕ). getD l i 0) (made-of (freshLasts p r before records) before (x .number-is) (x .lasts-are) z)
+          ∙ after-fresh (freshens fresh) .none-left refl i h e;
       none-altered = λ i e.
           either-way (getD lasts i 0 ≡ getD before i 0) number
           (λ z. ap (λ (l : List ℕ). getD l i 0) (made-of (freshLasts p r before records) before (x .number-is) (x .lasts-are) z) ∙ demand-2 p .none-altered .fresh r before records i e)
           (λ d. ap (λ (l : List ℕ). getD l i 0) (left d .0));
       begins = λ z depths. record { kept-none = ap (λ (u : Run). u .kept) (made z); newest-last = ap (λ (u : Run). u .newest) (made z) };
     }
+  where
+    freshens : freshNumber p r before records ≡ 0 → Freshens p r before records (Done (freshRun r (roomSlots p records))) (freshLasts p r before records)
+    freshens z = record { answer = sym (done-of (freshNumber p r before records) _ z); lasts-are = refl }
 
 -- ---- a step and a take-back
 
@@ -256,29 +263,48 @@ bounded-told (suc n) holds b z = absurd (omega (arith, z))
 bounded-told zero false b z = absurd (omega (arith, z))
 bounded-told zero true b z = refl
 
+bounded-is : (r : Rules) (clock end : ℕ) → boundsTold (boundsOf r clock end) ≡ 0 → boundsOf r clock end ≡ Bounded (figures r clock end)
+unfolding boundsOf
+bounded-is r clock end z = bounded-told _ _ _ z
+
 pub after-flood-bounds : (clock end : ℕ) (rules old : List ℕ) {number : ℕ} {bounds : List ℕ} → ExportsBounds clock end rules old number bounds →
     AfterFloodBounds clock end rules old number bounds
-unfolding boundsOf figuresIn numberIf
+unfolding boundsTold figuresIn numberIf
 after-flood-bounds clock end rules old {number} {bounds} x =
     record {
       exactly-when = demand-1 .exports-exactly-when anywhere .step-bounds clock end rules old number bounds x;
       as-it-was = demand-1 .exports-leave anywhere .step-bounds clock end rules old number bounds x;
+      told = λ sized z e l.
+          let figures = after-bounds (rulesFrom rules) clock end {a = boundsOf (rulesFrom rules) clock end} refl .told z e l in (
+            x .number-is ∙ (pick-true _ _ sized ∙ ap boundsTold figures),
+            x .bounds-are ∙ (pick-true _ _ sized ∙ ap (λ (a : Bounds). figuresIn a old) figures),
+          );
       counted = λ z p g w same at.
           let none = number-none (boundsSized clock end rules old) (x .number-is) z in
-          let told = bounded-told _ _ _ (none .1) in
+          let told = bounded-of (none .1) in
           let bounds-are = x .bounds-are ∙ (pick-true _ _ (none .0) ∙ ap (λ (a : Bounds). figuresIn a old) told) in
           rw bounds-are (step-count .counted p g end w .told _ (rw (same, at) told));
     }
+  where
+    bounded-of : boundsTold (boundsOf (rulesFrom rules) clock end) ≡ 0 → boundsOf (rulesFrom rules) clock end ≡ Bounded (figures (rulesFrom rules) clock end)
+    bounded-of = bounded-is (rulesFrom rules) clock end
 
 -- ---- a sheet, and `meadow`
 
 pub after-flood-read : (s : List ℕ) (before : Rooms) (oldHeading oldLine : List ℕ) {number : ℕ} {after : Rooms} {heading line : List ℕ} →
     ExportsRead s before oldHeading oldLine number after heading line → AfterFloodRead s before oldHeading oldLine number after heading line
-unfolding headingIn
+unfolding headingIn numberIf
 after-flood-read s before oldHeading oldLine {number} {after} {heading} {line} x =
     record {
       exactly-when = demand-1 .exports-exactly-when anywhere .read-sheet s before oldHeading oldLine number after heading line x;
       as-it-was = demand-1 .exports-leave anywhere .read-sheet s before oldHeading oldLine number after heading line x;
+      line-told = λ sized. (
+        sheetLine (sheetOf s before),
+        (
+          x .line-is ∙ pick-true _ _ sized,
+          rw (x .number-is ∙ pick-true _ _ sized) (demand-1 .loader .exactly-when s before),
+        ),
+      );
       read = λ z.
           let none = number-none (sheetSized s before oldHeading oldLine) (x .number-is) z in
           let told : sheetOf s before ≡ Read (headingOf s) = sheet-read s before (none .1) in
@@ -294,7 +320,9 @@ after-flood-read s before oldHeading oldLine {number} {after} {heading} {line} x
 pub after-flood-meadow : (s old : List ℕ) {long : ℕ} {out : List ℕ} → ExportsMeadow s old long out → AfterFloodMeadow s old long out
 after-flood-meadow s old {long} {out} x =
     record {
-      as-it-was = demand-1 .exports-leave anywhere .meadow s old long out x;
+      not-its-size = λ small.
+          let short : leb mostPrinted (length old) ≡ false = lt-leb _ _ small in
+          (x .long-is ∙ pick-false _ _ short, x .out-is ∙ pick-false _ _ short);
       printed = λ roomy.
           let fits : leb mostPrinted (length old) ≡ true = le-leb _ _ roomy in
           after-meadow s (record { next = omega (arith, x .long-is ∙ pick-true _ _ fits); room = x .out-is ∙ pick-true _ _ fits });

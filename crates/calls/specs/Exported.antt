@@ -2,14 +2,16 @@
 -- that came back. The functions of src/exported.rt make each call and promise it.
 -- Assumes nothing.
 use mathlib.Core.Path.{_≡_}
-use mathlib.Core.Bool.{true}
+use mathlib.Core.Bool.{true, false}
 use mathlib.Core.List.{List, [], _∷_, _++_}
-use Prim.Native.Nat.{ℕ, _≤_, _<_}
+use Prim.Native.Nat.{ℕ, _%_, _≤_, _<_}
 use lib.Dec.{eqb}
 use lib.ListN.{length, getD}
 use lib.Ieee.{Float}
 use Rattle.reckon.specs.Tests.{_unless_}
+use Rattle.rule.specs.Bounds.{mostSteps, leastSteps}
 use Rattle.rule.specs.declared.rules.Rules.{Rules}
+use Rattle.grid.specs.Squares.{squares}
 use Rattle.ledger.specs.Runs.{Plan, World, world, seenOf}
 use Rattle.ledger.specs.Flows.{shut}
 use Rattle.ledger.specs.Record.{ringOf, roomSlots}
@@ -19,7 +21,7 @@ use Rattle.ledger.specs.Walls.{Untouched}
 use Rattle.moves.specs.Given.{Given}
 use Rattle.moves.specs.Moves.{stepMoves}
 use Rattle.flood.specs.Refusals.{stepChecks}
-use Rattle.flood.specs.Bounds.{boundsRefusals}
+use Rattle.flood.specs.Bounds.{boundsRefusals, boundsNumber}
 use Rattle.flood.specs.Run.{runTo, freshRefusals, freshRun}
 use Rattle.sight.specs.Arrows.{arrowRefusals, seenAt}
 use Rattle.sight.specs.WetRows.{wetRefusals}
@@ -36,7 +38,7 @@ use Rattle.exports.specs.Sheets.{sheetSized}
 use Rattle.demands.specs.Table.{TableSays}
 use Rattle.demands.specs.Demand2.{StepGives}
 use Rattle.demands.specs.Demand3.{stepping, takingBack, Fresh}
-use Rattle.demands.specs.Loader.{sheetRefusals}
+use Rattle.demands.specs.Loader.{SheetSays, sheetRefusals}
 use Rattle.calls.specs.Library.{AfterRun, AfterRead, AfterMeadow}
 use Rattle.demands.specs.Played.{Played}
 use Rattle.demands.specs.WetAre.{WetAre}
@@ -49,6 +51,7 @@ module _ (p : Plan) where
     pub exactly-when : TableSays (1 unless bothSized rules old ∷ freshRefusals p r before records) number
     pub as-it-was : (number ≡ 0 → ⊥) → (lasts ≡ before) × (run ≡ old)
     pub made : number ≡ 0 → runValueFrom run ≡ freshRun r (roomSlots p records)
+    pub none-left : number ≡ 0 → (i : ℕ) → i < squares (p .shape) → shut p i ≡ false → getD lasts i 0 ≡ 0
     pub none-altered : (i : ℕ) → shut p i ≡ true → getD lasts i 0 ≡ getD before i 0
     pub begins : number ≡ 0 → (depths : List ℕ) → Fresh p (world depths lasts records (runValueFrom run))
 
@@ -98,6 +101,9 @@ module _ (p : Plan) where
 pub record AfterFloodBounds (clock end : ℕ) (rules old : List ℕ) (number : ℕ) (bounds : List ℕ) : Type 0 where
   pub exactly-when : number < 100 → TableSays (1 unless boundsSized clock end rules old ∷ boundsRefusals (rulesFrom rules) clock end) number
   pub as-it-was : (number ≡ 0 → ⊥) → bounds ≡ old
+  -- the most and the least, wherever document 02 asks for them
+  pub told : boundsSized clock end rules old ≡ true → boundsNumber (rulesFrom rules) clock end ≡ 0 → clock % rulesFrom rules .update ≡ 0 → clock ≤ end →
+      (number ≡ 0) × (bounds ≡ mostSteps (rulesFrom rules) clock end ∷ leastSteps (rulesFrom rules) clock end ∷ [])
   pub counted : number ≡ 0 → (p : Plan) (g : Given) (w : World) → g .lie .rules ≡ rulesFrom rules → w .run .clock ≡ clock →
       (runTo p g end w .steps ≤ getD bounds 0 0) × (runTo p g end w .number ≡ 0 → getD bounds 1 0 ≤ runTo p g end w .steps)
 
@@ -105,11 +111,13 @@ pub record AfterFloodBounds (clock end : ℕ) (rules old : List ℕ) (number : �
 
 pub record AfterFloodRead (s : List ℕ) (before : Rooms) (oldHeading oldLine : List ℕ) (number : ℕ) (after : Rooms) (heading line : List ℕ) : Type 0 where
   pub exactly-when : TableSays (1 unless sheetSized s before oldHeading oldLine ∷ sheetRefusals s before) number
+  -- 0 where the sheet is read or the number is not 12
+  pub line-told : sheetSized s before oldHeading oldLine ≡ true → (said : ℕ) × ((line ≡ said ∷ []) × SheetSays s before number said)
   -- but for `line`, which tells the line of the refusal
   pub as-it-was : (number ≡ 0 → ⊥) → (after ≡ before) × (heading ≡ oldHeading)
   pub read : number ≡ 0 → (h : Heading) × ((heading ≡ headingNumbers h) × AfterRead s before (Read h) after)
 
 pub record AfterFloodMeadow (s old : List ℕ) (long : ℕ) (out : List ℕ) : Type 0 where
   -- a room too small for what is printed
-  pub as-it-was : long ≡ 0 → out ≡ old
+  pub not-its-size : length old < mostPrinted → (long ≡ 0) × (out ≡ old)
   pub printed : mostPrinted ≤ length old → AfterMeadow s old out long

@@ -125,6 +125,7 @@ sheet-cases =
       back-clock = refl;
       arrow = refl;
       arrow-quotient = refl;
+      arrow-into = refl;
     }
 
 -- an exit alone, two equal levels, and a sheet that soaks

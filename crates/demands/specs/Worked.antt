@@ -156,6 +156,8 @@ pub record SheetCases (t : Told) : Type 0 where
   -- "arrow of square 0 0 after it: east is 62,000 / 1,000,000 rounded once, north 0"
   pub arrow : seenAt (onPlan t) 1 (view (once t .depths) (once t .records) (once t .run)) 0 0 ≡ Moving (record { east = eastSpeed; north = zero64 })
   pub arrow-quotient : quotientOf 62_000 1_000_000 ≡ eastSpeed
+  -- and of square 0 1, into which it flows: its net through the west is negative, and so is that speed outwards
+  pub arrow-into : seenAt (onPlan t) 1 (view (once t .depths) (once t .records) (once t .run)) 0 1 ≡ Moving (record { east = eastSpeed; north = zero64 })
 
 -- of an exit alone
 pub record ExitCases (t : Told) : Type 0 where
