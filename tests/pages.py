@@ -1,7 +1,7 @@
 #!/usr/bin/env python3
-"""The pages are true of the sources: every public function stands in docs/CONTRACTS.md and in the determinacy records, every file and
-name that docs/METHOD.md cites is there, its ranges and its worked square are those of document 01 in Python, the pictures are as made,
-no table has a cell too long to read, every path that a page names exists, and README's first sheet gives README's answer."""
+"""The pages are true of the sources: every public function stands in docs/CONTRACTS.md, every file and name that docs/METHOD.md cites is
+there, its ranges and its worked square are those of document 01 in Python, the pictures are as made, no table has a cell too long to read,
+every path and every name in backticks is there, and README's first sheet gives README's answer."""
 import re
 import sys
 from pathlib import Path
@@ -14,13 +14,11 @@ from meadow.counted import Checks  # noqa: E402
 from meadow.programs import printed  # noqa: E402
 from meadow.ranges import RANGES  # noqa: E402
 from meadow.worked_square import AMOUNTS  # noqa: E402
+from rattle.functions import library_functions  # noqa: E402
 
 CRATES = TOP / "crates"
 METHOD = TOP / "docs" / "METHOD.md"
 CONTRACTS = TOP / "docs" / "CONTRACTS.md"
-PUBLIC = re.compile(r'^pub (?:extern "C" )?fn (\w+)', re.M)
-# the exported functions have this before the name of the call
-EXPORTED = "flood_"
 # "some 30 words"
 MOST_WORDS = 35
 SHORT_CELLS = ("CONTRACTS.md", "DEMANDS.md")
@@ -49,6 +47,13 @@ UNITS = {
 }
 PATH = re.compile(r"`((?:\.ci|bin|crates|docs|python|samples|tests|tools|validation)/[\w./-]+?)/?`")
 LINK = re.compile(r"\]\((?!http|#)([^)#]+)\)")
+FENCED = re.compile(r"^```.*?^```", re.S | re.M)
+NAME = re.compile(r"[A-Za-z_][\w′'-]*")
+SOURCES = (".ci", "bin", "crates", "python", "samples", "tests", "tools", "validation")
+# docs/CHANGES.md tells what was, with names that have gone since
+OF_THE_PAST = {"CHANGES.md"}
+# names of the kit, which stand in no source of this project
+OF_THE_KIT = {"rattle-kit-5b"}
 
 
 def cells(line):
@@ -74,14 +79,6 @@ def ticked(text):
     return re.findall(r"`([^`]+)`", text)
 
 
-def library_functions():
-    """(crate, module::function) of each public function of a library crate; those of a crate's root have no module."""
-    for source in sorted(CRATES.glob("*/src/*.rt")):
-        if not (source.parent / "main.rt").exists():
-            for name in PUBLIC.findall(source.read_text(encoding="utf-8")):
-                yield source.parent.parent.name, name if source.stem == "lib" else f"{source.stem}::{name}"
-
-
 def hold_contracts(checks, functions):
     """A row for each public function, in its crate's section, and none besides."""
     sections = re.split(r"^## ", CONTRACTS.read_text(encoding="utf-8"), flags=re.M)
@@ -94,24 +91,6 @@ def hold_contracts(checks, functions):
     for crate, name in sorted(functions | told):
         checks.hold((crate, name) in told, f"docs/CONTRACTS.md has no row for {crate}::{name}")
         checks.hold((crate, name) in functions, f"docs/CONTRACTS.md has a row for {crate}::{name}, which is no public function")
-
-
-def determined():
-    """(crate, field) of each field of a determinacy record, by the crate's name in lower case and without underscores."""
-    for path in sorted((CRATES / "demands" / "specs").glob("*.antt")):
-        records = re.split(r"^(?:pub )?record (\w+?)Determined\b", path.read_text(encoding="utf-8"), flags=re.M)
-        for crate, body in zip(records[1::2], records[2::2]):
-            body = re.split(r"^\S", body.split("\n", 1)[1], maxsplit=1, flags=re.M)[0]
-            yield from ((crate.lower(), field) for field in re.findall(r"^  pub ([\w-]+) :", body, re.M))
-
-
-def hold_determined(checks, functions):
-    """A field for each public function, and none besides."""
-    fields = set(determined())
-    wanted = {(crate.replace("_", ""), name.split("::")[-1].removeprefix(EXPORTED).replace("_", "-")) for crate, name in functions}
-    for crate, name in sorted(fields | wanted):
-        checks.hold((crate, name) in fields, f"no determinacy record has a field {name} for {crate}")
-        checks.hold((crate, name) in wanted, f"the determinacy record of {crate} has a field {name}, which is no public function")
 
 
 def defined(path, name):
@@ -188,6 +167,48 @@ def hold_paths(checks):
             checks.hold(path.exists(), f"{page.relative_to(TOP)} names {path.relative_to(TOP)}, which is not there")
 
 
+def source_names():
+    """Every word that stands in a source or is the name of one, but for this file."""
+    names = set(NAME.findall((TOP / "crates.txt").read_text(encoding="utf-8")))
+    for path in (path for folder in SOURCES for path in (TOP / folder).rglob("*")):
+        names |= {path.name, path.stem}
+        if path.is_file() and path.suffix != ".pyc" and path != Path(__file__).resolve():
+            names |= {name.rstrip("'-") for name in NAME.findall(path.read_text(encoding="utf-8"))}
+    return names
+
+
+def is_there(path):
+    """Whether there is what a path of Rattle names: crate::module::function, crate::module, module::function, or something of a type."""
+    *crate, module, name = path.split("::")
+    if not crate and (CRATES / module).exists():
+        crate, module = [module], "*"
+    sources = list(CRATES.glob(f"{crate[0] if crate else '*'}/src/{module}.rt"))
+    if not crate and not sources:
+        return True
+    return any(name in NAME.findall(source.read_text(encoding="utf-8")) for source in sources)
+
+
+def hold_code(checks):
+    """What a page has in backticks is in the sources: each word of it, and each path where it says."""
+    names = source_names() | OF_THE_KIT
+    for page in (TOP / "README.md", *sorted((TOP / "docs").glob("*.md"))):
+        if page.name in OF_THE_PAST:
+            continue
+        for code in sorted(set(ticked(FENCED.sub("", page.read_text(encoding="utf-8"))))):
+            missing = [name for name in NAME.findall(code) if name.rstrip("'-") not in names]
+            checks.hold(not missing, f"{page.relative_to(TOP)} has `{code}`, and no source has {missing}")
+            for path in re.findall(r"\w+(?:::\w+)+", code):
+                checks.hold(is_there(path), f"{page.relative_to(TOP)} has `{path}`, which is not there")
+
+
+def hold_entries(checks, functions):
+    """The entry points that docs/CONTRACTS.md lists are those that the sources have; the exported ones have a section of their own."""
+    (told,) = re.findall(r"^- \*\*Entry points\*\*.*$", CONTRACTS.read_text(encoding="utf-8"), re.M)
+    for function in functions:
+        if function.crate != "exports":
+            checks.hold((function.name in ticked(told)) == function.is_entry, f"docs/CONTRACTS.md lists {function.name} as an entry point, or does not")
+
+
 def hold_first_sheet(checks):
     """README's first sheet gives the answer that README shows, tabs being shown as spaces."""
     text = (TOP / "README.md").read_text(encoding="utf-8")
@@ -200,14 +221,15 @@ def hold_first_sheet(checks):
 
 def main():
     checks = Checks("pages")
-    functions = set(library_functions())
-    checks.hold(functions != set(), "there is no public function")
-    hold_contracts(checks, functions)
-    hold_determined(checks, functions)
+    functions = list(library_functions(TOP))
+    checks.hold(functions != [], "there is no public function")
+    hold_contracts(checks, {(function.crate, function.path) for function in functions})
+    hold_entries(checks, functions)
     hold_method(checks)
     hold_pictures(checks)
     hold_cells(checks)
     hold_paths(checks)
+    hold_code(checks)
     hold_first_sheet(checks)
     checks.end()
 

@@ -1,67 +1,119 @@
 #!/usr/bin/env python3
 """How many lines of definitions a reader must believe, crate by crate.
 
-Usage: believed.py [TOP]
+    python3 tools/believed.py [--idle] [TOP]
 
-A reader must believe what stands in a crate's specs/, but not what stands in specs/inner/ (what only our own functions ask and give) nor
-in a Worked.antt (cases worked by hand, which are proved). Imports, lists of modules, comments and blank lines are not counted. The crate
-`demands` restates the letter and is counted apart. Ends with status 1 where the others together have more than MOST lines.
+What must be believed is what the demands and the contracts of the entry points reach, name by name, through the definitions of specs/.
+Beside it stand the lines that only contracts of layer functions reach, and those of specs/inner/ (what only our own functions ask and
+give). Imports, lists of modules, comments and blank lines are not counted, nor is a Worked.antt (cases worked by hand, which are proved).
+The crate `demands` restates the letter and is counted apart, as is every crate above it; its Determined.antt names every contract there is,
+and is no demand by itself.
+
+With --idle the definitions that no demand and no entry point reaches are named. Ends with status 1 where a file outside specs/inner/ looks
+into it, a definition that must be believed stands in it, a definition outside it is reached by no contract at all, or what must be believed
+has more than MOST lines.
 """
-import os
 import sys
+from collections import Counter
+from pathlib import Path
 
-MOST = 1700
-APART = "demands"
-NOT_DEFINITIONS = ("--", "use ", "pub use ", "pub mod ", "mod ")
+TOP = Path(__file__).resolve().parent.parent
+sys.path.insert(0, str(TOP / "python"))
 
+from rattle import DEMANDS, crates, imported, statements  # noqa: E402
+from rattle.functions import library_functions  # noqa: E402
+from rattle.specs import Specs  # noqa: E402
 
-def crates(top):
-    with open(os.path.join(top, "crates.txt")) as listed:
-        return [line.split(":")[0] for line in listed if line.strip() and not line.startswith("#")]
-
-
-def definitions(path):
-    with open(path) as lines:
-        return sum(1 for line in lines if line.strip() and not line.strip().startswith(NOT_DEFINITIONS))
-
-
-def believed(top, crate):
-    """The lines of a crate that must be believed, and those of its specs/inner/."""
-    specs = os.path.join(top, "crates", crate, "specs")
-    outer = inner = 0
-    for folder, _, names in os.walk(specs):
-        inside = os.path.relpath(folder, specs).split(os.sep)[0] == "inner"
-        for name in names:
-            if not name.endswith(".antt") or name == "Worked.antt":
-                continue
-            lines = definitions(os.path.join(folder, name))
-            if inside:
-                inner += lines
-            else:
-                outer += lines
-    return outer, inner
+# a little above what there is; a request that lands may raise it, with all of document 02 to 2,300 and no further
+MOST = 1450
+DETERMINED, WORKED = (DEMANDS, "Determined"), "Worked"
+BELIEVED, LAYER, IDLE, INNER = "believed", "layers", "reached by nothing", "inner"
 
 
-def main(top):
-    total = inner_total = 0
-    print(f"{'crate':10} {'believed':>8} {'inner':>6}")
-    for crate in crates(top):
-        outer, inner = believed(top, crate)
-        if outer + inner == 0:
+def roots(top, specs):
+    """What the demands and the entry points name, and what the contracts of the other public functions name."""
+    said = statements(top)
+    demands = {key for key in specs.definitions if key[0] in said and key[:2] != DETERMINED}
+    entries, layers = set(), set()
+    for function in library_functions(top):
+        clauses = "\n".join(function.requires + function.ensures)
+        (entries if function.is_entry else layers).update(specs.named(clauses, function.imports))
+    return demands | entries, layers
+
+
+def places(top, specs):
+    """Where each definition that is counted belongs, and what must be believed although it stands in specs/inner/."""
+    first, second = roots(top, specs)
+    beyond = lambda key: key[:2] == DETERMINED
+    needed, known = specs.reached(first, beyond), specs.reached(second, beyond)
+    found, hidden, said = {}, [], statements(top)
+    for key, each in specs.definitions.items():
+        if each.module == WORKED or each.crate in said:
             continue
-        print(f"{crate:10} {outer:8} {inner:6}{'   not in the total' if crate == APART else ''}")
-        if crate != APART:
-            total += outer
-            inner_total += inner
-    print(f"{'total':10} {total:8} {inner_total:6}   at most {MOST}")
-    if total == 0:
-        print("believed: no definitions found", file=sys.stderr)
-        return 1
-    if total > MOST:
-        print(f"believed: {total - MOST} lines too many", file=sys.stderr)
-        return 1
-    return 0
+        if each.is_inner:
+            found[key] = INNER
+            hidden += [key] if key in needed and each.is_named else []
+        else:
+            found[key] = BELIEVED if key in needed else LAYER if key in known else IDLE
+    return found, hidden
+
+
+def looks_inside(specs):
+    """Each file outside specs/inner/ that imports from it."""
+    for (crate, name), module in specs.modules.items():
+        if not name.startswith("inner.") and (crate, name) != DETERMINED:
+            names, modules = imported(module.text)
+            seen = {where for where in [*names.values(), *modules.values()] if where[1].startswith("inner.")}
+            yield from (f"{crate}/specs/{name}.antt imports {where[0]}/specs/{where[1].replace('.', '/')}.antt" for where in sorted(seen))
+
+
+def by_module(keys):
+    """Names, after the crate and the module that has them."""
+    modules = {}
+    for crate, module, name in keys:
+        modules.setdefault((crate, module), []).append(name)
+    return [f"  {crate}/specs/{module.replace('.', '/')}.antt: {', '.join(names)}" for (crate, module), names in modules.items()]
+
+
+def counted(top, specs, found):
+    """Prints the table, and gives the lines to believe."""
+    lines = Counter()
+    for key, place in found.items():
+        lines[key[0], place] += len(specs.definitions[key].lines)
+    columns = (BELIEVED, LAYER, IDLE, INNER)
+    row = lambda name, counts: f"{name:8}" + "".join(f"{count:>{len(column) + 3}}" for column, count in zip(columns, counts))
+    print(row("crate", columns))
+    for crate in crates(top):
+        counts = [lines[crate, column] for column in columns]
+        if any(counts):
+            print(row(crate, counts))
+    totals = [sum(lines[crate, column] for crate in crates(top)) for column in columns]
+    said = statements(top)
+    apart = sum(len(each.lines) for each in specs.definitions.values() if each.crate in said and each.module != WORKED)
+    print(row("total", totals) + f"   to believe at most {MOST}, and beside them {apart} lines of {', '.join(said)}")
+    return totals[0]
+
+
+def main(words):
+    top = Path(next((word for word in words if word != "--idle"), TOP))
+    specs = Specs(top)
+    found, hidden = places(top, specs)
+    total = counted(top, specs, found)
+    if "--idle" in words:
+        for place in (LAYER, IDLE):
+            print(f"{place}:", *by_module(key for key in found if found[key] == place and specs.definitions[key].is_named), sep="\n")
+    faults = {
+        "looks into specs/inner/": [f"  {told}" for told in looks_inside(specs)],
+        "must be believed, and stands in specs/inner/": by_module(hidden),
+        "is reached by no contract": by_module(key for key in found if found[key] == IDLE and specs.definitions[key].is_named),
+        "lines are too many": [f"  {total - MOST}"] if total > MOST else [],
+        "no definition must be believed": ["  0 lines"] if total == 0 else [],
+    }
+    for fault, rows in faults.items():
+        if rows:
+            print(f"believed: {fault}:", *rows, sep="\n", file=sys.stderr)
+    return 1 if any(faults.values()) else 0
 
 
 if __name__ == "__main__":
-    sys.exit(main(sys.argv[1] if len(sys.argv) > 1 else os.path.join(os.path.dirname(os.path.abspath(__file__)), "..")))
+    sys.exit(main(sys.argv[1:]))

@@ -1,3 +1,4 @@
+pub mod ApartLaws
 pub mod MeadowLaws
 pub mod PrintLaws
 pub mod RunLaws

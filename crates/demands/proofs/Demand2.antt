@@ -3,7 +3,7 @@
 use mathlib.Core.Path.{_≡_, refl, sym, ap, ap₂, _∙_, subst}
 use mathlib.Core.Bool.{Bool, true, false, _||_}
 use mathlib.Core.List.{List, [], _∷_, _++_}
-use Prim.Native.Nat.{ℕ, zero, suc, _+_, _-_, _*_, _<_}
+use Prim.Native.Nat.{ℕ, zero, suc, _+_, _-_, _*_, _≤_, _<_}
 use native.Mathlib.Nat.{mul-le-mul, div-le-self}
 use native.Mathlib.Decide.{decLt, ℕ-discrete}
 use native.Mathlib.Omega.{arith}
@@ -14,12 +14,12 @@ use Rattle.reckon.specs.Lists.{filled}
 use Rattle.reckon.specs.Ranges.{mostDepth, waterFine}
 use Rattle.reckon.proofs.TestLaws.{pick-true, pick-both, all-ext}
 use Rattle.reckon.proofs.RootLaws.{root-right}
-use Rattle.reckon.proofs.ListLaws.{getD-tabulate, length-filled, filled-in, filled-skipped, joined-ext, sum-ext}
-use Rattle.trials.specs.Ring.{slotsIn, slotAfter}
+use Rattle.reckon.proofs.ListLaws.{getD-tabulate, length-filled, filled-in, filled-skipped, joined-ext, length-placed, placed-before, placed-after, sum-ext}
+use Rattle.trials.specs.Ring.{slotsIn, slotStart, slotAfter}
 use Rattle.trials.specs.Room.{recordIn, storedIn}
-use Rattle.trials.proofs.RingLaws.{Ring, fine-ring, ring-after, after-below}
+use Rattle.trials.proofs.RingLaws.{Ring, fine-ring, slot-within, ring-after, after-below}
 use Rattle.trials.proofs.RoomLaws.{length-stored, read-stored, read-other}
-use Rattle.grid.specs.Squares.{squares, within, beside, opposite}
+use Rattle.grid.specs.Squares.{squares, sides, within, beside, opposite}
 use Rattle.grid.specs.Marks.{exit}
 use Rattle.grid.proofs.SquareLaws.{opposite-small}
 use Rattle.grid.proofs.MarkLaws.{unless-closed}
@@ -35,7 +35,7 @@ use Rattle.ledger.specs.After.{Moves, remains, newDepth, depthsFit, newOutflow,
 use Rattle.ledger.specs.Checks.{oneEach, watersFine, timesFine}
 use Rattle.ledger.specs.TakeBack.{heldAndGone, cameAndAdded, depthBefore, squareRestorable, restorable, worldBefore, backRefusals, backNumber, takenBack, earlyRefusals}
 use Rattle.ledger.specs.Walls.{Walled, Untouched}
-use Rattle.ledger.proofs.ReadBack.{step-long, closed-read}
+use Rattle.ledger.proofs.ReadBack.{leaves-read, closed-read, step-long, step-held, step-lasted, step-off, step-soaked-grid, step-came, step-gone, step-last, step-added, step-soaked}
 use Rattle.ledger.proofs.Walls.{goes-where, walls-stay-dry, after-untouched, back-untouched}
 use Rattle.ledger.specs.declared.runs.Run.{Run}
 use Rattle.moves.specs.Given.{Given, ground, given}
@@ -228,12 +228,26 @@ module _ (p : Plan) where
     ring : Ring (roomSlots p (w .records)) (w .run .kept) (w .run .newest)
     ring = fine-ring _ _ _ (ring-is p g (ringOf p w) (seenOf w) (checks-passed p g w made))
 
-    newest-written : newestRecord p (stepped p g w) ≡ stepRecord p (stepMoves p g (seenOf w)) w
+    -- what it moves, and the world after it
+    abbrev moved : Moves
+    moved = stepMoves p g (seenOf w)
+
+    abbrev after : World
+    after = worldAfter p moved w
+
+    -- the slot that it writes
+    abbrev slot : ℕ
+    slot = slotAfter (roomSlots p (w .records)) (w .run .newest)
+
+    slot-in : slot < roomSlots p (w .records)
+    slot-in = ring-after ring .newest-below
+
+    after-written : newestRecord p after ≡ stepRecord p moved w
     unfolding newestRecord worldAfter roomSlots
-    newest-written =
-        rw (made-is p g w made)
-        (read-stored (recordSize p) (omega arith) (w .records) (slotAfter (roomSlots p (w .records)) (w .run .newest))
-        (stepRecord p (stepMoves p g (seenOf w)) w) (step-long p (stepMoves p g (seenOf w)) w) (ring-after ring .newest-below))
+    after-written = read-stored (recordSize p) (omega arith) (w .records) slot (stepRecord p moved w) (step-long p moved w) slot-in
+
+    newest-written : newestRecord p (stepped p g w) ≡ stepRecord p moved w
+    newest-written = rw (made-is p g w made) after-written
 
   module _ (g : Given) (w : World) {beds′ rough′ rates′ depths′ lasts′ records′ : List ℕ} (B : SameOpen p (g .lie .beds) beds′)
       (K : SameOpen p (g .lie .roughness) rough′) (S : SameOpen p (g .lie .rates) rates′) (D : SameOpen p (w .depths) depths′) (L : SameOpen p (w .lasts) lasts′) (R : SameRoom p (w .records) records′) where
@@ -549,36 +563,73 @@ module _ (p : Plan) where
     unfolding runTo
     run-untouched w = on-untouched (refusal (runChecks p g end w)) 0 w _ (from-untouched (end - w .run .clock) 0 w)
 
-  -- ---- a step that is made, and the slot that it writes
+  -- ---- a step that is made gives what the rule gives: each word of its record is read back
   module _ (g : Given) (w : World) (made : stepNumber p g w ≡ 0) where
-    -- it gives what the rule gives
-    step-gives : StepGives p g w
-    unfolding worldAfter newDepth remains newOutflow newSoaked stepLength stepDuration stepRecord
-    step-gives =
+    inside : slotStart (recordSize p) (slot g w made) + length (stepRecord p (moved g w made) w) ≤ length (w .records)
+    unfolding roomSlots
+    inside = omega (arith, slot-within (recordSize p) (omega arith) (slot-in g w made), step-long p (moved g w made) w)
+
+    leaves-word : (i side : ℕ) → i < squares (p .shape) → side < sides → shut p i ≡ false →
+        leavesIn (stepRecord p (moved g w made) w) i side ≡ moved g w made .leaves i side
+    unfolding stepRecord
+    leaves-word i side h l e = leaves-read p _ _ _ _ _ _ i h e side l
+
+    zero-word : (i word : ℕ) → i < squares (p .shape) → shut p i ≡ true → word < squareWords → getD (stepRecord p (moved g w made) w) (wordPlace i word) 0 ≡ 0
+    unfolding stepRecord
+    zero-word i word l e h = closed-read p _ _ _ _ _ _ i l e word h
+
+    gives-after : StepGives p g w (after g w made)
+    unfolding worldAfter newDepth remains newOutflow newSoaked stepLength stepDuration
+    gives-after =
+        let m = moved g w made in
         let flows = ready p g (ringOf p w) (seenOf w) (checks-passed p g w made) .flows in
+        let marks-long : length (p .marks) ≡ squares (p .shape) = flows .lies .sited .marks-long in
         let depths-long : length (w .depths) ≡ squares (p .shape) = flows .lies .sited .depths-long in
         let lasts-long : length (w .lasts) ≡ squares (p .shape) = flows .lasts-long in
         let through = leaves-open p (g .lie) (w .depths) (w .lasts) (stepDuration p g (seenOf w)) in
+        let told = after-written g w made in
+        let lasted = step-lasted p m w in
         record {
           edition = (flows .lies .rules .edition-from, flows .lies .rules .edition-to);
-          weighted = λ is i side e. through i side e ∙ ap (λ (l : List ℕ). getD l side 0) (weighed-weighted (g .lie .rules) _ _ _ _ _ is);
-          directed = λ is i side e. through i side e ∙ ap (λ (l : List ℕ). getD l side 0) (weighed-directed (g .lie .rules) _ _ _ _ _ is);
-          unlimited = λ is i side e. through i side e ∙ ap (λ (l : List ℕ). getD l side 0) (weighed-unlimited (g .lie .rules) _ _ _ _ _ is);
-          soaking = λ i e. soaked-open p (g .lie) (w .depths) (w .lasts) (stepDuration p g (seenOf w)) i (w .run .clock) e;
-          depths = λ i h e. ap (λ (u : World). getD (u .depths) i 0) (made-is p g w made) ∙ filled-in _ _ _ (w .depths) i (omega arith) h e;
-          lasts = λ i h e. ap (λ (u : World). getD (u .lasts) i 0) (made-is p g w made) ∙ filled-in _ _ _ (w .lasts) i (omega arith) h e;
-          outflow = ap (λ (u : World). u .run .outflow) (made-is p g w made);
-          soaked = ap (λ (u : World). u .run .soaked) (made-is p g w made);
-          length-is = ap (λ (u : World). u .run .length) (made-is p g w made);
-          duration-is = ap (λ (u : World). durationFor (g .lie .rules) (w .run .clock) (u .run .length)) (sym (made-is p g w made));
-          clock = ap (λ (u : World). u .run .clock) (made-is p g w made);
-          covered = λ i e. lost-covered p (g .lie) (w .depths) (w .lasts) (stepDuration p g (seenOf w)) i (w .run .clock) e;
-          record-is = newest-written g w made;
+          weighted = λ is i side h l e.
+              rw (told, lasted)
+              (leaves-word i side h l e ∙ (through i side e ∙ ap (λ (s : List ℕ). getD s side 0) (weighed-weighted (g .lie .rules) _ _ _ _ _ is)));
+          directed = λ is i side h l e.
+              rw (told, lasted)
+              (leaves-word i side h l e ∙ (through i side e ∙ ap (λ (s : List ℕ). getD s side 0) (weighed-directed (g .lie .rules) _ _ _ _ _ is)));
+          unlimited = λ is i side h l e.
+              rw (told, lasted)
+              (leaves-word i side h l e ∙ (through i side e ∙ ap (λ (s : List ℕ). getD s side 0) (weighed-unlimited (g .lie .rules) _ _ _ _ _ is)));
+          soaking = λ i h e.
+              rw (told, lasted, step-gone p m w i h e)
+              (step-soaked p m w i h e ∙ soaked-open p (g .lie) (w .depths) (w .lasts) (stepDuration p g (seenOf w)) i (w .run .clock) e);
+          adding = λ i h e. rw (told, lasted) (step-added p m w i h e);
+          depths = λ i h e.
+              rw (told, step-gone p m w i h e, step-soaked p m w i h e, step-came p m w marks-long i, step-added p m w i h e)
+              (filled-in _ _ _ (w .depths) i (omega arith) h e);
+          depths-long = length-filled _ _ _ (w .depths);
+          covered = λ i h e.
+              rw (told, step-gone p m w i h e, step-soaked p m w i h e)
+              (lost-covered p (g .lie) (w .depths) (w .lasts) (stepDuration p g (seenOf w)) i (w .run .clock) e);
+          lasts = λ i h e. rw (told, step-gone p m w i h e) (filled-in _ _ _ (w .lasts) i (omega arith) h e);
+          lasts-long = length-filled _ _ _ (w .lasts);
+          outflow = rw (told, step-off p m w);
+          soaked = rw (told, step-soaked-grid p m w);
+          length-is = refl;
+          duration-is = rw told lasted;
+          clock = rw (told, lasted);
+          held-before = rw told (step-held p m w);
+          last-before = λ i h e. rw told (step-last p m w i h e);
+          closed-zeros = λ i word h e l. rw told (zero-word i word h e l);
+          newest-is = refl;
+          kept-is = refl;
+          room-long = length-placed (w .records) _ _ (inside);
+          room-before = λ k l. placed-before (w .records) _ _ (inside) k l;
+          room-after = λ k l. placed-after (w .records) _ _ (inside) k (omega (arith, step-long p m w));
         }
 
-    slot-zeros : (i word : ℕ) → i < squares (p .shape) → shut p i ≡ true → word < squareWords → getD (newestRecord p (stepped p g w)) (wordPlace i word) 0 ≡ 0
-    unfolding stepRecord
-    slot-zeros i word l e h = ap (λ (rec : List ℕ). getD rec (wordPlace i word) 0) (newest-written g w made) ∙ closed-read p _ _ _ _ _ _ i l e word h
+    step-gives : StepGives p g w (stepped p g w)
+    step-gives = rw (made-is p g w made) gives-after
 
   fresh-untouched : (r : Rules) (lasts records : List ℕ) (i : ℕ) → shut p i ≡ true → getD (freshLasts p r lasts records) i 0 ≡ getD lasts i 0
   unfolding freshLasts
@@ -600,7 +651,6 @@ module _ (p : Plan) where
         run-to = run-untouched;
         take-back = back-untouched p;
         fresh = fresh-untouched;
-        slot = slot-zeros;
       }
 
   none-soaks : (g : Given) (v : Seen) (i : ℕ) → shut p i ≡ true → stepMoves p g v .soaked i ≡ 0

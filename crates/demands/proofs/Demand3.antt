@@ -15,8 +15,8 @@ use Rattle.reckon.specs.Ranges.{mostDepth}
 use Rattle.reckon.proofs.ListLaws.{length-filled, filled-in}
 use Rattle.trials.specs.Ring.{ringFine}
 use Rattle.trials.proofs.RingLaws.{ring-fine}
-use Rattle.trials.specs.Series.{Outcome, refused, done, andThen, Engine, State, step, takeBack, Ran, ranOn, runOn, run, afterStep, afterBack, older, repeat, replay, shown, Stands}
-use Rattle.trials.specs.Series as Any
+use Rattle.trials.specs.inner.Series.{Outcome, refused, done, andThen, Engine, State, step, takeBack, Ran, ranOn, runOn, run, afterStep, afterBack, older, repeat, replay, shown, Stands}
+use Rattle.trials.specs.inner.Series as Any
 use Rattle.trials.proofs.RunLaws.{run-at, run-stands}
 use Rattle.trials.proofs.StepLaws.{not-done}
 use Rattle.trials.proofs.Standing.{never-made}
@@ -36,7 +36,8 @@ use Rattle.ledger.specs.declared.runs.Answer.the-variants.{Done}
 use Rattle.moves.specs.Given.{Given}
 use Rattle.moves.specs.Moves.{stepMoves}
 use Rattle.flood.specs.Refusals.{runChecks}
-use Rattle.flood.specs.Step.{stepNumber, stepped, floodRule}
+use Rattle.flood.specs.Step.{stepNumber, stepped}
+use Rattle.flood.specs.inner.Rule.{floodRule}
 use Rattle.flood.specs.Run.{Ended, ended, goOn, runFrom, runTo, freshRefusals, freshNumber, freshRun, freshLasts, Freshens}
 use Rattle.flood.proofs.CheckLaws.{each-long}
 use Rattle.flood.proofs.FreshLaws.{fresh-sizes, fresh-slots}

@@ -16,14 +16,14 @@ use Rattle.demands.proofs.Determined.{flood-determined, exports-determi
 
 -- ---- each engine's contract is the document's relation
 
-step-is :
+pub step-is :
     (u : Walk) (p : Plan) (g : Given) (w : World) (o : Answer × (List ℕ × (List ℕ × List ℕ))) → StepBy u p g w o →
     Steps p g w (o .0) (o .1 .0) (o .1 .1 .0) (o .1 .1 .1)
 unfolding StepBy
 step-is All p g w o s = s
 step-is Wet p g w o s = s
 
-run-is :
+pub run-is :
     (u : Walk) (p : Plan) (g : Given) (end : ℕ) (w : World) (o : Ran × (List ℕ × (List ℕ × List ℕ))) → RunBy u p g end w o →
     RunsTo p g end w (o .0) (o .1 .0) (o .1 .1 .0) (o .1 .1 .1)
 unfolding RunBy

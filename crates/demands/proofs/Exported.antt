@@ -9,7 +9,8 @@ use lib.Dec.{T, eqb, leb}
 use lib.ListN.{length}
 use lib.Ieee.{Float}
 use borrow.Author.Tests.{eqb-true, ne-eqb, le-leb, lt-leb}
-use Rattle.reckon.specs.Tests.{pick, Row, _unless_, refusal, numbered}
+use Rattle.reckon.specs.Tests.{pick, Row, _unless_, refusal}
+use Rattle.reckon.specs.inner.Rows.{numbered}
 use Rattle.reckon.specs.Lists.{placed}
 use Rattle.reckon.proofs.TestLaws.{pick-true, pick-false, every-each}
 use Rattle.rule.specs.declared.rules.Rules.{Rules}
@@ -19,7 +20,7 @@ use Rattle.ledger.specs.TakeBack.{backRefusals, backNumber, earlyRefusals}
 use Rattle.moves.specs.Given.{Given}
 use Rattle.flood.specs.Refusals.{checkRefusals, runChecks}
 use Rattle.flood.specs.Step.{stepNumber}
-use Rattle.flood.specs.Run.{Ended, runTo, freshRefusals, freshNumber}
+use Rattle.flood.specs.Run.{Ended, ended, runTo, freshRefusals, freshNumber}
 use Rattle.flood.proofs.RunToLaws.{run-checked}
 use Rattle.flood.specs.Bounds.{boundsRefusals, boundsNumber, toldBounds, boundsOf}
 use Rattle.flood.specs.declared.bounds.StepBounds.{StepBounds}
@@ -64,7 +65,7 @@ sized-says sized rows t q e =
     subst (λ (m : ℕ). TableSays (1 unless sized ∷ rows) m) (sym (e ∙ ap (numberIf sized) q)) (table-says (1 unless sized ∷ rows) t)
 
 -- the number of a sight that is below 100 is that of its table
-seen-number : (n : ℕ) (isClosed isDry isStill : Bool) (a : Arrow) → sightNumber (sighted n isClosed isDry isStill a) < 100 →
+pub seen-number : (n : ℕ) (isClosed isDry isStill : Bool) (a : Arrow) → sightNumber (sighted n isClosed isDry isStill a) < 100 →
     sightNumber (sighted n isClosed isDry isStill a) ≡ n
 unfolding sightNumber sighted
 seen-number (suc n) c d s a l = refl
@@ -74,7 +75,7 @@ seen-number zero false false true a l = absurd (omega (arith, l))
 seen-number zero false false false a l = refl
 
 -- so is that of figures
-told-number : (n : ℕ) (holds : Bool) (b : StepBounds) → boundsTold (toldBounds n holds b) < 100 → boundsTold (toldBounds n holds b) ≡ n
+pub told-number : (n : ℕ) (holds : Bool) (b : StepBounds) → boundsTold (toldBounds n holds b) < 100 → boundsTold (toldBounds n holds b) ≡ n
 unfolding boundsTold toldBounds
 told-number (suc n) holds b l = refl
 told-number zero false b l = absurd (omega (arith, l))
@@ -111,7 +112,7 @@ unfolding unlessRefused
 left made old q e d = e ∙ pick-false _ _ (ne-eqb _ _ (λ z. d (q ∙ z)))
 
 -- a run's numbers in a slice of their size are that slice
-run-back : (l : List ℕ) → length l ≡ runSize → runNumbers (runValueFrom l) ≡ l
+pub run-back : (l : List ℕ) → length l ≡ runSize → runNumbers (runValueFrom l) ≡ l
 run-back [] e = absurd (omega (arith, e))
 run-back (a ∷ []) e = absurd (omega (arith, e))
 run-back (a ∷ (b ∷ [])) e = absurd (omega (arith, e))
@@ -130,12 +131,14 @@ module _ (p : Plan) (g : Given) (end : ℕ) (w : World) (rules old oldSteps : Li
   e = runTo p g end w
 
   -- a run that is refused by a number of its checks made no step
-  checks-refuse : 1 ≤ e .number → e .number ≤ lastCheck → e .world ≡ w
+  pub checks-refuse : 1 ≤ e .number → e .number ≤ lastCheck → e ≡ ended (e .number) 0 w
   checks-refuse low high = go (refusal (runChecks p g end w)) refl
     where
-      go : (n : ℕ) → refusal (runChecks p g end w) ≡ n → e .world ≡ w
+      go : (n : ℕ) → refusal (runChecks p g end w) ≡ n → e ≡ ended (e .number) 0 w
       go zero q = absurd (omega (arith, run-stops p g end w q .late (λ z. omega (arith, z, low))))
-      go (suc n) q = ap (λ (o : Ended). o .world) (sym (run-checked p g end w refl (λ z. omega (arith, sym q ∙ z))))
+      go (suc n) q =
+          let checked : e ≡ ended (refusal (runChecks p g end w)) 0 w = sym (run-checked p g end w refl (λ z. omega (arith, sym q ∙ z))) in
+          checked ∙ ap (λ (m : ℕ). ended m 0 w) (sym (ap (λ (o : Ended). o .number) checked))
 
   within-checks : 1 ≤ number → number ≤ lastCheck → (leb 1 number && leb number lastCheck) ≡ true
   within-checks low high = rw (le-leb 1 number low, le-leb number lastCheck high)
@@ -152,7 +155,7 @@ module _ (p : Plan) (g : Given) (end : ℕ) (w : World) (rules old oldSteps : Li
       )
       go true q =
           let n : number ≡ e .number = x .number-is ∙ pick-true _ _ q in
-          let there : e .world ≡ w = checks-refuse (subst (λ (k : ℕ). 1 ≤ k) n low) (subst (λ (k : ℕ). k ≤ lastCheck) n high) in
+          let there : e .world ≡ w = ap (λ (o : Ended). o .world) (checks-refuse (subst (λ (k : ℕ). 1 ≤ k) n low) (subst (λ (k : ℕ). k ≤ lastCheck) n high)) in
           let long : length old ≡ runSize = eqb-true (length old) runSize (every-each _ q .1 .0) in (
             x .depths-are ∙ (pick-true _ _ q ∙ ap (λ (u : World). u .depths) there),
             (

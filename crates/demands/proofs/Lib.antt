@@ -5,8 +5,11 @@ pub mod Demand3
 pub mod Determined
 pub mod EnginesAgree
 pub mod Exported
+pub mod Fields
 pub mod Loader
+pub mod Played
 pub mod RunStops
 pub mod StepCount
 pub mod Table
+pub mod WetAre
 pub mod WorkedCases

@@ -28,6 +28,7 @@ use Rattle.sheet.specs.declared.reading.Sheet.the-variants.{Read, Refused}
 use Rattle.sheet.proofs.SheetLaws.{rooms-cells}
 use Rattle.sheet.proofs.NumberLaws.{never-one, never-six}
 use Rattle.exports.specs.Sheets.{sheetNumber, sheetLine}
+use Rattle.demands.specs.Table.{rowsBetween}
 use Rattle.demands.specs.Loader.{endRefusals, sheetRefusals, SheetSays, MeadowSays, LoaderRefuses, lineStart, MarksAreLetters, ClosedLeft, AsLong, LoaderWalls}
 use Rattle.demands.proofs.Table.{table-says}
 use Rattle.sheet.proofs.LetterLaws.{cell-headed}
@@ -50,7 +51,7 @@ two-to-five true true true true true false f g = absurd (g refl)
 two-to-five true true true true true true f g = refl
 
 module _ (s : List ℕ) (lent : Rooms) where
-  checks-are : roomsFine (shapeOf s) (lineOne s .side) lent ≡ true → checksOf s ≡ refusal (take 4 (drop 1 (endRefusals s)))
+  checks-are : roomsFine (shapeOf s) (lineOne s .side) lent ≡ true → checksOf s ≡ refusal (rowsBetween 2 5 (endRefusals s))
   unfolding checksIn checkRefusals
   checks-are f = two-to-five _ _ _ _ _ _ (never-one s lent f) (never-six s lent f)
 
@@ -70,6 +71,19 @@ module _ (s : List ℕ) (lent : Rooms) where
   pub sheet-number : sheetNumber (sheetOf s lent) ≡ refusal (sheetRefusals s lent)
   unfolding sheetOf
   sheet-number = number-by (lineOne s .found) (roomsFine (shapeOf s) (lineOne s .side) lent) (badLine s) (checksOf s) _ checks-are
+
+  read-by : (first roomy : Bool) (bad check : ℕ) → sheetNumber (answer first roomy bad check) ≡ 0 → answer first roomy bad check ≡ Read (headingOf s)
+  unfolding sheetNumber judged pick
+  read-by false roomy bad check z = absurd (omega (arith, z))
+  read-by true false bad check z = absurd (omega (arith, z))
+  read-by true true (suc bad) check z = absurd (omega (arith, z))
+  read-by true true zero zero z = refl
+  read-by true true zero (suc check) z = absurd (omega (arith, z))
+
+  -- no number is that of a sheet that is read
+  pub sheet-read : sheetNumber (sheetOf s lent) ≡ 0 → sheetOf s lent ≡ Read (headingOf s)
+  unfolding sheetOf
+  sheet-read z = read-by (lineOne s .found) (roomsFine (shapeOf s) (lineOne s .side) lent) (badLine s) (checksOf s) z
 
   line-first : (first roomy : Bool) (bad check : ℕ) → first ≡ false → sheetLine (answer first roomy bad check) ≡ 1
   unfolding sheetLine pick

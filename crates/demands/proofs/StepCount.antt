@@ -1,6 +1,6 @@
 -- The figures told before a run hold of its count: `run-counted` follows it step by step.
 -- Assumes nothing.
-use mathlib.Core.Path.{_≡_}
+use mathlib.Core.Path.{_≡_, refl}
 use Prim.Native.Nat.{ℕ, _-_, _*_, _/_, _≤_}
 use native.Mathlib.Nat.{sub-self, zero-div, zero-mul}
 use Rattle.rule.specs.Bounds.{mostSteps, leastSteps}
@@ -44,5 +44,7 @@ step-count =
       counted = counted-steps;
       not-below = λ time length h. over-reached time h;
       no-lesser = λ time length n h k. over-least time h n k;
+      most-is = λ r clock end. refl;
+      least-is = λ r clock end. refl;
       none = λ r clock. (no-spans r clock _, no-spans r clock _);
     }

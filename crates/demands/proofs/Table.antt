@@ -5,7 +5,8 @@ use mathlib.Core.Bool.{Bool, true, false}
 use mathlib.Core.List.{List, [], _∷_}
 use Prim.Native.Nat.{ℕ}
 use lib.Dec.{T}
-use Rattle.reckon.specs.Tests.{Row, refusal, numbered}
+use Rattle.reckon.specs.Tests.{Row, refusal}
+use Rattle.reckon.specs.inner.Rows.{numbered}
 use Rattle.reckon.proofs.TestLaws.{not-both, Passed, refusal-passed, refusal-here, refusal-later}
 use Rattle.demands.specs.Table.{FirstFails, here, later, TableSays}
 

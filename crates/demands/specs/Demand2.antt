@@ -7,17 +7,17 @@ use mathlib.Core.List.{List}
 use Prim.Native.Nat.{ℕ, _+_, _-_, _*_, _/_, _≤_, _<_, min}
 use lib.ListN.{length, getD}
 use Rattle.reckon.specs.Tests.{refusal}
-use Rattle.reckon.specs.Ranges.{mostDepth}
+use Rattle.reckon.specs.Ranges.{mostBed, mostDepth}
 use Rattle.reckon.specs.Roots.{Root}
 use Rattle.reckon.specs.Soaking.{soakDue}
+use Rattle.trials.specs.Ring.{slotAfter, keptAfter, slotStart}
 use Rattle.grid.specs.Squares.{squares, sides}
 use Rattle.rule.specs.Length.{lengthAt, durationFor}
 use Rattle.rule.specs.Weighing.{heightOf, slopeOf, criticalSpeed, weightedSides, directedSides, unlimitedSides}
-use Rattle.rule.specs.inner.InRange.{mostDrop}
 use Rattle.rule.specs.declared.rules.Rules.{Rules}
-use Rattle.ledger.specs.Runs.{Plan, World, Seen, seenOf}
+use Rattle.ledger.specs.Runs.{Plan, World, Seen}
 use Rattle.ledger.specs.Flows.{Leaves, shut, gone, came, offGrid, soakedGrid}
-use Rattle.ledger.specs.Record.{squareWords, wordPlace, newestRecord, recordOf, roomSlots}
+use Rattle.ledger.specs.Record.{squareWords, recordSize, heldIn, lastedIn, wordPlace, leavesIn, lastIn, addedIn, soakedIn, roomSlots, newestRecord}
 use Rattle.ledger.specs.TakeBack.{backNumber, takenBack}
 use Rattle.ledger.specs.Walls.{Walled, reaches, drains, intoWalls, Untouched}
 use Rattle.ledger.specs.declared.runs.Run.{Run}
@@ -37,23 +37,15 @@ use Rattle.demands.specs.Exported.{ExportsNoneDepends}
 -- "h: the largest whole number with h³ ≤ d²", "s: the largest with s² ≤ 100·VM / D", #105's "the largest c with c² ≤ 9,810,000·d"
 pub record RootsAre : Type 0 where
   pub height : (d : ℕ) → d ≤ mostDepth → Root 3 (d * d) (heightOf d)
-  pub slope : (r : Rules) (drop : ℕ) → drop ≤ mostDrop → Root 2 (100 * drop / r .«square_side») (slopeOf r drop)
+  pub slope : (r : Rules) (drop : ℕ) → drop ≤ mostBed + mostDepth → Root 2 (100 * drop / r .«square_side») (slopeOf r drop)
   pub critical : (d : ℕ) → d ≤ mostDepth → Root 2 (9_810_000 * d) (criticalSpeed d)
 
 module _ (p : Plan) where
   -- ---- "Each step gives exactly the depths, transfers, outflow and step length that the published weighted cellular automaton rule gives in
   -- the whole-number form of document 01, all squares working from the water before the step"
 
-  module _ (g : Given) (w : World) where
-    abbrev amounts : Leaves
-    amounts = stepMoves p g (seenOf w) .leaves
-
-    abbrev duration : ℕ
-    duration = stepMoves p g (seenOf w) .duration
-
-    abbrev soaks : ℕ → ℕ
-    soaks = stepMoves p g (seenOf w) .soaked
-
+  -- what stands before the step, and the world that it left
+  module _ (g : Given) (w v : World) where
     -- of a square before the step: its depth, last leaving, roughness and drops
     abbrev depthAt : ℕ → ℕ
     depthAt i = getD (w .depths) i 0
@@ -67,42 +59,66 @@ module _ (p : Plan) where
     abbrev dropsAt : ℕ → List ℕ
     dropsAt i = dropsOf p (g .lie .rules) (g .lie .beds) (w .depths) i
 
+    -- what a caller reads of the step: the record that it wrote, how long it lasted by that, the clock of its end, and the transfers
+    abbrev written : List ℕ
+    written = newestRecord p v
+
+    abbrev duration : ℕ
+    duration = lastedIn written
+
+    abbrev end : ℕ
+    end = w .run .clock + duration
+
+    abbrev transfers : Leaves
+    transfers = leavesIn written
+
     -- of a step that is made
     pub record StepGives : Type 0 where
       -- document 02, #113: "demand 2 reads for each with its own definition"; there is no fourth edition
       pub edition : (1 ≤ g .lie .rules .edition) × (g .lie .rules .edition ≤ 3)
       -- the transfers of a square not closed: the weighing of its drops, both of the water before the step
-      pub weighted : g .lie .rules .edition ≡ 1 → (i side : ℕ) → shut p i ≡ false →
-          amounts i side ≡ getD (weightedSides (g .lie .rules) (depthAt i) (lastAt i) (roughnessAt i) duration (dropsAt i)) side 0
-      pub directed : g .lie .rules .edition ≡ 2 → (i side : ℕ) → shut p i ≡ false →
-          amounts i side ≡ getD (directedSides (g .lie .rules) (depthAt i) (roughnessAt i) duration (dropsAt i)) side 0
-      pub unlimited : g .lie .rules .edition ≡ 3 → (i side : ℕ) → shut p i ≡ false →
-          amounts i side ≡ getD (unlimitedSides (g .lie .rules) (depthAt i) (roughnessAt i) duration (dropsAt i)) side 0
+      pub weighted : g .lie .rules .edition ≡ 1 → (i side : ℕ) → i < squares (p .shape) → side < sides → shut p i ≡ false →
+          transfers i side ≡ getD (weightedSides (g .lie .rules) (depthAt i) (lastAt i) (roughnessAt i) duration (dropsAt i)) side 0
+      pub directed : g .lie .rules .edition ≡ 2 → (i side : ℕ) → i < squares (p .shape) → side < sides → shut p i ≡ false →
+          transfers i side ≡ getD (directedSides (g .lie .rules) (depthAt i) (roughnessAt i) duration (dropsAt i)) side 0
+      pub unlimited : g .lie .rules .edition ≡ 3 → (i side : ℕ) → i < squares (p .shape) → side < sides → shut p i ≡ false →
+          transfers i side ≡ getD (unlimitedSides (g .lie .rules) (depthAt i) (roughnessAt i) duration (dropsAt i)) side 0
       -- document 02, #106: "It takes the smaller of that due and the depth left after the four sides have taken theirs", by the clocks of
       -- its start and its end
-      pub soaking : (i : ℕ) → shut p i ≡ false →
-          soaks i ≡ min (soakDue (getD (g .lie .rates) i 0) (w .run .clock) (w .run .clock + duration)) (getD (w .depths) i 0 - gone amounts i)
+      pub soaking : (i : ℕ) → i < squares (p .shape) → shut p i ≡ false →
+          soakedIn written i ≡ min (soakDue (getD (g .lie .rates) i 0) (w .run .clock) end) (depthAt i - gone transfers i)
+      -- "What a step adds is the amount by its end less the amount by its start"
+      pub adding : (i : ℕ) → i < squares (p .shape) → shut p i ≡ false → addedIn written i ≡ addedFor p g (w .run .clock) end i
       -- "New depth = old − four leaving + what neighbours send + what is added", what soaks taken "before anything arrives"
       pub depths : (i : ℕ) → i < squares (p .shape) → shut p i ≡ false →
-          getD (stepped p g w .depths) i 0
-          ≡ getD (w .depths) i 0 - gone amounts i - soaks i + came p amounts i + addedFor p g (w .run .clock) (w .run .clock + duration) i
-      -- "P is then the sum of the four"
-      pub lasts : (i : ℕ) → i < squares (p .shape) → shut p i ≡ false → getD (stepped p g w .lasts) i 0 ≡ gone amounts i
-      -- "Water leaving the grid joins the outflow total"
-      pub outflow : stepped p g w .run .outflow ≡ w .run .outflow + offGrid p amounts
-      -- "the run a total soaked"
-      pub soaked : stepped p g w .run .soaked ≡ w .run .soaked + soakedGrid p soaks
-      -- "when the clock is a multiple of U it is worked afresh .. the run holds it until the next such clock"
-      pub length-is : stepped p g w .run .length ≡ lengthAt (g .lie .rules) (w .run .clock) (w .run .length) (candidates p (g .lie) (w .depths))
-      -- "The step lasts the smaller of that length and the time to the next multiple of U"
-      pub duration-is : duration ≡ durationFor (g .lie .rules) (w .run .clock) (stepped p g w .run .length)
-      pub clock : stepped p g w .run .clock ≡ w .run .clock + duration
+          getD (v .depths) i 0 ≡ depthAt i - gone transfers i - soakedIn written i + came p transfers i + addedIn written i
+      pub depths-long : length (v .depths) ≡ length (w .depths)
       -- no square sends and soaks more than it holds, so that "old − four leaving" is not cut off at 0, nor is what remains
-      pub covered : (i : ℕ) → shut p i ≡ false → gone amounts i + soaks i ≤ getD (w .depths) i 0
-      -- the transfers as a caller reads them: "length held before the step, how long the step lasted, then for each square north, east,
-      -- south, west, P before, amount added", and "the amount soaked"
-      pub record-is : newestRecord p (stepped p g w)
-          ≡ recordOf p (w .run .length) duration amounts (λ i. getD (w .lasts) i 0) (addedFor p g (w .run .clock) (w .run .clock + duration)) soaks
+      pub covered : (i : ℕ) → i < squares (p .shape) → shut p i ≡ false → gone transfers i + soakedIn written i ≤ depthAt i
+      -- "P is then the sum of the four"
+      pub lasts : (i : ℕ) → i < squares (p .shape) → shut p i ≡ false → getD (v .lasts) i 0 ≡ gone transfers i
+      pub lasts-long : length (v .lasts) ≡ length (w .lasts)
+      -- "Water leaving the grid joins the outflow total"
+      pub outflow : v .run .outflow ≡ w .run .outflow + offGrid p transfers
+      -- "the run a total soaked"
+      pub soaked : v .run .soaked ≡ w .run .soaked + soakedGrid p (soakedIn written)
+      -- "when the clock is a multiple of U it is worked afresh .. the run holds it until the next such clock"
+      pub length-is : v .run .length ≡ lengthAt (g .lie .rules) (w .run .clock) (w .run .length) (candidates p (g .lie) (w .depths))
+      -- "The step lasts the smaller of that length and the time to the next multiple of U"
+      pub duration-is : duration ≡ durationFor (g .lie .rules) (w .run .clock) (v .run .length)
+      pub clock : v .run .clock ≡ end
+      -- the record: "length held before the step, how long the step lasted, then for each square north, east, south, west, P before, amount
+      -- added", and the amount soaked; "A closed square gets" seven "zeros"
+      pub held-before : heldIn written ≡ w .run .length
+      pub last-before : (i : ℕ) → i < squares (p .shape) → shut p i ≡ false → lastIn written i ≡ lastAt i
+      pub closed-zeros : (i word : ℕ) → i < squares (p .shape) → shut p i ≡ true → word < squareWords → getD written (wordPlace i word) 0 ≡ 0
+      -- "A step writes the slot after the newest, slot 0 after the last, and kept rises by one up to K"
+      pub newest-is : v .run .newest ≡ slotAfter (roomSlots p (w .records)) (w .run .newest)
+      pub kept-is : v .run .kept ≡ keptAfter (roomSlots p (w .records)) (w .run .kept)
+      -- "Other slots stay", and "the rest of it is not touched"
+      pub room-long : length (v .records) ≡ length (w .records)
+      pub room-before : (k : ℕ) → k < slotStart (recordSize p) (v .run .newest) → getD (v .records) k 0 ≡ getD (w .records) k 0
+      pub room-after : (k : ℕ) → slotStart (recordSize p) (v .run .newest) + recordSize p ≤ k → getD (v .records) k 0 ≡ getD (w .records) k 0
 
   -- ---- "no answer depends on it"
 
@@ -134,9 +150,6 @@ module _ (p : Plan) where
     pub run-to : (g : Given) (end : ℕ) (w : World) → Untouched p w (runTo p g end w .world)
     pub take-back : (w : World) → Untouched p w (takenBack p w)
     pub fresh : (r : Rules) (lasts records : List ℕ) (i : ℕ) → shut p i ≡ true → getD (freshLasts p r lasts records) i 0 ≡ getD lasts i 0
-    -- in the slot that a step writes: "A closed square gets" seven "zeros"
-    pub slot : (g : Given) (w : World) → stepNumber p g w ≡ 0 → (i word : ℕ) → i < squares (p .shape) → shut p i ≡ true → word < squareWords →
-        getD (newestRecord p (stepped p g w)) (wordPlace i word) 0 ≡ 0
 
   -- ---- "walls that no water enters"
 
@@ -158,7 +171,7 @@ module _ (p : Plan) where
   NothingLeaves = (g : Given) (v : Seen) → g .lie .rules .edge ≡ 0 → offGrid p (stepMoves p g v .leaves) ≡ 0
 
   pub record Demand2 : Type 0 where
-    pub step-gives : (g : Given) (w : World) → stepNumber p g w ≡ 0 → StepGives g w
+    pub step-gives : (g : Given) (w : World) → stepNumber p g w ≡ 0 → StepGives g w (stepped p g w)
     pub roots-are : RootsAre
     pub none-depends : NoneDepends
     pub none-altered : NoneAltered

@@ -1,5 +1,5 @@
 -- Document 02, #109: the wet walk gives "the plain engine's answer, state and records on each call, refusals too". Each engine's contract
--- stands here by its name; tests/engines.py holds these lines and the functions' own clauses together.
+-- stands here by its name; that the functions promise it is what the crate `calls` proves.
 -- Assumes nothing.
 use mathlib.Core.Path.{_≡_}
 use mathlib.Core.List.{List}

@@ -6,7 +6,10 @@ pub mod Demand3
 pub mod Determined
 pub mod EnginesAgree
 pub mod Exported
+pub mod Fields
 pub mod Loader
+pub mod Played
 pub mod StepCount
 pub mod Table
+pub mod WetAre
 pub mod Worked

@@ -5,7 +5,7 @@ use mathlib.Core.Bool.{true, false}
 use mathlib.Core.List.{List, _∷_, _++_}
 use Prim.Native.Nat.{ℕ, _+_, _/_, _%_, _≤_, _<_}
 use lib.Dec.{eqb}
-use lib.ListN.{length, getD, take, drop}
+use lib.ListN.{length, getD, drop}
 use Rattle.reckon.specs.Tests.{Row, _unless_}
 use Rattle.grid.specs.Squares.{squares}
 use Rattle.grid.specs.Marks.{closed}
@@ -20,7 +20,7 @@ use Rattle.answer.specs.Printed.{refusedText, madeText}
 use Rattle.sheet.specs.declared.reading.Heading.{Heading}
 use Rattle.sheet.specs.declared.reading.Sheet.the-variants.{Read, Refused}
 use Rattle.exports.specs.Sheets.{sheetNumber, sheetLine}
-use Rattle.demands.specs.Table.{TableSays}
+use Rattle.demands.specs.Table.{rowsBetween, TableSays}
 use Rattle.sheet.specs.Lines.{letterOf, lineHead}
 
 -- ---- demand 1: "A refusal gives one number from the table in document 01, exactly when that table says"
@@ -37,7 +37,7 @@ sheetRefusals s lent =
     12 unless lineOne s .found
     ∷ 1 unless roomsFine (shapeOf s) (lineOne s .side) lent
     ∷ 12 unless eqb (badLine s) 0
-    ∷ take 4 (drop 1 (endRefusals s))
+    ∷ rowsBetween 2 5 (endRefusals s)
 
 -- the number of a sheet, and its line: "12 with its number from 1", else 0
 pub record SheetSays (s : List ℕ) (lent : Rooms) (number line : ℕ) : Type 0 where

@@ -1,7 +1,7 @@
 -- Document 02, #112, "How many steps can an evening take": what is told before a run holds of the run's own count.
 -- Assumes nothing.
 use mathlib.Core.Path.{_≡_}
-use Prim.Native.Nat.{ℕ, _*_, _%_, _≤_}
+use Prim.Native.Nat.{ℕ, _-_, _*_, _/_, _%_, _≤_}
 use Rattle.rule.specs.Bounds.{stepsOver, mostSteps, leastSteps}
 use Rattle.rule.specs.declared.rules.Rules.{Rules}
 use Rattle.ledger.specs.Runs.{Plan, World}
@@ -27,5 +27,8 @@ pub record StepCount : Type 0 where
   -- "the least whole number not below U/shortest": it is not below, and no lesser one is
   pub not-below : (time length : ℕ) → 1 ≤ length → time ≤ stepsOver time length * length
   pub no-lesser : (time length n : ℕ) → 1 ≤ length → time ≤ n * length → stepsOver time length ≤ n
+  -- "(E − clock)/U times the least whole number not below U/shortest", and "the same with longest"
+  pub most-is : (r : Rules) (clock end : ℕ) → mostSteps r clock end ≡ (end - clock) / r .update * stepsOver (r .update) (r .shortest)
+  pub least-is : (r : Rules) (clock end : ℕ) → leastSteps r clock end ≡ (end - clock) / r .update * stepsOver (r .update) (r .longest)
   -- both are 0 where the end is the clock
   pub none : (r : Rules) (clock : ℕ) → (mostSteps r clock clock ≡ 0) × (leastSteps r clock clock ≡ 0)

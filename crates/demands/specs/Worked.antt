@@ -2,7 +2,7 @@
 -- what the document says. Sheets are worked from their text.
 -- Assumes nothing.
 use mathlib.Core.Path.{_≡_}
-use mathlib.Core.Bool.{false}
+use mathlib.Core.Bool.{true, false}
 use mathlib.Core.List.{List, [], _∷_}
 use Prim.Native.Nat.{ℕ}
 use Prim.Native.String.{String}
@@ -15,19 +15,26 @@ use Rattle.grid.specs.Squares.{east}
 use Rattle.grid.specs.declared.squares.Shape.{Shape}
 use Rattle.rule.specs.declared.rules.Rules.{Rules}
 use Rattle.rule.specs.Weighing.{greatestDrop, heightOf, slopeOf, criticalSpeed, manningSpeed, speedOf, mostThrough, totalOf, weighed}
-use Rattle.rule.specs.Length.{candidatesOf}
-use Rattle.ledger.specs.Runs.{Plan, World, seenOf}
+use Rattle.rule.specs.Drops.{dropOff}
+use Rattle.rule.specs.Length.{candidatesOf, freshLength, lengthAt, durationFor}
+use Rattle.ledger.specs.Runs.{Plan, World, plan, seenOf}
 use Rattle.ledger.specs.TakeBack.{backNumber, takenBack}
 use Rattle.moves.specs.Given.{Given}
 use Rattle.moves.specs.Drops.{dropsOf}
 use Rattle.moves.specs.Moves.{stepMoves}
 use Rattle.flood.specs.Step.{stepNumber, stepped}
+use Rattle.flood.specs.Run.{freshRun}
+use Rattle.flood.specs.declared.bounds.Bounds.the-variants.{Bounded, NotBounded}
 use Rattle.sight.specs.Speeds.{zero64, quotientOf}
 use Rattle.sight.specs.Arrows.{view, seenAt}
-use Rattle.sight.specs.declared.arrows.Sight.the-variants.{Moving}
+use Rattle.sight.specs.declared.arrows.Sight.the-variants.{Closed, Dry, Still, Moving}
 use Rattle.text.specs.Bytes.{bytesOf}
-use Rattle.sheet.specs.Sheet.{Rooms, shapeOf, lineTwo, said, planIn, givenIn, startIn}
+use Rattle.sheet.specs.Sheet.{Rooms, cellsRooms, shapeOf, lineTwo, rainTable, inflowTable, said, planIn, givenIn, startIn}
+use Rattle.answer.specs.Printed.{madeText}
 use Rattle.answer.specs.Program.{meadowText}
+use Rattle.exports.specs.Numbers.{shapeFrom, rulesFrom, runValueFrom, runNumbers, headingNumbers}
+use Rattle.exports.specs.Sights.{sightNumber, speedsIn}
+use Rattle.exports.specs.Bounds.{boundsTold, figuresIn}
 
 -- ---- texts
 
@@ -48,6 +55,18 @@ levelSheet = "grid\t1\t2\t1\nrun\t100\t1000\t1000\t1000\t1000\t10000\t1\ncell\t0
 -- document 02, #106: document 01's sheet on ground that soaks half a micrometre a step in the west, and 277 in the east
 abbrev pub soakSheet : String
 soakSheet = "grid\t1\t2\t1\nrun\t100\t1000\t1000\t1000\t1000\t10000\t1\ncell\t0\t0\to\t0\t100\t1000\t1800\ncell\t0\t1\to\t0\t100\t0\t1000000\n"
+
+-- every kind of line, each field with a number of its own
+abbrev pub wholeSheet : String
+wholeSheet = "grid\t2\t1\t3\nrun\t10\t300\t700\t1000\t2000\t5\t2\ncell\t0\t0\to\t60\t100\t50\t36\ncell\t1\t0\tx\nrain\t51\t150\t90\ninflow\t0\t0\t7\t101\t8\n"
+
+-- document 01's sheet turned: its squares one below the other
+abbrev pub columnSheet : String
+columnSheet = "grid\t2\t1\t1\nrun\t100\t1000\t1000\t1000\t1000\t10000\t1\ncell\t0\t0\to\t0\t100\t1000\t0\ncell\t1\t0\to\t0\t100\t0\t0\n"
+
+-- three squares of which the middle one is closed, and a run, printed
+abbrev pub printedWorld : String
+printedWorld = "cell\t0\t0\t7\ncell\t0\t2\t9\nout\t1\nsoak\t2\nsteps\t3\nclock\t4\n"
 
 -- ---- what a text says, and steps on it
 
@@ -137,6 +156,8 @@ pub record SheetCases (t : Told) : Type 0 where
   -- "arrow of square 0 0 after it: east is 62,000 / 1,000,000 rounded once, north 0"
   pub arrow : seenAt (onPlan t) 1 (view (once t .depths) (once t .records) (once t .run)) 0 0 ≡ Moving (record { east = eastSpeed; north = zero64 })
   pub arrow-quotient : quotientOf 62_000 1_000_000 ≡ eastSpeed
+  -- and of square 0 1, into which it flows: its net through the west is negative, and so is that speed outwards
+  pub arrow-into : seenAt (onPlan t) 1 (view (once t .depths) (once t .records) (once t .run)) 0 1 ≡ Moving (record { east = eastSpeed; north = zero64 })
 
 -- of an exit alone
 pub record ExitCases (t : Told) : Type 0 where
@@ -153,6 +174,7 @@ pub record LevelCases (t : Told) : Type 0 where
   -- "two equal levels: nothing moves"
   pub level-made : stepNumber (onPlan t) (byGiven t) (before t) ≡ 0
   pub level-depths : once t .depths ≡ 500 ∷ 500 ∷ []
+  pub level-record : once t .records ≡ 1_000 ∷ 1_000 ∷ 0 ∷ 0 ∷ 0 ∷ 0 ∷ 0 ∷ 0 ∷ 0 ∷ 0 ∷ 0 ∷ 0 ∷ 0 ∷ 0 ∷ 0 ∷ 0 ∷ []
 
 -- of one square, and of a table
 pub record NumberCases : Type 0 where
@@ -198,6 +220,74 @@ pub record SoakCases (t : Told) : Type 0 where
   pub back-depths : takenBack (onPlan t) (twice t) .depths ≡ 969 ∷ 31 ∷ []
   pub back-soaked : takenBack (onPlan t) (twice t) .run .soaked ≡ 0
 
+-- what each field of a sheet is read as, and each total printed as
+pub record TextCases : Type 0 where
+  pub shape : shapeOf (bytesOf wholeSheet) ≡ record { rows = 2; columns = 1 }
+  pub rules : lineTwo (bytesOf wholeSheet) .rules
+      ≡ record { «square_side» = 3; tolerance = 10; shortest = 300; longest = 700; update = 1_000; edge = 5; edition = 2 }
+  pub end : lineTwo (bytesOf wholeSheet) .end ≡ 2_000
+  pub cells : said (bytesOf wholeSheet) .cells ≡ cellsRooms (1 ∷ 0 ∷ []) (60 ∷ 0 ∷ []) (100 ∷ 0 ∷ []) (36 ∷ 0 ∷ []) (50 ∷ 0 ∷ [])
+  pub rain : rainTable (bytesOf wholeSheet) ≡ 51 ∷ 150 ∷ 90 ∷ []
+  pub inflow : inflowTable (bytesOf wholeSheet) ≡ 0 ∷ 0 ∷ 7 ∷ 101 ∷ 8 ∷ []
+  pub printed :
+      madeText (plan (record { rows = 1; columns = 3 }) (1 ∷ 0 ∷ 2 ∷ [])) (7 ∷ 8 ∷ 9 ∷ [])
+      (record { clock = 4; length = 5; outflow = 1; kept = 6; newest = 10; soaked = 2 }) 3
+      ≡ bytesOf printedWorld
+
+-- D 2, edge slope 5, steps of 300 to 700 ms, U 1,000
+abbrev ditch : Rules
+ditch = record { «square_side» = 2; tolerance = 10; shortest = 300; longest = 700; update = 1_000; edge = 5; edition = 1 }
+
+pub record DitchCases : Type 0 where
+  -- #102: 5 · 100 · 2 is 1,000
+  pub edge-binds : dropOff ditch 4_000 ≡ 1_000
+  pub edge-free : dropOff ditch 999 ≡ 999
+  -- the least candidate, held between shortest and longest; the longest if there is none; the time left to the next multiple of U
+  pub least : freshLength ditch (900 ∷ 461 ∷ 512 ∷ []) ≡ 461
+  pub shortest : freshLength ditch (900 ∷ 200 ∷ []) ≡ 300
+  pub longest : freshLength ditch (900 ∷ 800 ∷ []) ≡ 700
+  pub none : freshLength ditch [] ≡ 700
+  pub held : lengthAt ditch 922 461 (350 ∷ []) ≡ 461
+  pub afresh : lengthAt ditch 2_000 461 (350 ∷ []) ≡ 350
+  pub last-of-span : durationFor ditch 922 461 ≡ 78
+  -- an inflow row is for its own square: row 1, column 2
+  pub own-square : inflowBy (1 ∷ 2 ∷ 0 ∷ 1_000 ∷ 8 ∷ []) 1 2 2 1_000 ≡ 2_000
+  pub other-square : inflowBy (1 ∷ 2 ∷ 0 ∷ 1_000 ∷ 8 ∷ []) 2 1 2 1_000 ≡ 0
+  -- overlapping rows add, and are rounded together
+  pub overlapping : rainBy (0 ∷ 1_000 ∷ 1_800 ∷ 500 ∷ 2_000 ∷ 3_600 ∷ []) 1_000 ≡ 1
+
+-- the column's arrow: its south speed is the sheet's east speed, so that the arrow points south
+pub record ColumnCases (t : Told) : Type 0 where
+  pub arrow : seenAt (onPlan t) 1 (view (once t .depths) (once t .records) (once t .run)) 0 0 ≡ Moving (record { east = zero64; north = fin true 1_116_892_707_587_883 (negsuc 53) })
+
+-- what other languages lend and are told, each number its own place; and a run that is fresh
+pub record LentCases : Type 0 where
+  pub shape : shapeFrom 1 2 ≡ record { rows = 1; columns = 2 }
+  pub rules : rulesFrom (1 ∷ 2 ∷ 3 ∷ 4 ∷ 5 ∷ 6 ∷ 7 ∷ [])
+      ≡ record { «square_side» = 1; tolerance = 2; shortest = 3; longest = 4; update = 5; edge = 6; edition = 7 }
+  pub run : runValueFrom (1 ∷ 2 ∷ 3 ∷ 4 ∷ 5 ∷ 6 ∷ []) ≡ record { clock = 1; length = 2; outflow = 3; kept = 4; newest = 5; soaked = 6 }
+  pub run-told : runNumbers (record { clock = 1; length = 2; outflow = 3; kept = 4; newest = 5; soaked = 6 }) ≡ 1 ∷ 2 ∷ 3 ∷ 4 ∷ 5 ∷ 6 ∷ []
+  pub heading-told :
+      headingNumbers
+      (record {
+        shape = record { rows = 1; columns = 2 };
+        rules = record { «square_side» = 3; tolerance = 4; shortest = 5; longest = 6; update = 7; edge = 8; edition = 9 };
+        end = 10;
+        «rain_rows» = 11;
+        «inflow_rows» = 12;
+      })
+      ≡ 1 ∷ 2 ∷ 3 ∷ 4 ∷ 5 ∷ 6 ∷ 7 ∷ 8 ∷ 9 ∷ 10 ∷ 11 ∷ 12 ∷ []
+  -- "closed; dry (own depth 0); still (all four nets 0); moving, with the arrow"
+  pub closed-told : sightNumber Closed ≡ 101
+  pub dry-told : sightNumber Dry ≡ 102
+  pub still-told : sightNumber Still ≡ 103
+  pub speeds-told : speedsIn (Moving (record { east = eastSpeed; north = zero64 })) [] ≡ eastSpeed ∷ zero64 ∷ []
+  -- #112: the most, then the least
+  pub bounds-told : figuresIn (Bounded (record { most = 12; least = 6 })) [] ≡ 12 ∷ 6 ∷ []
+  pub unbounded-told : boundsTold NotBounded ≡ 104
+  -- "clock 0, length = the longest of the rules it starts with, outflow 0, kept 0, newest K − 1"
+  pub fresh : freshRun ditch 4 ≡ record { clock = 0; length = 700; outflow = 0; kept = 0; newest = 3; soaked = 0 }
+
 -- all cases marked P, those of the editions and those of soaking
 pub record ProvedCases : Type 0 where
   -- the sheet's output, whole
@@ -208,3 +298,7 @@ pub record ProvedCases : Type 0 where
   pub numbers : NumberCases
   pub editions : EditionCases
   pub soaking : SoakCases (told soakSheet)
+  pub texts : TextCases
+  pub ditch-mouth : DitchCases
+  pub column : ColumnCases (told columnSheet)
+  pub lent : LentCases

@@ -5,5 +5,6 @@
 //             step refused
 //   Demand2   a step gives what the rule gives; closed squares are not altered, no answer depends on them, and no water enters one
 //   Demand3   a trial taken back was never made
+//   Played    demands 2 and 3 and the account, of any series as it is played by either engine
 //   Account   document 02, #108: no water is lost and none made
 //   Worked    the worked cases of document 01 that are to be proved, as one list

@@ -17,7 +17,8 @@ use Rattle.ledger.specs.declared.runs.Answer.{Answer}
 use Rattle.ledger.specs.declared.runs.Answer.the-variants.{Done, Refused}
 use Rattle.exports.specs.Numbers.{runNumbers}
 use Rattle.exports.specs.Refusals.{lastCheck, numberIf, unlessChecks, unlessRefused}
-use Rattle.exports.specs.inner.Told.{answerNumber, answerRun}
+use Rattle.exports.specs.Steps.{answerNumber}
+use Rattle.exports.specs.inner.Told.{answerRun}
 
 -- ---- stores in a row
 

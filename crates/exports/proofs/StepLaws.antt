@@ -26,8 +26,8 @@ use Rattle.flood.specs.Run.{Ended, RunsTo, Freshens, freshNumber, freshRun, fre
 use Rattle.flood.specs.declared.run.Ran.{Ran}
 use Rattle.exports.specs.Numbers.{runNumbers, runSize}
 use Rattle.exports.specs.Refusals.{unlessChecks, unlessRefused}
-use Rattle.exports.specs.inner.Told.{answerNumber, answerRun}
-use Rattle.exports.specs.Steps.{bothSized, freshGives, ExportsFresh, stepGives, ExportsStep, backGives, ExportsBack, ranSized, ExportsRun}
+use Rattle.exports.specs.inner.Told.{answerRun}
+use Rattle.exports.specs.Steps.{answerNumber, bothSized, freshGives, ExportsFresh, stepGives, ExportsStep, backGives, ExportsBack, ranSized, ExportsRun}
 use Rattle.exports.proofs.AnswerLaws.{sized-number, unsized-number, refused-leaves, chosen-twice, number-answered, run-answered}
 
 -- ---- a fresh run

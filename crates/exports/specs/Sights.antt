@@ -13,6 +13,9 @@ use Rattle.sight.specs.WetRows.{onesOver, wetNumber}
 use Rattle.grid.specs.Masks.{wetMasks}
 use Rattle.sight.specs.declared.arrows.Sight.{Sight}
 use Rattle.sight.specs.declared.arrows.Sight.the-variants.{Closed, Dry, Still, Moving, Refused}
+use Rattle.sight.specs.declared.wet_rows.Wet.{Wet}
+use Rattle.sight.specs.declared.wet_rows.Wet.the-variants.{Count}
+use Rattle.sight.specs.declared.wet_rows.Wet.the-variants as Wet
 use Rattle.exports.specs.Numbers.{countSize, runSize, sized, speedsSize}
 use Rattle.exports.specs.Refusals.{numberIf, unlessRefused}
 
@@ -39,6 +42,11 @@ module _ (p : Plan) (D : ℕ) (w : World) (row column : ℕ) (run : List ℕ) (o
   pub record ExportsArrow (number : ℕ) (speeds : List Float) : Type 0 where
     pub number-is : number ≡ numberIf arrowSized (sightNumber (seenAt p D w row column))
     pub speeds-are : speeds ≡ pick arrowSized (speedsIn (seenAt p D w row column) old) old
+
+-- a refusal's number, 0 for a count
+unfoldable pub wetNumberOf : Wet → ℕ
+wetNumberOf (Count n) = 0
+wetNumberOf (Wet.Refused n) = n
 
 module _ (p : Plan) (depths : List ℕ) (least : ℕ) (oldRows oldCount : List ℕ) where
   abbrev pub wetGives : ℕ

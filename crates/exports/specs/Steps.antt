@@ -9,11 +9,18 @@ use Rattle.rule.specs.declared.rules.Rules.{Rules}
 use Rattle.ledger.specs.Runs.{Plan, World}
 use Rattle.ledger.specs.Record.{roomSlots}
 use Rattle.ledger.specs.TakeBack.{backNumber, takenBack}
+use Rattle.ledger.specs.declared.runs.Answer.{Answer}
+use Rattle.ledger.specs.declared.runs.Answer.the-variants.{Done, Refused}
 use Rattle.moves.specs.Given.{Given}
 use Rattle.flood.specs.Step.{stepNumber, stepped}
 use Rattle.flood.specs.Run.{Ended, runTo, freshNumber, freshRun, freshLasts}
 use Rattle.exports.specs.Numbers.{rulesSize, runNumbers, runSize, sized, stepsSize}
 use Rattle.exports.specs.Refusals.{numberIf, unlessChecks, unlessRefused}
+
+-- a refusal's number, 0 for a run
+unfoldable pub answerNumber : Answer → ℕ
+answerNumber (Done u) = 0
+answerNumber (Refused n) = n
 
 -- rules that go in, and a run that goes in or comes out
 abbrev pub bothSized : List ℕ → List ℕ → Bool

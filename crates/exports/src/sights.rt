@@ -14,8 +14,8 @@ ghost use lib.ListN.{length};
 ghost use Rattle.ledger.specs.Runs.{plan};
 ghost use Rattle.sight.specs.Arrows.{view};
 ghost use Rattle.exports.specs.Numbers.{countSize, runValueFrom, shapeFrom, speedsSize};
-ghost use Rattle.exports.specs.Sights.{ExportsArrow, ExportsWet, sightNumber, speedsIn};
-ghost use Rattle.exports.specs.inner.Told.{countIn, wetNumberOf};
+ghost use Rattle.exports.specs.Sights.{ExportsArrow, ExportsWet, sightNumber, speedsIn, wetNumberOf};
+ghost use Rattle.exports.specs.inner.Told.{countIn};
 
 // What is seen where nothing is refused: a moving square's speeds have been written; the others are past every refusal's number.
 const MOVING: u32 = 0;

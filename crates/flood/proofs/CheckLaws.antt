@@ -7,7 +7,8 @@ use Prim.Native.Nat.{ℕ, _%_, _≤_, _<_}
 use lib.Dec.{T, leb}
 use lib.ListN.{length, getD}
 use borrow.Author.Tests.{leb-true, le-leb, eqb-true, eq-eqb, not-true, not-false}
-use Rattle.reckon.specs.Tests.{every, numbered, refusal}
+use Rattle.reckon.specs.Tests.{every, refusal}
+use Rattle.reckon.specs.inner.Rows.{numbered}
 use Rattle.reckon.specs.Ranges.{mostDepth, mostLength, lastClock, mostOutflow, mostSoakRate, mostSoaked, waterFine, sideFine, rateFine}
 use Rattle.reckon.specs.Tables.{rainKind, inflowKind, tableFine}
 use Rattle.reckon.proofs.TestLaws.{Each, or-right, or-of, every-each, each-every, every-fails, all-at, all-of, refusal-passed, passed-refusal}

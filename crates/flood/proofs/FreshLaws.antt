@@ -7,7 +7,8 @@ use Prim.Native.Nat.{ℕ, _+_, _<_}
 use lib.Dec.{T}
 use lib.ListN.{length, set}
 use borrow.Author.Tests.{eq-eqb, ne-eqb, not-true, eqb-false}
-use Rattle.reckon.specs.Tests.{every, numbered, pick}
+use Rattle.reckon.specs.Tests.{every, pick}
+use Rattle.reckon.specs.inner.Rows.{numbered}
 use Rattle.reckon.specs.Lists.{filled}
 use Rattle.reckon.proofs.TestLaws.{not-both, pick-true, pick-false, every-each, refusal-passed}
 use Rattle.reckon.proofs.ListLaws.{length-filled, filled-store, filled-keep}

@@ -4,7 +4,7 @@ use Rattle.rule.proofs.LengthLaws.{length-from, length-to, lasts-from, lasts-to
 use Rattle.ledger.specs.Runs.{Plan}
 use Rattle.ledger.specs.inner.Engine.{Owed}
 use Rattle.moves.specs.Moves.{stepDuration}
-use Rattle.flood.specs.Step.{floodRule}
+use Rattle.flood.specs.inner.Rule.{floodRule}
 use Rattle.moves.proofs.MoveLaws.{lost-covered, step-length-from, step-length-to, step-lasts-from, step-lasts-to}
 use Rattle.flood.proofs.CheckLaws.{ready, checks-look, checks-named}
 

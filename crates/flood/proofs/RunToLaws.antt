@@ -21,7 +21,8 @@ use Rattle.ledger.proofs.EngineLaws.{look-seen, valid-after}
 use Rattle.moves.specs.Given.{Given}
 use Rattle.moves.specs.Moves.{stepDuration, stepLength, stepMoves}
 use Rattle.flood.specs.Refusals.{stepChecks, runChecks}
-use Rattle.flood.specs.Step.{stepNumber, stepped, floodRule}
+use Rattle.flood.specs.Step.{stepNumber, stepped}
+use Rattle.flood.specs.inner.Rule.{floodRule}
 use Rattle.flood.specs.Run.{Ended, ended, goOn, runFrom, runTo}
 use Rattle.flood.specs.Step.{MakesStep}
 use Rattle.flood.proofs.CheckLaws.{ready, ring-is, checks-named, checks-after}

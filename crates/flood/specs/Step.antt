@@ -11,7 +11,6 @@ use mathlib.Core.List.{List, _++_}
 use Prim.Native.Nat.{ℕ}
 use lib.Dec.{eqb}
 use Rattle.ledger.specs.Record.{ringOf}
-use Rattle.ledger.specs.inner.Engine.{StepRule}
 use Rattle.ledger.specs.declared.runs.Answer.{Answer}
 use Rattle.moves.specs.Moves.{stepMoves}
 use Rattle.flood.specs.Refusals.{stepChecks}
@@ -24,10 +23,6 @@ module _ (p : Plan) (g : Given) where
   -- "with the run as it was and every lent slice as it was", or the world after the step
   unfoldable pub stepped : World → World
   stepped w = pick (eqb (stepNumber w) 0) (worldAfter p (stepMoves p g (seenOf w)) w) w
-
--- the step as a rule of the ledger's engine
-abbrev pub floodRule : Plan → StepRule Given
-floodRule p = record { checks = λ ring g v. stepChecks p g ring v; moves = λ g v. stepMoves p g v }
 
 -- ---- what the public functions give
 

@@ -10,7 +10,7 @@ use lib.Dec.{ltb}
 use borrow.Author.Tests.{not-false, ltb-true, leb-true, le-leb, lt-leb, lt-ltb, le-ltb, eq-eqb, ne-eqb}
 use Rattle.reckon.proofs.TestLaws.{pick-true, pick-false, every-each, each-every, all-at, all-of, all-fails}
 use Rattle.grid.specs.declared.squares.Shape.{Shape}
-use Rattle.grid.specs.Walks.{InRow}
+use Rattle.grid.specs.inner.Rows.{InRow}
 use Rattle.grid.specs.Squares.{mostAlong, mostSquares, north, east, south, west, sides, squares, squareAt, beside, opposite, onRim, shapeFine, ShapeInRange, OnSquare, NextColumn}
 
 -- ---- the shape

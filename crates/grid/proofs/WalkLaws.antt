@@ -13,7 +13,8 @@ use lib.Pow.{pow-add}
 use borrow.Author.Tests.{lt-ltb, le-ltb, not-false, not-true}
 use Rattle.reckon.specs.Tests.{pick, firstFailing}
 use Rattle.reckon.proofs.TestLaws.{pick-true, pick-false, failing-le, failing-at, failing-none, failing-before, failing-fails}
-use Rattle.grid.specs.Masks.{bits, maskFrom, bitAt, nextSet, foldBelow, onSet, walkFrom, walk}
+use Rattle.grid.specs.Masks.{bits, maskFrom, bitAt, nextSet}
+use Rattle.grid.specs.inner.Visits.{foldBelow, onSet, walkFrom, walk}
 use Rattle.grid.specs.Walks.{nextWithin}
 use Rattle.grid.proofs.MaskLaws.{bit-low, bit-high, bit-shifted, mask-in, mask-past}
 

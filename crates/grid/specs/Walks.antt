@@ -3,21 +3,12 @@
 use mathlib.Core.Path.{_≡_}
 use mathlib.Core.Bool.{Bool}
 use mathlib.Core.List.{List}
-use Prim.Native.Nat.{ℕ, zero, suc, _+_, _*_, _/_, _%_, _^_, _≤_, min}
+use Prim.Native.Nat.{ℕ, zero, suc, _+_, _*_, _/_, _%_, _^_, min}
 use lib.ListN.{getD}
 use lib.Bits.{bitOr}
 use Rattle.grid.specs.declared.squares.Shape.{Shape}
 use Rattle.grid.specs.Squares.{squares}
 use Rattle.grid.specs.Masks.{bits, bitAt, nextSet}
-
--- "squares with water": at least this deep
-abbrev pub leastWet : ℕ
-leastWet = 1
-
--- a row of the grid, by its first square
-pub record InRow (s : Shape) (first : ℕ) : Type 0 where
-  pub begins : first % s .columns ≡ 0
-  pub fits : first + s .columns ≤ squares s
 
 -- the next set column of a row with so many columns, or their number where there is none
 abbrev pub nextWithin : ℕ → ℕ → ℕ → ℕ

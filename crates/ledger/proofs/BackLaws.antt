@@ -17,7 +17,8 @@ use Rattle.trials.specs.Room.{recordIn}
 use Rattle.grid.specs.Squares.{squares, shapeFine}
 use Rattle.grid.specs.Marks.{marksFine}
 use Rattle.grid.proofs.SquareLaws.{ranges-of-fine, fine-of-ranges}
-use Rattle.ledger.specs.Runs.{Plan, World, world, ofDepths, runFine, answered}
+use Rattle.ledger.specs.Runs.{Plan, World, world, runFine, answered}
+use Rattle.ledger.specs.inner.Worlds.{ofDepths}
 use Rattle.ledger.specs.Flows.{shut, gone, came, offGrid, soakedGrid}
 use Rattle.ledger.specs.Record.{recordSize, lastedIn, leavesIn, lastIn, addedIn, soakedIn, roomSlots, newestRecord}
 use Rattle.ledger.specs.Checks.{oneEach, watersFine, timesFine, WaterLent}

@@ -10,7 +10,7 @@ use borrow.Author.Tests.{eq-eqb, ne-eqb}
 use Rattle.reckon.specs.Tests.{pick, Row, _unless_, refusal}
 use Rattle.reckon.proofs.TestLaws.{pick-true, pick-false, refusal-first, refusal-second, refusal-here, refusal-later}
 use Rattle.trials.specs.Ring.{slotBefore}
-use Rattle.trials.specs.Series.{Outcome, Engine, State, refused, done, andThen, looked, fromRecord, restored, stepped, step, takeBack}
+use Rattle.trials.specs.inner.Series.{Outcome, Engine, State, refused, done, andThen, looked, fromRecord, restored, stepped, step, takeBack}
 use Rattle.trials.proofs.StepLaws.{not-done}
 use Rattle.ledger.specs.Runs.{Plan, World, Seen, seenOf}
 use Rattle.ledger.specs.Record.{roomSlots, newestRecord, ringOf}

@@ -13,7 +13,7 @@ use Rattle.reckon.specs.Lists.{filled}
 use Rattle.reckon.specs.Ranges.{mostDepth, mostLength, lastClock, mostOutflow, mostSoaked, waterFine}
 use Rattle.reckon.proofs.TestLaws.{or-right, or-of, every-each, each-every, all-at, all-of, refusal-passed, passed-refusal, refusal-both, pick-true}
 use Rattle.reckon.proofs.ListLaws.{length-filled, filled-in, filled-skipped}
-use Rattle.trials.specs.Series.{done}
+use Rattle.trials.specs.inner.Series.{done}
 use Rattle.trials.specs.inner.Owes.{Laws}
 use Rattle.trials.proofs.RoomLaws.{slots-stored, read-stored, read-other}
 use Rattle.trials.proofs.StepLaws.{not-done}

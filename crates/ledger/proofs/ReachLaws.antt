@@ -24,7 +24,8 @@ use Rattle.grid.proofs.SquareLaws.{square-within, row-of, column-of, opposite-s
 use Rattle.grid.proofs.MarkLaws.{marked}
 use Rattle.grid.proofs.BesideLaws.{or-clear, calm-around}
 use Rattle.grid.proofs.WalkLaws.{within-passes}
-use Rattle.ledger.specs.Runs.{Plan, ofDepths}
+use Rattle.ledger.specs.Runs.{Plan}
+use Rattle.ledger.specs.inner.Worlds.{ofDepths}
 use Rattle.ledger.specs.Flows.{shut, gone, sent, came}
 use Rattle.ledger.specs.Record.{leavesIn}
 use Rattle.ledger.specs.After.{remains, newDepth, depthsFit}

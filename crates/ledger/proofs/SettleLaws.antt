@@ -14,7 +14,8 @@ use Rattle.reckon.proofs.TestLaws.{pick-true, pick-false, refusal-here, refusal
 use Rattle.trials.specs.Ring.{slotsIn, slotStart, slotAfter, keptAfter}
 use Rattle.trials.proofs.RingLaws.{after-below}
 use Rattle.grid.specs.Squares.{squares}
-use Rattle.ledger.specs.Runs.{Plan, World, world, ofDepths}
+use Rattle.ledger.specs.Runs.{Plan, World, world}
+use Rattle.ledger.specs.inner.Worlds.{ofDepths}
 use Rattle.ledger.specs.Flows.{shut, gone, offGrid, soakedGrid}
 use Rattle.ledger.specs.Record.{recordSize, lastedIn, leavesIn, soakedIn, roomSlots, Recorded}
 use Rattle.ledger.specs.After.{remains, newDepth, depthsFit, newOutflow, newSoaked, worldWith}

@@ -18,7 +18,8 @@ use Rattle.grid.specs.declared.squares.Shape.{Shape}
 use Rattle.grid.specs.Squares.{north, east, south, west, sides, squares, beside, opposite}
 use Rattle.grid.proofs.SquareLaws.{opposite-opposite, opposite-small, there-and-back}
 use Rattle.grid.proofs.MarkLaws.{marked}
-use Rattle.ledger.specs.Runs.{Plan, ofDepths}
+use Rattle.ledger.specs.Runs.{Plan}
+use Rattle.ledger.specs.inner.Worlds.{ofDepths}
 use Rattle.ledger.specs.Flows.{Leaves, fourSides, shut, gone, sent, came, offSide, offSquare, offGrid, soakedSquare, soakedGrid}
 use Rattle.ledger.specs.Record.{leavesIn, addedIn, soakedIn}
 use Rattle.ledger.specs.After.{remains, newDepth}

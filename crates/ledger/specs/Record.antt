@@ -10,7 +10,7 @@ use Rattle.reckon.specs.Lists.{joined, placed}
 use Rattle.trials.specs.Ring.{slotsIn, ringFine}
 use Rattle.trials.specs.Room.{recordIn}
 use Rattle.grid.specs.declared.squares.Shape.{Shape}
-use Rattle.grid.specs.Squares.{north, east, south, west, mostSquares, squares, ShapeInRange}
+use Rattle.grid.specs.Squares.{north, east, south, west, squares, ShapeInRange}
 use Rattle.ledger.specs.Runs.{Plan, World, plan}
 use Rattle.ledger.specs.Flows.{Leaves, shut, gone, sent, came, offSquare}
 
@@ -34,10 +34,6 @@ soakedWord = 6
 
 abbrev pub recordSize : Plan → ℕ
 recordSize p = headWords + squareWords * squares (p .shape)
-
--- the largest record: that of the most squares
-abbrev pub mostRecord : ℕ
-mostRecord = headWords + squareWords * mostSquares
 
 -- ---- a record read
 

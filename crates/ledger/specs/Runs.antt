@@ -32,10 +32,6 @@ pub record World : Type 0 where
 abbrev pub world : List ℕ → List ℕ → List ℕ → Run → World
 world d p r u = record { depths = d; lasts = p; records = r; run = u }
 
--- depths alone as a world, for what goes by nothing else of it
-abbrev pub ofDepths : List ℕ → World
-ofDepths d = world d [] [] (record { clock = 0; length = 0; outflow = 0; kept = 0; newest = 0; soaked = 0 })
-
 -- demand 3: "depths, the total last to leave each square, clock, step length and outflow", and "the total" soaked (document 02, #106)
 pub record Seen : Type 0 where
   pub depths : List ℕ

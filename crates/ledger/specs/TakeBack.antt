@@ -83,7 +83,7 @@ module _ (p : Plan) where
       ∷ []
 
 module _ (p : Plan) (w : World) where
-  -- all of its rows
+  -- all of its rows: "kept = 0 (take-back, arrows)", and 11 by the newest record
   unfoldable pub backRefusals : List Row
   backRefusals =
       earlyRefusals p (ringOf p w) (seenOf w)

@@ -7,7 +7,7 @@ ghost use lib.ListN.{getD, length, set};
 ghost use Rattle.reckon.specs.Tests.{allBelow, pick};
 ghost use Rattle.grid.specs.Squares.{ShapeInRange, squares};
 ghost use Rattle.grid.specs.Marks.{closed};
-ghost use Rattle.grid.specs.Walks.{InRow};
+ghost use Rattle.grid.specs.inner.Rows.{InRow};
 ghost use Rattle.ledger.specs.Runs.{plan};
 ghost use Rattle.ledger.specs.inner.Settle.{NoneBeyond, WhereClear, Written, fitsAt, reachedRow, skipsIn, unreached, unworked};
 use grid::marks::is_closed;

@@ -8,7 +8,7 @@ ghost use Rattle.reckon.specs.Tests.{pick};
 ghost use Rattle.reckon.specs.Ranges.{mostDepth};
 ghost use Rattle.grid.specs.Squares.{OnSquare, onRim, sides};
 ghost use Rattle.grid.specs.Marks.{closed};
-ghost use Rattle.grid.specs.Walks.{InRow};
+ghost use Rattle.grid.specs.inner.Rows.{InRow};
 ghost use Rattle.ledger.specs.Runs.{plan};
 ghost use Rattle.ledger.specs.Flows.{gone, offSide, offSquare, shut};
 ghost use Rattle.ledger.specs.Record.{leavesIn};

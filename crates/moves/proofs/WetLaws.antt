@@ -24,7 +24,8 @@ use Rattle.grid.specs.declared.walks.Walk.the-variants.{All, Wet}
 use Rattle.grid.specs.Squares.{squares, ShapeInRange}
 use Rattle.grid.specs.Marks.{closed}
 use Rattle.grid.specs.Masks.{bits, isWet, digit, maskFrom, rowMask, bitAt}
-use Rattle.grid.specs.Walks.{leastWet, nextWithin, bitOf}
+use Rattle.grid.specs.Walks.{nextWithin, bitOf}
+use Rattle.grid.specs.inner.Rows.{leastWet}
 use Rattle.grid.proofs.SquareLaws.{square-in, column-within, row-of, column-of, row-fits}
 use Rattle.grid.proofs.MaskLaws.{Rowed, rows-whole, mask-in, mask-more, mask-idle, mask-small, wet-open}
 use Rattle.grid.proofs.WalkLaws.{within-from, within-passes}

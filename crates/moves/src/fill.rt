@@ -22,7 +22,7 @@ ghost use Rattle.reckon.specs.Soaking.{Soaks, soakDue};
 ghost use Rattle.grid.specs.Squares.{OnSquare, squares};
 ghost use Rattle.grid.specs.Marks.{closed};
 ghost use Rattle.grid.specs.Masks.{bits, digit, maskFrom};
-ghost use Rattle.grid.specs.Walks.{InRow};
+ghost use Rattle.grid.specs.inner.Rows.{InRow};
 ghost use Rattle.ledger.specs.Runs.{plan};
 ghost use Rattle.ledger.specs.Flows.{fourSides};
 ghost use Rattle.moves.specs.Given.{ground};

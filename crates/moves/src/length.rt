@@ -18,7 +18,7 @@ ghost use mathlib.Core.Path.{_≡_};
 ghost use Prim.Native.Nat.{_+_};
 ghost use Rattle.grid.specs.Squares.{OnSquare};
 ghost use Rattle.grid.specs.Masks.{RowMasked};
-ghost use Rattle.grid.specs.Walks.{InRow, leastWet};
+ghost use Rattle.grid.specs.inner.Rows.{InRow, leastWet};
 ghost use Rattle.rule.specs.Length.{leastFrom};
 ghost use Rattle.ledger.specs.Runs.{plan};
 ghost use Rattle.moves.specs.Moves.{candidates, squareCandidates};

@@ -11,7 +11,8 @@ use native.Mathlib.Decide.{ℕ-discrete}
 use native.Mathlib.Omega.{arith}
 use lib.Dec.{T, leb}
 use lib.ListN.{getD}
-use Rattle.reckon.specs.Tests.{pick, every, allBelow, firstFailing, Row, _unless_, refusal, numbered}
+use Rattle.reckon.specs.Tests.{pick, every, allBelow, firstFailing, Row, _unless_, refusal}
+use Rattle.reckon.specs.inner.Rows.{numbered}
 
 pub not-both : {b : Bool} {A : Type 0} → b ≡ true → b ≡ false → A
 not-both p q = absurd (let z : true ≡ false = sym p ∙ q in let y : _≡_ {A = ℕ} 0 1 = cc in omega arith)

@@ -3,7 +3,6 @@
 use mathlib.Core.Bool.{Bool, true, false, _&&_}
 use mathlib.Core.List.{List, [], _∷_}
 use Prim.Native.Nat.{ℕ, zero, suc}
-use lib.Dec.{leb}
 
 -- the first of two where the test holds, else the second
 unfoldable pub pick : {A : Type 0} → Bool → A → A → A
@@ -38,8 +37,3 @@ number unless fine = record { number = number; fine = fine }
 unfoldable pub refusal : List Row → ℕ
 refusal [] = 0
 refusal (r ∷ rs) = pick (r .fine) (refusal rs) (r .number)
-
--- no row has the number 0, which says that nothing is refused
-abbrev pub numbered : List Row → Bool
-numbered [] = true
-numbered (r ∷ rs) = leb 1 (r .number) && numbered rs

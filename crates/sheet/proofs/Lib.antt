@@ -7,3 +7,4 @@ pub mod ReadLaws
 pub mod RoomLaws
 pub mod RunLaws
 pub mod SheetLaws
+pub mod WrittenLaws

@@ -23,11 +23,11 @@ use Rattle.sheet.specs.declared.rooms.Scan.{Scan}
 use Rattle.sheet.specs.declared.reading.Body.{Body}
 use Rattle.sheet.proofs.KindLaws.{Lined, lined-next, lined-forth, row-lined}
 
-plain-grid : plain gridWord ≡ true
+pub plain-grid : plain gridWord ≡ true
 unfolding plain pick
 plain-grid = refl
 
-plain-run : plain runWord ≡ true
+pub plain-run : plain runWord ≡ true
 unfolding plain pick
 plain-run = refl
 

@@ -256,7 +256,7 @@ pub values-at :
 values-at s p word width e = ap (λ (z : Fields). length (z .values)) e ∙ values-long s p word width
 
 module _ (s : List ℕ) (p : ℕ) (word : List ℕ) (width : ℕ) (few : width ≤ mostFields) where
-  row-long : (j : ℕ) → length (take width (rowLine s p word width j .values)) ≡ width
+  pub row-long : (j : ℕ) → length (take width (rowLine s p word width j .values)) ≡ width
   row-long j = length-take-le width _ (omega (arith, few, values-long s (lineFrom s p j) word width))
 
   pub table-long : (rows : ℕ) → length (tableRows s p word width rows) ≡ width * rows

@@ -182,9 +182,11 @@ module _ (s : List ℕ) {top : GridLine} (e : top ≡ gridLine s) (old : Rooms) 
 never-read : {A : Type 0} {h : Heading} {n l : ℕ} → Read h ≡ Refused n l → A
 never-read e = absurd (let z : _≡_ {A = ℕ} 0 1 = cc in omega arith)
 
--- a sheet that was read has good rooms, passes its checks, and its heading is what it says
+-- a sheet that was read has a first line, good rooms and no bad line, passes its checks, and its heading is what it says
 pub record Well (s : List ℕ) (lent : Rooms) (h : Heading) : Type 0 where
+  pub first-line : lineOne s .found ≡ true
   pub fine : roomsFine (shapeOf s) (lineOne s .side) lent ≡ true
+  pub text-good : badLine s ≡ 0
   pub checks : checksOf s ≡ 0
   pub heading : h ≡ headingOf s
 
@@ -194,13 +196,13 @@ well s lent h e =
     by-test (lineOne s .found)
     (λ t.
     by-test (roomsFine (shapeOf s) (lineOne s .side) lent)
-    (λ f. go f (badLine s) (checksOf s) refl (e ∙ (pick-true _ _ t ∙ pick-true _ _ f)))
+    (λ f. go t f (badLine s) (checksOf s) refl refl (e ∙ (pick-true _ _ t ∙ pick-true _ _ f)))
     (λ f. never-read (e ∙ (pick-true _ _ t ∙ pick-false _ _ f))))
     (λ t. never-read (e ∙ pick-false _ _ t))
   where
     go :
-        roomsFine (shapeOf s) (lineOne s .side) lent ≡ true → (bad check : ℕ) → checksOf s ≡ check →
+        lineOne s .found ≡ true → roomsFine (shapeOf s) (lineOne s .side) lent ≡ true → (bad check : ℕ) → badLine s ≡ bad → checksOf s ≡ check →
         Read h ≡ judged bad check (headingOf s) → Well s lent h
-    go f (suc bad) check c q = never-read q
-    go f zero (suc check) c q = never-read q
-    go f zero zero c q = record { fine = f; checks = c; heading = cc }
+    go t f (suc bad) check b c q = never-read q
+    go t f zero (suc check) b c q = never-read q
+    go t f zero zero b c q = record { first-line = t; fine = f; text-good = b; checks = c; heading = cc }

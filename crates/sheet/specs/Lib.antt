@@ -1,3 +1,4 @@
 pub mod Lines
 pub mod Sheet
+pub mod Written
 pub mod inner

@@ -1,3 +1,4 @@
+pub mod ApartLaws
 pub mod LineLaws
 pub mod ReadingLaws
 pub mod RoundTrip

@@ -1,7 +1,7 @@
 -- Laws of lines: a text with no newline in it and then one is a line, and each line start is found from the one before it, so that
 -- carrying the position passes each byte once.
 -- Assumes nothing.
-use mathlib.Core.Path.{_≡_, refl, sym, ap, _∙_}
+use mathlib.Core.Path.{_≡_, refl, sym, ap, subst, _∙_}
 use mathlib.Core.Bool.{true}
 use mathlib.Core.List.{List, [], _∷_, _++_, append-assoc}
 use Prim.Native.Nat.{ℕ, zero, suc, _+_, _/_, _%_, _<_}
@@ -11,10 +11,12 @@ use native.Mathlib.Omega.{arith}
 use lib.Dec.{eqb}
 use lib.ListN.{length, drop, length-append}
 use borrow.Author.Tests.{ne-eqb}
+use Rattle.reckon.specs.Lists.{joined}
 use Rattle.reckon.proofs.TestLaws.{not-both, pick-true, pick-false}
 use Rattle.text.specs.Reading.{tab, newline, lineLength, nextLine, lineFrom}
 use Rattle.text.specs.Writing.{decimal, fieldText, fieldsText}
-use Rattle.text.specs.inner.Standing.{plain, StandsAt}
+use Rattle.text.specs.inner.Standing.{plain, StandsAt, LineStands}
+use Rattle.text.proofs.StandLaws.{stands-none, stands-both}
 use Rattle.text.proofs.ReadingLaws.{by-test, by-lt}
 use Rattle.text.proofs.WritingLaws.{decimal-small, decimal-large}
 
@@ -88,3 +90,17 @@ pub line-add : (s : List ℕ) (p j k : ℕ) → lineFrom s (lineFrom s p j) k �
 unfolding lineFrom
 line-add s p j zero = rw add-zero
 line-add s p j (suc k) = ap (nextLine s) (line-add s p j k) ∙ rw add-suc
+
+-- line a + i, found from line a on
+pub line-from : (s : List ℕ) (a i : ℕ) {t : List ℕ} →
+    StandsAt s (lineFrom s (lineFrom s 0 a) i) t (nextLine s (lineFrom s (lineFrom s 0 a) i)) → LineStands s (a + i) t
+unfolding lineFrom
+line-from s a i {t} h = subst (λ (q : ℕ). StandsAt s q t (nextLine s q)) (line-add s 0 a i) h
+
+-- n lines from line a on, of which each stands in its place, stand together
+pub lines-stand :
+    (s : List ℕ) (a n : ℕ) (f : ℕ → List ℕ) → ((i : ℕ) → i < n → LineStands s (a + i) (f i)) →
+    StandsAt s (lineFrom s 0 a) (joined n f) (lineFrom s 0 (a + n))
+unfolding joined
+lines-stand s a zero f h = rw add-zero (stands-none s (lineFrom s 0 a))
+lines-stand s a (suc n) f h = rw add-suc (stands-both (lines-stand s a n f (λ i l. h i (omega arith))) (h n (omega arith)))

@@ -123,16 +123,21 @@ digits-front (b ∷ l) e = pick-false _ _ e
 front-after : (s : List ℕ) (q : ℕ) → getD (drop q s) 0 0 ≡ getD s q 0
 front-after s q = getD-drop q s 0 0 ∙ ap (λ (k : ℕ). getD s k 0) (add-zero q)
 
--- a number that was written, with no digit after it, reads as itself
+-- a number that was written, with no digit after it: its digits are all that are read, and they make it
+pub digits-written : (n : ℕ) (rest : List ℕ) → isDigit (getD rest 0 0) ≡ false → digitsOf (decimal n ++ rest) ≡ digitsOf (decimal n)
+digits-written n rest e = figures n .apart rest ∙ (rw (digits-front rest e) (append-nil (digitsOf (decimal n))))
+
+pub digits-worth : (n : ℕ) → valueFrom 0 (digitsOf (decimal n)) ≡ n
+digits-worth n = figures n .worth
+
+-- it reads as itself
 pub number-back : {s : List ℕ} {p q : ℕ} (n : ℕ) → StandAlone s p (decimal n) (n ∷ []) q → numberAt s p ≡ Is n q
 unfolding numberAt numberFrom
 number-back {s} {p} {q} n a =
-    let rest : digitsOf (drop q s) ≡ [] = digits-front (drop q s) (ap isDigit (front-after s q) ∙ a .alone) in
     let ds : digitsOf (drop p s) ≡ digitsOf (decimal n) =
-    ap digitsOf (a .stands .text)
-    ∙ (figures n .apart (drop q s) ∙ (rw rest (append-nil (digitsOf (decimal n))))) in
+    ap digitsOf (a .stands .text) ∙ digits-written n (drop q s) (ap isDigit (front-after s q) ∙ a .alone) in
     let e : p + length (digitsOf (decimal n)) ≡ q = rw (figures n .long) (sym (a .stands .after)) in
-    rw (ds, decimal-formed n, figures n .worth, e)
+    rw (ds, decimal-formed n, digits-worth n, e)
     (pick-true _ _ refl ∙ pick-true _ _ (le-leb n mostNumber (a .readable .0)))
 
 -- what digits say, written after a number that is not 0, is that number's digits and theirs
@@ -248,10 +253,10 @@ field-only s p {n} {q} e =
     record { stands = stands-both (stands-byte s p tab b) (a .stands); alone = a .alone; readable = a .readable })
     (λ b. let f : Not ≡ Is n q = sym (pick-false _ _ b) ∙ e in absurd (let z : _≡_ {A = ℕ} 0 1 = cc in omega arith))
 
-tab-alone : isDigit tab ≡ false
+pub tab-alone : isDigit tab ≡ false
 tab-alone = digit-under tab (omega arith)
 
-newline-alone : isDigit newline ≡ false
+pub newline-alone : isDigit newline ≡ false
 newline-alone = digit-under newline (omega arith)
 
 -- no digit stands where fields begin, if none stands after them

@@ -6,7 +6,7 @@ use mathlib.Core.List.{List, [], _∷_}
 use Prim.Native.Nat.{ℕ, _-_, _<_, min}
 use native.Mathlib.Omega.{arith}
 use lib.ListN.{length}
-use Rattle.trials.specs.Series.{Outcome, refused, done, andThen, Engine, State, fine, step, replay, Fresh}
+use Rattle.trials.specs.inner.Series.{Outcome, refused, done, andThen, Engine, State, fine, step, replay, Fresh}
 use Rattle.trials.specs.inner.Owes.{Laws}
 use Rattle.trials.proofs.StepLaws.{not-done, RingOf, ring-is-fine, Made, step-made, seen-after, kept-after, slots-after, ring-made}
 

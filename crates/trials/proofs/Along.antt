@@ -3,7 +3,7 @@
 use mathlib.Core.Path.{_≡_, refl, sym, subst}
 use mathlib.Core.Bool.{true}
 use mathlib.Core.List.{List, [], _∷_}
-use Rattle.trials.specs.Series.{done, Engine, State, Call, start, series, replay, Fresh, Stands}
+use Rattle.trials.specs.inner.Series.{done, Engine, State, Call, start, series, replay, Fresh, Stands}
 use Rattle.trials.specs.inner.Owes.{Laws}
 use Rattle.trials.proofs.StepLaws.{Made, seen-after}
 use Rattle.trials.proofs.AloneLaws.{Last, last}

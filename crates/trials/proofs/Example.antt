@@ -10,7 +10,7 @@ use Rattle.reckon.specs.Tests.{pick, every}
 use Rattle.reckon.specs.Lists.{placed}
 use Rattle.trials.specs.Ring.{slotsIn, slotAfter, slotBefore, ringFine}
 use Rattle.trials.specs.Room.{recordIn, storedIn}
-use Rattle.trials.specs.Series.{refused, done, andThen, Engine, State, step, takeBack, Call, stepping, takingBack, series, start, Fresh, Stands}
+use Rattle.trials.specs.inner.Series.{refused, done, andThen, Engine, State, step, takeBack, Call, stepping, takingBack, series, start, Fresh, Stands}
 use Rattle.trials.specs.inner.Owes.{Laws}
 use Rattle.trials.proofs.RoomLaws.{slots-stored, read-stored, read-other}
 use Rattle.trials.proofs.StepLaws.{not-done}

@@ -7,7 +7,7 @@ use Prim.Native.Nat.{ℕ, zero, suc, _+_}
 use native.Mathlib.Omega.{arith}
 use lib.ListN.{replicate}
 use Rattle.reckon.specs.Tests.{pick}
-use Rattle.trials.specs.Series.{Outcome, refused, done, Engine, State, step, Ran, ranOn, runOn, run, running, Trail, afterStep, repeat, called}
+use Rattle.trials.specs.inner.Series.{Outcome, refused, done, Engine, State, step, Ran, ranOn, runOn, run, running, Trail, afterStep, repeat, called}
 
 replicate-snoc : {A : Type 0} (n : ℕ) (a : A) (l : List A) → replicate n a ++ (a ∷ l) ≡ a ∷ (replicate n a ++ l)
 replicate-snoc zero a l = refl

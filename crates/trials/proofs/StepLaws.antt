@@ -6,7 +6,7 @@ use mathlib.Core.Logic.{_≢_}
 use Prim.Native.Nat.{ℕ, suc, _-_, _<_}
 use native.Mathlib.Omega.{arith}
 use Rattle.trials.specs.Ring.{slotAfter, slotBefore, slotAgo, keptAfter}
-use Rattle.trials.specs.Series.{Outcome, refused, done, andThen, Engine, State, fine, stepped, step, restored, takeBack}
+use Rattle.trials.specs.inner.Series.{Outcome, refused, done, andThen, Engine, State, fine, stepped, step, restored, takeBack}
 use Rattle.trials.specs.inner.Owes.{Laws}
 use Rattle.trials.proofs.RingLaws.{Ring, fine-ring, ring-fine, ring-after, after-below, before-after, ago-more, ago-below, ago-other}
 

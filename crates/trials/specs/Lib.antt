@@ -1,4 +1,3 @@
 pub mod inner
 pub mod Ring
 pub mod Room
-pub mod Series

@@ -1,1 +1,2 @@
 pub mod Owes
+pub mod Series

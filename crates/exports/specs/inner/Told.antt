@@ -1,4 +1,4 @@
--- What only the inner functions that tell an answer give: its number, and what its slice holds.
+-- What only the inner functions that tell an answer give: what its slice holds.
 -- Assumes nothing.
 use mathlib.Core.List.{List, [], _∷_}
 use Prim.Native.Nat.{ℕ}
@@ -11,20 +11,12 @@ use Rattle.exports.specs.Numbers.{runNumbers}
 
 -- ---- an answer that gives a run
 
-unfoldable pub answerNumber : Answer → ℕ
-answerNumber (Done u) = 0
-answerNumber (Refused n) = n
-
 -- the run, or what the slice held
 unfoldable pub answerRun : Answer → List ℕ → List ℕ
 answerRun (Done u) old = runNumbers u
 answerRun (Refused n) old = old
 
 -- ---- an answer that gives a count
-
-unfoldable pub wetNumberOf : Wet → ℕ
-wetNumberOf (Count n) = 0
-wetNumberOf (Wet.Refused n) = n
 
 -- the count, or what the slice held
 unfoldable pub countIn : Wet → List ℕ → List ℕ

@@ -6,10 +6,11 @@ use mathlib.Core.List.{List, [], _++_}
 use Prim.Native.Nat.{ℕ, zero, suc, _+_, _≤_, _<_}
 use lib.Dec.{T}
 use lib.ListN.{getD}
-use Rattle.reckon.specs.Tests.{pick, Row, refusal, numbered}
+use Rattle.reckon.specs.Tests.{pick, Row, refusal}
+use Rattle.reckon.specs.inner.Rows.{numbered}
 use Rattle.reckon.specs.Ranges.{mostLength}
 use Rattle.trials.specs.Room.{recordIn, storedIn}
-use Rattle.trials.specs.Series.{Outcome, refused, done, Engine, State}
+use Rattle.trials.specs.inner.Series.{Outcome, refused, done, Engine, State}
 use Rattle.grid.specs.Squares.{squares}
 use Rattle.ledger.specs.Runs.{Plan, World, world, Seen, seenOf}
 use Rattle.ledger.specs.Flows.{shut, gone}

@@ -18,7 +18,8 @@ use Rattle.grid.specs.Squares.{sides, mostSquares, squares, beside, ShapeInRang
 use Rattle.grid.specs.Marks.{closed}
 use Rattle.grid.specs.Masks.{bitAt}
 use Rattle.grid.specs.Walks.{bitOf, besideSet}
-use Rattle.ledger.specs.Runs.{Plan, World, ofDepths}
+use Rattle.ledger.specs.Runs.{Plan, World}
+use Rattle.ledger.specs.inner.Worlds.{ofDepths}
 use Rattle.ledger.specs.Flows.{Leaves, fourSides, shut, gone, sent, offSquare, offGrid, soakedSquare, soakedGrid}
 use Rattle.ledger.specs.Record.{recordSize, lastedIn, leavesIn, addedIn, soakedIn, roomSlots, Recorded}
 use Rattle.ledger.specs.After.{Moves, remains, newDepth, depthsFit, newOutflow, newSoaked, worldWith}

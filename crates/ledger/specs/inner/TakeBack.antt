@@ -8,7 +8,8 @@ use lib.ListN.{length}
 use Rattle.reckon.specs.Ranges.{mostDepth}
 use Rattle.grid.specs.Squares.{squares}
 use Rattle.grid.specs.Marks.{marksFine}
-use Rattle.ledger.specs.Runs.{Plan, World, ofDepths, runFine}
+use Rattle.ledger.specs.Runs.{Plan, World, runFine}
+use Rattle.ledger.specs.inner.Worlds.{ofDepths}
 use Rattle.ledger.specs.Record.{roomSlots, Recorded}
 use Rattle.ledger.specs.Checks.{watersFine, WaterLent}
 use Rattle.ledger.specs.TakeBack.{heldAndGone, cameAndAdded, depthBefore, backNumber}

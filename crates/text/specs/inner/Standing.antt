@@ -3,11 +3,11 @@
 use mathlib.Core.Path.{_≡_}
 use mathlib.Core.Bool.{Bool, true, false}
 use mathlib.Core.List.{List, [], _∷_, _++_}
-use Prim.Native.Nat.{ℕ, _+_, _≤_}
+use Prim.Native.Nat.{ℕ, suc, _+_, _≤_}
 use lib.Dec.{eqb}
 use lib.ListN.{length, getD, drop}
 use Rattle.reckon.specs.Tests.{pick}
-use Rattle.text.specs.Reading.{newline, mostNumber, isDigit}
+use Rattle.text.specs.Reading.{newline, mostNumber, isDigit, lineFrom}
 
 -- a text with no newline in it
 unfoldable pub plain : List ℕ → Bool
@@ -35,3 +35,7 @@ pub record AsWritten (s : List ℕ) (p : ℕ) (t vs : List ℕ) (count q : ℕ) 
   pub stands : StandsAt s p t q
   pub many : length vs ≡ count
   pub readable : Readable vs
+
+-- the text t is line k of s, counted from 0
+abbrev pub LineStands : List ℕ → ℕ → List ℕ → Type 0
+LineStands s k t = StandsAt s (lineFrom s 0 k) t (lineFrom s 0 (suc k))

@@ -4,7 +4,7 @@ use mathlib.Core.Path.{_≡_}
 use mathlib.Core.Bool.{Bool, true}
 use mathlib.Core.Logic.{_≢_}
 use Prim.Native.Nat.{ℕ, _<_}
-use Rattle.trials.specs.Series.{done, Engine}
+use Rattle.trials.specs.inner.Series.{done, Engine}
 
 pub record Laws (E : Engine) : Type 1 where
   -- the records that fit a slot

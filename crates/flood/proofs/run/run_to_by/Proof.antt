@@ -6,7 +6,7 @@ use borrow.Author.Needs.{needs}
 use Rattle.reckon.specs.Tests.{refusal}
 use Rattle.grid.specs.Squares.{ShapeInRange, mostAlong, mostSquares}
 use Rattle.ledger.specs.Runs.{Plan, World, plan, world}
-use Rattle.ledger.specs.Record.{mostRecord}
+use Rattle.ledger.specs.inner.Worlds.{mostRecord}
 use Rattle.moves.specs.Given.{Given, ground, given}
 use Rattle.flood.specs.Refusals.{runChecks}
 use Rattle.flood.proofs.CheckLaws.{run-checks-step, run-checks-end, end-is}

@@ -10,7 +10,7 @@ use borrow.Author.Tests.{not-true, not-false}
 use Rattle.reckon.specs.Tests.{allBelow}
 use Rattle.reckon.proofs.TestLaws.{all-none, all-whole}
 use Rattle.grid.specs.Marks.{closed}
-use Rattle.grid.specs.Walks.{InRow}
+use Rattle.grid.specs.inner.Rows.{InRow}
 use Rattle.grid.proofs.SquareLaws.{row-begins, next-row}
 use Rattle.ledger.specs.inner.Settle.{fitsAt}
 use Rattle.ledger.proofs.ReachLaws.{by-reached, fails-beyond}

@@ -7,7 +7,8 @@ use mathlib.Core.List.{List}
 use Prim.Native.Nat.{ℕ, _+_}
 use native.Mathlib.Omega.{arith}
 use borrow.Author.Tests.{not-true, not-false}
-use Rattle.ledger.specs.Runs.{Plan, World, plan, world, ofDepths}
+use Rattle.ledger.specs.Runs.{Plan, World, plan, world}
+use Rattle.ledger.specs.inner.Worlds.{ofDepths}
 use Rattle.ledger.specs.After.{depthsFit, newOutflow, newSoaked}
 use Rattle.ledger.specs.inner.Settle.{movesIn}
 use Rattle.ledger.proofs.FlowLaws.{off-grid-small, soaked-grid-small}

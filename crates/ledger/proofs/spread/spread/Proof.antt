@@ -8,7 +8,7 @@ use native.Mathlib.Nat.{zero-mul}
 use native.Mathlib.Omega.{arith}
 use lib.ListN.{getD}
 use Rattle.grid.specs.Marks.{closed}
-use Rattle.grid.specs.Walks.{InRow}
+use Rattle.grid.specs.inner.Rows.{InRow}
 use Rattle.grid.proofs.SquareLaws.{row-begins, next-row}
 use Rattle.ledger.specs.Runs.{Plan, plan}
 use Rattle.ledger.specs.Flows.{gone}

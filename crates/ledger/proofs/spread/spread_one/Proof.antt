@@ -9,7 +9,8 @@ use native.Mathlib.Omega.{arith}
 use lib.ListN.{getD, length-set}
 use Rattle.reckon.proofs.TestLaws.{not-both}
 use Rattle.grid.specs.Squares.{squares}
-use Rattle.ledger.specs.Runs.{Plan, plan, ofDepths}
+use Rattle.ledger.specs.Runs.{Plan, plan}
+use Rattle.ledger.specs.inner.Worlds.{ofDepths}
 use Rattle.ledger.specs.Flows.{shut, gone}
 use Rattle.ledger.specs.Record.{leavesIn, soakedIn}
 use Rattle.ledger.specs.After.{remains}

@@ -10,7 +10,8 @@ use Rattle.reckon.specs.Lists.{filled}
 use Rattle.reckon.proofs.TestLaws.{all-at}
 use Rattle.reckon.proofs.ListLaws.{filled-none, filled-ahead}
 use Rattle.grid.specs.Marks.{closed}
-use Rattle.ledger.specs.Runs.{ofDepths, plan}
+use Rattle.ledger.specs.Runs.{plan}
+use Rattle.ledger.specs.inner.Worlds.{ofDepths}
 use Rattle.ledger.specs.TakeBack.{depthBefore}
 use Rattle.ledger.proofs.WalkLaws.{Walk, walk-none, walk-stands, walk-column, walk-next, walk-end, filled-long, filled-turn, filled-whole}
 use Rattle.ledger.proofs.BackLaws.{restores-of, restores-own, before-own}

@@ -11,7 +11,8 @@ use Rattle.reckon.specs.Lists.{sumBelow}
 use Rattle.reckon.proofs.TestLaws.{all-none, all-more, all-fails, all-whole}
 use Rattle.reckon.proofs.ListLaws.{sum-none, sum-more}
 use Rattle.grid.specs.Squares.{squares, OnSquare}
-use Rattle.ledger.specs.Runs.{Plan, ofDepths, plan}
+use Rattle.ledger.specs.Runs.{Plan, plan}
+use Rattle.ledger.specs.inner.Worlds.{ofDepths}
 use Rattle.ledger.specs.Flows.{offSquare, soakedSquare}
 use Rattle.ledger.specs.Record.{leavesIn, soakedIn}
 use Rattle.ledger.specs.TakeBack.{squareRestorable}

@@ -7,7 +7,8 @@ use native.Mathlib.Omega.{arith}
 use borrow.Author.Needs.{needs}
 use Rattle.grid.specs.Squares.{mostSquares}
 use Rattle.ledger.specs.Runs.{plan}
-use Rattle.ledger.specs.Record.{recordSize, mostRecord}
+use Rattle.ledger.specs.Record.{recordSize}
+use Rattle.ledger.specs.inner.Worlds.{mostRecord}
 use Rattle.sheet.proofs.JudgeLaws.{taken-long, zeros-are, judge-is}
 use Rattle.sheet.proofs.reading.judge.Statement.{statement}
 use Rattle.sheet.proofs.reading.judge.Tie as tie

@@ -1,0 +1,26 @@
+-- `calls::library::after_step_wet` meets its contract: what the call promises is what its caller has.
+-- Assumes nothing.
+use borrow.Author.Needs.{needs}
+use Rattle.grid.specs.declared.walks.Walk.the-variants.{Wet}
+use Rattle.calls.proofs.LibraryLaws.{after-step}
+use Rattle.calls.proofs.library.after_step_wet.Statement.{statement}
+use Rattle.calls.proofs.library.after_step_wet.Tie as tie
+
+step-wet-requires : tie.Need-step-wet-requires
+step-wet-requires c κs = search needs
+
+same-length : tie.Need-same-length
+same-length c = search needs
+
+same-length-2 : tie.Need-same-length-2
+same-length-2 c = search needs
+
+same-length-3 : tie.Need-same-length-3
+same-length-3 c = search needs
+
+returns : tie.Need-returns
+returns c = search (after-step Wet)
+
+pub after-step-wet-spec : {M : Type 1} → statement M
+after-step-wet-spec =
+    tie.close (tie.spec step-wet-requires same-length same-length-2 same-length-3 returns)

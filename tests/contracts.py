@@ -1,0 +1,183 @@
+#!/usr/bin/env python3
+"""Every public function of a library says what it gives: it has a contract, which speaks of its answer, of each slice that it was lent to
+write as it is afterwards, and of every other slice; and the determinacy records have a field for it, over the very relation that its
+contract names. Every entry point is called by a function of the crate `calls`, which promises of it what the demands say. Changed functions, of
+which each has a fault that the test must find, show that it looks."""
+import re
+import sys
+from pathlib import Path
+
+TOP = Path(__file__).resolve().parent.parent
+sys.path.insert(0, str(TOP / "python"))
+
+from meadow.counted import Checks  # noqa: E402
+from rattle import DEMANDS, imported  # noqa: E402
+from rattle.functions import library_functions  # noqa: E402
+from rattle.specs import Specs  # noqa: E402
+
+# the exported functions have this before the name of the call
+EXPORTED = "flood_"
+# Rooms of which a contract promises nothing, because nobody reads what is left in them (docs/CONTRACTS.md says why), and slices that a
+# `requires` asks to say only what the record says already, so that nothing depends on them.
+NOT_SAID = {("ledger", f"settle::{name}", slice) for name in ("settle", "settle_stored") for slice in ("room", "left", "worked", "senders")}
+
+
+# Calls that an entry point makes of another with all that it is lent: what they promise is promised there.
+UNDER_ANOTHER = ("step_by", "run_to_by")
+
+
+def claim(clause):
+    """The name of what is handed back in an `ensures`, and what is said."""
+    found = re.fullmatch(r"\s*λ (\w+)\. ⌜ (.*) ⌝\s*", clause, re.S)
+    return found.groups() if found else ("", clause)
+
+
+def conjuncts(text):
+    """The parts of a claim that are parted by × outside all brackets, without brackets round them."""
+    parts, depth, part = [], 0, ""
+    for letter in text:
+        depth += (letter == "(") - (letter == ")")
+        if letter == "×" and depth == 0:
+            parts.append(part)
+            part = ""
+        else:
+            part += letter
+    parts = [each.strip() for each in [*parts, part]]
+    if len(parts) > 1 or not parts[0].startswith("("):
+        return [each for part in parts for each in (conjuncts(part[1:-1]) if part.startswith("(") else [part])]
+    return parts
+
+
+def head(part):
+    """The word that a conjunct is about: its relation, or of an equation what it is equated with."""
+    return part.rpartition("≡ ")[2].strip("( ").split(" ")[0]
+
+
+class Records:
+    """The determinacy records: the text of each field, by the crate's name in lower case and the field's own."""
+
+    def __init__(self, specs):
+        self.specs, self.fields = specs, {}
+        for (crate, name), module in specs.modules.items():
+            if crate == DEMANDS:
+                for each in module.definitions.values():
+                    found = re.fullmatch(r"(\w+)Determined", each.name)
+                    for field, text in re.findall(r"^ *pub (\S+) : (.*(?:\n {5,}.*)*)", "\n".join(each.lines), re.M) if found else ():
+                        self.fields[found[1].lower(), field] = (module, text)
+
+    def named(self, place):
+        """The definitions that a field names, those behind the names of its own file included."""
+        module, text = self.fields[place]
+        own = {name: (module.crate, module.name) for name in module.definitions}
+        names, modules = imported(module.text)
+        keys = self.specs.named(text, (own | names, modules))
+        near = self.specs.reached(keys, lambda key: key[:2] != (module.crate, module.name))
+        return keys.union(*(self.specs.definitions[key].names for key in near)) - near
+
+
+def is_relation(specs, key):
+    """Whether a definition says something of what it is given."""
+    return re.search(r"→ Type 0$|record \S+ \(.*\) : Type 0 where$", specs.definitions[key].lines[0]) is not None
+
+
+def place(function):
+    """The field of a function."""
+    return function.crate.replace("_", ""), function.name.removeprefix(EXPORTED).replace("_", "-")
+
+
+def hold_contract(hold, function):
+    """A contract, on all that the function gives and all that it is lent."""
+    name = f"{function.crate}::{function.path}"
+    said = [claim(clause) for clause in function.ensures]
+    hold(said, f"{name} has no contract on what it gives")
+    text = " ".join(words for _, words in said)
+    if function.result:
+        answers = any(re.search(rf"(?<![\w.]){answer}(?!\w)", words) for answer, words in said if answer not in ("", "_"))
+        hold(answers, f"the contract of {name} says nothing of its answer")
+    for slice, written in function.slices.items():
+        when = "exit" if written else "entry"
+        told = re.search(rf"\(«?{slice}»? \.{when}\)", text) is not None
+        promised = (function.crate, function.path, slice) not in NOT_SAID
+        hold(told == promised, f"the contract of {name} says nothing of {slice} .{when}, or says what the list of exceptions leaves out")
+
+
+def hold_field(hold, specs, records, function):
+    """A field, over the relation that the contract names."""
+    name, field = f"{function.crate}::{function.path}", place(function)
+    if not hold(field in records.fields, f"no determinacy record has a field for {name}"):
+        return
+    said = [specs.named(head(part), function.imports) for clause in function.ensures for part in conjuncts(claim(clause)[1])]
+    heads, named = set().union(*said), records.named(field)
+    hold(heads and all(said) and heads <= named, f"the field of {name} is not over the relation of its contract: {sorted(heads - named)}")
+    others = {key for key in named - heads if is_relation(specs, key)}
+    hold(not others, f"the field of {name} is over a relation that its contract does not name: {sorted(others)}")
+
+
+def hold_tied(hold, functions, calls):
+    """Each entry point has its function in `calls`, whose whole body is that call; and there is no other function there."""
+    wanted = {f"after_{function.name}": function for function in functions if function.is_entry and function.name not in UNDER_ANOTHER}
+    for name, function in wanted.items():
+        hold(re.fullmatch(rf"{function.name}\([\w\s,]*\)", calls.get(name, "")), f"no function of `calls` makes the call {function.crate}::{function.path}")
+    hold(set(calls) <= set(wanted), f"`calls` has a function for no entry point: {sorted(set(calls) - set(wanted))}")
+
+
+def bodies(top):
+    """{function: its body} of the crate `calls`."""
+    texts = [path.read_text(encoding="utf-8") for path in sorted((top / "crates" / "calls" / "src").glob("*.rt"))]
+    return {name: body.strip() for text in texts for name, body in re.findall(r"^pub fn (\w+)\(.*?^\{\n(.*?)^\}", text, re.M | re.S)}
+
+
+def hold_all(hold, specs, records, functions):
+    for function in functions:
+        hold_contract(hold, function)
+        hold_field(hold, specs, records, function)
+    wanted = {place(function) for function in functions}
+    crates = {function.crate.replace("_", "") for function in functions}
+    for crate, field in records.fields:
+        hold((crate, field) in wanted and crate in crates, f"the determinacy record of {crate} has a field {field}, which is no public function")
+
+
+def faults(functions):
+    """Functions that the test must find fault with, and what the fault is."""
+    one = next(function for function in functions if function.is_entry and any(function.slices.values()) and not all(function.slices.values()))
+    written = next(name for name, writes in one.slices.items() if writes)
+    lent = next(name for name, writes in one.slices.items() if not writes)
+    (clause,) = one.ensures
+    answer, words = claim(clause)
+    relation = head(words)
+    names, modules = one.imports
+    other = next(name for name in names if name != relation)
+    ends = lambda text: f" λ {answer}. ⌜ {text} ⌝ "
+    yield "no contract", one._replace(ensures=[])
+    yield "nothing said of what is written", one._replace(ensures=[clause.replace(f"({written} .exit)", f"({written} .entry)")])
+    yield "nothing said of what is lent", one._replace(ensures=[clause.replace(f"({lent} .entry)", f"({written} .entry)")])
+    yield "nothing said of the answer", one._replace(ensures=[re.sub(rf" {answer} ", " 0 ", clause.replace(f"λ {answer}.", "λ _."))])
+    yield "another relation", one._replace(ensures=[ends(words.replace(relation, other, 1))])
+    yield "a relation besides", one._replace(ensures=[clause, ends(f"{other} {answer}")])
+    yield "a relation of that name from elsewhere", one._replace(imports=({**names, relation: ("nowhere", "Nothing")}, modules))
+    yield "no field", one._replace(name="nosuch")
+
+
+def main():
+    checks = Checks("contracts")
+    specs = Specs(TOP)
+    records, functions = Records(specs), list(library_functions(TOP))
+    checks.hold(functions != [], "there is no public function")
+    hold_all(checks.hold, specs, records, functions)
+    calls = bodies(TOP)
+    hold_tied(checks.hold, functions, calls)
+    for name in calls:
+        found = []
+        hold_tied(lambda right, _: found.append(bool(right)), functions, {**calls, name: "0"})
+        checks.hold(not all(found), f"a fault is not found: {name} makes no call")
+    for fault, function in faults(functions):
+        found = []
+        hold = lambda right, _: found.append(bool(right)) or right
+        hold_contract(hold, function)
+        hold_field(hold, specs, records, function)
+        checks.hold(not all(found), f"a fault is not found: {fault}")
+    checks.end()
+
+
+if __name__ == "__main__":
+    main()
