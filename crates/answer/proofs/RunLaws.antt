@@ -20,9 +20,10 @@ use Rattle.ledger.specs.Record.{roomSlots, ringOf}
 use Rattle.ledger.specs.declared.runs.Run.{Run}
 use Rattle.ledger.specs.declared.runs.Answer.{Answer}
 use Rattle.ledger.specs.declared.runs.Answer.the-variants.{Done, Refused}
-use Rattle.flood.specs.Refusals.{checkRefusals}
-use Rattle.flood.specs.Run.{Ended, runTo, freshRefusals, freshNumber, freshRun, freshLasts, Freshens}
-use Rattle.flood.proofs.CheckLaws.{checks-named}
+use Rattle.checks.specs.Refusals.{checkRefusals}
+use Rattle.checks.specs.Fresh.{freshRefusals, freshNumber, freshRun, freshLasts, Freshens}
+use Rattle.flood.specs.Run.{Ended, runTo}
+use Rattle.checks.proofs.CheckLaws.{checks-named}
 use Rattle.sheet.specs.Sheet.{Rooms, planIn, givenIn, noLasts, noRecords, startIn, checksIn}
 use Rattle.answer.specs.Program.{endedText, runText, Prints}
 use Rattle.sheet.specs.declared.reading.Heading.{Heading}

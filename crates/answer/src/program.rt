@@ -1,7 +1,7 @@
 // What `meadow` prints of a text: the whole program short of its input and output.
 use crate::printing::put_refused;
 use crate::printing::put_world;
-use flood::fresh::fresh;
+use checks::fresh::fresh;
 use flood::run::Ran;
 use flood::run::run_to_wet;
 use grid::squares::Shape;

@@ -26,16 +26,17 @@ use Rattle.ledger.specs.Walls.{Untouched}
 use Rattle.ledger.specs.declared.runs.Run.{Run}
 use Rattle.ledger.specs.declared.runs.Answer.{Answer}
 use Rattle.ledger.specs.declared.runs.Answer.the-variants.{Done}
-use Rattle.moves.specs.Given.{Given}
-use Rattle.flood.specs.Refusals.{Checks, runChecks}
-use Rattle.flood.specs.Bounds.{BoundsSteps, boundsNumber, spansWhole, figures, toldBounds, boundsOf, boundsRefusals}
+use Rattle.checks.specs.Given.{Given}
+use Rattle.checks.specs.Refusals.{Checks, runChecks}
+use Rattle.checks.specs.Bounds.{BoundsSteps, boundsNumber, spansWhole, figures, toldBounds, boundsOf, boundsRefusals}
 use Rattle.flood.specs.Step.{Steps, stepNumber, stepped}
-use Rattle.flood.specs.Run.{Ended, RunsTo, Freshens, runTo, freshNumber, freshRun, freshLasts, freshRefusals}
-use Rattle.flood.proofs.FreshLaws.{fresh-sizes, sizes-lent}
+use Rattle.checks.specs.Fresh.{Freshens, freshNumber, freshRun, freshLasts, freshRefusals}
+use Rattle.flood.specs.Run.{Ended, RunsTo, runTo}
+use Rattle.checks.proofs.FreshLaws.{fresh-sizes, sizes-lent}
 use Rattle.flood.specs.declared.run.Ran.{Ran}
-use Rattle.flood.specs.declared.bounds.StepBounds.{StepBounds}
-use Rattle.flood.specs.declared.bounds.Bounds.{Bounds}
-use Rattle.flood.specs.declared.bounds.Bounds.the-variants.{Bounded}
+use Rattle.checks.specs.declared.bounds.StepBounds.{StepBounds}
+use Rattle.checks.specs.declared.bounds.Bounds.{Bounds}
+use Rattle.checks.specs.declared.bounds.Bounds.the-variants.{Bounded}
 use Rattle.sight.specs.Arrows.{Sees, arrowRefusals, arrowNumber, seenAt, seenBy}
 use Rattle.sight.specs.WetRows.{WetRowed, onesOver, wetNumber, counted}
 use Rattle.sight.specs.declared.arrows.Sight.{Sight}

@@ -2,10 +2,10 @@
 // A call whose own contract said less would be refused here.
 use answer::program::OUT_ROOM;
 use answer::program::meadow_of;
-use flood::bounds::Bounds;
-use flood::bounds::step_bounds;
-use flood::checks::check;
-use flood::fresh::fresh;
+use checks::bounds::Bounds;
+use checks::bounds::step_bounds;
+use checks::refusals::check;
+use checks::fresh::fresh;
 use flood::run::Ran;
 use flood::run::run_to;
 use flood::run::run_to_wet;
@@ -23,8 +23,8 @@ use sight::arrows::arrow;
 use sight::wet_rows::Wet;
 use sight::wet_rows::wet_rows;
 ghost use Rattle.ledger.specs.Runs.{plan, world};
-ghost use Rattle.moves.specs.Given.{given, ground};
-ghost use Rattle.flood.specs.Refusals.{runChecks};
+ghost use Rattle.checks.specs.Given.{given, ground};
+ghost use Rattle.checks.specs.Refusals.{runChecks};
 ghost use Rattle.sight.specs.Arrows.{view};
 ghost use Rattle.sheet.specs.Sheet.{rooms};
 ghost use Rattle.demands.specs.Table.{TableSays};

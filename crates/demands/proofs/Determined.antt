@@ -6,14 +6,15 @@ use Prim.Native.Nat.{ℕ, _-_}
 use Rattle.reckon.proofs.RootLaws.{root-unique, begun-unique}
 use Rattle.rule.specs.declared.rules.Rules.{Rules}
 use Rattle.ledger.specs.Runs.{Plan, World, world}
-use Rattle.ledger.specs.inner.Settle.{SettlesTo, nextRecord}
+use Rattle.settling.specs.inner.Settle.{SettlesTo, nextRecord}
 use Rattle.ledger.specs.TakeBack.{TakesBack}
 use Rattle.ledger.specs.declared.runs.Run.{Run}
 use Rattle.ledger.specs.declared.runs.Answer.{Answer}
-use Rattle.ledger.specs.declared.settle.Settled.{Settled}
-use Rattle.moves.specs.Given.{Given}
+use Rattle.settling.specs.declared.settle.Settled.{Settled}
+use Rattle.checks.specs.Given.{Given}
 use Rattle.flood.specs.Step.{Steps, MakesStep}
-use Rattle.flood.specs.Run.{RunsTo, Freshens}
+use Rattle.checks.specs.Fresh.{Freshens}
+use Rattle.flood.specs.Run.{RunsTo}
 use Rattle.flood.specs.declared.run.Ran.{Ran}
 use Rattle.sight.specs.WetRows.{WetRowed}
 use Rattle.sight.specs.declared.wet_rows.Wet.{Wet}

@@ -16,7 +16,7 @@ use Rattle.reckon.proofs.TestLaws.{not-both, pick-true, pick-false, failing-bef
 use Rattle.reckon.proofs.ListLaws.{length-filled, filled-in, filled-past, filled-skipped}
 use Rattle.grid.specs.Squares.{squares}
 use Rattle.grid.specs.Marks.{closed}
-use Rattle.flood.specs.Refusals.{checkRefusals}
+use Rattle.checks.specs.Refusals.{checkRefusals}
 use Rattle.text.specs.Reading.{lineFrom}
 use Rattle.text.proofs.LineLaws.{line-add}
 use Rattle.sheet.specs.Lines.{xLetter, letterOf, lineHead}

@@ -18,7 +18,7 @@ use Rattle.ledger.specs.TakeBack.{TakesBack, backNumber, takenBack, worldBefore
 use Rattle.ledger.specs.declared.runs.Run.{Run}
 use Rattle.ledger.specs.declared.runs.Answer.{Answer}
 use Rattle.ledger.specs.declared.runs.Answer.the-variants.{Done, Refused}
-use Rattle.moves.specs.Given.{Given}
+use Rattle.checks.specs.Given.{Given}
 use Rattle.flood.specs.Step.{Steps, stepNumber, stepped}
 use Rattle.flood.specs.Run.{Ended, RunsTo, runTo}
 use Rattle.flood.specs.declared.run.Ran.{Ran}

@@ -27,17 +27,18 @@ use Rattle.rule.specs.declared.rules.Rules.{Rules}
 use Rattle.ledger.specs.Runs.{Plan, World, world, RunJudged}
 use Rattle.ledger.specs.Record.{SizeOf, HeldBefore, Lasted, Leaving, LastBefore, AddedBy, SoakedBy, GoneFrom, SentTo, CameTo, OffFrom, HeadPut, SquarePut}
 use Rattle.ledger.specs.Flows.{shut}
-use Rattle.ledger.specs.inner.Settle.{SettlesTo, SurelyJudged, nextRecord}
+use Rattle.settling.specs.inner.Settle.{SettlesTo, SurelyJudged, nextRecord}
 use Rattle.ledger.specs.Checks.{OneEach, WatersJudged, TimesJudged}
 use Rattle.ledger.specs.TakeBack.{TakesBack}
 use Rattle.ledger.specs.declared.runs.Run.{Run}
 use Rattle.ledger.specs.declared.runs.Answer.{Answer}
-use Rattle.ledger.specs.declared.settle.Settled.{Settled}
-use Rattle.moves.specs.Given.{Given, Ground}
+use Rattle.settling.specs.declared.settle.Settled.{Settled}
+use Rattle.checks.specs.Given.{Given, Ground}
 use Rattle.flood.specs.Step.{Steps, MakesStep}
-use Rattle.flood.specs.Refusals.{Checks}
-use Rattle.flood.specs.Bounds.{BoundsSteps}
-use Rattle.flood.specs.Run.{RunsTo, Freshens, FreshRunMade}
+use Rattle.checks.specs.Refusals.{Checks}
+use Rattle.checks.specs.Bounds.{BoundsSteps}
+use Rattle.checks.specs.Fresh.{Freshens, FreshRunMade}
+use Rattle.flood.specs.Run.{RunsTo}
 use Rattle.flood.specs.declared.run.Ran.{Ran}
 use Rattle.sight.specs.Arrows.{Sees}
 use Rattle.sight.specs.WetRows.{OnesIn, WetRowed}

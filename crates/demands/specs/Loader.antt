@@ -10,7 +10,7 @@ use Rattle.reckon.specs.Tests.{Row, _unless_}
 use Rattle.grid.specs.Squares.{squares}
 use Rattle.grid.specs.Marks.{closed}
 use Rattle.grid.specs.declared.squares.Shape.{Shape}
-use Rattle.flood.specs.Refusals.{runChecks}
+use Rattle.checks.specs.Refusals.{runChecks}
 use Rattle.flood.specs.Run.{runTo}
 use Rattle.text.specs.Reading.{lineFrom}
 use Rattle.sheet.specs.Lines.{xLetter}

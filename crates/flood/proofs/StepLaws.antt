@@ -25,22 +25,22 @@ use Rattle.ledger.specs.Runs.{Plan, World, world, answered, Seen, seenOf}
 use Rattle.ledger.specs.Flows.{Leaves, shut, gone}
 use Rattle.ledger.specs.Record.{leavesIn, addedIn, soakedIn, roomSlots, ringOf, headWords, squareWords, SizeOf, recordSize}
 use Rattle.ledger.specs.After.{Moves, newDepth, depthsFit, lateRefusals, stepRecord, worldAfter, worldWith}
-use Rattle.ledger.specs.inner.Settle.{movesIn, settleNumber, settled, Settles, SettlesTo, IdleAt, sends, Told, RoomAdded, surelySettles, nextRecord}
+use Rattle.settling.specs.inner.Settle.{movesIn, settleNumber, settled, Settles, SettlesTo, IdleAt, sends, Told, RoomAdded, surelySettles, nextRecord}
 use Rattle.grid.specs.declared.squares.Shape.{Shape}
 use Rattle.ledger.proofs.ReadBack.{step-long, step-lasted, step-gone, step-added, step-soaked, settled-is, late-settled}
 use Rattle.ledger.proofs.RecordLaws.{slots-of}
-use Rattle.ledger.proofs.SureLaws.{surely-settled, next-read, stored-settles, stored-settled}
-use Rattle.moves.specs.Given.{Given}
+use Rattle.settling.proofs.SureLaws.{surely-settled, next-read, stored-settles, stored-settled}
+use Rattle.checks.specs.Given.{Given}
 use Rattle.moves.specs.Moves.{leavesFor, soakedFor, addedFor, stepLength, stepDuration, stepMoves}
 use Rattle.moves.specs.inner.Added.{addedFits}
 use Rattle.moves.specs.inner.Fill.{isWorked, workedRows, senderRows, LeftKept}
-use Rattle.moves.specs.inner.Ready.{Ready}
+use Rattle.checks.specs.inner.Ready.{Ready}
 use Rattle.rule.specs.Rules.{rulesFine}
 use Rattle.ledger.specs.declared.runs.Answer.the-variants.{Done, Refused}
 use Rattle.ledger.proofs.RunLaws.{answered-done, answered-refused}
-use Rattle.flood.specs.Refusals.{checkRefusals, stepChecks}
+use Rattle.checks.specs.Refusals.{checkRefusals, stepChecks}
 use Rattle.flood.specs.Step.{stepNumber, stepped, Steps, MakesStep, Passes}
-use Rattle.flood.proofs.CheckLaws.{ready, ring-is, checks-named}
+use Rattle.checks.proofs.CheckLaws.{ready, ring-is, checks-named}
 use Rattle.moves.proofs.WetLaws.{worked-bit-is, idle-at, idle-gone, idle-soaked, sender-bit-is}
 use Rattle.moves.proofs.MoveLaws.{lost-covered, step-length-to}
 

@@ -19,8 +19,8 @@ use Rattle.ledger.specs.Record.{roomSlots}
 use Rattle.ledger.specs.Checks.{oneEach}
 use Rattle.ledger.specs.declared.runs.Run.{Run}
 use Rattle.ledger.specs.declared.runs.Answer.{Answer}
-use Rattle.moves.specs.Given.{Given}
-use Rattle.flood.specs.Refusals.{runChecks}
+use Rattle.checks.specs.Given.{Given}
+use Rattle.checks.specs.Refusals.{runChecks}
 use Rattle.flood.specs.Step.{stepNumber, stepped}
 use Rattle.flood.specs.declared.run.Ran.{Ran}
 

@@ -1,5 +1,5 @@
 // A run to an end: the checks once, then steps while the clock is below the end.
-use crate::checks::check;
+use checks::refusals::check;
 use crate::step::make_step;
 use grid::squares::MOST_ALONG;
 use grid::squares::MOST_SQUARES;
@@ -18,7 +18,7 @@ ghost use Rattle.reckon.specs.Ranges.{lastClock};
 ghost use Rattle.grid.specs.Squares.{squares};
 ghost use Rattle.ledger.specs.Runs.{plan, world};
 ghost use Rattle.ledger.specs.Record.{recordSize};
-ghost use Rattle.moves.specs.Given.{given, ground};
+ghost use Rattle.checks.specs.Given.{given, ground};
 ghost use Rattle.moves.specs.inner.Added.{rowsApart};
 ghost use Rattle.flood.specs.Step.{Passes};
 ghost use Rattle.flood.specs.Run.{RunsTo};

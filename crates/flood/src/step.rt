@@ -1,6 +1,6 @@
 // One step: its length, the added water, its record worked from the water before the step, then settled by the ledger. Where it is sure that the
 // ledger does not refuse it, the record is worked in its slot.
-use crate::checks::checked;
+use checks::refusals::checked;
 use grid::squares::MOST_ALONG;
 use grid::squares::MOST_SQUARES;
 use grid::squares::Shape;
@@ -12,10 +12,10 @@ use ledger::record::SQUARE_WORDS;
 use ledger::record::record_size;
 use ledger::runs::Answer;
 use ledger::runs::Run;
-use ledger::settle::Settled;
-use ledger::settle::settle;
-use ledger::settle::settle_stored;
-use ledger::settle::surely_settles;
+use settling::settle::Settled;
+use settling::settle::settle;
+use settling::settle::settle_stored;
+use settling::settle::surely_settles;
 use moves::added::add_water;
 use moves::added::rows_apart;
 use moves::fill::fill;
@@ -31,8 +31,8 @@ ghost use Rattle.reckon.specs.Ranges.{mostLength};
 ghost use Rattle.grid.specs.Squares.{squares};
 ghost use Rattle.ledger.specs.Runs.{plan, world};
 ghost use Rattle.ledger.specs.Record.{recordSize, roomSlots};
-ghost use Rattle.ledger.specs.inner.Settle.{nextRecord};
-ghost use Rattle.moves.specs.Given.{given, ground};
+ghost use Rattle.settling.specs.inner.Settle.{nextRecord};
+ghost use Rattle.checks.specs.Given.{given, ground};
 ghost use Rattle.moves.specs.inner.Added.{rowsApart};
 ghost use Rattle.moves.specs.inner.Fill.{Fills};
 ghost use Rattle.flood.specs.Step.{MakesStep, Passes, Steps};

@@ -20,7 +20,7 @@ use Rattle.ledger.specs.Runs.{Plan, World}
 use Rattle.ledger.specs.Flows.{Leaves, fourSides, shut, gone, sent, came, offSide, offSquare, offGrid, soakedSquare, soakedGrid}
 use Rattle.ledger.specs.Record.{squareWords, lastWord, addedWord, soakedWord, recordSize, heldIn, lastedIn, wordPlace, leavesIn, lastIn, addedIn, soakedIn, squareRecord, recordOf}
 use Rattle.ledger.specs.After.{Moves, remains, newDepth, depthsFit, newOutflow, newSoaked, lateRefusals, stepRecord, worldAfter, worldWith}
-use Rattle.ledger.specs.inner.Settle.{movesIn, settleRefusals, settleNumber}
+use Rattle.settling.specs.inner.Settle.{movesIn, settleRefusals, settleNumber}
 
 -- what is the same of each side is the same of the four
 four-same : {f g : ℕ → ℕ} → ((side : ℕ) → side < sides → f side ≡ g side) → fourSides f ≡ fourSides g

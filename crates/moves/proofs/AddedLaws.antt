@@ -29,7 +29,7 @@ use Rattle.rule.specs.declared.rules.Rules.{Rules}
 use Rattle.ledger.specs.Runs.{Plan}
 use Rattle.ledger.specs.Flows.{shut}
 use Rattle.moves.specs.inner.Added.{amountAt, unreached, rowSquare, rowAlone, rowsApart, tables, addedFits, RainedAll, PouredRow, PouredAll, Pours, Between, WaterAdded}
-use Rattle.moves.specs.Given.{Given}
+use Rattle.checks.specs.Given.{Given}
 use Rattle.moves.specs.Moves.{addedFor}
 
 -- ---- rain

@@ -18,9 +18,9 @@ use Rattle.rule.proofs.DropLaws.{off-le}
 use Rattle.reckon.specs.Ranges.{mostDepth, mostLength}
 use Rattle.ledger.specs.Runs.{Plan}
 use Rattle.ledger.specs.Flows.{shut}
-use Rattle.moves.specs.Given.{Ground}
+use Rattle.checks.specs.Given.{Ground}
 use Rattle.moves.specs.Drops.{levelAt, sideDrop, dropsOf}
-use Rattle.moves.specs.inner.Ready.{MeadowInRange}
+use Rattle.checks.specs.inner.Ready.{MeadowInRange}
 
 -- what stands on a side, as the code finds it
 module _ (p : Plan) (r : Rules) (beds depths : List ℕ) (i side : ℕ) {other : ℕ} (q : other ≡ beside (p .shape) i side) where

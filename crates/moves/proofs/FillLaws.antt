@@ -28,15 +28,15 @@ use Rattle.ledger.specs.Runs.{Plan, World, seenOf}
 use Rattle.ledger.specs.Flows.{Leaves, fourSides, shut, gone}
 use Rattle.ledger.specs.Record.{squareWords, wordPlace, recordSize, squareRecord, recordOf, HeadPut, SquarePut}
 use Rattle.ledger.specs.After.{stepRecord}
-use Rattle.ledger.specs.inner.Settle.{sends}
+use Rattle.settling.specs.inner.Settle.{sends}
 use Rattle.ledger.specs.inner.Walks.{Begun}
 use Rattle.ledger.proofs.RecordLaws.{begun-none, begun-open, begun-closed, begun-whole}
-use Rattle.moves.specs.Given.{Ground, Given}
+use Rattle.checks.specs.Given.{Ground, Given}
 use Rattle.moves.specs.Drops.{dropsOf}
 use Rattle.moves.specs.Moves.{squareCandidates, candidates, leavesFor, soakedFor, addedFor, stepLength, stepDuration, stepMoves}
 use Rattle.moves.specs.inner.Added.{tables, addedFits, WaterAdded}
 use Rattle.moves.specs.inner.Fill.{firm, LengthWorked, Cleared, FilledOne, FilledTo, FilledOn, RecordFilled, IdleAt}
-use Rattle.moves.specs.inner.Ready.{MeadowInRange}
+use Rattle.checks.specs.inner.Ready.{MeadowInRange}
 use Rattle.moves.proofs.MoveLaws.{weights, leaves-open, covered, soaked-open}
 
 -- a record goes by what is added to squares not closed alone

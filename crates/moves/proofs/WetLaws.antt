@@ -32,8 +32,8 @@ use Rattle.grid.proofs.WalkLaws.{within-from, within-passes}
 use Rattle.rule.specs.Length.{leastFrom}
 use Rattle.ledger.specs.Runs.{Plan}
 use Rattle.ledger.specs.Flows.{Leaves, shut, gone}
-use Rattle.ledger.specs.inner.Settle.{sends}
-use Rattle.moves.specs.Given.{Ground}
+use Rattle.settling.specs.inner.Settle.{sends}
+use Rattle.checks.specs.Given.{Ground}
 use Rattle.moves.specs.Moves.{squareCandidates, candidates, leavesFor, soakedFor}
 use Rattle.moves.specs.inner.Fill.{leastBelow, DryTo, FilledOne, FilledColumns, stirs, worksOn, isWorked, workedRows, IdleAt, IdleRow, IdleBy, LeftTo, LeftKept, senderRows}
 use Rattle.moves.proofs.FillLaws.{soaked-dry, dry-gone, dry-silent, filled-more, filled-idle, filled-on, left-here, left-elsewhere}

@@ -25,7 +25,7 @@ ghost use Rattle.rule.specs.inner.InRange.{EdgeInRange};
 ghost use Rattle.rule.specs.declared.rules.Rules as Declared;
 ghost use Rattle.ledger.specs.Runs.{plan};
 ghost use Rattle.moves.specs.Drops.{dropsOf, sideDrop};
-ghost use Rattle.moves.specs.inner.Ready.{GroundLent};
+ghost use Rattle.checks.specs.inner.Ready.{GroundLent};
 
 // The level of a square's water.
 fn level_of(beds: &[u32], depths: &[u32], square: usize) -> u64

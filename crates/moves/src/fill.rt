@@ -25,7 +25,7 @@ ghost use Rattle.grid.specs.Masks.{bits, digit, maskFrom};
 ghost use Rattle.grid.specs.inner.Rows.{InRow};
 ghost use Rattle.ledger.specs.Runs.{plan};
 ghost use Rattle.ledger.specs.Flows.{fourSides};
-ghost use Rattle.moves.specs.Given.{ground};
+ghost use Rattle.checks.specs.Given.{ground};
 ghost use Rattle.moves.specs.inner.Fill.{Cleared, FilledColumns, FilledOn, FilledOne, Fills, HasRow, HasRows, HasSquare, IdleBy, IdleRow, LeftKept, LeftTo, RecordFilled, senderRows, stirs, workedRows, worksOn};
 
 // What leaves through the four sides together.

@@ -23,7 +23,7 @@ ghost use Rattle.rule.specs.Length.{leastFrom};
 ghost use Rattle.ledger.specs.Runs.{plan};
 ghost use Rattle.moves.specs.Moves.{candidates, squareCandidates};
 ghost use Rattle.moves.specs.inner.Fill.{LengthWorked, firm, leastBelow};
-ghost use Rattle.moves.specs.inner.Ready.{MeadowInRange};
+ghost use Rattle.checks.specs.inner.Ready.{MeadowInRange};
 
 // The least of best and the candidates of one square.
 fn shorter_by(

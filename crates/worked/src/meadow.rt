@@ -4,7 +4,7 @@ use crate::printing::field;
 use crate::printing::fields;
 use crate::printing::run_fields;
 use crate::printing::words;
-use flood::fresh::fresh;
+use checks::fresh::fresh;
 use flood::run::Ran;
 use flood::run::run_to;
 use flood::step::step;

@@ -10,7 +10,7 @@ use Rattle.trials.specs.Room.{storedIn}
 use Rattle.grid.specs.declared.walks.Walk.{Walk}
 use Rattle.ledger.specs.Runs.{Plan, World}
 use Rattle.ledger.specs.Record.{recordSize, roomSlots, recordOf}
-use Rattle.moves.specs.Given.{Ground}
+use Rattle.checks.specs.Given.{Ground}
 use Rattle.moves.specs.Moves.{leavesFor, soakedFor}
 use Rattle.moves.specs.inner.Fill.{workedRows, senderRows, LeftKept}
 

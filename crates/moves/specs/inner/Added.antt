@@ -17,8 +17,8 @@ use Rattle.grid.specs.declared.squares.Shape.{Shape}
 use Rattle.rule.specs.declared.rules.Rules.{Rules}
 use Rattle.ledger.specs.Runs.{Plan}
 use Rattle.ledger.specs.Flows.{shut}
-use Rattle.moves.specs.Given.{Given, given, ground}
-use Rattle.moves.specs.inner.Ready.{TablesInRange}
+use Rattle.checks.specs.Given.{Given, given, ground}
+use Rattle.checks.specs.inner.Ready.{TablesInRange}
 use Rattle.moves.specs.Moves.{addedFor}
 
 -- ---- rain

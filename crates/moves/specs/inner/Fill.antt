@@ -21,12 +21,12 @@ use Rattle.rule.specs.declared.rules.Rules.{Rules}
 use Rattle.ledger.specs.Runs.{Plan}
 use Rattle.ledger.specs.Flows.{shut, gone}
 use Rattle.ledger.specs.Record.{recordOf, recordSize, wordPlace, SquarePut}
-use Rattle.ledger.specs.inner.Settle.{sends}
+use Rattle.settling.specs.inner.Settle.{sends}
 use Rattle.ledger.specs.inner.Walks.{Begun}
-use Rattle.moves.specs.Given.{Ground, ground}
+use Rattle.checks.specs.Given.{Ground, ground}
 use Rattle.moves.specs.Drops.{dropsOf}
 use Rattle.moves.specs.Moves.{squareCandidates, candidates, leavesFor, soakedFor}
-use Rattle.moves.specs.inner.Ready.{WaterInRange}
+use Rattle.checks.specs.inner.Ready.{WaterInRange}
 
 -- ---- the length
 

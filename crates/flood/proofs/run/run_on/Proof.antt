@@ -6,7 +6,7 @@ use native.Mathlib.Omega.{arith}
 use lib.ListN.{length}
 use borrow.Author.Needs.{needs}
 use Rattle.ledger.specs.Runs.{Plan, World, plan, world}
-use Rattle.moves.specs.Given.{Given, ground, given}
+use Rattle.checks.specs.Given.{Given, ground, given}
 use Rattle.flood.proofs.RunToLaws.{Running, running-starts, running-on, running-further, running-refused, running-ends}
 use Rattle.flood.proofs.run.run_on.Statement.{statement}
 use Rattle.flood.proofs.run.run_on.Tie as tie

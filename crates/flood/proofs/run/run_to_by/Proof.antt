@@ -7,9 +7,9 @@ use Rattle.reckon.specs.Tests.{refusal}
 use Rattle.grid.specs.Squares.{ShapeInRange, mostAlong, mostSquares}
 use Rattle.ledger.specs.Runs.{Plan, World, plan, world}
 use Rattle.ledger.specs.inner.Worlds.{mostRecord}
-use Rattle.moves.specs.Given.{Given, ground, given}
-use Rattle.flood.specs.Refusals.{runChecks}
-use Rattle.flood.proofs.CheckLaws.{run-checks-step, run-checks-end, end-is}
+use Rattle.checks.specs.Given.{Given, ground, given}
+use Rattle.checks.specs.Refusals.{runChecks}
+use Rattle.checks.proofs.CheckLaws.{run-checks-step, run-checks-end, end-is}
 use Rattle.flood.proofs.StepLaws.{is-ready, Parts, part-long, parts-in}
 use Rattle.flood.proofs.RunToLaws.{run-checked, run-passed}
 use Rattle.flood.proofs.run.run_to_by.Statement.{statement}

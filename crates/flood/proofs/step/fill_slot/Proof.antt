@@ -9,8 +9,8 @@ use Rattle.ledger.specs.Runs.{Plan, World, plan, world}
 use Rattle.ledger.specs.Record.{roomSlots}
 use Rattle.ledger.proofs.RecordLaws.{slots-of}
 use Rattle.ledger.proofs.ReadBack.{record-long}
-use Rattle.ledger.proofs.SettleLaws.{next-fits}
-use Rattle.ledger.proofs.SureLaws.{next-is}
+use Rattle.settling.proofs.SettleLaws.{next-fits}
+use Rattle.settling.proofs.SureLaws.{next-is}
 use Rattle.flood.proofs.StepLaws.{slot-written}
 use borrow.Author.Needs.{needs}
 use Rattle.flood.proofs.step.fill_slot.Statement.{statement}

@@ -11,15 +11,15 @@ use borrow.Author.Tests.{not-true, not-false}
 use borrow.Author.Needs.{needs}
 use Rattle.reckon.specs.Ranges.{lastClock}
 use Rattle.ledger.specs.Runs.{plan, world, seenOf, Plan, World, Seen}
-use Rattle.moves.specs.Given.{ground, Given, given}
+use Rattle.checks.specs.Given.{ground, Given, given}
 use Rattle.moves.specs.inner.Added.{addedFits}
 use Rattle.moves.proofs.MoveLaws.{step-lasts-to}
 use Rattle.moves.proofs.FillLaws.{lies-firmly, length-made, lasts-made, same-fits, room-made, record-made}
 use Rattle.grid.specs.Squares.{squares}
 use Rattle.ledger.specs.After.{stepRecord}
-use Rattle.ledger.specs.inner.Settle.{surelySettles}
+use Rattle.settling.specs.inner.Settle.{surelySettles}
 use Rattle.moves.specs.Moves.{stepLength, stepDuration, stepMoves}
-use Rattle.moves.specs.inner.Ready.{Ready}
+use Rattle.checks.specs.inner.Ready.{Ready}
 use Rattle.flood.specs.inner.Step.{filledRecord}
 use Rattle.flood.proofs.StepLaws.{is-ready, newest-below, step-seven, step-eight, settles, room-added, told, step-settled, stored-asks, stored-told, stored-added, stored-none, step-stored, next-long}
 use Rattle.flood.proofs.step.make_step.Statement.{statement}

@@ -2,7 +2,7 @@
 -- Assumes nothing.
 use borrow.Author.Needs.{needs}
 use Rattle.ledger.specs.Runs.{Plan, World, plan, world}
-use Rattle.moves.specs.Given.{Given, ground, given}
+use Rattle.checks.specs.Given.{Given, ground, given}
 use Rattle.flood.proofs.StepLaws.{step-checked, passes-checks, step-refused, step-done}
 use Rattle.flood.proofs.step.step_by.Statement.{statement}
 use Rattle.flood.proofs.step.step_by.Tie as tie

@@ -4,7 +4,7 @@
 use mathlib.Core.Path.{refl, _∙_}
 use borrow.Author.Needs.{needs}
 use Rattle.ledger.specs.Runs.{Plan, plan}
-use Rattle.moves.specs.Given.{Ground, ground}
+use Rattle.checks.specs.Given.{Ground, ground}
 use Rattle.moves.specs.inner.Fill.{FilledTo}
 use Rattle.moves.proofs.FillLaws.{filled-head, filled-whole}
 use Rattle.moves.proofs.WetLaws.{idle-by, left-kept}

@@ -9,7 +9,7 @@ use Rattle.grid.specs.Squares.{squares}
 use Rattle.grid.proofs.SquareLaws.{row-column}
 use Rattle.grid.proofs.WalkLaws.{within-from}
 use Rattle.ledger.specs.Runs.{Plan, plan}
-use Rattle.moves.specs.Given.{Ground, ground}
+use Rattle.checks.specs.Given.{Ground, ground}
 use Rattle.moves.specs.inner.Fill.{FilledColumns}
 use Rattle.moves.proofs.WetLaws.{columns-none, columns-idle, columns-more, senders-fit}
 use Rattle.moves.proofs.fill.fill_row.Statement.{statement}

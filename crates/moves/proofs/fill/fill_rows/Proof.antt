@@ -8,8 +8,8 @@ use lib.ListN.{length}
 use Rattle.grid.proofs.MaskLaws.{Rowed, rowed-none, rowed-long, rowed-more}
 use Rattle.grid.proofs.SquareLaws.{row-fits, row-begins}
 use Rattle.ledger.specs.Runs.{Plan, plan}
-use Rattle.ledger.specs.inner.Settle.{sends}
-use Rattle.moves.specs.Given.{Ground, ground}
+use Rattle.settling.specs.inner.Settle.{sends}
+use Rattle.checks.specs.Given.{Ground, ground}
 use Rattle.moves.specs.Moves.{leavesFor}
 use Rattle.moves.specs.inner.Fill.{FilledOn, LeftTo}
 use Rattle.moves.proofs.FillLaws.{filled-then, filled-on}

@@ -6,7 +6,7 @@ use borrow.Author.Needs.{needs}
 use Rattle.reckon.proofs.TestLaws.{not-both, pick-true}
 use Rattle.ledger.specs.Runs.{Plan, plan}
 use Rattle.ledger.specs.Flows.{shut}
-use Rattle.moves.specs.Given.{Ground, ground}
+use Rattle.checks.specs.Given.{Ground, ground}
 use Rattle.moves.proofs.FillLaws.{put-dry, soaked-dry, dry-gone, dry-silent, left-set}
 use Rattle.moves.proofs.fill.fill_square.Statement.{statement}
 use Rattle.moves.proofs.fill.fill_square.Tie as tie

@@ -11,7 +11,7 @@ use Rattle.reckon.proofs.TestLaws.{not-both}
 use Rattle.grid.specs.Squares.{mostSquares}
 use Rattle.ledger.specs.Runs.{Plan, plan}
 use Rattle.ledger.specs.Flows.{gone}
-use Rattle.moves.specs.Given.{Ground, ground}
+use Rattle.checks.specs.Given.{Ground, ground}
 use Rattle.moves.specs.Drops.{dropsOf}
 use Rattle.moves.specs.Moves.{leavesFor}
 use Rattle.moves.proofs.DropLaws.{weighable}

@@ -7,7 +7,7 @@ use Rattle.grid.specs.Walks.{nextWithin}
 use Rattle.grid.proofs.SquareLaws.{row-column}
 use Rattle.grid.proofs.WalkLaws.{within-from}
 use Rattle.ledger.specs.Runs.{Plan, plan}
-use Rattle.moves.specs.Given.{Ground}
+use Rattle.checks.specs.Given.{Ground}
 use Rattle.moves.specs.inner.Fill.{firm, leastBelow}
 use Rattle.moves.proofs.WetLaws.{next-dry, dry-at, below-more, below-idle}
 use Rattle.moves.proofs.length.least_in_row.Statement.{statement}

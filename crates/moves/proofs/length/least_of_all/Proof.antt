@@ -8,7 +8,7 @@ use Rattle.reckon.specs.Lists.{joined}
 use Rattle.grid.proofs.SquareLaws.{carried, column-within}
 use Rattle.rule.specs.Length.{leastFrom}
 use Rattle.ledger.specs.Runs.{Plan, plan}
-use Rattle.moves.specs.Given.{Ground}
+use Rattle.checks.specs.Given.{Ground}
 use Rattle.moves.specs.inner.Fill.{firm}
 use Rattle.moves.specs.Moves.{squareCandidates}
 use Rattle.moves.proofs.LengthLaws.{least-begin, least-more, least-all}

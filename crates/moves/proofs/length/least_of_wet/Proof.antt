@@ -6,7 +6,7 @@ use native.Mathlib.Nat.{zero-mul}
 use native.Mathlib.Omega.{arith}
 use Rattle.grid.proofs.SquareLaws.{row-fits, row-begins, next-row}
 use Rattle.ledger.specs.Runs.{Plan, plan}
-use Rattle.moves.specs.Given.{Ground}
+use Rattle.checks.specs.Given.{Ground}
 use Rattle.moves.specs.inner.Fill.{firm, leastBelow}
 use Rattle.moves.proofs.WetLaws.{below-none, below-all}
 use Rattle.moves.proofs.length.least_of_wet.Statement.{statement}

@@ -5,7 +5,7 @@ use mathlib.Core.Bool.{false}
 use borrow.Author.Needs.{needs}
 use Rattle.ledger.specs.Runs.{Plan, plan}
 use Rattle.ledger.specs.Flows.{shut}
-use Rattle.moves.specs.Given.{Ground}
+use Rattle.checks.specs.Given.{Ground}
 use Rattle.moves.specs.inner.Fill.{firm}
 use Rattle.moves.proofs.DropLaws.{candidacy}
 use Rattle.moves.proofs.LengthLaws.{least-closed, least-open, least-dry, shorter-made}
