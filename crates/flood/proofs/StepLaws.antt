@@ -25,9 +25,11 @@ use Rattle.ledger.specs.Runs.{Plan, World, world, answered, Seen, seenOf}
 use Rattle.ledger.specs.Flows.{Leaves, shut, gone}
 use Rattle.ledger.specs.Record.{leavesIn, addedIn, soakedIn, roomSlots, ringOf, headWords, squareWords, SizeOf, recordSize}
 use Rattle.ledger.specs.After.{Moves, newDepth, depthsFit, lateRefusals, stepRecord, worldAfter, worldWith}
-use Rattle.settling.specs.inner.Settle.{movesIn, settleNumber, settled, Settles, SettlesTo, IdleAt, sends, Told, RoomAdded, surelySettles, nextRecord}
+use Rattle.ledger.specs.inner.Walks.{sends}
+use Rattle.settling.specs.inner.Settle.{movesIn, settleNumber, settled, Settles, SettlesTo, IdleAt, Told, RoomAdded, surelySettles, nextRecord}
 use Rattle.grid.specs.declared.squares.Shape.{Shape}
-use Rattle.ledger.proofs.ReadBack.{step-long, step-lasted, step-gone, step-added, step-soaked, settled-is, late-settled}
+use Rattle.ledger.proofs.ReadBack.{step-long, step-lasted, step-gone, step-added, step-soaked}
+use Rattle.settling.proofs.ByRecord.{settled-is, late-settled}
 use Rattle.ledger.proofs.RecordLaws.{slots-of}
 use Rattle.settling.proofs.SureLaws.{surely-settled, next-read, stored-settles, stored-settled}
 use Rattle.checks.specs.Given.{Given}

@@ -6,13 +6,6 @@
 //   run::run_to         steps to an end of the clock, after the checks
 //   run::run_to_wet     the same by the wet walk
 //   run::run_to_by      either, by a Walk
-//   fresh::fresh        a fresh run: clock 0, no trial kept, no last leaving; depths are the caller's
-//   fresh::fresh_run    the run value of one, with no check
-//   checks::check       refusals 1 to 6 of everything lent
-//   bounds::step_bounds the most and the least steps of a run, before it is made
-// A take-back is the ledger's: ledger::take_back::take_back.
-pub mod bounds;
-pub mod checks;
-pub mod fresh;
+// A fresh run and the checks are in `checks`; a take-back is the ledger's: ledger::take_back::take_back.
 pub mod run;
 pub mod step;

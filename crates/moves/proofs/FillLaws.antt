@@ -28,8 +28,7 @@ use Rattle.ledger.specs.Runs.{Plan, World, seenOf}
 use Rattle.ledger.specs.Flows.{Leaves, fourSides, shut, gone}
 use Rattle.ledger.specs.Record.{squareWords, wordPlace, recordSize, squareRecord, recordOf, HeadPut, SquarePut}
 use Rattle.ledger.specs.After.{stepRecord}
-use Rattle.settling.specs.inner.Settle.{sends}
-use Rattle.ledger.specs.inner.Walks.{Begun}
+use Rattle.ledger.specs.inner.Walks.{Begun, sends}
 use Rattle.ledger.proofs.RecordLaws.{begun-none, begun-open, begun-closed, begun-whole}
 use Rattle.checks.specs.Given.{Ground, Given}
 use Rattle.moves.specs.Drops.{dropsOf}

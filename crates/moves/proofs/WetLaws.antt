@@ -32,7 +32,7 @@ use Rattle.grid.proofs.WalkLaws.{within-from, within-passes}
 use Rattle.rule.specs.Length.{leastFrom}
 use Rattle.ledger.specs.Runs.{Plan}
 use Rattle.ledger.specs.Flows.{Leaves, shut, gone}
-use Rattle.settling.specs.inner.Settle.{sends}
+use Rattle.ledger.specs.inner.Walks.{sends}
 use Rattle.checks.specs.Given.{Ground}
 use Rattle.moves.specs.Moves.{squareCandidates, candidates, leavesFor, soakedFor}
 use Rattle.moves.specs.inner.Fill.{leastBelow, DryTo, FilledOne, FilledColumns, stirs, worksOn, isWorked, workedRows, IdleAt, IdleRow, IdleBy, LeftTo, LeftKept, senderRows}

@@ -29,7 +29,8 @@ use Rattle.ledger.specs.inner.Worlds.{ofDepths}
 use Rattle.ledger.specs.Flows.{shut, gone, sent, came}
 use Rattle.ledger.specs.Record.{leavesIn}
 use Rattle.ledger.specs.After.{remains, newDepth, depthsFit}
-use Rattle.settling.specs.inner.Settle.{movesIn, depthBy, depthsBy, sends, SentBy, Told, RoomDepths, reachedRow, reachedAt, WhereClear, NoneBeyond, fitsAt, Written, skipsIn, unworked, unreached}
+use Rattle.ledger.specs.inner.Walks.{sends}
+use Rattle.settling.specs.inner.Settle.{movesIn, depthBy, depthsBy, SentBy, Told, RoomDepths, reachedRow, reachedAt, WhereClear, NoneBeyond, fitsAt, Written, skipsIn, unworked, unreached}
 use Rattle.ledger.proofs.FlowLaws.{four-sides}
 use Rattle.settling.proofs.SpreadLaws.{side-part}
 

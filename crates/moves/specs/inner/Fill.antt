@@ -21,8 +21,7 @@ use Rattle.rule.specs.declared.rules.Rules.{Rules}
 use Rattle.ledger.specs.Runs.{Plan}
 use Rattle.ledger.specs.Flows.{shut, gone}
 use Rattle.ledger.specs.Record.{recordOf, recordSize, wordPlace, SquarePut}
-use Rattle.settling.specs.inner.Settle.{sends}
-use Rattle.ledger.specs.inner.Walks.{Begun}
+use Rattle.ledger.specs.inner.Walks.{Begun, sends}
 use Rattle.checks.specs.Given.{Ground, ground}
 use Rattle.moves.specs.Drops.{dropsOf}
 use Rattle.moves.specs.Moves.{squareCandidates, candidates, leavesFor, soakedFor}

@@ -19,6 +19,7 @@ use Rattle.grid.specs.Marks.{closed}
 use Rattle.grid.specs.Masks.{bitAt}
 use Rattle.grid.specs.Walks.{bitOf, besideSet}
 use Rattle.ledger.specs.Runs.{Plan, World}
+use Rattle.ledger.specs.inner.Walks.{sends}
 use Rattle.ledger.specs.inner.Worlds.{ofDepths}
 use Rattle.ledger.specs.Flows.{Leaves, fourSides, shut, gone, sent, offSquare, offGrid, soakedSquare, soakedGrid}
 use Rattle.ledger.specs.Record.{recordSize, lastedIn, leavesIn, addedIn, soakedIn, roomSlots, Recorded}
@@ -134,10 +135,6 @@ StillBy p lasts rows = (i : ℕ) → i < squares (p .shape) → bitOf (p .shape)
 
 abbrev pub LeftBy : Plan → List ℕ → List ℕ → List ℕ → Type 0
 LeftBy p rec left rows = (i : ℕ) → i < squares (p .shape) → bitOf (p .shape) rows i ≡ true → shut p i ≡ false → getD left i 0 ≡ gone (leavesIn rec) i
-
--- whether a square not closed sent anything
-unfoldable pub sends : Plan → Leaves → ℕ → Bool
-sends p out i = not (shut p i) && not (eqb (gone out i) 0)
 
 -- the masks of rows have a bit for each square that sent
 abbrev pub SentBy : Plan → List ℕ → List ℕ → Type 0

@@ -8,7 +8,7 @@ use lib.ListN.{length}
 use Rattle.grid.proofs.MaskLaws.{Rowed, rowed-none, rowed-long, rowed-more}
 use Rattle.grid.proofs.SquareLaws.{row-fits, row-begins}
 use Rattle.ledger.specs.Runs.{Plan, plan}
-use Rattle.settling.specs.inner.Settle.{sends}
+use Rattle.ledger.specs.inner.Walks.{sends}
 use Rattle.checks.specs.Given.{Ground, ground}
 use Rattle.moves.specs.Moves.{leavesFor}
 use Rattle.moves.specs.inner.Fill.{FilledOn, LeftTo}
