@@ -21,7 +21,8 @@ use Rattle.rule.specs.declared.rules.Rules.{Rules}
 use Rattle.rule.proofs.RuleLaws.{rules-are, ground-is}
 use Rattle.ledger.specs.Runs.{Plan, World, plan, runValuesFine, runFine, Seen, seenOf}
 use Rattle.ledger.specs.Flows.{shut}
-use Rattle.ledger.specs.Record.{ringOf}
+use Rattle.trials.specs.Ring.{slotsIn}
+use Rattle.ledger.specs.Record.{recordSize, roomSlots, ringOf}
 use Rattle.ledger.specs.Checks.{WaterLent, oneEach, watersFine}
 use Rattle.ledger.specs.TakeBack.{earlyRefusals}
 use Rattle.ledger.specs.declared.runs.Run.{Run}
@@ -235,6 +236,11 @@ module _ (s : Shape) (marks : List ℕ) (D : ℕ) (beds roughness rates depths l
           depths-long = each-long (plan s marks) _ (t .1 .1 .1 .1 .1 .1 .0);
           lasts-long = each-long (plan s marks) _ (t .1 .1 .1 .1 .1 .1 .1 .0);
         }
+
+-- how many slots a room has, by how many numbers it has
+pub slots-by : (p : Plan) (records : List ℕ) {numbers k : ℕ} → k ≡ slotsIn (recordSize p) numbers → length records ≡ numbers → k ≡ roomSlots p records
+unfolding roomSlots
+slots-by p records e long = e ∙ ap (slotsIn (recordSize p)) (sym long)
 
 -- row 6, where K is known by another name
 pub run-fine-by : {r : Bool} {a b : ℕ} (u : Run) → r ≡ runFine a u → a ≡ b → r ≡ runFine b u

@@ -5,7 +5,7 @@ use mathlib.Core.Bool.{Bool, _||_}
 use mathlib.Core.List.{List, [], _∷_}
 use Prim.Native.Nat.{ℕ, _%_}
 use lib.Dec.{eqb, leb}
-use lib.ListN.{getD}
+use lib.ListN.{length, getD}
 use Rattle.reckon.specs.Tests.{every, allBelow, Row, _unless_, refusal}
 use Rattle.reckon.specs.Ranges.{lastClock, sideFine, rateFine}
 use Rattle.reckon.specs.Tables.{rainKind, inflowKind, tableFine}
@@ -13,10 +13,11 @@ use Rattle.grid.specs.Squares.{squares, shapeFine}
 use Rattle.grid.specs.Marks.{marksFine, inflowSquaresFine}
 use Rattle.rule.specs.Rules.{groundFine, rulesFine}
 use Rattle.rule.specs.declared.rules.Rules.{Rules}
-use Rattle.ledger.specs.Runs.{Plan, World, Seen, seenOf, runValuesFine}
+use Rattle.ledger.specs.Runs.{Plan, World, world, Seen, seenOf, runValuesFine}
 use Rattle.ledger.specs.Flows.{shut}
 use Rattle.ledger.specs.Record.{ringOf}
 use Rattle.ledger.specs.Checks.{oneEach, watersFine}
+use Rattle.ledger.specs.declared.runs.Run.{Run}
 use Rattle.checks.specs.Given.{Ground, Given}
 
 -- 2: "bed or roughness of a square not closed out of range", "a rate above 1,000,000" (document 02, #106)
@@ -70,6 +71,12 @@ module _ (p : Plan) (g : Given) where
 
 -- ---- what the public functions give
 
--- the first of rows 1 to 6 of a run to an end that applies, 0 for none
-abbrev pub Checks : Plan → Given → ℕ → World → ℕ → Type 0
-Checks p g end w r = r ≡ refusal (runChecks p g end w)
+-- the first of rows 1 to 6 of a step that applies, 0 for none, with whatever record room of so many numbers
+abbrev pub ChecksStep : Plan → Given → List ℕ → List ℕ → ℕ → Run → ℕ → Type 0
+ChecksStep p g depths lasts numbers u r =
+    (records : List ℕ) → length records ≡ numbers →
+    r ≡ refusal (stepChecks p g (ringOf p (world depths lasts records u)) (seenOf (world depths lasts records u)))
+
+-- the same of a run to an end
+abbrev pub Checks : Plan → Given → ℕ → List ℕ → List ℕ → ℕ → Run → ℕ → Type 0
+Checks p g end depths lasts numbers u r = (records : List ℕ) → length records ≡ numbers → r ≡ refusal (runChecks p g end (world depths lasts records u))

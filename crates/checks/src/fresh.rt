@@ -53,7 +53,7 @@ fn fresh_number(shape: Shape, rules: Rules, marks: &[u8], lasts: &[u32], records
     if !rules_fine(rules) {
         return 5;
     }
-    if slots_of(shape, records) == 0 {
+    if slots_of(shape, records.len()) == 0 {
         return 6;
     }
     0
@@ -107,5 +107,5 @@ pub fn fresh(shape: Shape, rules: Rules, marks: &[u8], lasts: &mut [u32], record
         return Answer::Refused(number);
     }
     clear_lasts(shape, marks, lasts);
-    Answer::Done(fresh_run(rules, slots_of(shape, records)))
+    Answer::Done(fresh_run(rules, slots_of(shape, records.len())))
 }

@@ -23,18 +23,20 @@ ghost use mathlib.Core.Bool.{_||_};
 ghost use mathlib.Core.List.{[], _∷_};
 ghost use Prim.Native.Nat.{_<_};
 ghost use lib.ListN.{length, getD};
-ghost use Rattle.reckon.specs.Tests.{every, refusal};
+ghost use Rattle.reckon.specs.Tests.{every};
 ghost use Rattle.reckon.specs.Tables.{rainKind, inflowKind, tableFine};
 ghost use Rattle.grid.specs.Squares.{ShapeInRange, shapeFine, squares};
 ghost use Rattle.grid.specs.Marks.{Marked, closed, inflowSquaresFine};
 ghost use Rattle.rule.specs.Rules.{rulesFine};
 ghost use Rattle.reckon.specs.Ranges.{sideFine};
 ghost use Rattle.rule.specs.declared.rules.Rules as Declared;
-ghost use Rattle.ledger.specs.Runs.{plan, world, seenOf};
-ghost use Rattle.ledger.specs.Record.{roomSlots, ringOf};
+ghost use Rattle.ledger.specs.Runs.{plan};
+ghost use Rattle.trials.specs.Ring.{slotsIn};
+ghost use Rattle.ledger.specs.Record.{recordSize};
 ghost use Rattle.ledger.specs.Checks.{oneEach};
 ghost use Rattle.checks.specs.Given.{ground, given};
-ghost use Rattle.checks.specs.Refusals.{Checks, checkRefusals, endFine, groundsFine, squareGroundFine};
+ghost use Rattle.checks.specs.Refusals.{Checks, ChecksStep, endFine, groundsFine, squareGroundFine};
+ghost use Rattle.checks.specs.inner.Rows.{RowsTried};
 
 // Refusal 2 for the ground of one square.
 fn ground_at_fine(
@@ -144,16 +146,16 @@ pub(crate) fn rules_and_end_fine(rules: Rules, end: u64) -> bool
     end_fine(rules, end)
 }
 
-// How many records the room holds.
-pub(crate) fn slots_of(shape: Shape, records: &[u32]) -> usize
+// How many records a room of so many numbers holds.
+pub(crate) fn slots_of(shape: Shape, numbers: usize) -> usize
     requires { ⌜ ShapeInRange shape ⌝ }
-    ensures { λ r. ⌜ r ≡ roomSlots (plan shape []) (now (records .entry)) ⌝ }
+    ensures { λ r. ⌜ r ≡ slotsIn (recordSize (plan shape [])) numbers ⌝ }
 {
-    trials::slots_in(record_size(shape), records.len())
+    trials::slots_in(record_size(shape), numbers)
 }
 
-// The first number of 1 to 6 that applies, 0 for none, where `five` tells whether 5 does not.
-pub(crate) fn checked(
+// The first number of 1 to 6 that applies, 0 for none, where `five` tells whether 5 does not. Of the record room only its size is looked at.
+fn checked(
     shape: Shape,
     rules: Rules,
     run: Run,
@@ -166,9 +168,9 @@ pub(crate) fn checked(
     inflow: &[u32],
     depths: &[u32],
     lasts: &[u32],
-    records: &[u32],
+    numbers: usize,
 ) -> u32
-    ensures { λ r. ⌜ r ≡ refusal (checkRefusals (plan shape (now (marks .entry))) (given (ground rules (now (beds .entry)) (now (roughness .entry)) (now (rates .entry))) (now (rain .entry)) (now (inflow .entry))) five (ringOf (plan shape (now (marks .entry))) (world (now (depths .entry)) (now (lasts .entry)) (now (records .entry)) run)) (seenOf (world (now (depths .entry)) (now (lasts .entry)) (now (records .entry)) run))) ⌝ }
+    ensures { λ r. ⌜ RowsTried (plan shape (now (marks .entry))) (given (ground rules (now (beds .entry)) (now (roughness .entry)) (now (rates .entry))) (now (rain .entry)) (now (inflow .entry))) five (now (depths .entry)) (now (lasts .entry)) numbers run r ⌝ }
 {
     if !lent_fine(shape, rules, marks, beds, roughness, rates, depths, lasts) {
         return 1;
@@ -188,10 +190,44 @@ pub(crate) fn checked(
     if !five {
         return 5;
     }
-    if !run_fine(slots_of(shape, records), run) {
+    if !run_fine(slots_of(shape, numbers), run) {
         return 6;
     }
     0
+}
+
+// The first number of 1 to 6 that applies to a step, 0 for none.
+pub fn check_step(
+    shape: Shape,
+    rules: Rules,
+    run: Run,
+    marks: &[u8],
+    beds: &[u32],
+    roughness: &[u32],
+    rates: &[u32],
+    rain: &[u32],
+    inflow: &[u32],
+    depths: &[u32],
+    lasts: &[u32],
+    numbers: usize,
+) -> u32
+    ensures { λ r. ⌜ ChecksStep (plan shape (now (marks .entry))) (given (ground rules (now (beds .entry)) (now (roughness .entry)) (now (rates .entry))) (now (rain .entry)) (now (inflow .entry))) (now (depths .entry)) (now (lasts .entry)) numbers run r ⌝ }
+{
+    checked(
+        shape,
+        rules,
+        run,
+        rules_fine(rules),
+        marks,
+        beds,
+        roughness,
+        rates,
+        rain,
+        inflow,
+        depths,
+        lasts,
+        numbers,
+    )
 }
 
 // The first number of 1 to 6 that applies to a run to an end, 0 for none.
@@ -208,9 +244,9 @@ pub fn check(
     inflow: &[u32],
     depths: &[u32],
     lasts: &[u32],
-    records: &[u32],
+    numbers: usize,
 ) -> u32
-    ensures { λ r. ⌜ Checks (plan shape (now (marks .entry))) (given (ground rules (now (beds .entry)) (now (roughness .entry)) (now (rates .entry))) (now (rain .entry)) (now (inflow .entry))) end (world (now (depths .entry)) (now (lasts .entry)) (now (records .entry)) run) r ⌝ }
+    ensures { λ r. ⌜ Checks (plan shape (now (marks .entry))) (given (ground rules (now (beds .entry)) (now (roughness .entry)) (now (rates .entry))) (now (rain .entry)) (now (inflow .entry))) end (now (depths .entry)) (now (lasts .entry)) numbers run r ⌝ }
 {
     checked(
         shape,
@@ -225,6 +261,6 @@ pub fn check(
         inflow,
         depths,
         lasts,
-        records,
+        numbers,
     )
 }

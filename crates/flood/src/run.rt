@@ -134,7 +134,7 @@ pub fn run_to_by(
         inflow,
         depths,
         lasts,
-        records,
+        records.len(),
     );
     if number != 0 {
         return Ran {

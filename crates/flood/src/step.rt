@@ -1,6 +1,6 @@
 // One step: its length, the added water, its record worked from the water before the step, then settled by the ledger. Where it is sure that the
 // ledger does not refuse it, the record is worked in its slot.
-use checks::refusals::checked;
+use checks::refusals::check_step;
 use grid::squares::MOST_ALONG;
 use grid::squares::MOST_SQUARES;
 use grid::squares::Shape;
@@ -23,7 +23,6 @@ use moves::length::step_length;
 use reckon::ranges::LAST_CLOCK;
 use rule::length::duration_for;
 use rule::rules::Rules;
-use rule::rules::rules_fine;
 ghost use mathlib.Core.Path.{_≡_};
 ghost use Prim.Native.Nat.{_<_, _≤_};
 ghost use lib.ListN.{length};
@@ -395,11 +394,10 @@ pub fn step_by(
 ) -> Answer
     ensures { λ r. ⌜ Steps (plan shape (now (marks .entry))) (given (ground rules (now (beds .entry)) (now (roughness .entry)) (now (rates .entry))) (now (rain .entry)) (now (inflow .entry))) (world (now (depths .entry)) (now (lasts .entry)) (now (records .entry)) run) r (now (depths .exit)) (now (lasts .exit)) (now (records .exit)) ⌝ }
 {
-    let number = checked(
+    let number = check_step(
         shape,
         rules,
         run,
-        rules_fine(rules),
         marks,
         beds,
         roughness,
@@ -408,7 +406,7 @@ pub fn step_by(
         inflow,
         depths,
         lasts,
-        records,
+        records.len(),
     );
     if number != 0 {
         return Answer::Refused(number);

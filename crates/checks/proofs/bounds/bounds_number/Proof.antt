@@ -1,4 +1,4 @@
--- `flood::bounds::bounds_number` meets its contract: the tests are made in the table's order, and the first that fails is given.
+-- `checks::bounds::bounds_number` meets its contract: the tests are made in the table's order, and the first that fails is given.
 -- Assumes nothing.
 use mathlib.Core.Path.{sym, _∙_}
 use borrow.Author.Needs.{needs}

@@ -1,4 +1,4 @@
--- `flood::bounds::figures_of` meets its contract: a span has no more steps than ms, so that both products fit.
+-- `checks::bounds::figures_of` meets its contract: a span has no more steps than ms, so that both products fit.
 -- Assumes nothing.
 use mathlib.Core.Path.{refl}
 use native.Mathlib.Omega.{arith}

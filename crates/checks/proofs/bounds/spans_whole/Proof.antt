@@ -1,4 +1,4 @@
--- `flood::bounds::spans_whole` meets its contract: a clock between multiples of U fails, and at one the end decides.
+-- `checks::bounds::spans_whole` meets its contract: a clock between multiples of U fails, and at one the end decides.
 -- Assumes nothing.
 use mathlib.Core.Path.{refl, sym}
 use borrow.Author.Needs.{needs}

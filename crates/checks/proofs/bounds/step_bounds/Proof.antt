@@ -1,4 +1,4 @@
--- `flood::bounds::step_bounds` meets its contract: refused, or a case of its own, or both figures.
+-- `checks::bounds::step_bounds` meets its contract: refused, or a case of its own, or both figures.
 -- Assumes nothing.
 use borrow.Author.Needs.{needs}
 use Rattle.checks.proofs.CheckLaws.{fails-by, holds-by}

@@ -1,4 +1,4 @@
--- `flood::fresh::clear_last` meets its contract: a closed square's number stays.
+-- `checks::fresh::clear_last` meets its contract: a closed square's number stays.
 -- Assumes nothing.
 use mathlib.Core.Path.{sym, _∙_}
 use borrow.Author.Needs.{needs}

@@ -1,4 +1,4 @@
--- `flood::fresh::clear_lasts` meets its contract: the room is filled with 0 up to the square.
+-- `checks::fresh::clear_lasts` meets its contract: the room is filled with 0 up to the square.
 -- Assumes nothing.
 use mathlib.Core.Path.{_≡_}
 use Prim.Native.Nat.{_≤_, _-_}

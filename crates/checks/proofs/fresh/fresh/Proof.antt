@@ -1,4 +1,4 @@
--- `flood::fresh::fresh` meets its contract: refused, nothing is written; else the last leaving is cleared and the run is the fresh one.
+-- `checks::fresh::fresh` meets its contract: refused, nothing is written; else the last leaving is cleared and the run is the fresh one.
 -- Assumes nothing.
 use mathlib.Core.Path.{_≡_, sym, _∙_}
 use native.Mathlib.Omega.{arith}

@@ -1,4 +1,4 @@
--- `flood::fresh::fresh_number` meets its contract: the tests are made in the table's order, and the first that fails is given.
+-- `checks::fresh::fresh_number` meets its contract: the tests are made in the table's order, and the first that fails is given.
 -- Assumes nothing.
 use mathlib.Core.Path.{sym, ap, _∙_}
 use mathlib.Core.Bool.{not}

@@ -1,4 +1,4 @@
--- `flood::fresh::fresh_run` meets its contract: it is the definition's.
+-- `checks::fresh::fresh_run` meets its contract: it is the definition's.
 -- Assumes nothing.
 use mathlib.Core.Path.{refl}
 use borrow.Author.Needs.{needs}

@@ -1,4 +1,4 @@
--- `flood::fresh::sizes_fine` meets its contract: the first test that fails decides, and where each before it holds the last does.
+-- `checks::fresh::sizes_fine` meets its contract: the first test that fails decides, and where each before it holds the last does.
 -- Assumes nothing.
 use mathlib.Core.Path.{sym, _∙_}
 use borrow.Author.Needs.{needs}

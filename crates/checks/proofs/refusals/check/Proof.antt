@@ -1,4 +1,4 @@
--- `flood::checks::check` meets its contract: row 5 is judged by the rules and the end.
+-- `checks::refusals::check` meets its contract: row 5 is judged by the rules and the end.
 -- Assumes nothing.
 use borrow.Author.Needs.{needs}
 use Rattle.checks.proofs.refusals.check.Statement.{statement}

@@ -1,4 +1,4 @@
--- `flood::checks::end_fine` meets its contract: an end past the last clock fails, and below it the rest of the division decides.
+-- `checks::refusals::end_fine` meets its contract: an end past the last clock fails, and below it the rest of the division decides.
 -- Assumes nothing.
 use mathlib.Core.Path.{refl, sym}
 use borrow.Author.Tests.{lt-leb, le-leb}

@@ -1,4 +1,4 @@
--- `flood::checks::ground_at_fine` meets its contract: a closed square passes, and of any other first its ground decides, then its rate.
+-- `checks::refusals::ground_at_fine` meets its contract: a closed square passes, and of any other first its ground decides, then its rate.
 -- Assumes nothing.
 use mathlib.Core.Path.{_≡_, sym, _∙_}
 use mathlib.Core.Bool.{false}

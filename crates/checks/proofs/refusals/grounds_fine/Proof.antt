@@ -1,4 +1,4 @@
--- `flood::checks::grounds_fine` meets its contract: every square passed so far was fine.
+-- `checks::refusals::grounds_fine` meets its contract: every square passed so far was fine.
 -- Assumes nothing.
 use mathlib.Core.Path.{_≡_, sym}
 use mathlib.Core.Bool.{true, _||_}

@@ -1,4 +1,4 @@
--- `flood::checks::lent_fine` meets its contract: the first test that fails decides, and where each before it holds the last does.
+-- `checks::refusals::lent_fine` meets its contract: the first test that fails decides, and where each before it holds the last does.
 -- Assumes nothing.
 use mathlib.Core.Path.{sym, _∙_}
 use borrow.Author.Needs.{needs}

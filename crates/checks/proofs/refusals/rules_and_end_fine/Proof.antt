@@ -1,4 +1,4 @@
--- `flood::checks::rules_and_end_fine` meets its contract: the end is judged where the rules are fine, so that U is not 0.
+-- `checks::refusals::rules_and_end_fine` meets its contract: the end is judged where the rules are fine, so that U is not 0.
 -- Assumes nothing.
 use mathlib.Core.Path.{sym, _∙_}
 use borrow.Author.Needs.{needs}

@@ -1,10 +1,8 @@
--- `flood::checks::slots_of` meets its contract: the size is that of a record.
+-- `checks::refusals::slots_of` meets its contract: the size is that of a record.
 -- Assumes nothing.
 use mathlib.Core.Path.{ap, _∙_}
 use Prim.Native.Nat.{ℕ, _/_}
-use lib.ListN.{length}
 use borrow.Author.Needs.{needs}
-use Rattle.ledger.specs.Record.{roomSlots}
 use Rattle.checks.proofs.refusals.slots_of.Statement.{statement}
 use Rattle.checks.proofs.refusals.slots_of.Tie as tie
 
@@ -15,8 +13,7 @@ slots-in-requires : tie.Need-slots-in-requires
 slots-in-requires c κs = search needs
 
 returns : tie.Need-returns
-unfolding roomSlots
-returns c = c .slots-in .ensures ∙ ap (λ (size : ℕ). length (c .before .before .before .args .records .now) / size) (c .before .record-size .ensures)
+returns c = c .slots-in .ensures ∙ ap (λ (size : ℕ). c .before .before .args .numbers / size) (c .before .record-size .ensures)
 
 pub slots-of-spec : {M : Type 1} → statement M
 slots-of-spec = tie.close (tie.spec record-size-requires slots-in-requires returns)

@@ -1,4 +1,4 @@
--- `flood::checks::tables_fine` meets its contract: the first test that fails decides, and where each before it holds the last does.
+-- `checks::refusals::tables_fine` meets its contract: the first test that fails decides, and where each before it holds the last does.
 -- Assumes nothing.
 use mathlib.Core.Path.{sym, _∙_}
 use borrow.Author.Needs.{needs}

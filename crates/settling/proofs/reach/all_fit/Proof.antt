@@ -1,4 +1,4 @@
--- `ledger::reach::all_fit` meets its contract: the rows so far fit; a row's columns that are not reached have nothing in the room.
+-- `settling::reach::all_fit` meets its contract: the rows so far fit; a row's columns that are not reached have nothing in the room.
 -- Assumes nothing.
 use mathlib.Core.Path.{_≡_, sym, ap, _∙_}
 use mathlib.Core.Bool.{Bool, true, false}

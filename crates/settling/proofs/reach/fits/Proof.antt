@@ -1,4 +1,4 @@
--- `ledger::reach::fits` meets its contract: what is not above the most fits, and so does what stands at a closed square.
+-- `settling::reach::fits` meets its contract: what is not above the most fits, and so does what stands at a closed square.
 -- Assumes nothing.
 use native.Mathlib.Omega.{arith}
 use Rattle.settling.proofs.ReachLaws.{fits-low, fits-closed}

@@ -1,4 +1,4 @@
--- `ledger::reach::reached` meets its contract: the row's own mask, and the columns beside those that sent.
+-- `settling::reach::reached` meets its contract: the row's own mask, and the columns beside those that sent.
 -- Assumes nothing.
 use mathlib.Core.Path.{ap}
 use Prim.Native.Nat.{ℕ}

@@ -1,4 +1,4 @@
--- `ledger::reach::row_fits` meets its contract: all squares up to a column of the row fit; those that the walk passes have nothing in the room.
+-- `settling::reach::row_fits` meets its contract: all squares up to a column of the row fit; those that the walk passes have nothing in the room.
 -- Assumes nothing.
 use mathlib.Core.Path.{_≡_, sym, _∙_}
 use mathlib.Core.Bool.{Bool, true, false}

@@ -1,4 +1,4 @@
--- `ledger::reach::write_depths` meets its contract: the rows so far are written, each by the columns that are reached.
+-- `settling::reach::write_depths` meets its contract: the rows so far are written, each by the columns that are reached.
 -- Assumes nothing.
 use mathlib.Core.Path.{_≡_, sym, ap, _∙_}
 use Prim.Native.Nat.{ℕ, _-_, _*_, _≤_}

@@ -1,4 +1,4 @@
--- `ledger::reach::write_lasts` meets its contract: the rows so far are written, each by the columns that were worked.
+-- `settling::reach::write_lasts` meets its contract: the rows so far are written, each by the columns that were worked.
 -- Assumes nothing.
 use mathlib.Core.Path.{_≡_, refl, sym, ap, _∙_}
 use Prim.Native.Nat.{ℕ, _-_, _*_, _≤_}

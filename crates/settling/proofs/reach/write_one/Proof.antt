@@ -1,4 +1,4 @@
--- `ledger::reach::write_one` meets its contract: nothing is stored where the square is closed.
+-- `settling::reach::write_one` meets its contract: nothing is stored where the square is closed.
 -- Assumes nothing.
 use mathlib.Core.Path.{sym, _∙_}
 use Rattle.reckon.proofs.TestLaws.{pick-true, pick-false}

@@ -1,4 +1,4 @@
--- `ledger::reach::write_row` meets its contract: the row is written up to a column that the mask has; the walk passes only columns that are skipped.
+-- `settling::reach::write_row` meets its contract: the row is written up to a column that the mask has; the walk passes only columns that are skipped.
 -- Assumes nothing.
 use mathlib.Core.Path.{_≡_, refl, ap, _∙_}
 use mathlib.Core.Bool.{Bool, true}

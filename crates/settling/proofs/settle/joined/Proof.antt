@@ -1,4 +1,4 @@
--- `ledger::settle::joined` meets its contract: the numbers passed are joined.
+-- `settling::settle::joined` meets its contract: the numbers passed are joined.
 -- Assumes nothing.
 use mathlib.Core.Path.{_≡_}
 use Prim.Native.Nat.{_-_, _≤_}

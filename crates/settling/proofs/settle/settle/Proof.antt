@@ -1,4 +1,4 @@
--- `ledger::settle::settle` meets its contract: 8 where a square is too deep, then 9 where the outflow is too much, then 15 where too much has
+-- `settling::settle::settle` meets its contract: 8 where a square is too deep, then 9 where the outflow is too much, then 15 where too much has
 -- soaked, else all is written.
 -- Assumes nothing.
 use mathlib.Core.Path.{_≡_, sym, _∙_}

@@ -1,4 +1,4 @@
--- `ledger::settle::settle_stored` meets its contract: the slot after the newest lies in the room, the record there stored again changes nothing,
+-- `settling::settle::settle_stored` meets its contract: the slot after the newest lies in the room, the record there stored again changes nothing,
 -- and the parts written make the world after.
 -- Assumes nothing.
 use mathlib.Core.Path.{_≡_, sym, ap, _∙_, subst}

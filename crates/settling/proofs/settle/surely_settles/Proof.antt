@@ -1,4 +1,4 @@
--- `ledger::settle::surely_settles` meets its contract: each early return is a test that fails, and the depths decide at last.
+-- `settling::settle::surely_settles` meets its contract: each early return is a test that fails, and the depths decide at last.
 -- Assumes nothing.
 use Rattle.settling.proofs.SureLaws.{unsure-outflow, unsure-soaked, sure-by}
 use borrow.Author.Needs.{needs}

@@ -1,4 +1,4 @@
--- `ledger::settle::write` meets its contract: the slot that is written lies in the room, and the parts written make the world after.
+-- `settling::settle::write` meets its contract: the slot that is written lies in the room, and the parts written make the world after.
 -- Assumes nothing.
 use mathlib.Core.Path.{_≡_, ap, _∙_}
 use Prim.Native.Nat.{ℕ, _+_, _≤_}

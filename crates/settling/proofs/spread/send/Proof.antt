@@ -1,4 +1,4 @@
--- `ledger::spread::send` meets its contract: nothing leaves the grid from a square that is not on the rim.
+-- `settling::spread::send` meets its contract: nothing leaves the grid from a square that is not on the rim.
 -- Assumes nothing.
 use mathlib.Core.Path.{sym, _∙_}
 use Rattle.ledger.specs.Runs.{plan}

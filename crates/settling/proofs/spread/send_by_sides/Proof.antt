@@ -1,4 +1,4 @@
--- `ledger::spread::send_by_sides` meets its contract: side after side the room has space for what is sent.
+-- `settling::spread::send_by_sides` meets its contract: side after side the room has space for what is sent.
 -- Assumes nothing.
 use mathlib.Core.Path.{_∙_}
 use mathlib.Core.List.{List}

@@ -1,4 +1,4 @@
--- `ledger::spread::send_side` meets its contract: a neighbour on the grid gets the amount, else it leaves the grid.
+-- `settling::spread::send_side` meets its contract: a neighbour on the grid gets the amount, else it leaves the grid.
 -- Assumes nothing.
 use mathlib.Core.Path.{_∙_}
 use Prim.Native.Nat.{ℕ, _≤_, _<_}

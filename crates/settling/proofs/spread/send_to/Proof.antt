@@ -1,4 +1,4 @@
--- `ledger::spread::send_to` meets its contract: nothing is stored where the square is closed.
+-- `settling::spread::send_to` meets its contract: nothing is stored where the square is closed.
 -- Assumes nothing.
 use mathlib.Core.Path.{_≡_, sym, ap, _∙_}
 use mathlib.Core.Bool.{false}

@@ -1,4 +1,4 @@
--- `ledger::spread::send_within` meets its contract: a square that is not on the rim has its four neighbours, each at its place.
+-- `settling::spread::send_within` meets its contract: a square that is not on the rim has its four neighbours, each at its place.
 -- Assumes nothing.
 use mathlib.Core.Path.{_≡_, _∙_}
 use mathlib.Core.List.{List}

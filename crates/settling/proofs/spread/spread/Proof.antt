@@ -1,4 +1,4 @@
--- `ledger::spread::spread` meets its contract: the rows so far are spread.
+-- `settling::spread::spread` meets its contract: the rows so far are spread.
 -- Assumes nothing.
 use mathlib.Core.Path.{_≡_, sym, ap, _∙_}
 use mathlib.Core.Bool.{false}

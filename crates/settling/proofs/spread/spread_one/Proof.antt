@@ -1,4 +1,4 @@
--- `ledger::spread::spread_one` meets its contract: a closed square changes nothing; of another what remains stays, and what leaves is sent.
+-- `settling::spread::spread_one` meets its contract: a closed square changes nothing; of another what remains stays, and what leaves is sent.
 -- Assumes nothing.
 use mathlib.Core.Path.{_≡_, refl, sym, _∙_}
 use mathlib.Core.Bool.{false}

@@ -1,4 +1,4 @@
--- `ledger::spread::spread_row` meets its contract: up to a column that was worked all is spread, those passed over being closed or idle.
+-- `settling::spread::spread_row` meets its contract: up to a column that was worked all is spread, those passed over being closed or idle.
 -- Assumes nothing.
 use mathlib.Core.Path.{_≡_, ap, _∙_}
 use mathlib.Core.Bool.{true, false}
