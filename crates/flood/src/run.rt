@@ -1,6 +1,6 @@
 // A run to an end: the checks once, then steps while the clock is below the end.
-use checks::refusals::check;
 use crate::step::make_step;
+use checks::refusals::check;
 use grid::squares::MOST_ALONG;
 use grid::squares::MOST_SQUARES;
 use grid::squares::Shape;

@@ -34,6 +34,7 @@ use Rattle.ledger.specs.declared.runs.Run.{Run}
 use Rattle.settling.specs.inner.Settle.{movesIn, settleRefusals, settleNumber, settled, Settles, SettlesTo, RoomAdded, joinedTo, joinedAll, mostLost, surelySettles, nextRecord}
 use Rattle.ledger.proofs.RecordLaws.{slots-of}
 use Rattle.ledger.proofs.RunLaws.{every-decides}
+use Rattle.settling.proofs.SettleLaws.{settles-made}
 use Rattle.settling.proofs.SpreadLaws.{side-part}
 
 -- ---- numbers joined
@@ -211,12 +212,6 @@ module _ (p : Plan) (w : World) {size slots slot at : ℕ} (e : size ≡ recordS
       let c : at + size - at ≡ size = omega arith in
       sym (ap (λ (k : ℕ). placed (w .records) at (take k (drop at (w .records)))) c ∙ placed-same (w .records) at size (omega (arith, a, h)))
 
-pub settles-made :
-    (p : Plan) (rec : List ℕ) (held : ℕ) (w : World) {after : World} → settleNumber p rec held w ≡ 0 → after ≡ worldWith p (movesIn rec held) w rec →
-    SettlesTo p rec held w 0 after
-unfolding settled
-settles-made p rec held w z q = record { number = sym z; world-is = q ∙ sym (pick-true _ _ (eq-eqb _ 0 z)) }
-
 -- by the same record, said otherwise
 pub settles-by :
     {p : Plan} {rec other : List ℕ} {held n : ℕ} {w after : World} → rec ≡ other → SettlesTo p rec held w n after → SettlesTo p other held w n after
@@ -291,5 +286,5 @@ module _ {p : Plan} {w : World} {rec : List ℕ} {held : ℕ} (s : Settles p rec
     unfolding settled
     stored-settled {after} t =
         let u : SettlesTo p rec held stored 0 after = subst (λ (r : List ℕ). SettlesTo p r held stored 0 after) next-read t in
-        settles-made p rec held w (sym (u .number ∙ number-same))
+        settles-made p rec held w (u .number ∙ number-same) refl
         (u .world-is ∙ (pick-true _ _ (eq-eqb (settleNumber p rec held stored) 0 (sym (u .number))) ∙ world-same))
