@@ -1,6 +1,6 @@
 // A run to an end: the checks once, then steps while the clock is below the end.
-use checks::refusals::check;
 use crate::step::step_on;
+use checks::refusals::check;
 use grid::squares::MOST_ALONG;
 use grid::squares::MOST_SQUARES;
 use grid::squares::Shape;
@@ -12,16 +12,14 @@ use moves::way::Way;
 use rule::rules::Rules;
 ghost use mathlib.Core.Path.{_≡_};
 ghost use Prim.Native.Nat.{_≤_};
-ghost use lib.ListN.{length};
 ghost use Rattle.reckon.specs.Ranges.{lastClock};
-ghost use Rattle.grid.specs.Squares.{squares};
 ghost use Rattle.ledger.specs.Runs.{plan, world};
-ghost use Rattle.ledger.specs.Record.{recordSize};
 ghost use Rattle.checks.specs.Given.{given, ground};
 ghost use Rattle.moves.specs.inner.Added.{rowsApart};
 ghost use Rattle.flood.specs.Step.{Passes};
 ghost use Rattle.flood.specs.Run.{RunsTo};
 ghost use Rattle.flood.specs.inner.Run.{RunsOn};
+ghost use Rattle.flood.specs.inner.Step.{RoomsLent};
 
 // The refusal's number, 0 for none, the steps made, and the run that they leave.
 pub struct Ran {

@@ -25,7 +25,7 @@ use settling::settle::settle;
 use settling::settle::surely_settles;
 ghost use mathlib.Core.Path.{_≡_};
 ghost use mathlib.Core.List.{[]};
-ghost use Prim.Native.Nat.{_*_, _<_, _≤_};
+ghost use Prim.Native.Nat.{_<_, _≤_};
 ghost use Rattle.reckon.specs.Ranges.{mostLength};
 ghost use Rattle.trials.specs.Ring.{slotAfter, slotStart, slotsIn};
 ghost use Rattle.grid.specs.Squares.{ShapeInRange};
@@ -48,7 +48,7 @@ pub(crate) struct Decided {
 
 // Where the slot after the newest begins, in a record room of so many numbers.
 fn next_place(shape: Shape, newest: usize, numbers: usize) -> usize
-    requires { ⌜ (ShapeInRange shape) × (newest < slotsIn (recordSize (plan shape [])) numbers) × (4 * numbers < 18446744073709551616) ⌝ }
+    requires { ⌜ (ShapeInRange shape) × (newest < slotsIn (recordSize (plan shape [])) numbers) ⌝ }
     ensures { λ r. ⌜ r ≡ slotStart (recordSize (plan shape [])) (slotAfter (slotsIn (recordSize (plan shape [])) numbers) newest) ⌝ }
 {
     let size = record_size(shape);

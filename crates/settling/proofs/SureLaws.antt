@@ -13,7 +13,7 @@ use lib.Bits.{bitOr, or-add-and, and-le-l, and-le-r}
 use lib.Dec.{leb}
 use lib.ListN.{length, getD, take, drop, length-drop, take-append-drop, List·getD-eq-default}
 use lib.Seq.{length-take-le}
-use borrow.Author.Tests.{le-leb, lt-leb, leb-true, eq-eqb}
+use borrow.Author.Tests.{le-leb, lt-leb, leb-true, eq-eqb, ne-eqb}
 use Rattle.reckon.specs.Tests.{pick}
 use Rattle.reckon.specs.Lists.{placed}
 use Rattle.reckon.specs.Ranges.{mostDepth, mostOutflow, mostSoaked}
@@ -34,7 +34,6 @@ use Rattle.ledger.specs.declared.runs.Run.{Run}
 use Rattle.settling.specs.inner.Settle.{movesIn, settleRefusals, settleNumber, settled, Settles, SettlesTo, RoomAdded, joinedTo, joinedAll, mostLost, surelySettles, nextRecord}
 use Rattle.ledger.proofs.RecordLaws.{slots-of}
 use Rattle.ledger.proofs.RunLaws.{every-decides}
-use Rattle.settling.proofs.SettleLaws.{settles-made}
 use Rattle.settling.proofs.SpreadLaws.{side-part}
 
 -- ---- numbers joined
@@ -282,9 +281,21 @@ module _ {p : Plan} {w : World} {rec : List ℕ} {held : ℕ} (s : Settles p rec
     unfolding newDepth remains newOutflow newSoaked
     world-same = rw (slots-same, twice)
 
-    pub stored-settled : {after : World} → SettlesTo p (nextRecord p stored) held stored 0 after → SettlesTo p rec held w 0 after
-    unfolding settled
-    stored-settled {after} t =
-        let u : SettlesTo p rec held stored 0 after = subst (λ (r : List ℕ). SettlesTo p r held stored 0 after) next-read t in
-        settles-made p rec held w (u .number ∙ number-same) refl
-        (u .world-is ∙ (pick-true _ _ (eq-eqb (settleNumber p rec held stored) 0 (sym (u .number))) ∙ world-same))
+    -- what settling it there gives is what settling it before gives, but that a refused step has its record in the slot
+    module _ {n : ℕ} {after : World} (t : SettlesTo p (nextRecord p stored) held stored n after) where
+      there : SettlesTo p rec held stored n after
+      there = settles-by next-read t
+
+      pub stored-number : n ≡ settleNumber p rec held w
+      stored-number = there .number ∙ number-same
+
+      pub stored-made : n ≡ 0 → after ≡ settled p rec held w
+      unfolding settled
+      stored-made z =
+          there .world-is
+          ∙ (pick-true _ _ (eq-eqb (settleNumber p rec held stored) 0 (sym (there .number) ∙ z))
+          ∙ (world-same ∙ sym (pick-true _ _ (eq-eqb (settleNumber p rec held w) 0 (sym stored-number ∙ z)))))
+
+      pub stored-left : (n ≡ 0 → ⊥) → after ≡ stored
+      unfolding settled
+      stored-left d = there .world-is ∙ pick-false _ _ (ne-eqb (settleNumber p rec held stored) 0 (λ z. d (there .number ∙ z)))
