@@ -9,6 +9,7 @@ use flood::run::Ran;
 use flood::run::run_to;
 use flood::step::step;
 use grid::squares::Shape;
+use grid::walks::Walk;
 use ledger::runs::Answer;
 use ledger::runs::Run;
 use ledger::take_back::take_back;
