@@ -1,7 +1,7 @@
 // Each public call of the libraries, made as it is lent, with a contract in the letter's words: what specs/Library.antt says that its caller has.
 // A call whose own contract said less would be refused here.
-use answer::program::OUT_ROOM;
-use answer::program::meadow_of;
+use programs::limits::OUT_ROOM;
+use programs::meadow::meadow_of;
 use checks::bounds::Bounds;
 use checks::bounds::step_bounds;
 use checks::refusals::check;

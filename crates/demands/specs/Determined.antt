@@ -47,7 +47,7 @@ use Rattle.text.specs.Reading.{ByteIs, WordAt, FieldAt, FieldsAt, RestOfLine, L
 use Rattle.text.specs.Reading as Reading
 use Rattle.text.specs.Writing.{PutByte, PutWord, PutNumber, PutField, PutFields, PutLine}
 use Rattle.sheet.specs.Sheet.{Rooms, Reads}
-use Rattle.answer.specs.Program.{Prints, meadowText}
+use Rattle.programs.specs.Program.{Prints, meadowText}
 use Rattle.sheet.specs.declared.reading.Sheet.{Sheet}
 use Rattle.exports.specs.Steps.{ExportsFresh, ExportsStep, ExportsRun, ExportsBack}
 use Rattle.exports.specs.Bounds.{ExportsBounds}

@@ -7,7 +7,7 @@ use lib.ListN.{length, length-replicate}
 use lib.Seq.{length-take-le}
 use Rattle.text.proofs.WritingLaws.{wrote-length}
 use borrow.Author.Needs.{needs}
-use Rattle.answer.specs.Program.{mostPrinted}
+use Rattle.programs.specs.Program.{mostPrinted}
 use Rattle.meadow.proofs.main.Statement.{statement}
 use Rattle.meadow.proofs.main.Tie as tie
 
