@@ -1,13 +1,14 @@
 -- Laws of settling: a square's new depth is the world's, whatever else the world holds; 8 comes before 9, and 9 before 15; and parts written make a world.
 -- Assumes nothing.
 use mathlib.Core.Path.{_≡_, refl, sym, ap, _∙_}
-use mathlib.Core.Bool.{true, false}
+use mathlib.Core.Bool.{Bool, true, false}
 use mathlib.Core.List.{List}
 use Prim.Native.Nat.{ℕ, _+_, _≤_, _<_}
 use native.Mathlib.Omega.{arith}
 use lib.Dec.{leb}
 use lib.ListN.{length}
 use borrow.Author.Tests.{le-leb, lt-leb, eq-eqb, ne-eqb}
+use Rattle.reckon.specs.Tests.{refusal}
 use Rattle.reckon.specs.Lists.{filled, placed}
 use Rattle.reckon.specs.Ranges.{mostOutflow, mostSoaked}
 use Rattle.reckon.proofs.TestLaws.{pick-true, pick-false, refusal-here, refusal-later, passed-refusal}
@@ -19,7 +20,7 @@ use Rattle.ledger.specs.inner.Worlds.{ofDepths}
 use Rattle.ledger.specs.Flows.{shut, gone, offGrid, soakedGrid}
 use Rattle.ledger.specs.Record.{recordSize, lastedIn, leavesIn, soakedIn, roomSlots, Recorded}
 use Rattle.ledger.specs.After.{remains, newDepth, depthsFit, newOutflow, newSoaked, worldWith}
-use Rattle.settling.specs.inner.Settle.{movesIn, settleRefusals, settleNumber, settled, Settles, SettlesTo, depthsBy, Spreads}
+use Rattle.settling.specs.inner.Settle.{movesIn, settleRows, lateNumber, settleRefusals, settleNumber, settled, Settles, SettlesTo, depthsBy, Spreads}
 use Rattle.ledger.proofs.RecordLaws.{slots-of, slot-fits}
 
 -- ---- what is asked of the parts
@@ -44,34 +45,26 @@ module _ (p : Plan) (rec : List ℕ) (held : ℕ) (w : World) where
   unfolding settled
   as-it-was d e = record { number = sym e; world-is = sym (pick-false _ _ (ne-eqb (settleNumber p rec held w) 0 (λ z. d (sym e ∙ z)))) }
 
-  pub settles-deep : depthsFit p (movesIn rec 0) (ofDepths (w .depths)) ≡ false → SettlesTo p rec held w 8 w
-  unfolding settleNumber settleRefusals
-  settles-deep e = as-it-was (λ z. omega arith) (refusal-here 8 _ (fit-is ∙ e))
+  -- the number by the room's depths and the totals, where it is sure or not, is the record's
+  pub late-is :
+      {sure fit : Bool} {n outflow soaked : ℕ} → n ≡ lateNumber sure fit outflow soaked → (sure ≡ true → settleNumber p rec held w ≡ 0) →
+      fit ≡ depthsFit p (movesIn rec 0) (ofDepths (w .depths)) → outflow ≡ newOutflow p (movesIn rec held) w → soaked ≡ newSoaked p (movesIn rec held) w →
+      n ≡ settleNumber p rec held w
+  unfolding lateNumber settleNumber settleRefusals
+  late-is {sure = true} e none f o k = e ∙ (pick-true _ _ refl ∙ sym (none refl))
+  late-is {sure = false} {fit} {n} {outflow} {soaked} e none f o k = e ∙ (pick-false _ _ refl ∙ same)
+    where
+      same : refusal (settleRows fit outflow soaked) ≡ settleNumber p rec held w
+      same = rw (f ∙ sym fit-is, o, k)
 
-  module _ (e : depthsFit p (movesIn rec 0) (ofDepths (w .depths)) ≡ true) {o : ℕ} (f : o ≡ newOutflow p (movesIn rec held) w) where
-    pub settles-over : mostOutflow < o → SettlesTo p rec held w 9 w
-    unfolding settleNumber settleRefusals
-    settles-over h =
-        as-it-was (λ z. omega arith)
-        (refusal-later 8 _ (fit-is ∙ e) ∙ refusal-here 9 _ (lt-leb (newOutflow p (movesIn rec held) w) mostOutflow (omega arith)))
+  pub settles-refused : {n : ℕ} → n ≡ settleNumber p rec held w → (n ≡ 0 → ⊥) → SettlesTo p rec held w n w
+  settles-refused e d = as-it-was d (sym e)
 
-    module _ (h : o ≤ mostOutflow) {k : ℕ} (g : k ≡ newSoaked p (movesIn rec held) w) where
-      outflow-fits : leb (newOutflow p (movesIn rec held) w) mostOutflow ≡ true
-      outflow-fits = le-leb (newOutflow p (movesIn rec held) w) mostOutflow (omega arith)
-
-      pub settles-soaked : mostSoaked < k → SettlesTo p rec held w 15 w
-      unfolding settleNumber settleRefusals
-      settles-soaked l =
-          as-it-was (λ z. omega arith)
-          (refusal-later 8 _ (fit-is ∙ e)
-          ∙ (refusal-later 9 _ outflow-fits ∙ refusal-here 15 _ (lt-leb (newSoaked p (movesIn rec held) w) mostSoaked (omega arith))))
-
-      pub settles-written : {after : World} → k ≤ mostSoaked → after ≡ worldWith p (movesIn rec held) w rec → SettlesTo p rec held w 0 after
-      unfolding settleNumber settleRefusals settled
-      settles-written l q =
-          let soaked-fits : leb (newSoaked p (movesIn rec held) w) mostSoaked ≡ true = le-leb (newSoaked p (movesIn rec held) w) mostSoaked (omega arith) in
-          let z : settleNumber p rec held w ≡ 0 = passed-refusal (settleRefusals p rec held w) (fit-is ∙ e, (outflow-fits, (soaked-fits, tt))) in
-          record { number = sym z; world-is = q ∙ sym (pick-true _ _ (eq-eqb _ 0 z)) }
+  pub settles-made : {n : ℕ} {after : World} → n ≡ settleNumber p rec held w → n ≡ 0 → after ≡ worldWith p (movesIn rec held) w rec → SettlesTo p rec held w 0 after
+  unfolding settled
+  settles-made e z q =
+      let none : settleNumber p rec held w ≡ 0 = sym e ∙ z in
+      record { number = sym none; world-is = q ∙ sym (pick-true _ _ (eq-eqb _ 0 none)) }
 
   pub outflow-by : {off : ℕ} → off ≡ offGrid p (leavesIn rec) → w .run .outflow + off ≡ newOutflow p (movesIn rec held) w
   unfolding newOutflow

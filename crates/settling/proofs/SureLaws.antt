@@ -13,7 +13,7 @@ use lib.Bits.{bitOr, or-add-and, and-le-l, and-le-r}
 use lib.Dec.{leb}
 use lib.ListN.{length, getD, take, drop, length-drop, take-append-drop, List·getD-eq-default}
 use lib.Seq.{length-take-le}
-use borrow.Author.Tests.{le-leb, lt-leb, leb-true, eq-eqb}
+use borrow.Author.Tests.{le-leb, lt-leb, leb-true, eq-eqb, ne-eqb}
 use Rattle.reckon.specs.Tests.{pick}
 use Rattle.reckon.specs.Lists.{placed}
 use Rattle.reckon.specs.Ranges.{mostDepth, mostOutflow, mostSoaked}
@@ -211,12 +211,6 @@ module _ (p : Plan) (w : World) {size slots slot at : ℕ} (e : size ≡ recordS
       let c : at + size - at ≡ size = omega arith in
       sym (ap (λ (k : ℕ). placed (w .records) at (take k (drop at (w .records)))) c ∙ placed-same (w .records) at size (omega (arith, a, h)))
 
-pub settles-made :
-    (p : Plan) (rec : List ℕ) (held : ℕ) (w : World) {after : World} → settleNumber p rec held w ≡ 0 → after ≡ worldWith p (movesIn rec held) w rec →
-    SettlesTo p rec held w 0 after
-unfolding settled
-settles-made p rec held w z q = record { number = sym z; world-is = q ∙ sym (pick-true _ _ (eq-eqb _ 0 z)) }
-
 -- by the same record, said otherwise
 pub settles-by :
     {p : Plan} {rec other : List ℕ} {held n : ℕ} {w after : World} → rec ≡ other → SettlesTo p rec held w n after → SettlesTo p other held w n after
@@ -287,9 +281,21 @@ module _ {p : Plan} {w : World} {rec : List ℕ} {held : ℕ} (s : Settles p rec
     unfolding newDepth remains newOutflow newSoaked
     world-same = rw (slots-same, twice)
 
-    pub stored-settled : {after : World} → SettlesTo p (nextRecord p stored) held stored 0 after → SettlesTo p rec held w 0 after
-    unfolding settled
-    stored-settled {after} t =
-        let u : SettlesTo p rec held stored 0 after = subst (λ (r : List ℕ). SettlesTo p r held stored 0 after) next-read t in
-        settles-made p rec held w (sym (u .number ∙ number-same))
-        (u .world-is ∙ (pick-true _ _ (eq-eqb (settleNumber p rec held stored) 0 (sym (u .number))) ∙ world-same))
+    -- what settling it there gives is what settling it before gives, but that a refused step has its record in the slot
+    module _ {n : ℕ} {after : World} (t : SettlesTo p (nextRecord p stored) held stored n after) where
+      there : SettlesTo p rec held stored n after
+      there = settles-by next-read t
+
+      pub stored-number : n ≡ settleNumber p rec held w
+      stored-number = there .number ∙ number-same
+
+      pub stored-made : n ≡ 0 → after ≡ settled p rec held w
+      unfolding settled
+      stored-made z =
+          there .world-is
+          ∙ (pick-true _ _ (eq-eqb (settleNumber p rec held stored) 0 (sym (there .number) ∙ z))
+          ∙ (world-same ∙ sym (pick-true _ _ (eq-eqb (settleNumber p rec held w) 0 (sym stored-number ∙ z)))))
+
+      pub stored-left : (n ≡ 0 → ⊥) → after ≡ stored
+      unfolding settled
+      stored-left d = there .world-is ∙ pick-false _ _ (ne-eqb (settleNumber p rec held stored) 0 (λ z. d (there .number ∙ z)))

@@ -1,5 +1,4 @@
--- A step whose record is worked out but not yet written, settled: refused by 8, 9 or 15, or written to the world. `settled-is`
--- joins it to the world after a step.
+-- A step whose record is worked out, settled: refused by 8, 9 or 15, or written to the world. `settled-is` joins it to the world after a step.
 -- Assumes nothing.
 use mathlib.Core.Path.{_≡_}
 use mathlib.Core.Bool.{Bool, true, false, _&&_, _||_, not}
@@ -32,13 +31,17 @@ abbrev pub movesIn : List ℕ → ℕ → Moves
 movesIn rec newLength =
     record { leaves = leavesIn rec; added = addedIn rec; soaked = soakedIn rec; duration = lastedIn rec; length = newLength }
 
+-- rows 8, 9 and 15, by whether the new depths fit and by the new totals
+abbrev pub settleRows : Bool → ℕ → ℕ → List Row
+settleRows fit outflow soaked = 8 unless fit ∷ 9 unless leb outflow mostOutflow ∷ 15 unless leb soaked mostSoaked ∷ []
+
+-- the first that applies, 0 where it is sure that none does
+unfoldable pub lateNumber : Bool → Bool → ℕ → ℕ → ℕ
+lateNumber sure fit outflow soaked = pick sure 0 (refusal (settleRows fit outflow soaked))
+
 module _ (p : Plan) (rec : List ℕ) (newLength : ℕ) (w : World) where
   unfoldable pub settleRefusals : List Row
-  settleRefusals =
-      8 unless depthsFit p (movesIn rec newLength) w
-      ∷ 9 unless leb (newOutflow p (movesIn rec newLength) w) mostOutflow
-      ∷ 15 unless leb (newSoaked p (movesIn rec newLength) w) mostSoaked
-      ∷ []
+  settleRefusals = settleRows (depthsFit p (movesIn rec newLength) w) (newOutflow p (movesIn rec newLength) w) (newSoaked p (movesIn rec newLength) w)
 
   unfoldable pub settleNumber : ℕ
   settleNumber = refusal settleRefusals

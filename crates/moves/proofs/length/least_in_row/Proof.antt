@@ -14,11 +14,11 @@ use Rattle.moves.proofs.length.least_in_row.Statement.{statement}
 use Rattle.moves.proofs.length.least_in_row.Tie as tie
 
 abbrev Inv-loop : tie.InvT-loop
-Inv-loop shape rules marks beds roughness depths longer first wet columns best₀ column₀ best column =
-    (column ≤ columns) × (best ≡ leastBelow (plan shape marks) (firm rules beds roughness) depths (first + column))
+Inv-loop way marks beds roughness depths longer first wet columns best₀ column₀ best column =
+    (column ≤ columns) × (best ≡ leastBelow (plan (way .shape) marks) (firm (way .rules) beds roughness) depths (first + column))
 
 abbrev μ-loop : tie.MeasureT-loop
-μ-loop shape rules marks beds roughness depths longer first wet columns best₀ column₀ best column = columns - column
+μ-loop way marks beds roughness depths longer first wet columns best₀ column₀ best column = columns - column
 
 -- ---- the places, each by the one before it
 
@@ -34,16 +34,16 @@ turn c = c .before .before
 -- ---- what is known there
 
 abbrev p : tie.Start Inv-loop μ-loop → Plan
-p s = plan (s .args .shape) (s .args .marks .now)
+p s = plan (s .args .way .shape) (s .args .marks .now)
 
 abbrev o : tie.Start Inv-loop μ-loop → Ground
-o s = firm (s .args .rules) (s .args .beds .now) (s .args .roughness .now)
+o s = firm (s .args .way .rules) (s .args .beds .now) (s .args .roughness .now)
 
 -- on to the next column with water
 on-to :
-    (s : tie.Start Inv-loop μ-loop) {best : ℕ} (column next : ℕ) → column ≤ s .args .shape .columns → best ≡ leastBelow (p s) (o s) (s .args .depths .now) (s .args .first + column) →
-    next ≡ nextWithin (s .args .wet) column (s .args .shape .columns) →
-    (next ≤ s .args .shape .columns) × (best ≡ leastBelow (p s) (o s) (s .args .depths .now) (s .args .first + next))
+    (s : tie.Start Inv-loop μ-loop) {best : ℕ} (column next : ℕ) → column ≤ s .args .way .shape .columns → best ≡ leastBelow (p s) (o s) (s .args .depths .now) (s .args .first + column) →
+    next ≡ nextWithin (s .args .wet) column (s .args .way .shape .columns) →
+    (next ≤ s .args .way .shape .columns) × (best ≡ leastBelow (p s) (o s) (s .args .depths .now) (s .args .first + next))
 on-to s column next l e n =
     let d = next-dry (p s) (s .args .depths .now) (s .args .first) (s .pre .1 .0 .1) l n in (
       d .within,
@@ -61,14 +61,14 @@ loop-holds c =
     on-to s 0 (c .next-within .result) (omega arith)
     (s .pre .1 .1 ∙ ap (leastBelow (p s) (o s) (s .args .depths .now)) (let e : s .args .first ≡ s .args .first + 0 = omega arith in e)) (c .next-within .ensures)
 
-add-shorter-by : tie.Need-add-shorter-by Inv-loop μ-loop
-add-shorter-by c = let s = start (c .before) in omega (arith, s .pre .1 .0 .0 .fits, s .pre .0 .sited .fine .few, c .loop-test .taken)
+add-square : tie.Need-add-square Inv-loop μ-loop
+add-square c = let s = start (c .before) in omega (arith, s .pre .1 .0 .0 .fits, s .pre .0 .sited .fine .few, c .loop-test .taken)
 
 shorter-by-requires : tie.Need-shorter-by-requires Inv-loop μ-loop
 shorter-by-requires c κs =
     let s = start (c .before) in (
       s .pre .0,
-      row-column (s .args .shape) (s .pre .0 .sited .fine) (s .pre .1 .0 .0) (c .loop-test .taken),
+      row-column (s .args .way .shape) (s .pre .0 .sited .fine) (s .pre .1 .0 .0) (c .loop-test .taken),
     )
 
 next-after-requires : tie.Need-next-after-requires Inv-loop μ-loop
@@ -78,7 +78,7 @@ loop-less : tie.Need-loop-less Inv-loop μ-loop
 loop-less c =
     let column = turn (c .before) .loop .column in
     let s = start (turn (c .before)) in
-    omega (arith, c .next-after .ensures, within-from (s .args .wet) (column + 1) (s .args .shape .columns) (omega (arith, c .before .before .loop-test .taken)), c .before .before .loop-test .taken)
+    omega (arith, c .next-after .ensures, within-from (s .args .wet) (column + 1) (s .args .way .shape .columns) (omega (arith, c .before .before .loop-test .taken)), c .before .before .loop-test .taken)
 
 loop-again : tie.Need-loop-again Inv-loop μ-loop
 loop-again c =
@@ -96,7 +96,7 @@ returns c =
     let s = start at-loop in
     at-loop .loop .inv .1
     ∙ ap (λ (k : ℕ). leastBelow (p s) (o s) (s .args .depths .now) (s .args .first + k))
-    (let e : at-loop .loop .column ≡ s .args .shape .columns = omega (arith, at-loop .loop .inv .0, c .loop-test .left) in e)
+    (let e : at-loop .loop .column ≡ s .args .way .shape .columns = omega (arith, at-loop .loop .inv .0, c .loop-test .left) in e)
 
 pub least-in-row-spec : {M : Type 1} → statement M
 least-in-row-spec =
@@ -106,7 +106,7 @@ least-in-row-spec =
     μ-loop
     next-within-requires
     loop-holds
-    add-shorter-by
+    add-square
     shorter-by-requires
     next-after-requires
     loop-less

@@ -13,11 +13,11 @@ use Rattle.moves.proofs.length.least_of_wet.Statement.{statement}
 use Rattle.moves.proofs.length.least_of_wet.Tie as tie
 
 abbrev Inv-loop : tie.InvT-loop
-Inv-loop shape rules marks beds roughness depths rows columns best₀ row₀ first₀ best row first =
-    (row ≤ rows) × (first ≡ row * columns) × (best ≡ leastBelow (plan shape marks) (firm rules beds roughness) depths first)
+Inv-loop way marks beds roughness depths rows columns best₀ row₀ first₀ best row first =
+    (row ≤ rows) × (first ≡ row * columns) × (best ≡ leastBelow (plan (way .shape) marks) (firm (way .rules) beds roughness) depths first)
 
 abbrev μ-loop : tie.MeasureT-loop
-μ-loop shape rules marks beds roughness depths rows columns best₀ row₀ first₀ best row first = rows - row
+μ-loop way marks beds roughness depths rows columns best₀ row₀ first₀ best row first = rows - row
 
 -- ---- the places, each by the one before it
 
@@ -33,22 +33,22 @@ turn c = c .before .before .before
 -- ---- what is known there
 
 abbrev p : tie.Start Inv-loop μ-loop → Plan
-p s = plan (s .args .shape) (s .args .marks .now)
+p s = plan (s .args .way .shape) (s .args .marks .now)
 
 abbrev o : tie.Start Inv-loop μ-loop → Ground
-o s = firm (s .args .rules) (s .args .beds .now) (s .args .roughness .now)
+o s = firm (s .args .way .rules) (s .args .beds .now) (s .args .roughness .now)
 
 -- ---- the answers
 
 loop-holds : tie.Need-loop-holds Inv-loop μ-loop
 loop-holds c =
     let s = begin c in
-    (omega arith, sym (zero-mul (s .args .shape .columns)), below-none (p s) (o s) (s .args .depths .now) (s .args .rules .longest) refl)
+    (omega arith, sym (zero-mul (s .args .way .shape .columns)), below-none (p s) (o s) (s .args .depths .now) (s .args .way .rules .longest) refl)
 
 row-mask-requires : tie.Need-row-mask-requires Inv-loop μ-loop
 row-mask-requires c κs =
     let s = start (c .before) in
-    let fits = row-fits (s .args .shape) (c .loop-test .taken) in
+    let fits = row-fits (s .args .way .shape) (c .loop-test .taken) in
     let sited = s .pre .sited in
     record {
       columns-high = sited .fine .columns-high;
@@ -60,7 +60,7 @@ least-in-row-requires : tie.Need-least-in-row-requires Inv-loop μ-loop
 least-in-row-requires c κs =
     let at-loop = c .before .before in
     let s = start at-loop in
-    (s .pre, ((row-begins (s .args .shape) (c .before .loop-test .taken) (at-loop .loop .inv .1), c .row-mask .ensures), at-loop .loop .inv .2))
+    (s .pre, ((row-begins (s .args .way .shape) (c .before .loop-test .taken) (at-loop .loop .inv .1), c .row-mask .ensures), at-loop .loop .inv .2))
 
 add-row : tie.Need-add-row Inv-loop μ-loop
 add-row c = let s = start (turn c) in omega (arith, s .pre .sited .fine .rows-high, c .before .before .loop-test .taken)
@@ -68,7 +68,7 @@ add-row c = let s = start (turn c) in omega (arith, s .pre .sited .fine .rows-hi
 add-first : tie.Need-add-first Inv-loop μ-loop
 add-first c =
     let s = start (turn c) in
-    omega (arith, row-fits (s .args .shape) (c .before .before .loop-test .taken), s .pre .sited .fine .few, turn c .loop .inv .1)
+    omega (arith, row-fits (s .args .way .shape) (c .before .before .loop-test .taken), s .pre .sited .fine .few, turn c .loop .inv .1)
 
 loop-less : tie.Need-loop-less Inv-loop μ-loop
 loop-less c = omega (arith, c .before .before .loop-test .taken)
@@ -76,7 +76,7 @@ loop-less c = omega (arith, c .before .before .loop-test .taken)
 loop-again : tie.Need-loop-again Inv-loop μ-loop
 loop-again c = (
   omega (arith, c .before .before .loop-test .taken),
-  next-row (start (turn c) .args .shape) (turn c .loop .row) (turn c .loop .inv .1),
+  next-row (start (turn c) .args .way .shape) (turn c .loop .row) (turn c .loop .inv .1),
   c .least-in-row .ensures,
 )
 
@@ -86,8 +86,8 @@ returns c =
     let s = start at-loop in
     below-all (p s) (o s) (s .args .depths .now) (at-loop .loop .inv .2)
     (at-loop .loop .inv .1
-    ∙ ap (λ (k : ℕ). k * s .args .shape .columns)
-    (let e : at-loop .loop .row ≡ s .args .shape .rows = omega (arith, at-loop .loop .inv .0, c .loop-test .left) in e))
+    ∙ ap (λ (k : ℕ). k * s .args .way .shape .columns)
+    (let e : at-loop .loop .row ≡ s .args .way .shape .rows = omega (arith, at-loop .loop .inv .0, c .loop-test .left) in e))
 
 pub least-of-wet-spec : {M : Type 1} → statement M
 least-of-wet-spec =
