@@ -11,9 +11,10 @@ use Rattle.grid.specs.Squares.{squares, mostSquares}
 use Rattle.ledger.specs.Runs.{Plan}
 use Rattle.flood.specs.declared.run.Ran.{Ran}
 use Rattle.text.specs.Writing.{Wrote}
+use Rattle.text.proofs.WritingLaws.{wrote-length}
 use Rattle.answer.specs.Printed.{refusedText, madeText}
 use Rattle.answer.proofs.PrintLaws.{refused-short, made-short}
-use Rattle.programs.specs.Program.{roomFor, endedText, ranText, PutRan, Prints}
+use Rattle.programs.specs.Program.{roomFor, mostPrinted, endedText, ranText, PutRan, Prints}
 
 -- the numbers of a run's answer fit their words
 pub record Words (depths : List ℕ) (a : Ran) : Type 0 where
@@ -54,3 +55,10 @@ pub refused-printed :
     {number line : ℕ} {old new : List ℕ} {r : ℕ} → number < 2 ^ 64 → line < 2 ^ 64 → Wrote (refusedText number line) 0 old new r →
     Prints (refusedText number line) old new r
 refused-printed {number} {line} h g w = record { wrote = w; fits = omega (arith, refused-short number line h g) }
+
+-- what a program writes lies in its room, which is as long as it was
+pub printed-long : {t old new : List ℕ} {r : ℕ} → mostPrinted ≤ length old → Prints t old new r → length new ≡ length old
+printed-long h w = wrote-length (omega (arith, h, w .fits)) (w .wrote)
+
+pub printed-in : {t old new : List ℕ} {r : ℕ} → mostPrinted ≤ length old → Prints t old new r → r ≤ length new
+printed-in h w = omega (arith, h, printed-long h w, w .fits, w .wrote .next)

@@ -26,8 +26,8 @@ use Rattle.sheet.specs.declared.reading.Sheet.the-variants.{Read, Refused}
 use Rattle.sheet.proofs.JudgeLaws.{said-from, table-taken}
 use Rattle.sheet.proofs.RoomLaws.{table-long}
 use Rattle.sheet.proofs.SheetLaws.{Well, well, rooms-shape, rooms-cells, rain-few, inflow-few}
-use Rattle.programs.specs.Reading.{sheetWithin, emptyRooms, partsOf, ReadsWithin}
-use Rattle.programs.specs.inner.Held.{Holds}
+use Rattle.programs.specs.Reading.{sheetWithin, emptyRooms, ReadsWithin}
+use Rattle.programs.specs.inner.Held.{Holds, partsOf}
 
 -- an answer under another name
 pub read-as :

@@ -12,8 +12,9 @@ use Rattle.sheet.specs.declared.reading.Heading.{Heading}
 use Rattle.sheet.specs.declared.reading.Sheet.{Sheet}
 use Rattle.sheet.specs.declared.reading.Sheet.the-variants.{Read, Refused}
 use Rattle.answer.specs.Printed.{refusedText}
-use Rattle.programs.specs.Reading.{sheetWithin, partsOf, ReadsWithin}
+use Rattle.programs.specs.Reading.{sheetWithin, ReadsWithin}
 use Rattle.programs.specs.Program.{mostText, programRooms, programSquares, runText, sheetText, meadowText, Prints}
+use Rattle.programs.specs.inner.Held.{partsOf}
 use Rattle.programs.proofs.HeldLaws.{parts-said}
 
 meadow-is : (s : List ℕ) → sheetText s (sheetWithin mostText s programRooms) ≡ meadowText s

@@ -15,7 +15,7 @@ use Rattle.text.specs.Writing.{Wrote}
 use Rattle.sheet.specs.Sheet.{Rooms, planIn, givenIn, noLasts, noRecords}
 use Rattle.sheet.specs.declared.reading.Heading.{Heading}
 use Rattle.sheet.proofs.JudgeLaws.{one-slot, world-same}
-use Rattle.programs.specs.Reading.{partsOf}
+use Rattle.programs.specs.inner.Held.{partsOf}
 use Rattle.programs.specs.Program.{programSquares, endedText, ranText, runText, RunsSheet, PutRan, Prints}
 use Rattle.programs.proofs.HeldLaws.{partsAt}
 

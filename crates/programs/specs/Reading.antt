@@ -2,14 +2,12 @@
 -- Assumes nothing.
 use mathlib.Core.Path.{_≡_}
 use mathlib.Core.List.{List}
-use Prim.Native.Nat.{ℕ, _*_}
+use Prim.Native.Nat.{ℕ}
 use lib.Dec.{leb}
-use lib.ListN.{length, take, replicate}
+use lib.ListN.{length, replicate}
 use Rattle.reckon.specs.Tests.{pick}
 use Rattle.reckon.specs.Tables.{rainKind, inflowKind, tableRoom}
-use Rattle.grid.specs.Squares.{squares}
-use Rattle.sheet.specs.Sheet.{Rooms, rooms, noCells, sheetOf, roomsAfter}
-use Rattle.sheet.specs.declared.reading.Heading.{Heading}
+use Rattle.sheet.specs.Sheet.{Rooms, noCells, sheetOf, roomsAfter}
 use Rattle.sheet.specs.declared.reading.Sheet.{Sheet}
 use Rattle.sheet.specs.declared.reading.Sheet.the-variants.{Refused}
 
@@ -25,19 +23,6 @@ emptyRooms size =
       rain = replicate (tableRoom rainKind) 0;
       inflow = replicate (tableRoom inflowKind) 0;
     }
-
--- "Each room is filled from its start": of each room the numbers that belong to the sheet that was read into it
-abbrev pub partsOf : Heading → Rooms → Rooms
-partsOf h held =
-    let n = squares (h .shape) in
-    rooms
-    (take n (held .cells .marks))
-    (take n (held .cells .beds))
-    (take n (held .cells .roughness))
-    (take n (held .cells .rates))
-    (take n (held .cells .depths))
-    (take (rainKind .width * h .«rain_rows») (held .rain))
-    (take (inflowKind .width * h .«inflow_rows») (held .inflow))
 
 -- ---- what the public function gives
 

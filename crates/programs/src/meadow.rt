@@ -1,5 +1,4 @@
 // What `meadow` prints of a text: the whole program short of its input and output.
-use answer::printing::put_refused;
 use crate::limits::MOST_TEXT;
 use crate::limits::OUT_ROOM;
 use crate::limits::PROGRAM_SQUARES;
@@ -7,6 +6,7 @@ use crate::limits::RECORD_ROOM;
 use crate::printing::put_ran;
 use crate::reading::read_within;
 use crate::running::run_sheet;
+use answer::printing::put_refused;
 use grid::squares::squares_of;
 use ledger::record::record_size;
 use reckon::tables::INFLOW_ROOM;
@@ -18,9 +18,8 @@ use sheet::reading::Sheet;
 ghost use Prim.Native.Nat.{_≤_};
 ghost use lib.ListN.{length};
 ghost use Rattle.sheet.specs.Sheet.{rooms};
-ghost use Rattle.programs.specs.Reading.{partsOf};
 ghost use Rattle.programs.specs.Program.{Prints, meadowText, mostPrinted, programSquares, runText};
-ghost use Rattle.programs.specs.inner.Held.{Holds};
+ghost use Rattle.programs.specs.inner.Held.{Holds, partsOf};
 
 // What is printed of a sheet that was read into the rooms.
 fn print_run(
@@ -55,7 +54,14 @@ fn print_run(
         &mut lasts[..squares],
         &mut records[..size],
     );
-    put_ran(out, 0, heading.shape, &marks[..squares], &depths[..squares], ran)
+    put_ran(
+        out,
+        0,
+        heading.shape,
+        &marks[..squares],
+        &depths[..squares],
+        ran,
+    )
 }
 
 // What is printed of a text, at the start of out; the answer is its length.

@@ -1,7 +1,8 @@
 // The fresh run of a sheet to its end.
 use checks::fresh::fresh_run;
 use flood::run::Ran;
-use flood::run::run_to_wet;
+use flood::run::run_to;
+use grid::walks::Walk;
 use sheet::reading::Heading;
 ghost use mathlib.Core.Path.{_≡_};
 ghost use Rattle.sheet.specs.Sheet.{checksIn, noLasts, noRecords, rooms};
@@ -26,7 +27,8 @@ pub fn run_sheet(
 {
     let rules = heading.rules;
     let run = fresh_run(rules, 1);
-    run_to_wet(
+    run_to(
+        Walk::Wet,
         heading.shape,
         rules,
         run,

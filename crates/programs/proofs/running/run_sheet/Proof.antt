@@ -17,8 +17,8 @@ held c = rooms (c .args .marks .now) (c .args .beds .now) (c .args .roughness .n
 fresh-run-requires : tie.Need-fresh-run-requires
 fresh-run-requires c κs = search needs
 
-run-to-wet-requires : tie.Need-run-to-wet-requires
-run-to-wet-requires c κs = search needs
+run-to-requires : tie.Need-run-to-requires
+run-to-requires c κs = search needs
 
 same-length : tie.Need-same-length
 same-length c = search needs
@@ -34,14 +34,14 @@ returns c =
     let to = c .before .before .before .before .before .before in
     let f = to .before .before .before .before in
     let s = start f in
-    runs-sheet (s .args .heading) (held s) (s .pre .1 .0) (s .pre .1 .1) (f .fresh-run .ensures) (to .run-to-wet .ensures)
+    runs-sheet (s .args .heading) (held s) (s .pre .1 .0) (s .pre .1 .1) (f .fresh-run .ensures) (to .run-to .ensures)
 
 pub run-sheet-spec : {M : Type 1} → statement M
 run-sheet-spec =
     tie.close
     (tie.spec
     fresh-run-requires
-    run-to-wet-requires
+    run-to-requires
     same-length
     same-length-2
     same-length-3
