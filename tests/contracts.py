@@ -22,6 +22,10 @@ EXPORTED = "flood_"
 NOT_SAID = {("ledger", f"settle::{name}", slice) for name in ("settle", "settle_stored") for slice in ("room", "left", "worked", "senders")}
 
 
+# What comes of a file is the system's to say: what these functions give is not determined by what they are lent, so that no record has a field
+# for them (docs/CONTRACTS.md).
+OF_THE_SYSTEM = ("files",)
+
 # Calls that an entry point makes of another with all that it is lent: what they promise is promised there.
 UNDER_ANOTHER = ("step_by", "run_to_by")
 
@@ -130,7 +134,8 @@ def bodies(top):
 def hold_all(hold, specs, records, functions):
     for function in functions:
         hold_contract(hold, function)
-        hold_field(hold, specs, records, function)
+        if function.crate not in OF_THE_SYSTEM:
+            hold_field(hold, specs, records, function)
     wanted = {place(function) for function in functions}
     crates = {function.crate.replace("_", "") for function in functions}
     for crate, field in records.fields:

@@ -37,7 +37,7 @@ use Rattle.sheet.specs.Sheet.{Rooms, Reads, headingOf, sheetOf, roomsAfter}
 use Rattle.sheet.specs.declared.reading.Heading.{Heading}
 use Rattle.sheet.specs.declared.reading.Sheet.{Sheet}
 use Rattle.sheet.specs.declared.reading.Sheet.the-variants.{Read}
-use Rattle.answer.specs.Program.{meadowText, mostPrinted}
+use Rattle.programs.specs.Program.{meadowText, mostPrinted}
 use Rattle.exports.specs.Numbers.{rulesFrom, runValueFrom, runNumbers, runSize, headingNumbers}
 use Rattle.exports.specs.Refusals.{numberIf, unlessRefused, unlessChecks, lastCheck}
 use Rattle.exports.specs.Steps.{answerNumber, ExportsFresh, ExportsStep, ExportsRun, ExportsBack, bothSized, ranSized}

@@ -47,7 +47,7 @@ use Rattle.sheet.specs.declared.reading.Heading.{Heading}
 use Rattle.sheet.specs.declared.reading.Sheet.{Sheet}
 use Rattle.sheet.specs.declared.reading.Sheet.the-variants.{Read, Refused}
 use Rattle.text.specs.Writing.{Wrote}
-use Rattle.answer.specs.Program.{meadowText}
+use Rattle.programs.specs.Program.{meadowText}
 use Rattle.exports.specs.Bounds.{boundsTold}
 use Rattle.exports.specs.Steps.{answerNumber}
 use Rattle.exports.specs.Sights.{sightNumber, wetNumberOf}

@@ -29,7 +29,7 @@ use Rattle.sight.specs.WetRows.{wetRefusals}
 use Rattle.sheet.specs.Sheet.{Rooms}
 use Rattle.sheet.specs.declared.reading.Heading.{Heading}
 use Rattle.sheet.specs.declared.reading.Sheet.the-variants.{Read}
-use Rattle.answer.specs.Program.{mostPrinted}
+use Rattle.programs.specs.Program.{mostPrinted}
 use Rattle.exports.specs.Numbers.{rulesFrom, runValueFrom, runSize, countSize, headingNumbers}
 use Rattle.exports.specs.Steps.{bothSized, ranSized}
 use Rattle.exports.specs.Refusals.{lastCheck, unlessChecks}

@@ -38,7 +38,7 @@ use Rattle.sheet.specs.Sheet.{Rooms}
 use Rattle.sheet.specs.declared.reading.Heading.{Heading}
 use Rattle.sheet.specs.declared.reading.Sheet.{Sheet}
 use Rattle.sheet.specs.declared.reading.Sheet.the-variants.{Read}
-use Rattle.answer.specs.Program.{meadowText}
+use Rattle.programs.specs.Program.{meadowText}
 use Rattle.exports.specs.Bounds.{boundsTold}
 use Rattle.exports.specs.Steps.{answerNumber}
 use Rattle.exports.specs.Sights.{sightNumber, wetNumberOf}

@@ -1,7 +1,5 @@
 // Each public call of the libraries, made as it is lent, with a contract in the letter's words: what specs/Library.antt says that its caller has.
 // A call whose own contract said less would be refused here.
-use answer::program::OUT_ROOM;
-use answer::program::meadow_of;
 use checks::bounds::Bounds;
 use checks::bounds::step_bounds;
 use checks::fresh::fresh;
@@ -15,6 +13,8 @@ use grid::squares::Shape;
 use ledger::runs::Answer;
 use ledger::runs::Run;
 use ledger::take_back::take_back;
+use programs::limits::OUT_ROOM;
+use programs::meadow::meadow_of;
 use rule::rules::Rules;
 use sheet::reading::Sheet;
 use sheet::reading::read;

@@ -20,9 +20,12 @@ use Rattle.sight.specs.WetRows.{WetRowed}
 use Rattle.sight.specs.declared.wet_rows.Wet.{Wet}
 use Rattle.text.specs.Writing.{Wrote}
 use Rattle.sheet.specs.Sheet.{Rooms, Reads, roomsAfter}
+use Rattle.sheet.specs.declared.reading.Heading.{Heading}
 use Rattle.sheet.specs.declared.reading.Sheet.{Sheet}
+use Rattle.programs.specs.Reading.{ReadsWithin}
+use Rattle.programs.specs.Program.{RunsSheet}
 use Rattle.exports.specs.Steps.{ExportsStep, ExportsRun}
-use Rattle.demands.specs.Determined.{One, ReckonDetermined, TrialsDetermined, GridDetermined, RuleDetermined, LedgerDetermined, FloodDetermined, SightDetermined, TextDetermined, SheetDetermined, AnswerDetermined, ExportsDetermined, Determined}
+use Rattle.demands.specs.Determined.{One, ReckonDetermined, TrialsDetermined, GridDetermined, RuleDetermined, LedgerDetermined, FloodDetermined, SightDetermined, TextDetermined, SheetDetermined, AnswerDetermined, ProgramsDetermined, ExportsDetermined, Determined}
 use Rattle.demands.specs.Determined.{MovesDetermined}
 
 -- ---- one outcome
@@ -235,6 +238,10 @@ text-determined =
       fields-at = λ text at count. exactly;
       rest-of-line = λ text at count. exactly;
       line-of = λ text at word count. exactly;
+      line-end = λ text at. exactly;
+      next-line = λ text at. exactly;
+      line-at = λ text at. exactly;
+      nth-line = λ text k. exactly;
       put-byte = λ byte at room. written;
       put-word = λ word at room. written;
       put-number = λ n at room. written;
@@ -251,6 +258,27 @@ answer-determined =
     record {
       put-refused = λ number line at room. written;
       put-world = λ p depths u steps at room. written;
+    }
+
+sheet-run-one :
+    {h : Heading} {held : Rooms} → One {Out = Ran × (List ℕ × (List ℕ × List ℕ))} (λ o. RunsSheet h held (o .0) (o .1 .0) (o .1 .1 .0) (o .1 .1 .1))
+sheet-run-one a b x y =
+    let e = x .ends ∙ sym (y .ends) in
+    λ j. (record { refused = e j .number; steps = e j .steps; run = e j .world .run }, (e j .world .depths, (e j .world .lasts, e j .world .records)))
+
+within-one :
+    {most : ℕ} {text : List ℕ} {before : Rooms} → One {Out = Sheet × Rooms} (λ o. ReadsWithin most text before (o .0) (o .1))
+within-one {most} {text} {before} a b x y =
+    let answers = x .answer ∙ sym (y .answer) in
+    let filled = x .rooms-are ∙ (ap (λ (z : Sheet). roomsAfter text z before) answers ∙ sym (y .rooms-are)) in
+    λ j. (answers j, filled j)
+
+programs-determined : ProgramsDetermined
+programs-determined =
+    record {
+      read-within = λ most text before. within-one;
+      run-sheet = λ h held. sheet-run-one;
+      put-ran = λ p depths ran at room a b x y. written a b (x .wrote) (y .wrote);
       meadow-of = λ text old a b x y. written a b (x .wrote) (y .wrote);
     }
 
@@ -328,5 +356,6 @@ determined =
       text = text-determined;
       sheet = sheet-determined;
       answer = answer-determined;
+      programs = programs-determined;
       exports = exports-determined;
     }

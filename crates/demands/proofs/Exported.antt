@@ -38,7 +38,7 @@ use Rattle.sight.proofs.Alike.{AlikeDepths, wet-number-alike}
 use Rattle.grid.proofs.MaskLaws.{masks-alike}
 use Rattle.text.proofs.WritingLaws.{placed-none}
 use Rattle.sheet.specs.Sheet.{Rooms, roomsAfter}
-use Rattle.answer.specs.Program.{meadowText}
+use Rattle.programs.specs.Program.{meadowText}
 use Rattle.sheet.specs.declared.reading.Sheet.{Sheet}
 use Rattle.sheet.specs.declared.reading.Sheet.the-variants.{Read}
 use Rattle.sheet.specs.declared.reading.Sheet.the-variants as Reading

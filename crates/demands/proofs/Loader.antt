@@ -21,7 +21,7 @@ use Rattle.text.specs.Reading.{lineFrom}
 use Rattle.text.proofs.LineLaws.{line-add}
 use Rattle.sheet.specs.Lines.{xLetter, letterOf, lineHead}
 use Rattle.sheet.specs.Sheet.{Rooms, Reads, cellFrom, cellsAt, cellsRead, closedFrom, cellsFilled, roomsFilled, roomsAfter, lineOne, shapeOf, roomsFine, badLine, checksIn, checksOf, headingOf, judged, sheetOf}
-use Rattle.answer.specs.Program.{endedText, runText, meadowText, sheetText}
+use Rattle.programs.specs.Program.{endedText, runText, meadowText, sheetText}
 use Rattle.sheet.specs.declared.reading.Heading.{Heading}
 use Rattle.sheet.specs.declared.reading.Sheet.{Sheet}
 use Rattle.sheet.specs.declared.reading.Sheet.the-variants.{Read, Refused}

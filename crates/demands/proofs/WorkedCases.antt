@@ -35,8 +35,8 @@ use Rattle.text.specs.Writing.{digitsIn, decimal, fieldText, fieldsText, restTe
 use Rattle.sheet.specs.Lines.{asGrid, gridLine, asRun, runLine, noCell, closedCell, asOpen, openCell, markedCell, placedCell, cellLine}
 use Rattle.sheet.specs.Sheet.{rooms, cellsRooms, shapeOf, lineTwo, rainTable, inflowTable, said, cellsRead, rowsRead, tableRows, badLine, cellsFilled, roomsFilled, roomsFine, checksIn, headingOf, judged, sheetOf}
 use Rattle.answer.specs.Printed.{refusedText, cellText, cellsText, madeText}
-use Rattle.answer.specs.Program.{endedText, runText, meadowText}
-use Rattle.answer.specs.Program.{sheetText}
+use Rattle.programs.specs.Program.{endedText, runText, meadowText}
+use Rattle.programs.specs.Program.{sheetText}
 use Rattle.sight.specs.Refusals.{depthsFine, sharedRefusals}
 use Rattle.sight.specs.Speeds.{quotientOf}
 use Rattle.sight.specs.Speeds as Speeds

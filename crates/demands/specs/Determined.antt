@@ -45,9 +45,12 @@ use Rattle.sight.specs.WetRows.{OnesIn, WetRowed}
 use Rattle.sight.specs.declared.wet_rows.Wet.{Wet}
 use Rattle.text.specs.Reading.{ByteIs, WordAt, FieldAt, FieldsAt, RestOfLine, LineOf}
 use Rattle.text.specs.Reading as Reading
+use Rattle.text.specs.Lines.{LineEnd, NextLine, LineAt, NthLine}
 use Rattle.text.specs.Writing.{PutByte, PutWord, PutNumber, PutField, PutFields, PutLine}
 use Rattle.sheet.specs.Sheet.{Rooms, Reads}
-use Rattle.answer.specs.Program.{Prints, meadowText}
+use Rattle.programs.specs.Program.{RunsSheet, PutRan, Prints, meadowText}
+use Rattle.programs.specs.Reading.{ReadsWithin}
+use Rattle.sheet.specs.declared.reading.Heading.{Heading}
 use Rattle.sheet.specs.declared.reading.Sheet.{Sheet}
 use Rattle.exports.specs.Steps.{ExportsFresh, ExportsStep, ExportsRun, ExportsBack}
 use Rattle.exports.specs.Bounds.{ExportsBounds}
@@ -208,6 +211,10 @@ pub record TextDetermined : Type 0 where
   pub fields-at : (text : List ℕ) (at count : ℕ) → One (FieldsAt text at count)
   pub rest-of-line : (text : List ℕ) (at count : ℕ) → One (RestOfLine text at count)
   pub line-of : (text : List ℕ) (at : ℕ) (word : List ℕ) (count : ℕ) → One (LineOf text at word count)
+  pub line-end : (text : List ℕ) (at : ℕ) → One (LineEnd text at)
+  pub next-line : (text : List ℕ) (at : ℕ) → One (NextLine text at)
+  pub line-at : (text : List ℕ) (at : ℕ) → One (LineAt text at)
+  pub nth-line : (text : List ℕ) (k : ℕ) → One (NthLine text k)
   pub put-byte : (byte at : ℕ) (room : List ℕ) → One {Out = ℕ × List ℕ} (λ o. PutByte byte at room (o .1) (o .0))
   pub put-word : (word : List ℕ) (at : ℕ) (room : List ℕ) → One {Out = ℕ × List ℕ} (λ o. PutWord word at room (o .1) (o .0))
   pub put-number : (n at : ℕ) (room : List ℕ) → One {Out = ℕ × List ℕ} (λ o. PutNumber n at room (o .1) (o .0))
@@ -223,6 +230,14 @@ pub record AnswerDetermined : Type 0 where
   pub put-refused : (number line at : ℕ) (room : List ℕ) → One {Out = ℕ × List ℕ} (λ o. PutRefused number line at room (o .1) (o .0))
   pub put-world : (p : Plan) (depths : List ℕ) (u : Run) (steps at : ℕ) (room : List ℕ) →
       One {Out = ℕ × List ℕ} (λ o. PutWorld p depths u steps at room (o .1) (o .0))
+
+-- a sheet's heading and the rooms that hold it stand for what a run is lent
+pub record ProgramsDetermined : Type 0 where
+  pub read-within : (most : ℕ) (text : List ℕ) (before : Rooms) → One {Out = Sheet × Rooms} (λ o. ReadsWithin most text before (o .0) (o .1))
+  pub run-sheet : (h : Heading) (held : Rooms) →
+      One {Out = Ran × (List ℕ × (List ℕ × List ℕ))} (λ o. RunsSheet h held (o .0) (o .1 .0) (o .1 .1 .0) (o .1 .1 .1))
+  pub put-ran : (p : Plan) (depths : List ℕ) (ran : Ran) (at : ℕ) (room : List ℕ) →
+      One {Out = ℕ × List ℕ} (λ o. PutRan p depths ran at room (o .1) (o .0))
   pub meadow-of : (text old : List ℕ) → One {Out = ℕ × List ℕ} (λ o. Prints (meadowText text) old (o .1) (o .0))
 
 -- what other languages call
@@ -264,4 +279,5 @@ pub record Determined : Type 0 where
   pub text : TextDetermined
   pub sheet : SheetDetermined
   pub answer : AnswerDetermined
+  pub programs : ProgramsDetermined
   pub exports : ExportsDetermined

@@ -15,7 +15,7 @@ use Rattle.flood.specs.Run.{runTo}
 use Rattle.text.specs.Reading.{lineFrom}
 use Rattle.sheet.specs.Lines.{xLetter}
 use Rattle.sheet.specs.Sheet.{Cells, Rooms, Reads, lineOne, lineTwo, shapeOf, roomsFine, badLine, planIn, givenIn, startIn, said, sheetOf}
-use Rattle.answer.specs.Program.{mostText, programRooms, meadowText}
+use Rattle.programs.specs.Program.{mostText, programRooms, meadowText}
 use Rattle.answer.specs.Printed.{refusedText, madeText}
 use Rattle.sheet.specs.declared.reading.Heading.{Heading}
 use Rattle.sheet.specs.declared.reading.Sheet.the-variants.{Read, Refused}

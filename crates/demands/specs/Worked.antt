@@ -31,7 +31,7 @@ use Rattle.sight.specs.declared.arrows.Sight.the-variants.{Closed, Dry, Still, 
 use Rattle.text.specs.Bytes.{bytesOf}
 use Rattle.sheet.specs.Sheet.{Rooms, cellsRooms, shapeOf, lineTwo, rainTable, inflowTable, said, planIn, givenIn, startIn}
 use Rattle.answer.specs.Printed.{madeText}
-use Rattle.answer.specs.Program.{meadowText}
+use Rattle.programs.specs.Program.{meadowText}
 use Rattle.exports.specs.Numbers.{shapeFrom, rulesFrom, runValueFrom, runNumbers, headingNumbers}
 use Rattle.exports.specs.Sights.{sightNumber, speedsIn}
 use Rattle.exports.specs.Bounds.{boundsTold, figuresIn}
