@@ -5,8 +5,7 @@ use mathlib.Core.Path.{_≡_, refl, sym, ap, _∙_, subst}
 use mathlib.Core.Bool.{Bool, true, false, not}
 use mathlib.Core.List.{List, [], _∷_}
 use Prim.Native.Nat.{ℕ, zero, suc, _+_, _-_, _^_, _≤_, _<_, min}
-use native.Mathlib.Decide.{decLt, ℕ-discrete}
-use native.Mathlib.Numerals.{add-one}
+use native.Mathlib.Decide.{decLt}
 use native.Mathlib.Omega.{arith}
 use lib.Dec.{eqb}
 use lib.ListN.{length, getD, set, replicate, getD-replicate}
@@ -225,21 +224,11 @@ module _ (p : Plan) (o : Ground) (depths lasts added : List ℕ) (start ms from 
       FilledOne p o depths lasts added start ms i mid new before after sent → FilledOn p o depths lasts added start ms from (i + 1) old new
   filled-more i h b f held s = fill-turn p o depths lasts added held start ms i h (b held s) f
 
-  -- some that are passed over
+  -- one that is passed over
   pub filled-idle :
-      (n m : ℕ) {old new : List ℕ} → n ≤ m → m ≤ squares (p .shape) → ((i : ℕ) → n ≤ i → i < m → IdleAt p depths lasts added i) →
-      FilledOn p o depths lasts added start ms from n old new → FilledOn p o depths lasts added start ms from m old new
-  filled-idle n zero {old} {new} h l idle b =
-      subst (λ (k : ℕ). FilledOn p o depths lasts added start ms from k old new) (let e : n ≡ 0 = omega arith in e) b
-  filled-idle n (suc m) {old} {new} h l idle b =
-      go (ℕ-discrete n (suc m)) (λ g. filled-idle n m {old = old} {new = new} g (omega arith) (λ i k j. idle i k (omega arith)) b)
-    where
-      go :
-          Dec (n ≡ suc m) → (n ≤ m → FilledOn p o depths lasts added start ms from m old new) → FilledOn p o depths lasts added start ms from (suc m) old new
-      go (yes e) ih = subst (λ (k : ℕ). FilledOn p o depths lasts added start ms from k old new) e b
-      go (no e) ih =
-          subst (λ (k : ℕ). FilledOn p o depths lasts added start ms from k old new) (add-one m)
-          (λ held s. idle-turn p o depths lasts added held start ms m l (idle m (omega arith) (omega arith)) (ih (omega arith) held s))
+      (i : ℕ) {old new : List ℕ} → i < squares (p .shape) → IdleAt p depths lasts added i →
+      FilledOn p o depths lasts added start ms from i old new → FilledOn p o depths lasts added start ms from (i + 1) old new
+  filled-idle i h idle b held s = idle-turn p o depths lasts added held start ms i h idle (b held s)
 
   -- more of them
   pub filled-then :

@@ -3,7 +3,7 @@
 use mathlib.Core.Path.{_≡_, refl, sym, ap, ap₂, _∙_, subst}
 use mathlib.Core.Bool.{Bool, true, false, not, _||_, or-false}
 use mathlib.Core.List.{List}
-use Prim.Native.Nat.{ℕ, zero, suc, _+_, _-_, _*_, _/_, _%_, _≤_, _<_}
+use Prim.Native.Nat.{ℕ, _+_, _-_, _*_, _/_, _%_, _≤_, _<_}
 use native.Mathlib.Decide.{decLe, ℕ-discrete}
 use native.Mathlib.Omega.{arith}
 use lib.Dec.{leb}
@@ -13,57 +13,24 @@ use borrow.Author.Tests.{le-leb, lt-leb, leb-true, leb-false, eqb-true, not-fals
 use Rattle.reckon.specs.Tests.{pick, allBelow}
 use Rattle.reckon.specs.Lists.{filled}
 use Rattle.reckon.specs.Ranges.{mostDepth}
-use Rattle.reckon.proofs.TestLaws.{not-both, pick-true, pick-false, or-of, all-more, all-some, all-fails, all-ext, all-whole}
+use Rattle.reckon.proofs.TestLaws.{not-both, pick-true, pick-false, or-of, all-some, all-fails, all-ext}
 use Rattle.reckon.proofs.ListLaws.{is-filled}
-use Rattle.grid.specs.declared.squares.Shape.{Shape}
-use Rattle.grid.specs.Squares.{north, east, south, west, sides, squares, squareAt, beside, opposite, ShapeInRange}
+use Rattle.grid.specs.Squares.{north, east, south, west, sides, squares, beside, opposite, ShapeInRange}
 use Rattle.grid.specs.Marks.{closed}
 use Rattle.grid.specs.Masks.{bitAt}
-use Rattle.grid.specs.Walks.{bitOf, besideSet, nextWithin}
-use Rattle.grid.proofs.SquareLaws.{square-within, row-of, column-of, opposite-small}
+use Rattle.grid.specs.Walks.{bitOf, besideSet}
+use Rattle.grid.proofs.SquareLaws.{row-of, column-of, opposite-small}
 use Rattle.grid.proofs.MarkLaws.{marked}
 use Rattle.grid.proofs.BesideLaws.{or-clear, calm-around}
-use Rattle.grid.proofs.WalkLaws.{within-passes}
 use Rattle.ledger.specs.Runs.{Plan}
 use Rattle.ledger.specs.inner.Worlds.{ofDepths}
 use Rattle.ledger.specs.Flows.{shut, gone, sent, came}
 use Rattle.ledger.specs.Record.{leavesIn}
 use Rattle.ledger.specs.After.{remains, newDepth, depthsFit}
 use Rattle.ledger.specs.inner.Walks.{sends}
-use Rattle.settling.specs.inner.Settle.{movesIn, depthBy, depthsBy, SentBy, Told, RoomDepths, reachedRow, reachedAt, WhereClear, NoneBeyond, fitsAt, Written, skipsIn, unworked, unreached}
+use Rattle.settling.specs.inner.Settle.{movesIn, depthBy, depthsBy, SentBy, Told, RoomDepths, reachedRow, reachedAt, NoneBeyond, fitsAt, Written, skipsIn, unworked, unreached}
 use Rattle.ledger.proofs.FlowLaws.{four-sides}
 use Rattle.settling.proofs.SpreadLaws.{side-part}
-
--- ---- a row, by its mask
-
--- what holds of the squares whose bit in the rows is set, or is not, holds of such columns of one row
-module _ (s : Shape) {row first : ℕ} (h : row < s .rows) (e : first ≡ row * s .columns) where
-  pub by-row :
-      (rows : List ℕ) (holds : ℕ → Type 0) {b : Bool} → ((i : ℕ) → i < squares s → bitOf s rows i ≡ b → holds i) →
-      (column : ℕ) → column < s .columns → bitAt (getD rows row 0) column ≡ b → holds (first + column)
-  unfolding bitOf
-  by-row rows holds f column k c =
-      subst (λ (j : ℕ). holds (j + column)) (sym e)
-      (f (squareAt s row column) (square-within s h k)
-      (ap₂ bitAt (ap (λ (r : ℕ). getD rows r 0) (row-of s row k)) (column-of s row k) ∙ c))
-
-  -- the same of the squares that are not reached
-  pub by-reached :
-      (worked senders : List ℕ) (holds : ℕ → Type 0) → ((i : ℕ) → i < squares s → reachedAt s worked senders i ≡ false → holds i) →
-      {mask : ℕ} → mask ≡ reachedRow worked senders row → WhereClear s first mask holds
-  unfolding reachedAt
-  by-reached worked senders holds f {mask} q column k c =
-      subst (λ (j : ℕ). holds (j + column)) (sym e)
-      (f (squareAt s row column) (square-within s h k)
-      (ap₂ bitAt (ap (reachedRow worked senders) (row-of s row k) ∙ sym q) (column-of s row k) ∙ c))
-
--- up to the next column that a mask has it holds, where it holds at all columns that it does not have
-pub up-to :
-    (s : Shape) (first mask column : ℕ) (holds : ℕ → Type 0) {next : ℕ} → WhereClear s first mask holds →
-    next ≡ nextWithin mask column (s .columns) → (i : ℕ) → first + column ≤ i → i < first + next → holds i
-up-to s first mask column holds {next} clear e i a b =
-    subst holds (let z : first + (i - first) ≡ i = omega arith in z)
-    (clear (i - first) (omega arith) (within-passes mask column (s .columns) (i - first) (omega arith) (omega arith)))
 
 -- ---- squares that are not reached
 
@@ -141,20 +108,10 @@ module _ (marks room : List ℕ) where
   unfolding fitsAt
   fits-closed i h e = e ∙ rw (lt-leb (getD room i 0) mostDepth h) (sym (or-false (closed marks i)))
 
-  -- up to a square, where the room has nothing from one on
-  pub fits-skip :
-      {a b : ℕ} → a ≤ b → ((i : ℕ) → a ≤ i → i < b → closed marks i ≡ false → getD room i 0 ≡ 0) → allBelow a (fitsAt marks room) ≡ true →
-      allBelow b (fitsAt marks room) ≡ true
+  -- where the room has nothing
+  pub fits-none : (i : ℕ) → (closed marks i ≡ false → getD room i 0 ≡ 0) → fitsAt marks room i ≡ true
   unfolding fitsAt
-  fits-skip {a} {b} h none t = all-whole (fitsAt marks room) (go (b - a) (omega arith)) (omega arith)
-    where
-      fit : (i : ℕ) → a ≤ i → i < b → fitsAt marks room i ≡ true
-      fit i x y = or-of (closed marks i) (leb (getD room i 0) mostDepth) (λ z. le-leb (getD room i 0) mostDepth (omega (arith, none i x y z)))
-
-      go : (k : ℕ) → a + k ≤ b → allBelow (a + k) (fitsAt marks room) ≡ true
-      go zero l = all-whole (fitsAt marks room) t (omega arith)
-      go (suc k) l =
-          all-whole (fitsAt marks room) (all-more (fitsAt marks room) (a + k) (go k (omega arith)) (fit (a + k) (omega arith) (omega arith))) (omega arith)
+  fits-none i none = or-of (closed marks i) (leb (getD room i 0) mostDepth) (λ z. le-leb (getD room i 0) mostDepth (omega (arith, none z)))
 
   -- where one of the squares up to a square does not fit, not all up to a later one do
   pub fails-beyond : {m n : ℕ} → m ≤ n → allBelow m (fitsAt marks room) ≡ false → allBelow n (fitsAt marks room) ≡ false

@@ -13,8 +13,6 @@ ghost use Rattle.ledger.specs.Runs.{plan};
 ghost use Rattle.ledger.specs.Flows.{gone, offSide, offSquare, shut};
 ghost use Rattle.ledger.specs.Record.{leavesIn};
 ghost use Rattle.settling.specs.inner.Settle.{Grown, IdleAt, IdleBy, LeftBy, RoomAdded, Roomy, SendsFew, SpreadAll, SpreadTo, Spreads, WhereClear, WhereSet, brings, bringsAll};
-use ledger::record::leaving;
-use ledger::record::soaked_by;
 use grid::marks::is_closed;
 use grid::squares::EAST;
 use grid::squares::NORTH;
@@ -26,6 +24,8 @@ use grid::squares::on_rim;
 use grid::squares::squares_of;
 use grid::walks::next_after;
 use grid::walks::next_within;
+use ledger::record::leaving;
+use ledger::record::soaked_by;
 use reckon::numbers::number;
 
 // What leaves the grid, and what soaks.

@@ -41,12 +41,6 @@ leastBelow p o depths n = leastFrom (o .rules .longest) (joined n (squareCandida
 abbrev pub LengthWorked : Plan → Ground → List ℕ → ℕ → ℕ → ℕ → Type 0
 LengthWorked p o depths clock held r = r ≡ lengthAt (o .rules) clock held (candidates p o depths)
 
--- a row's columns up to the next one with water are closed or dry, and that one is not closed
-pub record DryTo (p : Plan) (depths : List ℕ) (first column next : ℕ) : Type 0 where
-  pub ordered : column ≤ next
-  pub within : next ≤ p .shape .columns
-  pub dry : (c : ℕ) → column ≤ c → c < next → shut p (first + c) ≡ false → getD depths (first + c) 0 ≡ 0
-
 -- ---- the record
 
 -- the ground and the water are lent whole and in range, and so are the added amounts, the step's end and a record of its size
