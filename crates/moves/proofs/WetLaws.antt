@@ -34,7 +34,7 @@ use Rattle.ledger.specs.Flows.{Leaves, shut, gone}
 use Rattle.ledger.specs.inner.Walks.{sends}
 use Rattle.checks.specs.Given.{Ground}
 use Rattle.moves.specs.Moves.{squareCandidates, candidates, leavesFor, soakedFor}
-use Rattle.moves.specs.inner.Fill.{leastBelow, FilledOne, FilledColumns, stirs, worksOn, isWorked, workedRows, IdleAt, IdleBy, LeftTo, LeftKept, senderRows}
+use Rattle.moves.specs.inner.Fill.{leastBelow, FilledOne, FilledColumns, stirs, worksOn, isWorked, workedRows, UnstirredAt, UnstirredBy, LeftTo, LeftKept, senderRows}
 use Rattle.moves.proofs.FillLaws.{soaked-dry, dry-gone, dry-silent, filled-more, filled-idle, filled-on, left-here, left-elsewhere}
 use Rattle.moves.proofs.LengthLaws.{least-closed, least-dry, least-begin, least-more, least-all}
 
@@ -129,10 +129,10 @@ module _ (walk : Walk) (p : Plan) (depths lasts added : List ℕ) where
   worked-bit-is fine h = bit-by-rows (p .shape) (isWorked walk p depths lasts added) fine h
 
   -- a square that a walk does not work is closed, or has nothing to work or to write
-  pub idle-at : (i : ℕ) → isWorked walk p depths lasts added i ≡ false → IdleAt p depths lasts added i
+  pub idle-at : (i : ℕ) → isWorked walk p depths lasts added i ≡ false → UnstirredAt p depths lasts added i
   idle-at i w c = idle-works (p .marks) depths lasts added i walk w c
 
-  pub idle-by : {rows : List ℕ} → ShapeInRange (p .shape) → rows ≡ workedRows walk p depths lasts added → IdleBy p depths lasts added rows
+  pub idle-by : {rows : List ℕ} → ShapeInRange (p .shape) → rows ≡ workedRows walk p depths lasts added → UnstirredBy p depths lasts added rows
   idle-by fine e i h b = idle-at i (sym (worked-bit-is fine h) ∙ (ap (λ (r : List ℕ). bitOf (p .shape) r i) (sym e) ∙ b))
 
   pub left-kept :
@@ -171,7 +171,7 @@ module _ (p : Plan) (o : Ground) (depths lasts added : List ℕ) (start ms first
       (fits : first + p .shape .columns ≤ squares (p .shape)) where
     -- one that is passed over
     pub columns-idle :
-        c < p .shape .columns → bitAt mask c ≡ false → IdleAt p depths lasts added (first + c) →
+        c < p .shape .columns → bitAt mask c ≡ false → UnstirredAt p depths lasts added (first + c) →
         FilledColumns p o depths lasts added start ms first mask (c + 1) old new before after senders
     columns-idle l clear idle =
         record {

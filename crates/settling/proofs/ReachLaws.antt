@@ -1,6 +1,6 @@
 -- Laws of the squares that a step reaches: a row by its mask, squares that are not reached, whether all fit, and numbers written.
 -- Assumes nothing.
-use mathlib.Core.Path.{_≡_, refl, sym, ap, ap₂, _∙_, subst}
+use mathlib.Core.Path.{_≡_, refl, sym, ap, _∙_, subst}
 use mathlib.Core.Bool.{Bool, true, false, not, _||_, or-false}
 use mathlib.Core.List.{List}
 use Prim.Native.Nat.{ℕ, _+_, _-_, _*_, _/_, _%_, _≤_, _<_}
@@ -19,16 +19,17 @@ use Rattle.grid.specs.Squares.{north, east, south, west, sides, squares, beside
 use Rattle.grid.specs.Marks.{closed}
 use Rattle.grid.specs.Masks.{bitAt}
 use Rattle.grid.specs.Walks.{bitOf, besideSet}
-use Rattle.grid.proofs.SquareLaws.{row-of, column-of, opposite-small}
+use Rattle.grid.proofs.SquareLaws.{opposite-small}
 use Rattle.grid.proofs.MarkLaws.{marked}
 use Rattle.grid.proofs.BesideLaws.{or-clear, calm-around}
+use Rattle.grid.proofs.WalkLaws.{bit-in-row}
 use Rattle.ledger.specs.Runs.{Plan}
 use Rattle.ledger.specs.inner.Worlds.{ofDepths}
 use Rattle.ledger.specs.Flows.{shut, gone, sent, came}
 use Rattle.ledger.specs.Record.{leavesIn}
 use Rattle.ledger.specs.After.{remains, newDepth, depthsFit}
 use Rattle.ledger.specs.inner.Walks.{sends}
-use Rattle.settling.specs.inner.Settle.{movesIn, depthBy, depthsBy, SentBy, Told, RoomDepths, reachedRow, reachedAt, NoneBeyond, fitsAt, Written, skipsIn, unworked, unreached}
+use Rattle.settling.specs.inner.Settle.{movesIn, depthBy, depthsBy, SentBy, Told, RoomDepths, reachedRow, reachedAt, NoneBeyond, fitsAt, Written, skipsIn, skipsBy, workedRow}
 use Rattle.ledger.proofs.FlowLaws.{four-sides}
 use Rattle.settling.proofs.SpreadLaws.{side-part}
 
@@ -242,31 +243,18 @@ module _ (marks : List ℕ) (first mask column : ℕ) where
   unfolding skipsIn
   skips-closed c = sym (rw (ap not (own-bit ∙ c)) (or-false (closed marks at)))
 
-module _ (p : Plan) {row first : ℕ} (h : row < p .shape .rows) (e : first ≡ row * p .shape .columns) where
-  column-at : (i : ℕ) → first ≤ i → i < first + p .shape .columns → (row * p .shape .columns + (i - first) ≡ i) × (i - first < p .shape .columns)
-  column-at i a b = (omega (arith, e), omega arith)
-
-  pub skips-worked :
-      (worked : List ℕ) {mask : ℕ} → mask ≡ getD worked row 0 → (i : ℕ) → first ≤ i → i < first + p .shape .columns →
-      skipsIn (p .marks) first mask i ≡ unworked p worked i
-  unfolding skipsIn unworked bitOf
-  skips-worked worked {mask} q i a b =
-      let s = p .shape in
-      let z = column-at i a b in
-      let own-row : i / s .columns ≡ row = ap (λ (j : ℕ). j / s .columns) (sym (z .0)) ∙ row-of s row (z .1) in
-      let own-column : i % s .columns ≡ i - first = ap (λ (j : ℕ). j % s .columns) (sym (z .0)) ∙ column-of s row (z .1) in
-      ap (λ (c : Bool). shut p i || not c) (ap₂ bitAt (q ∙ ap (λ (r : ℕ). getD worked r 0) (sym own-row)) (sym own-column))
-
-  pub skips-reached :
-      (worked senders : List ℕ) {mask : ℕ} → mask ≡ reachedRow worked senders row → (i : ℕ) → first ≤ i → i < first + p .shape .columns →
-      skipsIn (p .marks) first mask i ≡ unreached p worked senders i
-  unfolding skipsIn unreached reachedAt
-  skips-reached worked senders {mask} q i a b =
-      let s = p .shape in
-      let z = column-at i a b in
-      let own-row : i / s .columns ≡ row = ap (λ (j : ℕ). j / s .columns) (sym (z .0)) ∙ row-of s row (z .1) in
-      let own-column : i % s .columns ≡ i - first = ap (λ (j : ℕ). j % s .columns) (sym (z .0)) ∙ column-of s row (z .1) in
-      ap (λ (c : Bool). shut p i || not c) (ap₂ bitAt (q ∙ ap (reachedRow worked senders) (sym own-row)) (sym own-column))
+-- by its own mask a row's squares are skipped as by those of all rows
+pub skips-row :
+    (p : Plan) (row : ℕ) {first : ℕ} → first ≡ row * p .shape .columns → (masks : ℕ → ℕ) {mask : ℕ} → mask ≡ masks row →
+    (i : ℕ) → first ≤ i → i < first + p .shape .columns → skipsIn (p .marks) first mask i ≡ skipsBy p masks i
+unfolding skipsIn skipsBy
+skips-row p row {first} e masks q i a b =
+    let s = p .shape in
+    let at : first + (i - first) ≡ i = omega arith in
+    ap (λ (c : Bool). shut p i || not c)
+    (ap (λ (x : ℕ). bitAt x (i - first)) q
+    ∙ (sym (bit-in-row s row e masks (let l : i - first < s .columns = omega arith in l))
+    ∙ ap (λ (k : ℕ). bitAt (masks (k / s .columns)) (k % s .columns)) at))
 
 -- ---- the water after a step
 
@@ -275,9 +263,9 @@ or-left a b e = rw e
 
 module _ {p : Plan} {rec depths lasts left worked senders : List ℕ} (t : Told p rec depths lasts left worked senders) where
   pub lasts-written :
-      {new : List ℕ} → Written (unworked p worked) (λ i. getD left i 0) 0 (squares (p .shape)) lasts new →
+      {new : List ℕ} → Written (skipsBy p (workedRow worked)) (λ i. getD left i 0) 0 (squares (p .shape)) lasts new →
       new ≡ filled (squares (p .shape)) (shut p) (gone (leavesIn rec)) lasts
-  unfolding unworked
+  unfolding skipsBy bitOf
   lasts-written w =
       all-written w (λ i h z. or-left (shut p i) (not (bitOf (p .shape) worked i)) z)
       (λ i h o z. t .left-is i h (not-false _ (rw o at z)) o)
@@ -288,8 +276,8 @@ module _ {p : Plan} {rec depths lasts left worked senders : List ℕ} (t : Told 
   module _ (f : ShapeInRange (p .shape)) (l : length (p .marks) ≡ squares (p .shape)) where
     pub depths-written :
         {room new : List ℕ} → RoomDepths p rec depths room →
-        Written (unreached p worked senders) (λ i. getD room i 0) 0 (squares (p .shape)) depths new → new ≡ depthsBy p rec depths
-    unfolding unreached
+        Written (skipsBy p (reachedRow worked senders)) (λ i. getD room i 0) 0 (squares (p .shape)) depths new → new ≡ depthsBy p rec depths
+    unfolding skipsBy reachedAt
     depths-written r w =
         all-written w (λ i h z. or-left (shut p i) (not (reachedAt (p .shape) worked senders i)) z) (λ i h o z. r .are i h o)
         (λ i h o z.

@@ -248,9 +248,10 @@ pub record Written (skips : ℕ → Bool) (amount : ℕ → ℕ) (from to : ℕ)
 unfoldable pub skipsIn : List ℕ → ℕ → ℕ → ℕ → Bool
 skipsIn marks first mask i = closed marks i || not (bitAt mask (i - first))
 
--- the squares that writing all rows skips, by the squares that were worked, and by those that were reached
-unfoldable pub unworked : Plan → List ℕ → ℕ → Bool
-unworked p worked i = shut p i || not (bitOf (p .shape) worked i)
+-- the squares that writing all rows skips, by a mask for each row
+unfoldable pub skipsBy : Plan → (ℕ → ℕ) → ℕ → Bool
+skipsBy p masks i = shut p i || not (bitAt (masks (i / p .shape .columns)) (i % p .shape .columns))
 
-unfoldable pub unreached : Plan → List ℕ → List ℕ → ℕ → Bool
-unreached p worked senders i = shut p i || not (reachedAt (p .shape) worked senders i)
+-- the masks of the squares that were worked
+abbrev pub workedRow : List ℕ → ℕ → ℕ
+workedRow worked row = getD worked row 0

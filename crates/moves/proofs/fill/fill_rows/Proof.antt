@@ -14,7 +14,7 @@ use Rattle.ledger.specs.Runs.{Plan, plan}
 use Rattle.ledger.specs.inner.Walks.{sends}
 use Rattle.checks.specs.Given.{Ground, ground}
 use Rattle.moves.specs.Moves.{leavesFor}
-use Rattle.moves.specs.inner.Fill.{FilledOn, IdleAt, LeftTo}
+use Rattle.moves.specs.inner.Fill.{FilledOn, UnstirredAt, LeftTo}
 use Rattle.moves.proofs.FillLaws.{filled-then, filled-on}
 use Rattle.moves.proofs.WetLaws.{left-none, left-row, rows-told}
 use Rattle.moves.proofs.fill.fill_rows.Statement.{statement}
@@ -98,7 +98,7 @@ fill-row-requires c κs =
       (
         row-here (s .args .way .shape) (at-loop .loop .inv .0) (at .loop-test .taken),
         by-row (s .args .way .shape) (at-loop .loop .row) (at-loop .loop .inv .0 .begins) (λ r. getD (s .args .worked .now) r 0)
-            (IdleAt (p s) (s .args .depths .now) (s .args .lasts .now) (s .args .added .now)) (at .loop-test .taken) refl (s .pre .1 .0),
+            (UnstirredAt (p s) (s .args .depths .now) (s .args .lasts .now) (s .args .added .now)) (at .loop-test .taken) refl (s .pre .1 .0),
         at-loop .loop .inv .2 ∙ s .pre .1 .2,
       ),
     )

@@ -6,14 +6,14 @@ use lib.ListN.{getD}
 use Rattle.grid.specs.inner.Rows.{InRow, AtRow}
 use Rattle.grid.proofs.SquareLaws.{rows-begin, row-here, row-next, rows-end}
 use Rattle.ledger.specs.Runs.{Plan, plan}
-use Rattle.settling.specs.inner.Settle.{Written, unreached}
-use Rattle.settling.proofs.ReachLaws.{skip-written, same-written, then-written, alike-written, skips-reached}
+use Rattle.settling.specs.inner.Settle.{Written, reachedRow, skipsBy}
+use Rattle.settling.proofs.ReachLaws.{skip-written, same-written, then-written, alike-written, skips-row}
 use Rattle.settling.proofs.reach.write_depths.Statement.{statement}
 use Rattle.settling.proofs.reach.write_depths.Tie as tie
 
 abbrev Inv-loop : tie.InvT-loop
 Inv-loop shape marks worked senders room depths₀ rows columns row₀ first₀ depths row first =
-    AtRow rows columns row first × Written (unreached (plan shape marks) worked senders) (λ i. getD room i 0) 0 first depths₀ depths
+    AtRow rows columns row first × Written (skipsBy (plan shape marks) (reachedRow worked senders)) (λ i. getD room i 0) 0 first depths₀ depths
 
 abbrev μ-loop : tie.MeasureT-loop
 μ-loop shape marks worked senders room depths₀ rows columns row₀ first₀ depths row first = rows - row
@@ -85,7 +85,7 @@ loop-again c =
       row-next (z .loop .inv .0) (here .loop-test .taken),
       then-written (omega arith) (omega arith) (z .loop .inv .1)
           (alike-written
-          (skips-reached (p z) (here .loop-test .taken) (z .loop .inv .0 .begins) (s .args .worked .now) (s .args .senders .now) (masked stored .reached .ensures))
+          (skips-row (p z) (z .loop .row) (z .loop .inv .0 .begins) (reachedRow (s .args .worked .now) (s .args .senders .now)) (masked stored .reached .ensures))
           (stored .write-row .ensures)),
     )
 

@@ -7,14 +7,14 @@ use lib.ListN.{getD}
 use Rattle.grid.specs.inner.Rows.{InRow, AtRow}
 use Rattle.grid.proofs.SquareLaws.{rows-begin, row-here, row-next, rows-end}
 use Rattle.ledger.specs.Runs.{Plan, plan}
-use Rattle.settling.specs.inner.Settle.{Written, unworked}
-use Rattle.settling.proofs.ReachLaws.{skip-written, same-written, then-written, alike-written, skips-worked}
+use Rattle.settling.specs.inner.Settle.{Written, skipsBy, workedRow}
+use Rattle.settling.proofs.ReachLaws.{skip-written, same-written, then-written, alike-written, skips-row}
 use Rattle.settling.proofs.reach.write_lasts.Statement.{statement}
 use Rattle.settling.proofs.reach.write_lasts.Tie as tie
 
 abbrev Inv-loop : tie.InvT-loop
 Inv-loop shape marks worked left lasts₀ rows columns row₀ first₀ lasts row first =
-    AtRow rows columns row first × Written (unworked (plan shape marks) worked) (λ i. getD left i 0) 0 first lasts₀ lasts
+    AtRow rows columns row first × Written (skipsBy (plan shape marks) (workedRow worked)) (λ i. getD left i 0) 0 first lasts₀ lasts
 
 abbrev μ-loop : tie.MeasureT-loop
 μ-loop shape marks worked left lasts₀ rows columns row₀ first₀ lasts row first = rows - row
@@ -85,7 +85,7 @@ loop-again c =
     let s = start z in (
       row-next (z .loop .inv .0) (here .loop-test .taken),
       then-written (omega arith) (omega arith) (z .loop .inv .1)
-          (alike-written (skips-worked (p z) (here .loop-test .taken) (z .loop .inv .0 .begins) (s .args .worked .now) refl) (stored .write-row .ensures)),
+          (alike-written (skips-row (p z) (z .loop .row) (z .loop .inv .0 .begins) (workedRow (s .args .worked .now)) refl) (stored .write-row .ensures)),
     )
 
 same-length : tie.Need-same-length Inv-loop μ-loop
