@@ -107,6 +107,7 @@ reckon-determined =
       begun-cube-root = λ n a b. begun-unique;
       ended-cube-root = λ n a b. root-unique;
       soak-due = λ rate start end. exactly;
+      row-on = λ rows j r c. exactly;
       rain-by = λ rows t. exactly;
       inflow-by = λ rows r c side t. exactly;
       rain-added = λ rows start end. exactly;

@@ -10,7 +10,7 @@ use Rattle.reckon.specs.Numbers as Numbers
 use Rattle.reckon.specs.Ranges.{WaterJudged, SideJudged, RateJudged}
 use Rattle.reckon.specs.Roots.{Root, Begun}
 use Rattle.reckon.specs.Soaking.{SoakDue}
-use Rattle.reckon.specs.Tables.{RainBy, InflowBy, RainAdded, InflowAdded, RainJudged, InflowJudged}
+use Rattle.reckon.specs.Tables.{RowOn, RainBy, InflowBy, RainAdded, InflowAdded, RainJudged, InflowJudged}
 use Rattle.trials.specs.Ring.{SlotsIn, SlotStart, SlotAfter, SlotBefore, KeptAfter, RingJudged}
 use Rattle.grid.specs.Squares.{squares, ShapeJudged, SquaresOf, SquareFound, NextColumn, BesideOn, OppositeOf, RimJudged}
 use Rattle.grid.specs.Marks.{ClosedJudged, ExitJudged, MarksJudged, InflowSquaresJudged}
@@ -67,8 +67,8 @@ abbrev pub One : {Out : Type 0} → (Out → Type 0) → Type 0
 One {Out} allowed = (a b : Out) → allowed a → allowed b → a ≡ b
 
 -- what `fill` gives: the record, what left each square that is worked, and the rows of the squares that are worked and of those that send
-abbrev pub Fills : Walk → Plan → Ground → List ℕ → List ℕ → List ℕ → ℕ → ℕ → ℕ → List ℕ × (List ℕ × (List ℕ × List ℕ)) → Type 0
-Fills walk p o depths lasts added held start ms out =
+abbrev pub FillGives : Walk → Plan → Ground → List ℕ → List ℕ → List ℕ → ℕ → ℕ → ℕ → List ℕ × (List ℕ × (List ℕ × List ℕ)) → Type 0
+FillGives walk p o depths lasts added held start ms out =
     (RecordFilled p o depths lasts added held start ms (out .0))
     × (out .1 .1 .0 ≡ workedRows walk p depths lasts added)
     × (out .1 .1 .1 ≡ senderRows p o depths lasts ms)
@@ -92,6 +92,7 @@ pub record ReckonDetermined : Type 0 where
   pub begun-cube-root : (n : ℕ) → One (Begun 3 n 100)
   pub ended-cube-root : (n : ℕ) → One (Root 3 n)
   pub soak-due : (rate start end : ℕ) → One (SoakDue rate start end)
+  pub row-on : (rows : List ℕ) (j r c : ℕ) → One (RowOn rows j r c)
   pub rain-by : (rows : List ℕ) (t : ℕ) → One (RainBy rows t)
   pub inflow-by : (rows : List ℕ) (r c side t : ℕ) → One (InflowBy rows r c side t)
   pub rain-added : (rows : List ℕ) (start end : ℕ) → One (RainAdded rows start end)
@@ -174,7 +175,7 @@ pub record MovesDetermined : Type 0 where
       WaterAdded p g start end old (a .0) (a .1) → WaterAdded p g start end old (b .0) (b .1) →
       (a .0 ≡ b .0) × (a .0 ≡ true → (i : ℕ) → i < squares (p .shape) → shut p i ≡ false → getD (a .1) i 0 ≡ getD (b .1) i 0)
   pub fill : (walk : Walk) (p : Plan) (o : Ground) (depths lasts added : List ℕ) (held start ms : ℕ) (a b : List ℕ × (List ℕ × (List ℕ × List ℕ))) →
-      Fills walk p o depths lasts added held start ms a → Fills walk p o depths lasts added held start ms b →
+      FillGives walk p o depths lasts added held start ms a → FillGives walk p o depths lasts added held start ms b →
       (a .0 ≡ b .0)
       × ((i : ℕ) → i < squares (p .shape) → shut p i ≡ false → isWorked walk p depths lasts added i ≡ true → getD (a .1 .0) i 0 ≡ getD (b .1 .0) i 0)
       × (a .1 .1 .0 ≡ b .1 .1 .0)
