@@ -1,22 +1,18 @@
-#!/usr/bin/env python3
 """The gate, the installer and bin/run themselves, in a folder of their own with stand-ins for the kit and for Debian's tools: nothing
 passes that was skipped or not counted, what cannot be installed is said, and a program is built again when a source is newer."""
 import os
 import platform
 import shutil
 import subprocess
-import sys
 import tempfile
 from pathlib import Path
 
-TOP = Path(__file__).resolve().parent.parent
-sys.path.insert(0, str(TOP / "python"))
-
-from meadow.counted import Checks  # noqa: E402
+from meadow.counted import Checks
+from meadow.programs import TOP
 
 VERDICT = "12 passed, 0 failed"
 NOTE = "Proof.antt:1:1: note: large solution: the implicit argument"
-PASSES = 'echo "one: 3 checks, 0 skipped, 0 failed"'
+PASSES = 'print("one: 3 checks, 0 skipped, 0 failed")'
 SKIPS = 'echo "two: skipped: all of it: no moon here"; echo "two: 0 checks, 1 skipped, 0 failed"'
 
 
@@ -25,17 +21,16 @@ class Room:
 
     def __init__(self, folder):
         self.top, self.stand_ins = Path(folder) / "top", Path(folder) / "stand-ins"
-        for name in (".ci/run", "bin/setup", "bin/run"):
+        for name in (".ci/run", "bin/run", "bin/setup", "bin/test", "tests/support/started.py"):
             (self.top / name).parent.mkdir(parents=True, exist_ok=True)
             shutil.copy(TOP / name, self.top / name)
-        (self.top / "tests").mkdir()
         self.stand_ins.mkdir()
 
     def write(self, name, body):
-        """A script of the project."""
+        """A script of the project, in Python or for bash."""
         path = self.top / name
         path.parent.mkdir(parents=True, exist_ok=True)
-        path.write_text(f"#!/usr/bin/env bash\n{body}\n")
+        path.write_text(f"{body}\n" if path.suffix == ".py" else f"#!/usr/bin/env bash\n{body}\n")
         path.chmod(0o755)
 
     def stand_in(self, name, body):
@@ -69,7 +64,7 @@ def gate(checks, room):
     room.stand_in("rt", kit)
     room.write("bin/setup", "exit 0")
     hold_gate(checks, room, "no test", False, ["gate: there is no test under tests/"])
-    room.write("tests/one.sh", PASSES)
+    room.write("tests/one.py", PASSES)
     hold_gate(checks, room, "a test that passes", True, ["gate: 1 tests, 3 checks, 0 skipped", VERDICT])
     room.write("tests/two.sh", SKIPS)
     said = "gate: 1 skipped: two: all of it: no moon here"

@@ -1,20 +1,15 @@
-#!/usr/bin/env python3
 """The pages are true of the sources: every public function stands in docs/CONTRACTS.md, every file and name that docs/METHOD.md cites is
 there, its ranges and its worked square are those of document 01 in Python, the pictures are as made, no table has a cell too long to read,
 every path and every name in backticks is there, and README's first sheet gives README's answer."""
 import re
-import sys
 from pathlib import Path
 
-TOP = Path(__file__).resolve().parent.parent
-sys.path[:0] = [str(TOP / "python"), str(TOP / "tools")]
-
-import pictures  # noqa: E402
-from meadow.counted import Checks  # noqa: E402
-from meadow.programs import printed  # noqa: E402
-from meadow.ranges import RANGES  # noqa: E402
-from meadow.worked_square import AMOUNTS  # noqa: E402
-from rattle.functions import library_functions  # noqa: E402
+import pictures
+from meadow.counted import Checks
+from meadow.programs import TOP, printed
+from meadow.ranges import RANGES
+from meadow.worked_square import AMOUNTS
+from rattle.functions import library_functions
 
 CRATES = TOP / "crates"
 METHOD = TOP / "docs" / "METHOD.md"

@@ -1,4 +1,3 @@
-#!/usr/bin/env python3
 """The project's own scripts: each Python file says what it is for, the fields of a sheet's lines are listed in one of them alone, nothing
 but bin/setup installs, a tool whose output nobody reads any more ends quietly, and what it prints is UTF-8 everywhere."""
 import ast
@@ -6,13 +5,10 @@ import os
 import re
 import subprocess
 import sys
-from pathlib import Path
 
-TOP = Path(__file__).resolve().parent.parent
-sys.path.insert(0, str(TOP / "python"))
-
-from meadow.counted import Checks  # noqa: E402
-from meadow.lines import SQUARE  # noqa: E402
+from meadow.counted import Checks
+from meadow.lines import SQUARE
+from meadow.programs import TOP
 
 FOLDERS = ("python", "samples", "tests", "tools", "validation")
 SAMPLE = [TOP / "samples" / f"walled-meadow.{kind}" for kind in ("sheet", "out")]

@@ -5,11 +5,9 @@ map.py SHEET ANSWER > MAP.svg: draws an answer that is there already; what was a
 import sys
 from pathlib import Path
 
-sys.path.insert(0, str(Path(__file__).resolve().parent.parent / "python"))
-
-from meadow.drawing import svg  # noqa: E402
-from meadow.pairs import balanced, pair_in  # noqa: E402
-from meadow.programs import ended  # noqa: E402
+from begin import ended
+from meadow.drawing import svg
+from meadow.pairs import balanced, pair_in
 
 
 def main():

@@ -6,15 +6,12 @@ The map is that of the sample `walled-meadow`, the crates are those of crates.tx
 are those of the table in docs/SPEED.md.
 """
 import re
-import sys
-from pathlib import Path
 
-sys.path.insert(0, str(Path(__file__).resolve().parent.parent / "python"))
-
-from meadow.drawing import svg  # noqa: E402
-from meadow.pairs import balanced, pair_in  # noqa: E402
-from meadow.programs import TOP, ended  # noqa: E402
-from meadow.worked_square import AMOUNTS, DROPS  # noqa: E402
+from begin import ended
+from meadow.drawing import svg
+from meadow.pairs import balanced, pair_in
+from meadow.programs import TOP
+from meadow.worked_square import AMOUNTS, DROPS
 
 WATER, WALL, GROUND, INK, PALE = "#9ecae1", "#4a4a4a", "#e9ddb8", "#222222", "#777777"
 COLOURS = ("#08519c", "#31a354", "#8c6d31", "#d94801", "#6a51a3")

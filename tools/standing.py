@@ -6,13 +6,10 @@ Prints `standing` and the count, `steep` and how many of them fall by 1 mm or mo
 of edition 2 or 3 has none. What was answered to another sheet is refused.
 """
 import sys
-from pathlib import Path
 
-sys.path.insert(0, str(Path(__file__).resolve().parent.parent / "python"))
-
-from meadow.pairs import balanced, pair_in  # noqa: E402
-from meadow.programs import ended  # noqa: E402
-from meadow.standing import STEEP, standing_squares  # noqa: E402
+from begin import ended
+from meadow.pairs import balanced, pair_in
+from meadow.standing import STEEP, standing_squares
 
 
 def main():
