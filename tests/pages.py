@@ -1,9 +1,11 @@
 """The pages are true of the sources: every public function stands in docs/CONTRACTS.md, every file and name that docs/METHOD.md cites is
 there, its ranges and its worked square are those of document 01 in Python, the pictures are as made, no table has a cell too long to read,
-every path and every name in backticks is there, and README's first sheet gives README's answer."""
+every path and every name in backticks is there, each edit says which fact refuses it and where, and README's first sheet gives README's
+answer."""
 import re
 from pathlib import Path
 
+import edits
 import pictures
 from meadow.counted import Checks
 from meadow.programs import TOP, printed
@@ -14,6 +16,7 @@ from rattle.functions import library_functions
 CRATES = TOP / "crates"
 METHOD = TOP / "docs" / "METHOD.md"
 CONTRACTS = TOP / "docs" / "CONTRACTS.md"
+DEMANDS = TOP / "docs" / "DEMANDS.md"
 # "some 30 words"
 MOST_WORDS = 35
 SHORT_CELLS = ("CONTRACTS.md", "DEMANDS.md")
@@ -162,12 +165,30 @@ def hold_paths(checks):
             checks.hold(path.exists(), f"{page.relative_to(TOP)} names {path.relative_to(TOP)}, which is not there")
 
 
+def hold_edits(checks):
+    """Each edit says which fact refuses it, and where: by a name that its crate has, or in words. The table is made of them, and those that
+    docs/DEMANDS.md cites are there."""
+    found = list(edits.edits())
+    for edit in found:
+        name = f"{edit.crate}/must-fail/{edit.name}.edit"
+        checks.hold(edit.fact and edit.where, f"crates/{name} does not say which fact refuses it, and where")
+        sources = [path for kind in ("rt", "antt") for path in (CRATES / edit.crate).rglob(f"*.{kind}")]
+        there = {path.stem for path in sources}.union(*(NAME.findall(path.read_text(encoding="utf-8")) for path in sources))
+        checks.hold(" " in edit.where or edit.where in there, f"crates/{name} says {edit.where}, and its crate has no such name")
+    checks.hold(edits.page() == CONTRACTS.read_text(encoding="utf-8"), "docs/CONTRACTS.md has not the table of edits that tools/edits.py makes")
+    there = {f"{edit.crate}/{edit.name}" for edit in found}
+    cited = [row[-1] for heads, rows in tables(DEMANDS.read_text(encoding="utf-8")) if heads[-1] == "tried by the edits" for row in rows]
+    checks.hold(cited != [], "docs/DEMANDS.md cites no edit")
+    for name in (name for cell in cited for name in ticked(cell)):
+        checks.hold(name in there, f"docs/DEMANDS.md cites the edit {name}, which is not there")
+
+
 def source_names():
-    """Every word that stands in a source or is the name of one, but for this file."""
+    """Every word that stands in a source or is the name of one, but for this file and for what edits say."""
     names = set(NAME.findall((TOP / "crates.txt").read_text(encoding="utf-8")))
     for path in (path for folder in SOURCES for path in (TOP / folder).rglob("*")):
         names |= {path.name, path.stem}
-        if path.is_file() and path.suffix != ".pyc" and path != Path(__file__).resolve():
+        if path.is_file() and path.suffix not in (".pyc", ".edit") and path != Path(__file__).resolve():
             names |= {name.rstrip("'-") for name in NAME.findall(path.read_text(encoding="utf-8"))}
     return names
 
@@ -225,6 +246,7 @@ def main():
     hold_cells(checks)
     hold_paths(checks)
     hold_code(checks)
+    hold_edits(checks)
     hold_first_sheet(checks)
     checks.end()
 
