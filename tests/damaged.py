@@ -7,9 +7,9 @@ import sys
 from pathlib import Path
 
 from meadow.counted import Checks
-from meadow.lines import INFLOW, RAIN, SECOND, SQUARE, Sheet, answer_text, line_of, place_of, refused_text
 from meadow.programs import TOP, printed
-from meadow.sheets import MOST_BYTES, answered
+from meadow.sheets.lines import INFLOW, RAIN, SECOND, SQUARE, Sheet, answer_text, line_of, place_of, refused_text
+from meadow.sheets.reading import MOST_BYTES, answered
 
 # ---- base sheets
 

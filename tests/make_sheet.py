@@ -7,10 +7,10 @@ import tempfile
 from pathlib import Path
 
 from meadow.counted import Checks
-from meadow.grids import grid_in
-from meadow.lines import Answer
 from meadow.programs import TOP
-from meadow.sheets import read
+from meadow.sheets.lines import Answer
+from meadow.sheets.reading import read
+from meadow.surveys.grids import grid_in
 
 SAMPLES = TOP / "samples"
 HEAD = "ncols 3\nnrows 2\nxllcorner 432100.50\nyllcorner -12.25\ncellsize 10\nNODATA_value -9999\n"

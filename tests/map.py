@@ -9,10 +9,10 @@ from itertools import pairwise
 from pathlib import Path
 
 from meadow.counted import Checks
-from meadow.lines import MINUTE, Answer, Sheet, answer_text, refused_text
+from meadow.maps.shades import CLASSES, HIGH_GROUND, LOW_GROUND, grey, ground
 from meadow.programs import TOP
-from meadow.shades import CLASSES, HIGH_GROUND, LOW_GROUND, grey, ground
-from meadow.sheets import read
+from meadow.sheets.lines import MINUTE, Answer, Sheet, answer_text, refused_text
+from meadow.sheets.reading import read
 
 TOOL = TOP / "tools" / "map.py"
 SAMPLES = TOP / "samples"

@@ -9,8 +9,8 @@ import edits
 import pictures
 from meadow.counted import Checks
 from meadow.programs import TOP, printed
-from meadow.ranges import RANGES
-from meadow.worked_square import AMOUNTS
+from meadow.rule.ranges import RANGES
+from meadow.rule.worked_square import AMOUNTS
 from rattle.functions import library_functions
 
 CRATES = TOP / "crates"

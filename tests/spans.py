@@ -2,11 +2,11 @@
 they are refused no fewer than the least; each figure is met, also where rounding tells; and the figures of a few runs by hand."""
 import random
 
-from meadow.bounds import step_bounds, steps_over
 from meadow.counted import Checks
-from meadow.refusals import Refused
-from meadow.steps import run_to
-from meadow.world import Meadow
+from meadow.rule.bounds import step_bounds, steps_over
+from meadow.rule.refusals import Refused
+from meadow.rule.steps import run_to
+from meadow.rule.world import Meadow
 
 RUNS = 300
 RULES = {"side": 1, "tolerance": 100, "shortest": 300, "longest": 700, "update": 1000, "edge": 10_000, "edition": 1}

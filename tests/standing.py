@@ -5,9 +5,9 @@ import tempfile
 from pathlib import Path
 
 from meadow.counted import Checks
-from meadow.lines import SECOND, Sheet, answer_text
 from meadow.programs import TOP
-from meadow.weighing import EDITIONS, WEIGHTED
+from meadow.rule.weighing import EDITIONS, WEIGHTED
+from meadow.sheets.lines import SECOND, Sheet, answer_text
 
 TOOL = TOP / "tools" / "standing.py"
 # Beds and depths of three squares in a row, D 10, roughness 300, steps of 1000 ms; the edge slope where the middle square is an exit; then

@@ -5,10 +5,10 @@ import sys
 import tempfile
 from pathlib import Path
 
-from meadow import units
 from meadow.counted import Checks
-from meadow.lines import HOUR, MINUTE, Sheet, answer_text
 from meadow.programs import TOP
+from meadow.sheets.lines import HOUR, MINUTE, Sheet, answer_text
+from meadow.words import units
 
 TOOL = TOP / "tools" / "tell.py"
 SAMPLES = TOP / "samples"

@@ -4,10 +4,10 @@ crates/vectors/stdout.
 `bin/test vectors --write` writes that file instead.
 """
 
-from meadow.ranges import RANGES, fine
-from meadow.sources import constants
-from meadow.step_length import candidates
-from meadow.weighing import EDITIONS, weigh
+from meadow.rule.ranges import RANGES, fine
+from meadow.rule.step_length import candidates
+from meadow.rule.weighing import EDITIONS, weigh
+from sources import constants
 from stored import hold
 
 NAMES = ("side", "tolerance", "depth", "last", "roughness", "lasted")

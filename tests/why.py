@@ -8,10 +8,10 @@ from pathlib import Path
 
 from damaged import A_HATCH, A_SHOWER, BASES, CASES, after, answer_of, before, field, on_line, sheet_of, spaces, word
 from meadow.counted import Checks
-from meadow.lines import MINUTE, Sheet
 from meadow.programs import TOP
-from meadow.reasons import IN_THE_RUN, NOT_FOUND, reasons, refusal
-from meadow.sheets import answered
+from meadow.sheets.lines import MINUTE, Sheet
+from meadow.sheets.reading import answered
+from meadow.words.reasons import IN_THE_RUN, NOT_FOUND, reasons, refusal
 
 TOOL = TOP / "tools" / "why.py"
 OLD_SQUARE = ["line 4: it has 6 fields after its word and should have 7: say the rate", "soak rate at this line's end"]

@@ -4,7 +4,7 @@
 """
 
 import lent
-from meadow.sources import program
+from sources import program
 from stored import hold
 
 OUT = []

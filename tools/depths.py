@@ -8,9 +8,9 @@ was answered to another sheet is refused.
 import sys
 
 from begin import ended
-from meadow.depths import csv_of, esri_of
-from meadow.pairs import balanced, pair_in
-from meadow.places import Place, place_file, place_beside
+from meadow.sheets.pairs import balanced, pair_in
+from meadow.surveys.depths import csv_of, esri_of
+from meadow.surveys.places import Place, place_file, place_beside
 
 
 def main():

@@ -10,12 +10,12 @@ import argparse
 from pathlib import Path
 
 from begin import ended
-from meadow.grids import grid_in, number
-from meadow.lines import USUAL_RUN, Unreadable
-from meadow.places import Place, place_file, place_text
-from meadow.reasons import why_not
-from meadow.surveys import MILLIMETRE_AN_HOUR, clock, hold_shape, index, litres, marks_of, plan_in, sheet_of, spread, whole
-from meadow.telling import telling
+from meadow.sheets.lines import USUAL_RUN, Unreadable
+from meadow.surveys.grids import grid_in, number
+from meadow.surveys.making import MILLIMETRE_AN_HOUR, clock, hold_shape, index, litres, marks_of, plan_in, sheet_of, spread, whole
+from meadow.surveys.places import Place, place_file, place_text
+from meadow.words.reasons import why_not
+from meadow.words.telling import telling
 
 USUAL = ", ".join(f"{name} {value}" for name, value in USUAL_RUN.items())
 

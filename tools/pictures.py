@@ -8,10 +8,10 @@ are those of the table in docs/SPEED.md.
 import re
 
 from begin import ended
-from meadow.drawing import svg
-from meadow.pairs import balanced, pair_in
+from meadow.maps.drawing import svg
 from meadow.programs import TOP
-from meadow.worked_square import AMOUNTS, DROPS
+from meadow.rule.worked_square import AMOUNTS, DROPS
+from meadow.sheets.pairs import balanced, pair_in
 
 WATER, WALL, GROUND, INK, PALE = "#9ecae1", "#4a4a4a", "#e9ddb8", "#222222", "#777777"
 COLOURS = ("#08519c", "#31a354", "#8c6d31", "#d94801", "#6a51a3")

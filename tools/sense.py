@@ -4,11 +4,11 @@ and the steps; or, of a refusal, the likeliest reason. bin/meadow ends with it."
 import sys
 
 from begin import ended
-from meadow.lines import Answer
-from meadow.pairs import balanced, bytes_as_text, pair_of
-from meadow.reasons import reasons, refusal
-from meadow.sense import sense
-from meadow.sheets import read
+from meadow.sheets.lines import Answer
+from meadow.sheets.pairs import balanced, bytes_as_text, pair_of
+from meadow.sheets.reading import read
+from meadow.words.reasons import reasons, refusal
+from meadow.words.sense import sense
 
 
 def main():

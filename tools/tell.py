@@ -10,12 +10,12 @@ equal to the micrometre ("The water account"); where they are not, or the answer
 import sys
 
 from begin import ended
-from meadow.account import account, lines_of
-from meadow.lines import Answer
-from meadow.pairs import bytes_as_text, pair_of
-from meadow.refusals import check
-from meadow.sheets import meadow_of, read
-from meadow.telling import telling
+from meadow.rule.refusals import check
+from meadow.sheets.account import account, lines_of
+from meadow.sheets.lines import Answer
+from meadow.sheets.pairs import bytes_as_text, pair_of
+from meadow.sheets.reading import meadow_of, read
+from meadow.words.telling import telling
 
 
 def main():

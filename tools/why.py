@@ -6,12 +6,12 @@ The number and the line are meadow's own. Ends with status 1 where the sheet is 
 import sys
 
 from begin import ended
-from meadow.lines import Answer
-from meadow.pairs import bytes_as_text, pair_of
 from meadow.programs import printed
-from meadow.reasons import reasons, refusal
-from meadow.sense import sense
-from meadow.sheets import read
+from meadow.sheets.lines import Answer
+from meadow.sheets.pairs import bytes_as_text, pair_of
+from meadow.sheets.reading import read
+from meadow.words.reasons import reasons, refusal
+from meadow.words.sense import sense
 
 
 def main():

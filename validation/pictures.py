@@ -9,12 +9,12 @@ from analytical_wave import WAVES, compare, fold, wave_depth, wave_sheet
 from ditch_mouth import BED_EDGE, BELOW_EDGE, FLOW, SQUARES, normal_depth, profile
 from editions import FIXED, wave as wave_by
 from long_step import RUNS, level_meadow
-from meadow.drawing import svg
-from meadow.grounds import HELD_MOUTH, opened_pond
-from meadow.lines import HOUR, MINUTE, SECOND
-from meadow.pairs import pair_of
+from meadow.maps.drawing import svg
 from meadow.programs import TOP, ended, meadow
-from meadow.sheets import read
+from meadow.sheets.grounds import HELD_MOUTH, opened_pond
+from meadow.sheets.lines import HOUR, MINUTE, SECOND
+from meadow.sheets.pairs import pair_of
+from meadow.sheets.reading import read
 from pond import settled
 from shared import limits
 from soaking import SAMPLE

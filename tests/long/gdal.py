@@ -9,11 +9,11 @@ from decimal import Decimal
 from pathlib import Path
 
 from meadow.counted import Checks
-from meadow.lines import Sheet
-from meadow.pairs import pair_in
-from meadow.places import Place, place_file, place_text
 from meadow.programs import TOP
-from meadow.sheets import read
+from meadow.sheets.lines import Sheet
+from meadow.sheets.pairs import pair_in
+from meadow.sheets.reading import read
+from meadow.surveys.places import Place, place_file, place_text
 
 SAMPLES = TOP / "samples"
 # corners with and without decimals, and on both sides of 0

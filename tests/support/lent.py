@@ -1,12 +1,12 @@
 """The calls of document 01 on values as a program's source has them: structs by name, slices written in place."""
 import struct
 
-from meadow import bounds, sights
-from meadow.refusals import Refused
-from meadow.sources import Struct
-from meadow.steps import fresh, run_to, step
-from meadow.take_back import take_back
-from meadow.world import Meadow
+from meadow.rule import bounds, sights
+from meadow.rule.refusals import Refused
+from meadow.rule.steps import fresh, run_to, step
+from meadow.rule.take_back import take_back
+from meadow.rule.world import Meadow
+from sources import Struct
 
 RUN = ("clock", "length", "outflow", "kept", "newest", "soaked")
 

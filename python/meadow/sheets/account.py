@@ -5,8 +5,8 @@ what the tables of rain and inflow give by the clock. Both are in µm over one s
 """
 from typing import NamedTuple
 
-from .sheets import meadow_of
-from .steps import inflow_by, rain_by
+from ..rule.steps import inflow_by, rain_by
+from .reading import meadow_of
 
 
 class Account(NamedTuple):

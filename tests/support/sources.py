@@ -7,7 +7,7 @@ import copy
 import re
 from types import SimpleNamespace
 
-from .programs import TOP
+from meadow.programs import TOP
 
 BRANCHES = re.compile(r"\b(if|match|while|for|loop|return)\b")
 FUNCTION = re.compile(r"\bfn (\w+)\(([^()]*)\)[^{]*\{")

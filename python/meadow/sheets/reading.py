@@ -1,11 +1,11 @@
 """Document 01, "The sheet and its program": a sheet's text judged, and what the program `meadow` answers to it."""
 import re
 
+from ..rule.ranges import fine
+from ..rule.refusals import Refused, check, refuse_if
+from ..rule.steps import fresh, run_to
+from ..rule.world import Meadow
 from .lines import CLOSED, GRID, INFLOW, MARKS, RAIN, RUN, SHEET_LINES, SQUARE, Sheet, answer_text, place_of, refused_text, values_of
-from .ranges import fine
-from .refusals import Refused, check, refuse_if
-from .steps import fresh, run_to
-from .world import Meadow
 
 MOST_BYTES = 65_536
 MOST_SQUARES = 1_024

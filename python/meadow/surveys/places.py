@@ -6,8 +6,8 @@ from decimal import Decimal
 from pathlib import Path
 from typing import NamedTuple
 
+from ..sheets.lines import Unreadable
 from .grids import corner_of, head_of, head_text, number, plain
-from .lines import Unreadable
 
 DATUM = "datum"
 SUFFIX = ".place"

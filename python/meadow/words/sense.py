@@ -1,5 +1,5 @@
 """One line of sense about an answer: how much water is where, the deepest place, the clock and the steps."""
-from .account import account
+from ..sheets.account import account
 from .units import depth, square, steps, time, volume
 
 

@@ -7,14 +7,14 @@ rests on it. No depth is computed: those that the answer has are drawn.
 """
 from html import escape
 
+from ..sheets.lines import CLOSED
+from ..sheets.standing import STEEP, standing_squares
+from ..words.hatches import hatches_of
+from ..words.units import depth, height, square, time
 from .contours import contours, heights_of
-from .hatches import hatches_of
 from .legend import LEGEND, legend
-from .lines import CLOSED
 from .shades import CLASSES, CONTOUR, CONTOUR_NAME, INK, LINES, PALE, WALL_PAPER, WALL_STROKE, class_of, ground
 from .signs import box, diamond, exit_sign, film_dot, hatch_sign, words
-from .standing import STEEP, standing_squares
-from .units import depth, height, square, time
 
 # the size of a square on paper at the least and at the most, and that of a map that is to be filled by fewer squares
 LEAST_SQUARE, MOST_SQUARE, FILLED = 22, 60, 480

@@ -1,11 +1,11 @@
 """A sheet in a person's units: its ground, its rain and hatches with what they give, and the steps that its run can need."""
-from .bounds import step_bounds
+from ..rule.bounds import step_bounds
+from ..rule.steps import ran
+from ..sheets.lines import CLOSED, RAIN
+from ..sheets.reading import meadow_of
 from .doubts import doubts
 from .faults import rows_with_lines
 from .hatches import hatches_of
-from .lines import CLOSED, RAIN
-from .sheets import meadow_of
-from .steps import ran
 from .units import area, depth, height, millimetres, rain_depth, rain_rate, roughness, span, time, volume
 
 

@@ -5,13 +5,13 @@ and a fixed step is long from about 100 ms for each metre of a square's side.
 """
 from math import hypot
 
+from ..rule.ranges import RANGES
+from ..rule.weighing import WEIGHTED
+from ..sheets.lines import INFLOW, RAIN
 from .enclosed import walled_in
 from .faults import RUN_LINE, rows_with_lines
 from .hatches import hatches_of
-from .lines import INFLOW, RAIN
-from .ranges import RANGES
 from .units import area, height, rain_rate, roughness, square, time
-from .weighing import WEIGHTED
 
 # rain in µm an hour, roughness in ten-thousandths, distance in m, ms for each metre
 HARDLY_RAIN, HARDLY_MORE = 100, 300_000

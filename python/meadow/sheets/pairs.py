@@ -6,11 +6,11 @@ since it was run may still pass both; then the water account tells it, which bal
 from pathlib import Path
 from typing import NamedTuple
 
+from ..programs import printed
+from ..rule.refusals import check
 from .account import account
 from .lines import Answer, Sheet, Unreadable
-from .programs import printed
-from .refusals import check
-from .sheets import meadow_of, read
+from .reading import meadow_of, read
 
 
 class Pair(NamedTuple):

@@ -5,8 +5,8 @@ told field by field.
 """
 import re
 
-from .lines import CLOSED, MARKS, RUN, SHEET_LINES, SQUARE, place_of
-from .sheets import MOST_NUMBER, number_well
+from ..sheets.lines import CLOSED, MARKS, RUN, SHEET_LINES, SQUARE, place_of
+from ..sheets.reading import MOST_NUMBER, number_well
 
 # a byte order mark, as its bytes are read one by one, and a space that does not break, as UTF-8 and by itself
 MARK_OF_ORDER = "\xef\xbb\xbf"

@@ -7,11 +7,11 @@ import re
 from decimal import ROUND_FLOOR, ROUND_HALF_UP, Decimal, InvalidOperation
 from pathlib import Path
 
+from ..rule.ranges import RANGES, fine
+from ..sheets.lines import CLOSED, HOUR, MARKS, MINUTE, SECOND, Sheet, Unreadable
+from ..sheets.reading import MOST_SQUARES
+from ..words.units import square
 from .grids import Grid, grid_in, number
-from .lines import CLOSED, HOUR, MARKS, MINUTE, SECOND, Sheet, Unreadable
-from .ranges import RANGES, fine
-from .sheets import MOST_SQUARES
-from .units import square
 
 # the sheet's units in a person's: µm in a metre, ten-thousandths, µm an hour in a mm an hour
 METRE, MANNING, MILLIMETRE_AN_HOUR = 1_000_000, 10_000, 1_000

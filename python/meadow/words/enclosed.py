@@ -5,7 +5,7 @@ is whose outline alone is closed.
 """
 
 
-from .sheets import meadow_of
+from ..sheets.reading import meadow_of
 
 
 def pieces(m):

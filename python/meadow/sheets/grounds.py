@@ -1,6 +1,6 @@
 """The grounds that samples and validation share: the walled meadow, and the pond behind a bank."""
 from .lines import HOUR, MINUTE, SECOND, Answer, Sheet
-from .sheets import answered
+from .reading import answered
 
 MILLIMETRE = 1_000
 # the walled meadow: 30 by 30 squares that fall to the south and to a hollow in the middle

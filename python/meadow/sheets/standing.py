@@ -5,9 +5,9 @@ P = 0 (edition 1) lets none. The next step's length is worked from the answer's 
 answer does not say P: where P is 0 the square stands indeed, where water left it a moment ago it may still flow, so the count is never
 too small. Editions 2 and 3 have no such limit: no square of their sheets stands.
 """
-from .sheets import with_answer
-from .step_length import fresh_length, lasts_for
-from .weighing import UNLIMITED, WEIGHTED, drops, weigh
+from ..rule.step_length import fresh_length, lasts_for
+from ..rule.weighing import UNLIMITED, WEIGHTED, drops, weigh
+from .reading import with_answer
 
 # a standing square that falls by so much, in µm, on some side is called steep
 STEEP = 1_000

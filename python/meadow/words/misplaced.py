@@ -3,9 +3,9 @@ the shape that line 1 says. The line's number is `meadow`'s; the text is read by
 from difflib import get_close_matches
 from typing import NamedTuple
 
+from ..sheets.lines import CLOSED, GRID, INFLOW, RAIN, RUN, SHEET_LINES, SQUARE, place_of, values_of
+from ..sheets.reading import MOST_BYTES, Lines, fields_well
 from .faults import FIRST_SQUARE, RUN_LINE
-from .lines import CLOSED, GRID, INFLOW, RAIN, RUN, SHEET_LINES, SQUARE, place_of, values_of
-from .sheets import MOST_BYTES, Lines, fields_well
 from .slips import field_slips, mended, shown
 from .units import square
 

@@ -2,7 +2,7 @@
 
 Nothing that there is is said to be nothing: what is too little for its last digit is said to be under it.
 """
-from .lines import HOUR, MINUTE, SECOND
+from ..sheets.lines import HOUR, MINUTE, SECOND
 
 MICROMETRES = 1_000_000
 # least amount of a scale, in the amount's own unit, with its divisor, decimals and name

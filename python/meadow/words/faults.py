@@ -4,9 +4,9 @@ The number is `meadow`'s; what is looked for here are the places that it can be 
 """
 from typing import NamedTuple
 
-from .lines import CLOSED, GRID, INFLOW, RAIN, SHEET_LINES
-from .ranges import LAST_CLOCK, MOST_ROWS_OF_A_TABLE, RANGES, fine
-from .sheets import MOST_SQUARES, Lines, meadow_of, read
+from ..rule.ranges import LAST_CLOCK, MOST_ROWS_OF_A_TABLE, RANGES, fine
+from ..sheets.lines import CLOSED, GRID, INFLOW, RAIN, SHEET_LINES
+from ..sheets.reading import MOST_SQUARES, Lines, meadow_of, read
 from .units import square, time
 
 RUN_LINE, FIRST_SQUARE = 2, 3

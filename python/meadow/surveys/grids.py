@@ -9,7 +9,7 @@ from decimal import Decimal, InvalidOperation
 from pathlib import Path
 from typing import NamedTuple
 
-from .lines import Unreadable
+from ..sheets.lines import Unreadable
 
 NO_DATA = Decimal(-9999)
 CORNERS = {"xllcorner": "xllcenter", "yllcorner": "yllcenter"}

@@ -1,15 +1,15 @@
 """The legend of a map: what its shades and signs mean, how large each class of depth is, and the answer in words."""
 from textwrap import wrap
 
-from .account import account
+from ..rule.weighing import WEIGHTED
+from ..sheets.account import account
+from ..sheets.standing import STEEP
+from ..words.hatches import hatches_of
+from ..words.sense import deepest_words, volumes
+from ..words.units import area, height, rain_rate, span, square, steps, time, volume
 from .contours import gap_of, heights_of
-from .hatches import hatches_of
-from .sense import deepest_words, volumes
 from .shades import CLASSES, FILM_NAME, HATCH, PALE, class_of, ground
 from .signs import box, diamond, exit_sign, film_dot, hatch_circle, north_arrow, words
-from .standing import STEEP
-from .units import area, height, rain_rate, span, square, steps, time, volume
-from .weighing import WEIGHTED
 
 LEGEND = 350
 LINE = 19

@@ -1,8 +1,8 @@
 """The hatches of a sheet: the squares with inflow, numbered from 1 in square order, each with its rows of the table."""
 from typing import NamedTuple
 
-from .lines import INFLOW, SHEET_LINES
-from .steps import ran
+from ..rule.steps import ran
+from ..sheets.lines import INFLOW, SHEET_LINES
 from .units import span
 
 # where a table's row has a field

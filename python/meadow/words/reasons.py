@@ -2,13 +2,13 @@
 
 Nothing is decided here. Where no place is found that fits the number, that is said.
 """
+from ..programs import printed
+from ..rule.refusals import Refused, check
+from ..sheets.lines import ANSWER_LINES, INFLOW, REFUSED, Answer, values_of
+from ..sheets.reading import meadow_of, read
 from .faults import faults
-from .lines import ANSWER_LINES, INFLOW, REFUSED, Answer, values_of
 from .misplaced import lines_in, slips_at, wanted
-from .programs import printed
-from .refusals import Refused, check
 from .sense import deepest
-from .sheets import meadow_of, read
 from .slips import shown
 from .units import depth, square, time
 
