@@ -1,10 +1,11 @@
 """The pages are true of the sources: every public function stands in docs/CONTRACTS.md, every file and name that docs/METHOD.md cites is
-there, its ranges and its worked square are those of document 01 in Python, the pictures are as made, no table has a cell too long to read,
+there, its ranges and its worked square are those of document 01 in Python, pictures and tables of crates are as made, no table has a cell too long to read,
 every path and every name in backticks is there, each edit says which fact refuses it and where, and README's first sheet gives README's
 answer."""
 import re
 from pathlib import Path
 
+import architecture
 import edits
 import pictures
 from meadow.counted import Checks
@@ -143,7 +144,15 @@ def hold_pictures(checks):
     for name, made in pictures.PICTURES.items():
         stored = pictures.FOLDER / name
         checks.hold(stored.exists() and stored.read_text(encoding="utf-8") == made(), f"docs/pictures/{name} is not what tools/pictures.py makes")
-    checks.hold(pictures.page() == METHOD.read_text(encoding="utf-8"), "the crates of docs/METHOD.md are not those of crates.txt: tools/pictures.py")
+
+
+def hold_crates(checks):
+    """What is said of the crates is what tools/architecture.py makes of the sources: each says in a sentence what it is."""
+    for name, words in architecture.described():
+        checks.hold(words.endswith("."), f"the root of the crate {name} does not begin with a sentence")
+    for page, made in architecture.pages().items():
+        name = page.relative_to(TOP)
+        checks.hold(page.read_text(encoding="utf-8") == made, f"the crates of {name} are not those of the sources: tools/architecture.py --write")
 
 
 def hold_cells(checks):
@@ -243,6 +252,7 @@ def main():
     hold_entries(checks, functions)
     hold_method(checks)
     hold_pictures(checks)
+    hold_crates(checks)
     hold_cells(checks)
     hold_paths(checks)
     hold_code(checks)

@@ -13,7 +13,7 @@ from meadow.programs import TOP
 PAGE, README = TOP / "docs" / "TOOLS.md", TOP / "README.md"
 SAMPLES = TOP / "samples"
 # what tools begin with, those that look after the project itself, and the one that bin/meadow ends with; all others are for the warden and the keeper
-OWN = {"begin", "believed", "dev", "edits", "header", "pictures", "places", "sense", "speed", "unused"}
+OWN = {"architecture", "begin", "believed", "dev", "edits", "header", "pictures", "places", "sense", "speed", "unused"}
 FOR_PEOPLE = ["bin/meadow", *(f"tools/{path.name}" for path in sorted((TOP / "tools").glob("*.py")) if path.stem not in OWN)]
 LEFT_OUT = "..."
 # what the commands of the pages need beside them
