@@ -1,7 +1,7 @@
 """The pages are true of the sources: every public function stands in docs/CONTRACTS.md, every file and name that docs/METHOD.md cites is
 there, its ranges and its worked square are those of document 01 in Python, pictures and tables of crates are as made, no table has a cell too long to read,
-every path and every name in backticks is there, each edit says which fact refuses it and where, and README's first sheet gives README's
-answer."""
+every path and every name in backticks is there, each edit says which fact refuses it and where, README's first sheet gives README's answer, and
+`meadow` is as large as it says."""
 import re
 from pathlib import Path
 
@@ -244,6 +244,13 @@ def hold_first_sheet(checks):
         checks.hold(told == answer[1].replace(" ", "\t"), f"README.md's first sheet gives {told!r}")
 
 
+def hold_size(checks):
+    """README says how large the program is that may be copied elsewhere."""
+    told = re.search(r"`target/bin/meadow` has (\d+) kilobytes", (TOP / "README.md").read_text(encoding="utf-8"))
+    size = (TOP / "target" / "bin" / "meadow").stat().st_size
+    checks.hold(told and int(told[1]) == round(size / 1000), f"README.md does not say that meadow has {round(size / 1000)} kilobytes")
+
+
 def main():
     checks = Checks("pages")
     functions = list(library_functions(TOP))
@@ -258,6 +265,7 @@ def main():
     hold_code(checks)
     hold_edits(checks)
     hold_first_sheet(checks)
+    hold_size(checks)
     checks.end()
 
 
