@@ -1,19 +1,14 @@
-#!/usr/bin/env python3
 """Every public function of a library says what it gives: it has a contract, which speaks of its answer, of each slice that it was lent to
 write as it is afterwards, and of every other slice; and the determinacy records have a field for it, over the very relation that its
 contract names. Every entry point is called by a function of the crate `calls`, which promises of it what the demands say. Changed functions, of
 which each has a fault that the test must find, show that it looks."""
 import re
-import sys
-from pathlib import Path
 
-TOP = Path(__file__).resolve().parent.parent
-sys.path.insert(0, str(TOP / "python"))
-
-from meadow.counted import Checks  # noqa: E402
-from rattle import DEMANDS, imported  # noqa: E402
-from rattle.functions import library_functions  # noqa: E402
-from rattle.specs import Specs  # noqa: E402
+from meadow.counted import Checks
+from meadow.programs import TOP
+from rattle import DEMANDS, imported
+from rattle.functions import library_functions
+from rattle.specs import Specs
 
 # the exported functions have this before the name of the call
 EXPORTED = "flood_"
