@@ -14,15 +14,12 @@ from rattle.specs import Specs
 EXPORTED = "flood_"
 # Rooms of which a contract promises nothing, because nobody reads what is left in them (docs/CONTRACTS.md says why), and slices that a
 # `requires` asks to say only what the record says already, so that nothing depends on them.
-NOT_SAID = {("ledger", f"settle::{name}", slice) for name in ("settle", "settle_stored") for slice in ("room", "left", "worked", "senders")}
+NOT_SAID = {(crate, name, slice) for crate, name in (("settling", "settle::settle"), ("flood", "step::step_on")) for slice in ("room", "left", "worked", "senders")}
 
 
 # What comes of a file is the system's to say: what these functions give is not determined by what they are lent, so that no record has a field
 # for them (docs/CONTRACTS.md).
 OF_THE_SYSTEM = ("files",)
-
-# Calls that an entry point makes of another with all that it is lent: what they promise is promised there.
-UNDER_ANOTHER = ("step_by", "run_to_by")
 
 
 def claim(clause):
@@ -114,9 +111,9 @@ def hold_field(hold, specs, records, function):
 
 def hold_tied(hold, functions, calls):
     """Each entry point has its function in `calls`, whose whole body is that call; and there is no other function there."""
-    wanted = {f"after_{function.name}": function for function in functions if function.is_entry and function.name not in UNDER_ANOTHER}
+    wanted = {f"after_{function.name}": function for function in functions if function.is_entry}
     for name, function in wanted.items():
-        hold(re.fullmatch(rf"{function.name}\([\w\s,]*\)", calls.get(name, "")), f"no function of `calls` makes the call {function.crate}::{function.path}")
+        hold(re.fullmatch(rf"{function.name}\((?:[\w\s,]|\.len\(\))*\)", calls.get(name, "")), f"no function of `calls` makes the call {function.crate}::{function.path}")
     hold(set(calls) <= set(wanted), f"`calls` has a function for no entry point: {sorted(set(calls) - set(wanted))}")
 
 

@@ -124,6 +124,7 @@ fn step_in(
         return Answer::Refused(0);
     }
     step(
+        Walk::All,
         shape,
         rules,
         run,
@@ -163,6 +164,7 @@ fn run_in(
         };
     }
     run_to(
+        Walk::All,
         shape,
         rules,
         run,
