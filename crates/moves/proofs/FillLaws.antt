@@ -33,7 +33,7 @@ use Rattle.checks.specs.Given.{Ground, Given}
 use Rattle.moves.specs.Drops.{dropsOf}
 use Rattle.moves.specs.Moves.{squareCandidates, candidates, leavesFor, soakedFor, addedFor, stepLength, stepDuration, stepMoves}
 use Rattle.moves.specs.inner.Added.{tables, addedFits, WaterAdded}
-use Rattle.moves.specs.inner.Fill.{firm, LengthWorked, Cleared, FilledOne, FilledTo, FilledOn, RecordFilled, UnstirredAt}
+use Rattle.moves.specs.inner.Fill.{firm, LengthWorked, Fills, Cleared, FilledOne, FilledTo, FilledOn, RecordFilled, UnstirredAt}
 use Rattle.checks.specs.inner.Ready.{MeadowInRange}
 use Rattle.moves.proofs.MoveLaws.{weights, leaves-open, covered, soaked-open}
 
@@ -163,7 +163,14 @@ words-past old i leaves last added soaked h put k l = ap (λ (r : List ℕ). get
 
 -- ---- a record filled square by square
 
-module _ (p : Plan) (o : Ground) (depths lasts added : List ℕ) (held start ms : ℕ) where
+-- of a record's room only its length is asked
+pub fills-still :
+    {p : Plan} {o : Ground} {depths lasts added : List ℕ} {start ms : ℕ} {old rec : List ℕ} → length rec ≡ length old →
+    Fills p o depths lasts added start ms old → Fills p o depths lasts added start ms rec
+fills-still e f =
+    record { flows = f .flows; added-long = f .added-long; duration-for = f .duration-for; end-to = f .end-to; record-long = e ∙ f .record-long }
+
+module _ {p : Plan} {o : Ground} {depths lasts added : List ℕ} {held start ms : ℕ} where
   -- the head, in a room that was cleared
   pub filled-head :
       (old : List ℕ) {rec : List ℕ} → length old ≡ recordSize p → Cleared old → HeadPut old held ms rec →
@@ -177,7 +184,7 @@ module _ (p : Plan) (o : Ground) (depths lasts added : List ℕ) (held start ms 
   pub filled-whole : {i : ℕ} {rec : List ℕ} → i ≡ squares (p .shape) → FilledTo p o depths lasts added held start ms i rec → RecordFilled p o depths lasts added held start ms rec
   filled-whole e f = recorded-whole e (f .recorded)
 
-  module _ (i : ℕ) (h : i < squares (p .shape)) where
+  module _ {i : ℕ} (h : i < squares (p .shape)) where
     -- a square of which there is nothing to write has its zeros already
     idle-turn :
         {rec : List ℕ} → UnstirredAt p depths lasts added i → FilledTo p o depths lasts added held start ms i rec → FilledTo p o depths lasts added held start ms (i + 1) rec
@@ -217,18 +224,18 @@ module _ (p : Plan) (o : Ground) (depths lasts added : List ℕ) (held start ms 
             }
 
 -- squares done from one on
-module _ (p : Plan) (o : Ground) (depths lasts added : List ℕ) (start ms from : ℕ) where
+module _ {p : Plan} {o : Ground} {depths lasts added : List ℕ} {start ms from : ℕ} where
   -- one more
   pub filled-more :
-      (i : ℕ) {old mid new before after : List ℕ} {sent : Bool} → i < squares (p .shape) → FilledOn p o depths lasts added start ms from i old mid →
+      {i : ℕ} {old mid new before after : List ℕ} {sent : Bool} → i < squares (p .shape) → FilledOn p o depths lasts added start ms from i old mid →
       FilledOne p o depths lasts added start ms i mid new before after sent → FilledOn p o depths lasts added start ms from (i + 1) old new
-  filled-more i h b f held s = fill-turn p o depths lasts added held start ms i h (b held s) f
+  filled-more h b f held s = fill-turn h (b held s) f
 
   -- one that is passed over
   pub filled-idle :
-      (i : ℕ) {old new : List ℕ} → i < squares (p .shape) → UnstirredAt p depths lasts added i →
+      {i : ℕ} {old new : List ℕ} → i < squares (p .shape) → UnstirredAt p depths lasts added i →
       FilledOn p o depths lasts added start ms from i old new → FilledOn p o depths lasts added start ms from (i + 1) old new
-  filled-idle i h idle b held s = idle-turn p o depths lasts added held start ms i h idle (b held s)
+  filled-idle h idle b held s = idle-turn h idle (b held s)
 
   -- more of them
   pub filled-then :
@@ -248,7 +255,7 @@ pub left-set :
     (p : Plan) (before : List ℕ) (i : ℕ) {four amount : ℕ} → shut p i ≡ false → four ≡ amount → set before i four ≡ pick (shut p i) before (set before i amount)
 left-set p before i c e = ap (set before i) e ∙ sym (pick-false _ _ c)
 
-module _ (p : Plan) (o : Ground) (depths lasts added : List ℕ) (start ms i : ℕ) {old new before after : List ℕ} {sent : Bool}
+module _ {p : Plan} {o : Ground} {depths lasts added : List ℕ} {start ms i : ℕ} {old new before after : List ℕ} {sent : Bool}
     (one : FilledOne p o depths lasts added start ms i old new before after sent) where
   pub left-here : i < length before → shut p i ≡ false → getD after i 0 ≡ gone (leavesFor p o depths lasts ms) i
   left-here h c =

@@ -30,7 +30,7 @@ use Rattle.grid.proofs.MaskLaws.{Rowed, rows-whole, mask-in, mask-more, mask-id
 use Rattle.grid.proofs.WalkLaws.{bit-in-row}
 use Rattle.rule.specs.Length.{leastFrom}
 use Rattle.ledger.specs.Runs.{Plan}
-use Rattle.ledger.specs.Flows.{Leaves, shut, gone}
+use Rattle.ledger.specs.Flows.{shut, gone}
 use Rattle.ledger.specs.inner.Walks.{sends}
 use Rattle.checks.specs.Given.{Ground}
 use Rattle.moves.specs.Moves.{squareCandidates, candidates, leavesFor, soakedFor}
@@ -149,22 +149,16 @@ module _ (walk : Walk) (p : Plan) (depths lasts added : List ℕ) where
 
 -- ---- a row's columns done
 
-module _ (p : Plan) (o : Ground) (depths lasts added : List ℕ) (start ms first mask : ℕ) (old before : List ℕ) where
-  abbrev out : Leaves
-  out = leavesFor p o depths lasts ms
-
+module _ {p : Plan} {o : Ground} {depths lasts added : List ℕ} {start ms first mask : ℕ} {old before : List ℕ} where
   -- none yet
-  senders-none : 0 ≡ maskFrom (sends p out) first 0
-  unfolding maskFrom
-  senders-none = refl
-
   pub columns-none : FilledColumns p o depths lasts added start ms first mask 0 old old before before 0
+  unfolding maskFrom
   columns-none =
       record {
-        filled = filled-on p o depths lasts added start ms first (let e : first ≡ first + 0 = omega arith in e) (λ held f. f);
+        filled = filled-on (let e : first ≡ first + 0 = omega arith in e) (λ held f. f);
         left-at = λ column l. absurd (omega arith);
         left-before = λ i l. refl;
-        senders-are = senders-none;
+        senders-are = refl;
       }
 
   module _ {c : ℕ} {new after : List ℕ} {senders : ℕ} (f : FilledColumns p o depths lasts added start ms first mask c old new before after senders)
@@ -176,16 +170,15 @@ module _ (p : Plan) (o : Ground) (depths lasts added : List ℕ) (start ms first
     columns-idle l clear idle =
         record {
           filled =
-              filled-on p o depths lasts added start ms first (let e : first + c + 1 ≡ first + (c + 1) = omega arith in e)
-              (filled-idle p o depths lasts added start ms first (first + c) (omega (arith, l, fits)) idle (f .filled));
+              filled-on (let e : first + c + 1 ≡ first + (c + 1) = omega arith in e) (filled-idle (omega (arith, l, fits)) idle (f .filled));
           left-at = λ column g b. at column g b (ℕ-discrete column c);
           left-before = f .left-before;
-          senders-are = f .senders-are ∙ sym (mask-idle (sends p out) first c (dry-silent p o depths lasts ms (first + c) (λ z. idle z .0)));
+          senders-are = f .senders-are ∙ sym (mask-idle (sends p (leavesFor p o depths lasts ms)) first c (dry-silent p o depths lasts ms (first + c) (λ z. idle z .0)));
         }
       where
         at :
             (column : ℕ) → column < c + 1 → bitAt mask column ≡ true → Dec (column ≡ c) → shut p (first + column) ≡ false →
-            getD after (first + column) 0 ≡ gone out (first + column)
+            getD after (first + column) 0 ≡ gone (leavesFor p o depths lasts ms) (first + column)
         at column g b (yes e) = not-both (ap (bitAt mask) (sym e) ∙ b) clear
         at column g b (no e) = f .left-at column (omega arith) b
 
@@ -197,26 +190,25 @@ module _ (p : Plan) (o : Ground) (depths lasts added : List ℕ) (start ms first
     columns-more {newer} {later} {sent} l long one q =
         record {
           filled =
-              filled-on p o depths lasts added start ms first (let e : first + c + 1 ≡ first + (c + 1) = omega arith in e)
-              (filled-more p o depths lasts added start ms first (first + c) (omega (arith, l, fits)) (f .filled) one);
+              filled-on (let e : first + c + 1 ≡ first + (c + 1) = omega arith in e) (filled-more (omega (arith, l, fits)) (f .filled) one);
           left-at = λ column g b z. at column g b z (ℕ-discrete column c);
-          left-before = λ i g. left-elsewhere p o depths lasts added start ms (first + c) one i (λ z. omega (arith, g, z)) ∙ f .left-before i g;
+          left-before = λ i g. left-elsewhere one i (λ z. omega (arith, g, z)) ∙ f .left-before i g;
           senders-are =
-              ap₂ (λ (x y : ℕ). x + y) (f .senders-are) (q ∙ ap (λ (b : Bool). digit b * 2 ^ c) (one .sent-is)) ∙ sym (mask-more (sends p out) first c);
+              ap₂ (λ (x y : ℕ). x + y) (f .senders-are) (q ∙ ap (λ (b : Bool). digit b * 2 ^ c) (one .sent-is)) ∙ sym (mask-more (sends p (leavesFor p o depths lasts ms)) first c);
         }
       where
         at :
             (column : ℕ) → column < c + 1 → bitAt mask column ≡ true → shut p (first + column) ≡ false → Dec (column ≡ c) →
-            getD later (first + column) 0 ≡ gone out (first + column)
+            getD later (first + column) 0 ≡ gone (leavesFor p o depths lasts ms) (first + column)
         at column g b z (yes e) =
-            subst (λ (k : ℕ). getD later (first + k) 0 ≡ gone out (first + k)) (sym e)
-            (left-here p o depths lasts added start ms (first + c) one (omega (arith, l, fits, long)) (ap (λ (k : ℕ). shut p (first + k)) (sym e) ∙ z))
+            subst (λ (k : ℕ). getD later (first + k) 0 ≡ gone (leavesFor p o depths lasts ms) (first + k)) (sym e)
+            (left-here one (omega (arith, l, fits, long)) (ap (λ (k : ℕ). shut p (first + k)) (sym e) ∙ z))
         at column g b z (no e) =
-            left-elsewhere p o depths lasts added start ms (first + c) one (first + column) (λ q. e (omega (arith, q))) ∙ f .left-at column (omega arith) b z
+            left-elsewhere one (first + column) (λ q. e (omega (arith, q))) ∙ f .left-at column (omega arith) b z
 
     -- the mask of the senders has room in 64 bits
     pub senders-fit : c ≤ bits → senders < 2 ^ bits
-    senders-fit h = omega (arith, f .senders-are, mask-small (sends p out) first c, pow-mono {i = c} {j = bits} h)
+    senders-fit h = omega (arith, f .senders-are, mask-small (sends p (leavesFor p o depths lasts ms)) first c, pow-mono {i = c} {j = bits} h)
 
 -- ---- all rows done
 

@@ -244,18 +244,15 @@ fn fill_row(
     left: &mut [u32],
 ) -> u64
     requires { ⌜ Fills (plan (way .shape) (now marks)) (ground (way .rules) (now beds) (now roughness) (now rates)) (now depths) (now lasts) (now added) (span .start) (span .duration) (now rec) ⌝ }
-    requires { ⌜ (InRow (way .shape) (row .first)) × (UnstirredRow (plan (way .shape) (now marks)) (now depths) (now lasts) (now added) (row .first) (row .worked)) × (length (now left) ≡ squares (way .shape)) ⌝ }
-    ensures { λ r. ⌜ FilledColumns (plan (way .shape) (now (marks .entry))) (ground (way .rules) (now (beds .entry)) (now (roughness .entry)) (now (rates .entry))) (now (depths .entry)) (now (lasts .entry)) (now (added .entry)) (span .start) (span .duration) (row .first) (row .worked) (way .shape .columns) (now (rec .entry)) (now (rec .exit)) (now (left .entry)) (now (left .exit)) r ⌝ }
+    requires { ⌜ (InRow (way .shape) (row .first)) × (UnstirredRow (plan (way .shape) (now marks)) (now depths) (now lasts) (now added) (row .first) (row .mask)) × (length (now left) ≡ squares (way .shape)) ⌝ }
+    ensures { λ r. ⌜ FilledColumns (plan (way .shape) (now (marks .entry))) (ground (way .rules) (now (beds .entry)) (now (roughness .entry)) (now (rates .entry))) (now (depths .entry)) (now (lasts .entry)) (now (added .entry)) (span .start) (span .duration) (row .first) (row .mask) (way .shape .columns) (now (rec .entry)) (now (rec .exit)) (now (left .entry)) (now (left .exit)) r ⌝ }
 {
     let columns = way.shape.columns;
     let mut senders: u64 = 0;
-    let mut column = next_within(row.worked, 0, columns);
+    let mut column = next_within(row.mask, 0, columns);
     while column < columns {
         let square = row.first + column;
-        let at = Place {
-            square: square,
-            column: column,
-        };
+        let at = Place { square, column };
         let sent = fill_square(
             way,
             span,
@@ -271,7 +268,7 @@ fn fill_row(
             left,
         );
         senders += sender_bit(sent, column);
-        column = next_after(row.worked, column, columns);
+        column = next_after(row.mask, column, columns);
     }
     senders
 }
@@ -302,10 +299,7 @@ fn fill_rows(
     let mut first = 0;
     while row < rows {
         let mask = worked[row];
-        let this = Row {
-            first: first,
-            worked: mask,
-        };
+        let this = Row { first, mask };
         senders[row] = fill_row(
             way,
             span,

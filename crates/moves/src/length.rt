@@ -59,10 +59,7 @@ fn least_of_all(way: Way, marks: &[u8], beds: &[u32], roughness: &[u32], depths:
     let mut square = 0;
     let mut column = 0;
     while square < squares {
-        let at = Place {
-            square: square,
-            column: column,
-        };
+        let at = Place { square, column };
         best = shorter_by(way, at, marks, beds, roughness, depths, best);
         square += 1;
         column = next_column(way.shape, column);
@@ -91,10 +88,7 @@ fn least_in_row(
     let mut column = next_within(wet, 0, columns);
     while column < columns {
         let square = first + column;
-        let at = Place {
-            square: square,
-            column: column,
-        };
+        let at = Place { square, column };
         best = shorter_by(way, at, marks, beds, roughness, depths, best);
         column = next_after(wet, column, columns);
     }

@@ -27,5 +27,5 @@ pub(crate) struct Place {
 // A row by its first square, and the mask of its columns that are worked.
 pub(crate) struct Row {
     pub first: usize,
-    pub worked: u64,
+    pub mask: u64,
 }

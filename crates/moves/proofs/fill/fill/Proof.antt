@@ -6,7 +6,7 @@ use borrow.Author.Needs.{needs}
 use Rattle.ledger.specs.Runs.{Plan, plan}
 use Rattle.checks.specs.Given.{Ground, ground}
 use Rattle.moves.specs.inner.Fill.{FilledTo}
-use Rattle.moves.proofs.FillLaws.{filled-head, filled-whole}
+use Rattle.moves.proofs.FillLaws.{fills-still, filled-head, filled-whole}
 use Rattle.moves.proofs.WetLaws.{idle-by, left-kept}
 use Rattle.moves.proofs.fill.fill.Statement.{statement}
 use Rattle.moves.proofs.fill.fill.Tie as tie
@@ -45,8 +45,7 @@ head-put :
 head-put c =
     let clear = cleared c in
     let s = begin clear in
-    filled-head (p s) (o s) (s .args .depths .now) (s .args .lasts .now) (s .args .added .now) (s .args .span .held) (s .args .span .start) (s .args .span .duration)
-    (clear .clear .last .0) (clear .clear .kept .0 ∙ s .pre .0 .record-long) (clear .clear .ensures) (c .put-head .ensures)
+    filled-head (clear .clear .last .0) (clear .clear .kept .0 ∙ s .pre .0 .record-long) (clear .clear .ensures) (c .put-head .ensures)
 
 -- ---- the answers
 
@@ -63,17 +62,10 @@ fill-rows-requires : tie.Need-fill-rows-requires
 fill-rows-requires c κs =
     let at = marked c in
     let head = headed at in
-    let s = begin (cleared head) in
-    let f = s .pre .0 in (
-      record {
-        flows = f .flows;
-        added-long = f .added-long;
-        duration-for = f .duration-for;
-        end-to = f .end-to;
-        record-long = head .put-head .kept .0 ∙ (cleared head .clear .kept .0 ∙ f .record-long);
-      },
+    let s = begin (cleared head) in (
+      fills-still (head .put-head .kept .0 ∙ cleared head .clear .kept .0) (s .pre .0),
       (
-        idle-by (s .args .way .walk) (p s) (s .args .depths .now) (s .args .lasts .now) (s .args .added .now) (f .flows .lies .sited .fine) (at .mark-worked .ensures),
+        idle-by (s .args .way .walk) (p s) (s .args .depths .now) (s .args .lasts .now) (s .args .added .now) (s .pre .0 .flows .lies .sited .fine) (at .mark-worked .ensures),
         at .mark-worked .kept .1 .1 .1 .1 .1 .1 .0 ∙ s .pre .1 .2,
         s .pre .1 .1,
         s .pre .1 .3,
@@ -97,8 +89,7 @@ returns c =
     let done = filled c in
     let at = marked (done .before) in
     let s = begin (cleared (headed at)) in (
-      filled-whole (p s) (o s) (s .args .depths .now) (s .args .lasts .now) (s .args .added .now) (s .args .span .held) (s .args .span .start) (s .args .span .duration) refl
-          (done .fill-rows .ensures .0 (s .args .span .held) (head-put (headed at))),
+      filled-whole refl (done .fill-rows .ensures .0 (s .args .span .held) (head-put (headed at))),
       at .mark-worked .ensures,
       done .fill-rows .ensures .2,
       left-kept (s .args .way .walk) (p s) (s .args .depths .now) (s .args .lasts .now) (s .args .added .now) (o s) (s .args .span .duration)

@@ -14,6 +14,7 @@ use Rattle.grid.proofs.WalkLaws.{walk-visits, walk-ends, walk-nearer}
 use Rattle.ledger.specs.Runs.{Plan, plan}
 use Rattle.checks.specs.Given.{Ground, ground}
 use Rattle.moves.specs.inner.Fill.{FilledColumns}
+use Rattle.moves.proofs.FillLaws.{fills-still}
 use Rattle.moves.proofs.WetLaws.{columns-none, columns-idle, columns-more, senders-fit}
 use Rattle.moves.proofs.fill.fill_row.Statement.{statement}
 use Rattle.moves.proofs.fill.fill_row.Tie as tie
@@ -22,8 +23,8 @@ abbrev Inv-loop : tie.InvT-loop
 Inv-loop way span this marks beds roughness rates depths lasts added rec₀ left₀ columns senders₀ column₀ rec left senders column =
     (length rec ≡ length rec₀)
     × (length left ≡ length left₀)
-    × Visits (this .worked) columns
-    (λ k. FilledColumns (plan (way .shape) marks) (ground (way .rules) beds roughness rates) depths lasts added (span .start) (span .duration) (this .first) (this .worked) k
+    × Visits (this .mask) columns
+    (λ k. FilledColumns (plan (way .shape) marks) (ground (way .rules) beds roughness rates) depths lasts added (span .start) (span .duration) (this .first) (this .mask) k
     rec₀ rec left₀ left senders) column
 
 abbrev μ-loop : tie.MeasureT-loop
@@ -59,14 +60,12 @@ o s = ground (s .args .way .rules) (s .args .beds .now) (s .args .roughness .now
 abbrev Done : tie.Start Inv-loop μ-loop → ℕ → List ℕ → List ℕ → ℕ → Type 0
 Done s k rec left senders =
     FilledColumns (p s) (o s) (s .args .depths .now) (s .args .lasts .now) (s .args .added .now) (s .args .span .start) (s .args .span .duration) (s .args .row .first)
-    (s .args .row .worked) k (s .args .rec .now) rec (s .args .left .now) left senders
+    (s .args .row .mask) k (s .args .rec .now) rec (s .args .left .now) left senders
 
 passes :
     (s : tie.Start Inv-loop μ-loop) (rec left : List ℕ) (senders : ℕ) →
-    Passes (s .args .row .worked) (s .args .way .shape .columns) (λ k. Done s k rec left senders)
-passes s rec left senders k h b f =
-    columns-idle (p s) (o s) (s .args .depths .now) (s .args .lasts .now) (s .args .added .now) (s .args .span .start) (s .args .span .duration) (s .args .row .first)
-    (s .args .row .worked) (s .args .rec .now) (s .args .left .now) f (s .pre .1 .0 .fits) h b (s .pre .1 .1 k h b)
+    Passes (s .args .row .mask) (s .args .way .shape .columns) (λ k. Done s k rec left senders)
+passes s rec left senders k h b f = columns-idle f (s .pre .1 .0 .fits) h b (s .pre .1 .1 k h b)
 
 high : (s : tie.Start Inv-loop μ-loop) → s .args .way .shape .columns ≤ bits
 high s = s .pre .0 .flows .lies .sited .fine .columns-high
@@ -94,9 +93,8 @@ module _ (c : tie.After-sender-bit Inv-loop μ-loop) where
       Done z (column here + 1) (told c .fill-square .last .1 .1 .1 .1 .1 .1 .1 .1 .1 .1 .0) (told c .fill-square .last .1 .1 .1 .1 .1 .1 .1 .1 .1 .1 .1 .0)
       (here .before .loop .senders + c .sender-bit .result)
   one-more =
-      columns-more (p z) (o z) (z .args .depths .now) (z .args .lasts .now) (z .args .added .now) (z .args .span .start) (z .args .span .duration) (z .args .row .first) (z .args .row .worked)
-      (z .args .rec .now) (z .args .left .now) (here .before .loop .inv .2 .held) (z .pre .1 .0 .fits) (here .loop-test .taken) (room-long here)
-      (told c .fill-square .ensures) (c .sender-bit .ensures)
+      columns-more (here .before .loop .inv .2 .held) (z .pre .1 .0 .fits) (here .loop-test .taken) (room-long here) (told c .fill-square .ensures)
+      (c .sender-bit .ensures)
 
 -- ---- the answers
 
@@ -108,9 +106,7 @@ loop-holds c =
     let y = begin (c .before) in (
       refl,
       refl,
-      walk-visits (passes y _ _ _) (high y) 0 (omega arith) (c .next-within .ensures)
-          (columns-none (p y) (o y) (y .args .depths .now) (y .args .lasts .now) (y .args .added .now) (y .args .span .start) (y .args .span .duration)
-          (y .args .row .first) (y .args .row .worked) (y .args .rec .now) (y .args .left .now)),
+      walk-visits (passes y _ _ _) (high y) 0 (omega arith) (c .next-within .ensures) columns-none,
     )
 
 add-square : tie.Need-add-square Inv-loop μ-loop
@@ -119,16 +115,9 @@ add-square c = let y = s (c .before) in omega (arith, y .pre .1 .0 .fits, y .pre
 fill-square-requires : tie.Need-fill-square-requires Inv-loop μ-loop
 fill-square-requires c κs =
     let at = turn c in
-    let y = s at in
-    let f = y .pre .0 in (
-      record {
-        flows = f .flows;
-        added-long = f .added-long;
-        duration-for = f .duration-for;
-        end-to = f .end-to;
-        record-long = at .before .loop .inv .0 ∙ f .record-long;
-      },
-      (row-column (y .args .way .shape) (f .flows .lies .sited .fine) (y .pre .1 .0) (at .loop-test .taken), room-long at),
+    let y = s at in (
+      fills-still (at .before .loop .inv .0) (y .pre .0),
+      (row-column (y .args .way .shape) (y .pre .0 .flows .lies .sited .fine) (y .pre .1 .0) (at .loop-test .taken), room-long at),
     )
 
 sender-bit-requires : tie.Need-sender-bit-requires Inv-loop μ-loop
@@ -139,18 +128,13 @@ sender-bit-requires c κs =
 add-senders : tie.Need-add-senders Inv-loop μ-loop
 add-senders c =
     let y = z c in
-    record {
-      fits =
-          senders-fit (p y) (o y) (y .args .depths .now) (y .args .lasts .now) (y .args .added .now) (y .args .span .start) (y .args .span .duration) (y .args .row .first) (y .args .row .worked)
-          (y .args .rec .now) (y .args .left .now) (one-more c) (y .pre .1 .0 .fits)
-          (omega (arith, here c .loop-test .taken, y .pre .0 .flows .lies .sited .fine .columns-high));
-    }
+    record { fits = senders-fit (one-more c) (y .pre .1 .0 .fits) (omega (arith, here c .loop-test .taken, high y)) }
 
 next-after-requires : tie.Need-next-after-requires Inv-loop μ-loop
 next-after-requires c κs = (here c .loop-test .taken, z c .pre .0 .flows .lies .sited .fine .columns-high)
 
 loop-less : tie.Need-loop-less Inv-loop μ-loop
-loop-less c = walk-nearer (z (c .before) .args .row .worked) (here (c .before) .loop-test .taken) (c .next-after .ensures)
+loop-less c = walk-nearer (z (c .before) .args .row .mask) (here (c .before) .loop-test .taken) (c .next-after .ensures)
 
 loop-again : tie.Need-loop-again Inv-loop μ-loop
 loop-again c =

@@ -15,7 +15,7 @@ use Rattle.ledger.specs.inner.Walks.{sends}
 use Rattle.checks.specs.Given.{Ground, ground}
 use Rattle.moves.specs.Moves.{leavesFor}
 use Rattle.moves.specs.inner.Fill.{FilledOn, UnstirredAt, LeftTo}
-use Rattle.moves.proofs.FillLaws.{filled-then, filled-on}
+use Rattle.moves.proofs.FillLaws.{fills-still, filled-then, filled-on}
 use Rattle.moves.proofs.WetLaws.{left-none, left-row, rows-told}
 use Rattle.moves.proofs.fill.fill_rows.Statement.{statement}
 use Rattle.moves.proofs.fill.fill_rows.Tie as tie
@@ -86,15 +86,8 @@ unfolding bitOf
 fill-row-requires c κs =
     let at = turn c in
     let at-loop = at .before in
-    let s = start at-loop in
-    let f = s .pre .0 in (
-      record {
-        flows = f .flows;
-        added-long = f .added-long;
-        duration-for = f .duration-for;
-        end-to = f .end-to;
-        record-long = at-loop .loop .inv .1 ∙ f .record-long;
-      },
+    let s = start at-loop in (
+      fills-still (at-loop .loop .inv .1) (s .pre .0),
       (
         row-here (s .args .way .shape) (at-loop .loop .inv .0) (at .loop-test .taken),
         by-row (s .args .way .shape) (at-loop .loop .row) (at-loop .loop .inv .0 .begins) (λ r. getD (s .args .worked .now) r 0)
@@ -129,8 +122,7 @@ loop-again c =
       row-next (inv .0) (at .loop-test .taken),
       done .fill-row .kept .1 .1 .1 .1 .1 .1 .1 .1 .1 .1 .0 ∙ inv .1,
       done .fill-row .kept .1 .1 .1 .1 .1 .1 .1 .1 .1 .1 .1 .0 ∙ inv .2,
-      filled-then (p s) (o s) (s .args .depths .now) (s .args .lasts .now) (s .args .added .now) (s .args .span .start) (s .args .span .duration) 0 refl (inv .3)
-          (done .fill-row .ensures .filled),
+      filled-then refl (inv .3) (done .fill-row .ensures .filled),
       left-row (p s) (o s) (s .args .depths .now) (s .args .lasts .now) (s .args .added .now) (s .args .span .start) (s .args .span .duration) (s .args .worked .now)
           (at .before .loop .row) (inv .0 .begins) refl (inv .4) (done .fill-row .ensures),
       rowed-more _ _ _ _ (inv .5) (inv .0 .begins) (omega (arith, s .pre .1 .3, at .loop-test .taken)) (done .fill-row .ensures .senders-are),
@@ -151,7 +143,7 @@ returns c =
     let s = start at-loop in
     let inv = at-loop .loop .inv in
     let whole = rows-end (s .args .way .shape) (inv .0) (c .loop-test .left) in (
-      filled-on (p s) (o s) (s .args .depths .now) (s .args .lasts .now) (s .args .added .now) (s .args .span .start) (s .args .span .duration) 0 whole (inv .3),
+      filled-on whole (inv .3),
       subst (λ (k : ℕ). LeftTo (p s) (o s) (s .args .depths .now) (s .args .lasts .now) (s .args .span .duration) (s .args .worked .now) k (at-loop .loop .left)) whole (inv .4),
       rows-told (p s) (o s) (s .args .depths .now) (s .args .lasts .now) (s .args .span .duration) (s .args .senders .now) (at-loop .loop .row) (s .pre .1 .3)
           (c .loop-test .left) (inv .5),
