@@ -108,54 +108,6 @@ fn write_row(shape: Shape, marks: &[u8], from: &[u32], first: usize, mask: u64, 
     }
 }
 
-// Writes the new depths of the squares that are reached.
-pub(crate) fn write_depths(
-    shape: Shape,
-    marks: &[u8],
-    worked: &[u64],
-    senders: &[u64],
-    room: &[u32],
-    depths: &mut [u32],
-)
-    requires { ⌜ (ShapeInRange shape) × (length (now marks) ≡ squares shape) × (length (now room) ≡ squares shape) × (length (now depths) ≡ squares shape) ⌝ }
-    requires { ⌜ (length (now worked) ≡ shape .rows) × (length (now senders) ≡ shape .rows) ⌝ }
-    ensures { λ _. ⌜ Written (skipsBy (plan shape (now (marks .entry))) (reachedRow (now (worked .entry)) (now (senders .entry)))) (λ i. getD (now (room .entry)) i 0) 0 (squares shape) (now (depths .entry)) (now (depths .exit)) ⌝ }
-{
-    let rows = shape.rows;
-    let columns = shape.columns;
-    let mut row = 0;
-    let mut first = 0;
-    while row < rows {
-        let columns_reached = reached(worked, senders, row);
-        write_row(shape, marks, room, first, columns_reached, depths);
-        row += 1;
-        first += columns;
-    }
-}
-
-// Writes what left the squares that were worked as their last leaving.
-pub(crate) fn write_lasts(
-    shape: Shape,
-    marks: &[u8],
-    worked: &[u64],
-    left: &[u32],
-    lasts: &mut [u32],
-)
-    requires { ⌜ (ShapeInRange shape) × (length (now marks) ≡ squares shape) × (length (now left) ≡ squares shape) × (length (now lasts) ≡ squares shape) ⌝ }
-    requires { ⌜ length (now worked) ≡ shape .rows ⌝ }
-    ensures { λ _. ⌜ Written (skipsBy (plan shape (now (marks .entry))) (workedRow (now (worked .entry)))) (λ i. getD (now (left .entry)) i 0) 0 (squares shape) (now (lasts .entry)) (now (lasts .exit)) ⌝ }
-{
-    let rows = shape.rows;
-    let columns = shape.columns;
-    let mut row = 0;
-    let mut first = 0;
-    while row < rows {
-        write_row(shape, marks, left, first, worked[row], lasts);
-        row += 1;
-        first += columns;
-    }
-}
-
 // Writes what left the squares that were worked as their last leaving, and the new depths of the squares that are reached, row by row.
 pub(crate) fn write_water(
     shape: Shape,

@@ -8,8 +8,7 @@ ghost use Rattle.grid.specs.Squares.{ShapeInRange, squares};
 ghost use Rattle.ledger.specs.Runs.{plan, world};
 ghost use Rattle.settling.specs.inner.Settle.{NoneBeyond, RoomAdded, Settles, SettlesTo, SurelyJudged, Told, fitsAt, joinedAll, lateNumber, nextRecord, settleNumber};
 use crate::reach::all_fit;
-use crate::reach::write_depths;
-use crate::reach::write_lasts;
+use crate::reach::write_water;
 use crate::spread::spread;
 use grid::squares::MOST_SQUARES;
 use grid::squares::Shape;
@@ -127,8 +126,7 @@ pub fn settle(
             run: run,
         };
     }
-    write_lasts(shape, marks, worked, left, lasts);
-    write_depths(shape, marks, worked, senders, room, depths);
+    write_water(shape, marks, worked, senders, left, room, lasts, depths);
     let after = Run {
         clock: run.clock + lasted(rec),
         length: held,

@@ -24,14 +24,11 @@ use Rattle.settling.proofs.settle.settle.Tie as tie
 abbrev lasted-at : tie.After-struct-known5 → tie.After-lasted
 lasted-at c = c .before
 
-abbrev depths-at : tie.After-lasted → tie.After-write-depths
-depths-at c = c .before .before .before
+abbrev water-at : tie.After-lasted → tie.After-write-water
+water-at c = c .before .before .before .before .before
 
-abbrev lasts-at : tie.After-write-depths → tie.After-write-lasts
-lasts-at c = c .before .before .before .before .before
-
-abbrev passed-at : tie.After-write-lasts → tie.Else1
-passed-at c = c .before .before
+abbrev passed-at : tie.After-write-water → tie.Else1
+passed-at c = c .before .before .before .before
 
 abbrev number-at : tie.Else1 → tie.After-late-number
 number-at c = c .before
@@ -190,27 +187,24 @@ returns c =
     let at = place-at (spread-at (off-at (totals-at (c .before)))) in
     settles-by (rec-is at) (settles-refused (p at) (rec at) (s at .args .held) (w at) (number-is (c .before)) (c .if1 .taken))
 
-write-lasts-requires : tie.Need-write-lasts-requires
-write-lasts-requires c κs =
-    let s = start (sized (place-at (spread-at (off-at (totals-at (number-at (c .before))))))) in
-    let told = s .pre .1 .0 in
-    ((s .pre .0 .fine, s .pre .0 .marks-long, told .left-long, s .pre .0 .lasts-long), told .worked-long)
-
-write-depths-requires : tie.Need-write-depths-requires
-write-depths-requires c κs =
-    let spread = spread-at (off-at (totals-at (number-at (passed-at (c .before .before .before .before))))) in
+write-water-requires : tie.Need-write-water-requires
+write-water-requires c κs =
+    let spread = spread-at (off-at (totals-at (number-at (c .before .before .before)))) in
     let s = start (sized (place-at spread)) in
     let told = s .pre .1 .0 in
-    ((s .pre .0 .fine, s .pre .0 .marks-long, spread .spread .ensures .room-is .long, s .pre .0 .depths-long), (told .worked-long, told .senders-long))
+    let ask = s .pre .0 in (
+      (ask .fine, ask .marks-long, told .left-long, spread .spread .ensures .room-is .long, ask .lasts-long, ask .depths-long),
+      (told .worked-long, told .senders-long),
+    )
 
 lasted-requires : tie.Need-lasted-requires
 lasted-requires c κs =
-    let at = place-at (spread-at (off-at (totals-at (number-at (passed-at (lasts-at (c .before .before))))))) in
+    let at = place-at (spread-at (off-at (totals-at (number-at (passed-at (c .before .before .before .before)))))) in
     omega (arith, asks at .record-long)
 
 add-t43 : tie.Need-add-t43
 add-t43 c =
-    let at = place-at (spread-at (off-at (totals-at (number-at (passed-at (lasts-at (depths-at (lasted-at c)))))))) in
+    let at = place-at (spread-at (off-at (totals-at (number-at (passed-at (water-at (lasted-at c))))))) in
     omega (arith, lasted-at c .lasted .ensures, asks at .clock-to)
 
 kept-after-requires : tie.Need-kept-after-requires
@@ -228,9 +222,8 @@ same-length-5 c = search needs
 returns-2 : tie.Need-returns-2
 returns-2 c =
     let lasted = lasted-at (c .before) in
-    let depths = depths-at lasted in
-    let lasts = lasts-at depths in
-    let passed = passed-at lasts in
+    let water = water-at lasted in
+    let passed = passed-at water in
     let number = number-at passed in
     let spread = spread-at (off-at (totals-at number)) in
     let at = place-at spread in
@@ -241,8 +234,8 @@ returns-2 c =
     settles-by (rec-is at)
     (settles-made (p at) (rec at) (s at .args .held) (w at) (number-is number) (passed .if1 .left)
     (written-is (p at) (rec at) (s at .args .held) (w at) (slots-are (slots-at slot)) (slot .slot-after .ensures)
-    (depths-written told (ask .fine) (ask .marks-long) (spread .spread .ensures .room-is) (depths .write-depths .ensures))
-    (lasts-written told (lasts .write-lasts .ensures))
+    (depths-written told (ask .fine) (ask .marks-long) (spread .spread .ensures .room-is) (water .write-water .ensures .1))
+    (lasts-written told (water .write-water .ensures .0))
     (at .slot-start .ensures ∙ ap (λ (k : ℕ). slotStart k (slot .slot-after .result)) (size .record-size .ensures))
     (next-stored (p at) (w at) (size .record-size .ensures) (slots-at slot .slots-in .ensures) (slot .slot-after .ensures) (at .slot-start .ensures) (slot-fits slot))
     (ap (λ (k : ℕ). s at .args .run .clock + k) (lasted .lasted .ensures)) (outflow-by (p at) (rec at) (s at .args .held) (w at) (spread .spread .ensures .off-is))
@@ -268,8 +261,7 @@ settle-spec =
     same-length
     same-length-2
     returns
-    write-lasts-requires
-    write-depths-requires
+    write-water-requires
     lasted-requires
     add-t43
     kept-after-requires
