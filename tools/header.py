@@ -9,6 +9,8 @@ import re
 import sys
 from pathlib import Path
 
+from begin import ended
+
 ROOT = Path(__file__).resolve().parent.parent
 CRATES = ROOT / "crates"
 SOURCES = CRATES / "exports" / "src"
@@ -278,7 +280,4 @@ def main():
 
 
 if __name__ == "__main__":
-    sys.path.insert(0, str(ROOT / "python"))
-    from meadow.programs import ended
-
     ended(main, "header")

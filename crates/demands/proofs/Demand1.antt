@@ -33,6 +33,7 @@ exactly-when p =
       take-back = λ w. table-says _ tt;
       fresh = λ r lasts records. table-says _ tt;
       check = λ g end w. table-says _ tt;
+      check-step = λ g w. table-says _ tt;
       step-bounds = λ r clock end. table-says _ tt;
       arrow = λ D w row column. table-says _ tt;
       wet-rows = λ depths least numbers. table-says _ tt;

@@ -35,6 +35,7 @@ pub record ExactlyWhen (p : Plan) : Type 0 where
   pub fresh : (r : Rules) (lasts records : List ℕ) → TableSays (freshRefusals p r lasts records) (freshNumber p r lasts records)
   -- a run before its first step, and `check`
   pub check : (g : Given) (end : ℕ) (w : World) → TableSays (runChecks p g end w) (refusal (runChecks p g end w))
+  pub check-step : (g : Given) (w : World) → TableSays (stepChecks p g (ringOf p w) (seenOf w)) (refusal (stepChecks p g (ringOf p w) (seenOf w)))
   -- what is told before a run
   pub step-bounds : (r : Rules) (clock end : ℕ) → TableSays (boundsRefusals r clock end) (boundsNumber r clock end)
   pub arrow : (D : ℕ) (w : World) (row column : ℕ) → TableSays (arrowRefusals p D w row column) (arrowNumber p D w row column)

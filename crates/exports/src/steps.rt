@@ -9,8 +9,8 @@ use crate::sizes::RUN_NUMBERS;
 use crate::sizes::STEPS_NUMBERS;
 use checks::fresh::fresh;
 use flood::run::Ran;
-use flood::run::run_to_by;
-use flood::step::step_by;
+use flood::run::run_to;
+use flood::step::step;
 use grid::walks::Walk;
 use ledger::runs::Answer;
 use ledger::take_back::take_back;
@@ -112,7 +112,7 @@ fn step_told(
     if run.len() != RUN_NUMBERS {
         return NOT_ITS_SIZE;
     }
-    let answer = step_by(
+    let answer = step(
         walk,
         shape_from(rows, columns),
         rules_from(rules),
@@ -234,7 +234,7 @@ fn run_told(
     if steps.len() != STEPS_NUMBERS {
         return NOT_ITS_SIZE;
     }
-    let ran = run_to_by(
+    let ran = run_to(
         walk,
         shape_from(rows, columns),
         rules_from(rules),

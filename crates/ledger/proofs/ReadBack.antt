@@ -1,25 +1,23 @@
 -- A written record is read back, for each square has its own seven places.
 -- Assumes nothing.
 use mathlib.Core.Path.{_≡_, refl, ap, _∙_}
-use mathlib.Core.Bool.{Bool, true, false, _||_}
+use mathlib.Core.Bool.{true, false}
 use mathlib.Core.List.{List, [], _∷_}
 use Prim.Native.Nat.{ℕ, zero, suc, _+_, _*_, _<_}
 use native.Mathlib.Omega.{arith}
-use lib.Dec.{leb}
 use lib.ListN.{length, getD, getD-replicate}
 use lib.Seq.{getD-append-add}
-use Rattle.reckon.specs.Tests.{Row, _unless_, refusal}
+use Rattle.reckon.specs.Tests.{_unless_}
 use Rattle.reckon.specs.Lists.{joined}
-use Rattle.reckon.specs.Ranges.{mostDepth, lastClock, mostOutflow, mostSoaked}
-use Rattle.reckon.proofs.TestLaws.{pick-true, pick-false, pick-both, all-ext, refusal-later}
-use Rattle.reckon.proofs.ListLaws.{filled-ext, length-joined, getD-joined, sum-ext}
+use Rattle.reckon.proofs.TestLaws.{pick-true, pick-false, pick-both}
+use Rattle.reckon.proofs.ListLaws.{length-joined, getD-joined, sum-ext}
 use Rattle.grid.specs.Squares.{north, east, south, west, sides, squares, beside, opposite}
 use Rattle.grid.proofs.SquareLaws.{opposite-small}
 use Rattle.grid.proofs.MarkLaws.{marked, unless-closed}
 use Rattle.ledger.specs.Runs.{Plan, World}
 use Rattle.ledger.specs.Flows.{Leaves, fourSides, shut, gone, sent, came, offSide, offSquare, offGrid, soakedSquare, soakedGrid}
 use Rattle.ledger.specs.Record.{squareWords, lastWord, addedWord, soakedWord, recordSize, heldIn, lastedIn, wordPlace, leavesIn, lastIn, addedIn, soakedIn, squareRecord, recordOf}
-use Rattle.ledger.specs.After.{Moves, remains, newDepth, depthsFit, newOutflow, newSoaked, lateRefusals, stepRecord, worldAfter, worldWith}
+use Rattle.ledger.specs.After.{Moves, stepRecord}
 
 -- what is the same of each side is the same of the four
 four-same : {f g : ℕ → ℕ} → ((side : ℕ) → side < sides → f side ≡ g side) → fourSides f ≡ fourSides g

@@ -7,6 +7,7 @@ use reckon::ranges::MOST_DEPTH;
 use reckon::tables::INFLOW_WIDTH;
 use reckon::tables::inflow_added;
 use reckon::tables::rain_added;
+use reckon::tables::row_on;
 ghost use mathlib.Core.Path.{_≡_};
 ghost use mathlib.Core.Bool.{true};
 ghost use Prim.Native.Nat.{_/_, _≤_, _<_};
@@ -61,17 +62,6 @@ fn rain_all(marks: &[u8], rain: u64, room: &mut [u32]) -> bool
     true
 }
 
-// Whether inflow row k is for the square at a row and a column.
-fn row_is_for(inflow: &[u32], k: usize, row: u64, column: u64) -> bool
-    requires { ⌜ k < length (now inflow) / inflowWords ⌝ }
-    ensures { λ r. ⌜ r ≡ onSquare (now (inflow .entry)) row column k ⌝ }
-{
-    if number(inflow, INFLOW_WIDTH * k) != row {
-        return false;
-    }
-    number(inflow, INFLOW_WIDTH * k + 1) == column
-}
-
 // Whether no row before inflow row j is for the square of row j.
 fn row_alone(inflow: &[u32], j: usize) -> bool
     requires { ⌜ j < length (now inflow) / inflowWords ⌝ }
@@ -81,7 +71,7 @@ fn row_alone(inflow: &[u32], j: usize) -> bool
     let column = number(inflow, INFLOW_WIDTH * j + 1);
     let mut k = 0;
     while k < j {
-        if row_is_for(inflow, k, row, column) {
+        if row_on(inflow, k, row, column) {
             return false;
         }
         k += 1;

@@ -29,7 +29,7 @@ ghost use Rattle.grid.specs.inner.Rows.{InRow};
 ghost use Rattle.ledger.specs.Runs.{plan};
 ghost use Rattle.ledger.specs.Flows.{fourSides};
 ghost use Rattle.checks.specs.Given.{ground};
-ghost use Rattle.moves.specs.inner.Fill.{Cleared, FilledColumns, FilledOn, FilledOne, Fills, HasRow, HasRows, HasSquare, IdleBy, IdleRow, LeftKept, LeftTo, RecordFilled, senderRows, stirs, workedRows, worksOn};
+ghost use Rattle.moves.specs.inner.Fill.{Cleared, FilledColumns, FilledOn, FilledOne, Fills, HasRow, HasRows, HasSquare, UnstirredBy, UnstirredRow, LeftKept, LeftTo, RecordFilled, senderRows, stirs, workedRows, worksOn};
 
 // What leaves through the four sides together.
 fn four_leaving(leaves: [u64; 4]) -> u64
@@ -40,11 +40,11 @@ fn four_leaving(leaves: [u64; 4]) -> u64
 }
 
 // What soaks into a square in a step from a clock on: the smaller of what is due and what the four sides leave of its depth.
-fn soaks(rate: u64, start: u64, duration: u64, left: u64) -> u64
+fn soaks(rate: u64, start: u64, duration: u64, remaining: u64) -> u64
     requires { ⌜ Soaks rate start (start + duration) ⌝ }
-    ensures { λ r. ⌜ r ≡ min (soakDue rate start (start + duration)) left ⌝ }
+    ensures { λ r. ⌜ r ≡ min (soakDue rate start (start + duration)) remaining ⌝ }
 {
-    lesser(soak_due(rate, start, start + duration), left)
+    lesser(soak_due(rate, start, start + duration), remaining)
 }
 
 // Works the words of a square that is not closed, and keeps what left it; the answer tells whether anything did.
@@ -244,7 +244,7 @@ fn fill_row(
     left: &mut [u32],
 ) -> u64
     requires { ⌜ Fills (plan (way .shape) (now marks)) (ground (way .rules) (now beds) (now roughness) (now rates)) (now depths) (now lasts) (now added) (span .start) (span .duration) (now rec) ⌝ }
-    requires { ⌜ (InRow (way .shape) (row .first)) × (IdleRow (plan (way .shape) (now marks)) (now depths) (now lasts) (now added) (row .first) (row .worked)) × (length (now left) ≡ squares (way .shape)) ⌝ }
+    requires { ⌜ (InRow (way .shape) (row .first)) × (UnstirredRow (plan (way .shape) (now marks)) (now depths) (now lasts) (now added) (row .first) (row .worked)) × (length (now left) ≡ squares (way .shape)) ⌝ }
     ensures { λ r. ⌜ FilledColumns (plan (way .shape) (now (marks .entry))) (ground (way .rules) (now (beds .entry)) (now (roughness .entry)) (now (rates .entry))) (now (depths .entry)) (now (lasts .entry)) (now (added .entry)) (span .start) (span .duration) (row .first) (row .worked) (way .shape .columns) (now (rec .entry)) (now (rec .exit)) (now (left .entry)) (now (left .exit)) r ⌝ }
 {
     let columns = way.shape.columns;
@@ -293,7 +293,7 @@ fn fill_rows(
     senders: &mut [u64],
 )
     requires { ⌜ Fills (plan (way .shape) (now marks)) (ground (way .rules) (now beds) (now roughness) (now rates)) (now depths) (now lasts) (now added) (span .start) (span .duration) (now rec) ⌝ }
-    requires { ⌜ (IdleBy (plan (way .shape) (now marks)) (now depths) (now lasts) (now added) (now worked)) × (length (now worked) ≡ way .shape .rows) × (length (now left) ≡ squares (way .shape)) × (length (now senders) ≡ way .shape .rows) ⌝ }
+    requires { ⌜ (UnstirredBy (plan (way .shape) (now marks)) (now depths) (now lasts) (now added) (now worked)) × (length (now worked) ≡ way .shape .rows) × (length (now left) ≡ squares (way .shape)) × (length (now senders) ≡ way .shape .rows) ⌝ }
     ensures { λ _. ⌜ (FilledOn (plan (way .shape) (now (marks .entry))) (ground (way .rules) (now (beds .entry)) (now (roughness .entry)) (now (rates .entry))) (now (depths .entry)) (now (lasts .entry)) (now (added .entry)) (span .start) (span .duration) 0 (squares (way .shape)) (now (rec .entry)) (now (rec .exit))) × (LeftTo (plan (way .shape) (now (marks .entry))) (ground (way .rules) (now (beds .entry)) (now (roughness .entry)) (now (rates .entry))) (now (depths .entry)) (now (lasts .entry)) (span .duration) (now (worked .entry)) (squares (way .shape)) (now (left .exit))) × (now (senders .exit) ≡ senderRows (plan (way .shape) (now (marks .entry))) (ground (way .rules) (now (beds .entry)) (now (roughness .entry)) (now (rates .entry))) (now (depths .entry)) (now (lasts .entry)) (span .duration)) ⌝ }
 {
     let rows = way.shape.rows;

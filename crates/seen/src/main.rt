@@ -4,6 +4,7 @@
 use checks::fresh::fresh;
 use flood::step::step;
 use grid::squares::Shape;
+use grid::walks::Walk;
 use ledger::runs::Answer;
 use ledger::runs::Run;
 use ledger::take_back::take_back;
@@ -144,6 +145,7 @@ fn stepped(run: Run, depths: &mut [u32], lasts: &mut [u32], records: &mut [u32])
     let rates = RATES;
     let none: [u32; 0] = [];
     let answer = step(
+        Walk::All,
         SHAPE,
         RULES,
         run,

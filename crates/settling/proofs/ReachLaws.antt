@@ -1,9 +1,9 @@
 -- Laws of the squares that a step reaches: a row by its mask, squares that are not reached, whether all fit, and numbers written.
 -- Assumes nothing.
-use mathlib.Core.Path.{_≡_, refl, sym, ap, ap₂, _∙_, subst}
+use mathlib.Core.Path.{_≡_, refl, sym, ap, _∙_, subst}
 use mathlib.Core.Bool.{Bool, true, false, not, _||_, or-false}
 use mathlib.Core.List.{List}
-use Prim.Native.Nat.{ℕ, zero, suc, _+_, _-_, _*_, _/_, _%_, _≤_, _<_}
+use Prim.Native.Nat.{ℕ, _+_, _-_, _*_, _/_, _%_, _≤_, _<_}
 use native.Mathlib.Decide.{decLe, ℕ-discrete}
 use native.Mathlib.Omega.{arith}
 use lib.Dec.{leb}
@@ -13,57 +13,25 @@ use borrow.Author.Tests.{le-leb, lt-leb, leb-true, leb-false, eqb-true, not-fals
 use Rattle.reckon.specs.Tests.{pick, allBelow}
 use Rattle.reckon.specs.Lists.{filled}
 use Rattle.reckon.specs.Ranges.{mostDepth}
-use Rattle.reckon.proofs.TestLaws.{not-both, pick-true, pick-false, or-of, all-more, all-some, all-fails, all-ext, all-whole}
+use Rattle.reckon.proofs.TestLaws.{not-both, pick-true, pick-false, or-of, all-some, all-fails, all-ext}
 use Rattle.reckon.proofs.ListLaws.{is-filled}
-use Rattle.grid.specs.declared.squares.Shape.{Shape}
-use Rattle.grid.specs.Squares.{north, east, south, west, sides, squares, squareAt, beside, opposite, ShapeInRange}
+use Rattle.grid.specs.Squares.{north, east, south, west, sides, squares, beside, opposite, ShapeInRange}
 use Rattle.grid.specs.Marks.{closed}
 use Rattle.grid.specs.Masks.{bitAt}
-use Rattle.grid.specs.Walks.{bitOf, besideSet, nextWithin}
-use Rattle.grid.proofs.SquareLaws.{square-within, row-of, column-of, opposite-small}
+use Rattle.grid.specs.Walks.{bitOf, besideSet}
+use Rattle.grid.proofs.SquareLaws.{opposite-small}
 use Rattle.grid.proofs.MarkLaws.{marked}
 use Rattle.grid.proofs.BesideLaws.{or-clear, calm-around}
-use Rattle.grid.proofs.WalkLaws.{within-passes}
+use Rattle.grid.proofs.WalkLaws.{bit-in-row}
 use Rattle.ledger.specs.Runs.{Plan}
 use Rattle.ledger.specs.inner.Worlds.{ofDepths}
 use Rattle.ledger.specs.Flows.{shut, gone, sent, came}
 use Rattle.ledger.specs.Record.{leavesIn}
 use Rattle.ledger.specs.After.{remains, newDepth, depthsFit}
 use Rattle.ledger.specs.inner.Walks.{sends}
-use Rattle.settling.specs.inner.Settle.{movesIn, depthBy, depthsBy, SentBy, Told, RoomDepths, reachedRow, reachedAt, WhereClear, NoneBeyond, fitsAt, Written, skipsIn, unworked, unreached}
+use Rattle.settling.specs.inner.Settle.{movesIn, depthBy, depthsBy, SentBy, Told, RoomDepths, reachedRow, reachedAt, NoneBeyond, fitsAt, Written, skipsIn, skipsBy, workedRow}
 use Rattle.ledger.proofs.FlowLaws.{four-sides}
 use Rattle.settling.proofs.SpreadLaws.{side-part}
-
--- ---- a row, by its mask
-
--- what holds of the squares whose bit in the rows is set, or is not, holds of such columns of one row
-module _ (s : Shape) {row first : ℕ} (h : row < s .rows) (e : first ≡ row * s .columns) where
-  pub by-row :
-      (rows : List ℕ) (holds : ℕ → Type 0) {b : Bool} → ((i : ℕ) → i < squares s → bitOf s rows i ≡ b → holds i) →
-      (column : ℕ) → column < s .columns → bitAt (getD rows row 0) column ≡ b → holds (first + column)
-  unfolding bitOf
-  by-row rows holds f column k c =
-      subst (λ (j : ℕ). holds (j + column)) (sym e)
-      (f (squareAt s row column) (square-within s h k)
-      (ap₂ bitAt (ap (λ (r : ℕ). getD rows r 0) (row-of s row k)) (column-of s row k) ∙ c))
-
-  -- the same of the squares that are not reached
-  pub by-reached :
-      (worked senders : List ℕ) (holds : ℕ → Type 0) → ((i : ℕ) → i < squares s → reachedAt s worked senders i ≡ false → holds i) →
-      {mask : ℕ} → mask ≡ reachedRow worked senders row → WhereClear s first mask holds
-  unfolding reachedAt
-  by-reached worked senders holds f {mask} q column k c =
-      subst (λ (j : ℕ). holds (j + column)) (sym e)
-      (f (squareAt s row column) (square-within s h k)
-      (ap₂ bitAt (ap (reachedRow worked senders) (row-of s row k) ∙ sym q) (column-of s row k) ∙ c))
-
--- up to the next column that a mask has it holds, where it holds at all columns that it does not have
-pub up-to :
-    (s : Shape) (first mask column : ℕ) (holds : ℕ → Type 0) {next : ℕ} → WhereClear s first mask holds →
-    next ≡ nextWithin mask column (s .columns) → (i : ℕ) → first + column ≤ i → i < first + next → holds i
-up-to s first mask column holds {next} clear e i a b =
-    subst holds (let z : first + (i - first) ≡ i = omega arith in z)
-    (clear (i - first) (omega arith) (within-passes mask column (s .columns) (i - first) (omega arith) (omega arith)))
 
 -- ---- squares that are not reached
 
@@ -141,20 +109,10 @@ module _ (marks room : List ℕ) where
   unfolding fitsAt
   fits-closed i h e = e ∙ rw (lt-leb (getD room i 0) mostDepth h) (sym (or-false (closed marks i)))
 
-  -- up to a square, where the room has nothing from one on
-  pub fits-skip :
-      {a b : ℕ} → a ≤ b → ((i : ℕ) → a ≤ i → i < b → closed marks i ≡ false → getD room i 0 ≡ 0) → allBelow a (fitsAt marks room) ≡ true →
-      allBelow b (fitsAt marks room) ≡ true
+  -- where the room has nothing
+  pub fits-none : (i : ℕ) → (closed marks i ≡ false → getD room i 0 ≡ 0) → fitsAt marks room i ≡ true
   unfolding fitsAt
-  fits-skip {a} {b} h none t = all-whole (fitsAt marks room) (go (b - a) (omega arith)) (omega arith)
-    where
-      fit : (i : ℕ) → a ≤ i → i < b → fitsAt marks room i ≡ true
-      fit i x y = or-of (closed marks i) (leb (getD room i 0) mostDepth) (λ z. le-leb (getD room i 0) mostDepth (omega (arith, none i x y z)))
-
-      go : (k : ℕ) → a + k ≤ b → allBelow (a + k) (fitsAt marks room) ≡ true
-      go zero l = all-whole (fitsAt marks room) t (omega arith)
-      go (suc k) l =
-          all-whole (fitsAt marks room) (all-more (fitsAt marks room) (a + k) (go k (omega arith)) (fit (a + k) (omega arith) (omega arith))) (omega arith)
+  fits-none i none = or-of (closed marks i) (leb (getD room i 0) mostDepth) (λ z. le-leb (getD room i 0) mostDepth (omega (arith, none z)))
 
   -- where one of the squares up to a square does not fit, not all up to a later one do
   pub fails-beyond : {m n : ℕ} → m ≤ n → allBelow m (fitsAt marks room) ≡ false → allBelow n (fitsAt marks room) ≡ false
@@ -285,31 +243,18 @@ module _ (marks : List ℕ) (first mask column : ℕ) where
   unfolding skipsIn
   skips-closed c = sym (rw (ap not (own-bit ∙ c)) (or-false (closed marks at)))
 
-module _ (p : Plan) {row first : ℕ} (h : row < p .shape .rows) (e : first ≡ row * p .shape .columns) where
-  column-at : (i : ℕ) → first ≤ i → i < first + p .shape .columns → (row * p .shape .columns + (i - first) ≡ i) × (i - first < p .shape .columns)
-  column-at i a b = (omega (arith, e), omega arith)
-
-  pub skips-worked :
-      (worked : List ℕ) {mask : ℕ} → mask ≡ getD worked row 0 → (i : ℕ) → first ≤ i → i < first + p .shape .columns →
-      skipsIn (p .marks) first mask i ≡ unworked p worked i
-  unfolding skipsIn unworked bitOf
-  skips-worked worked {mask} q i a b =
-      let s = p .shape in
-      let z = column-at i a b in
-      let own-row : i / s .columns ≡ row = ap (λ (j : ℕ). j / s .columns) (sym (z .0)) ∙ row-of s row (z .1) in
-      let own-column : i % s .columns ≡ i - first = ap (λ (j : ℕ). j % s .columns) (sym (z .0)) ∙ column-of s row (z .1) in
-      ap (λ (c : Bool). shut p i || not c) (ap₂ bitAt (q ∙ ap (λ (r : ℕ). getD worked r 0) (sym own-row)) (sym own-column))
-
-  pub skips-reached :
-      (worked senders : List ℕ) {mask : ℕ} → mask ≡ reachedRow worked senders row → (i : ℕ) → first ≤ i → i < first + p .shape .columns →
-      skipsIn (p .marks) first mask i ≡ unreached p worked senders i
-  unfolding skipsIn unreached reachedAt
-  skips-reached worked senders {mask} q i a b =
-      let s = p .shape in
-      let z = column-at i a b in
-      let own-row : i / s .columns ≡ row = ap (λ (j : ℕ). j / s .columns) (sym (z .0)) ∙ row-of s row (z .1) in
-      let own-column : i % s .columns ≡ i - first = ap (λ (j : ℕ). j % s .columns) (sym (z .0)) ∙ column-of s row (z .1) in
-      ap (λ (c : Bool). shut p i || not c) (ap₂ bitAt (q ∙ ap (reachedRow worked senders) (sym own-row)) (sym own-column))
+-- by its own mask a row's squares are skipped as by those of all rows
+pub skips-row :
+    (p : Plan) (row : ℕ) {first : ℕ} → first ≡ row * p .shape .columns → (masks : ℕ → ℕ) {mask : ℕ} → mask ≡ masks row →
+    (i : ℕ) → first ≤ i → i < first + p .shape .columns → skipsIn (p .marks) first mask i ≡ skipsBy p masks i
+unfolding skipsIn skipsBy
+skips-row p row {first} e masks q i a b =
+    let s = p .shape in
+    let at : first + (i - first) ≡ i = omega arith in
+    ap (λ (c : Bool). shut p i || not c)
+    (ap (λ (x : ℕ). bitAt x (i - first)) q
+    ∙ (sym (bit-in-row s row e masks (let l : i - first < s .columns = omega arith in l))
+    ∙ ap (λ (k : ℕ). bitAt (masks (k / s .columns)) (k % s .columns)) at))
 
 -- ---- the water after a step
 
@@ -318,9 +263,9 @@ or-left a b e = rw e
 
 module _ {p : Plan} {rec depths lasts left worked senders : List ℕ} (t : Told p rec depths lasts left worked senders) where
   pub lasts-written :
-      {new : List ℕ} → Written (unworked p worked) (λ i. getD left i 0) 0 (squares (p .shape)) lasts new →
+      {new : List ℕ} → Written (skipsBy p (workedRow worked)) (λ i. getD left i 0) 0 (squares (p .shape)) lasts new →
       new ≡ filled (squares (p .shape)) (shut p) (gone (leavesIn rec)) lasts
-  unfolding unworked
+  unfolding skipsBy bitOf
   lasts-written w =
       all-written w (λ i h z. or-left (shut p i) (not (bitOf (p .shape) worked i)) z)
       (λ i h o z. t .left-is i h (not-false _ (rw o at z)) o)
@@ -331,8 +276,8 @@ module _ {p : Plan} {rec depths lasts left worked senders : List ℕ} (t : Told 
   module _ (f : ShapeInRange (p .shape)) (l : length (p .marks) ≡ squares (p .shape)) where
     pub depths-written :
         {room new : List ℕ} → RoomDepths p rec depths room →
-        Written (unreached p worked senders) (λ i. getD room i 0) 0 (squares (p .shape)) depths new → new ≡ depthsBy p rec depths
-    unfolding unreached
+        Written (skipsBy p (reachedRow worked senders)) (λ i. getD room i 0) 0 (squares (p .shape)) depths new → new ≡ depthsBy p rec depths
+    unfolding skipsBy reachedAt
     depths-written r w =
         all-written w (λ i h z. or-left (shut p i) (not (reachedAt (p .shape) worked senders i)) z) (λ i h o z. r .are i h o)
         (λ i h o z.

@@ -390,16 +390,6 @@ module _ (p : Plan) (rec depths : List ℕ) where
           (sym e) (omega (arith, none, was, came-same p (leavesIn rec) n (λ z. idle z .quiet) n))
       at i h o (no d) = omega (arith, t .room-is i h o, came-same p (leavesIn rec) n (λ z. idle z .quiet) i, stays-other p rec depths n i d)
 
-  -- up to a square, where all from one on are closed or idle
-  pub spread-skip :
-      {a b : ℕ} {lost : Lost} {room : List ℕ} → a ≤ b → ((i : ℕ) → a ≤ i → i < b → shut p i ≡ false → IdleAt rec depths i) →
-      SpreadTo p rec depths a lost room → SpreadTo p rec depths b lost room
-  spread-skip {a} {b} {lost} {room} h idle t = spread-same (go (b - a) (omega arith)) (omega arith)
-    where
-      go : (k : ℕ) → a + k ≤ b → SpreadTo p rec depths (a + k) lost room
-      go zero l = spread-same t (omega arith)
-      go (suc k) l = spread-same (spread-idle (idle (a + k) (omega arith) (omega arith)) (go k (omega arith))) (omega arith)
-
   -- one that is not closed: what remains of it stays, and what leaves it is sent
   pub spread-open :
       {n : ℕ} {lost : Lost} {old mid new : List ℕ} {x off soaked : ℕ} → n < squares (p .shape) → shut p n ≡ false →

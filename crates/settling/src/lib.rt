@@ -3,7 +3,7 @@
 //
 //   spread      the new depths, worked in a room
 //   reach       whether they fit, and the water written, at the squares that a step reaches
-//   settle      Settled; settle, surely_settles, settle_stored
+//   settle      Settled; settle, surely_settles
 mod reach;
 pub mod settle;
 mod spread;

@@ -9,7 +9,7 @@ ghost use Rattle.grid.specs.Squares.{ShapeInRange, squares};
 ghost use Rattle.grid.specs.Marks.{closed};
 ghost use Rattle.grid.specs.inner.Rows.{InRow};
 ghost use Rattle.ledger.specs.Runs.{plan};
-ghost use Rattle.settling.specs.inner.Settle.{NoneBeyond, WhereClear, Written, fitsAt, reachedRow, skipsIn, unreached, unworked};
+ghost use Rattle.settling.specs.inner.Settle.{NoneBeyond, WhereClear, Written, fitsAt, reachedRow, skipsBy, skipsIn, workedRow};
 use grid::marks::is_closed;
 use grid::squares::Shape;
 use grid::walks::beside_set;
@@ -119,7 +119,7 @@ pub(crate) fn write_depths(
 )
     requires { ⌜ (ShapeInRange shape) × (length (now marks) ≡ squares shape) × (length (now room) ≡ squares shape) × (length (now depths) ≡ squares shape) ⌝ }
     requires { ⌜ (length (now worked) ≡ shape .rows) × (length (now senders) ≡ shape .rows) ⌝ }
-    ensures { λ _. ⌜ Written (unreached (plan shape (now (marks .entry))) (now (worked .entry)) (now (senders .entry))) (λ i. getD (now (room .entry)) i 0) 0 (squares shape) (now (depths .entry)) (now (depths .exit)) ⌝ }
+    ensures { λ _. ⌜ Written (skipsBy (plan shape (now (marks .entry))) (reachedRow (now (worked .entry)) (now (senders .entry)))) (λ i. getD (now (room .entry)) i 0) 0 (squares shape) (now (depths .entry)) (now (depths .exit)) ⌝ }
 {
     let rows = shape.rows;
     let columns = shape.columns;
@@ -143,7 +143,7 @@ pub(crate) fn write_lasts(
 )
     requires { ⌜ (ShapeInRange shape) × (length (now marks) ≡ squares shape) × (length (now left) ≡ squares shape) × (length (now lasts) ≡ squares shape) ⌝ }
     requires { ⌜ length (now worked) ≡ shape .rows ⌝ }
-    ensures { λ _. ⌜ Written (unworked (plan shape (now (marks .entry))) (now (worked .entry))) (λ i. getD (now (left .entry)) i 0) 0 (squares shape) (now (lasts .entry)) (now (lasts .exit)) ⌝ }
+    ensures { λ _. ⌜ Written (skipsBy (plan shape (now (marks .entry))) (workedRow (now (worked .entry)))) (λ i. getD (now (left .entry)) i 0) 0 (squares shape) (now (lasts .entry)) (now (lasts .exit)) ⌝ }
 {
     let rows = shape.rows;
     let columns = shape.columns;

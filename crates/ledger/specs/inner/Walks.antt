@@ -15,7 +15,7 @@ use Rattle.ledger.specs.Record.{recordSize, wordPlace, squareRecord, lea
 use Rattle.ledger.specs.declared.record.Found.{Found}
 
 -- a record of which the head and the first i squares stand
-pub record Begun (p : Plan) (held lasted : ℕ) (out : Leaves) (last added soaked : ℕ → ℕ) (i : ℕ) (rec : List ℕ) : Type 0 where
+pub record RecordedTo (p : Plan) (held lasted : ℕ) (out : Leaves) (last added soaked : ℕ → ℕ) (i : ℕ) (rec : List ℕ) : Type 0 where
   pub long : length rec ≡ recordSize p
   pub so-far : take (wordPlace i north) rec ≡ held ∷ lasted ∷ joined i (squareRecord p out last added soaked)
 

@@ -1,7 +1,7 @@
 -- A step whose record is worked out, settled: refused by 8, 9 or 15, or written to the world. `settled-is` joins it to the world after a step.
 -- Assumes nothing.
 use mathlib.Core.Path.{_≡_}
-use mathlib.Core.Bool.{Bool, true, false, _&&_, _||_, not}
+use mathlib.Core.Bool.{Bool, true, false, _||_, not}
 use mathlib.Core.List.{List, [], _∷_}
 use Prim.Native.Nat.{ℕ, zero, suc, _+_, _-_, _*_, _/_, _%_, _≤_, _<_}
 use lib.Dec.{eqb, leb, ltb}
@@ -251,9 +251,10 @@ pub record Written (skips : ℕ → Bool) (amount : ℕ → ℕ) (from to : ℕ)
 unfoldable pub skipsIn : List ℕ → ℕ → ℕ → ℕ → Bool
 skipsIn marks first mask i = closed marks i || not (bitAt mask (i - first))
 
--- the squares that writing all rows skips, by the squares that were worked, and by those that were reached
-unfoldable pub unworked : Plan → List ℕ → ℕ → Bool
-unworked p worked i = shut p i || not (bitOf (p .shape) worked i)
+-- the squares that writing all rows skips, by a mask for each row
+unfoldable pub skipsBy : Plan → (ℕ → ℕ) → ℕ → Bool
+skipsBy p masks i = shut p i || not (bitAt (masks (i / p .shape .columns)) (i % p .shape .columns))
 
-unfoldable pub unreached : Plan → List ℕ → List ℕ → ℕ → Bool
-unreached p worked senders i = shut p i || not (reachedAt (p .shape) worked senders i)
+-- the masks of the squares that were worked
+abbrev pub workedRow : List ℕ → ℕ → ℕ
+workedRow worked row = getD worked row 0

@@ -13,7 +13,7 @@ use Rattle.reckon.specs.Ranges.{mostDepth}
 use Rattle.reckon.proofs.TestLaws.{not-both, all-none, all-more, all-fails, all-whole}
 use Rattle.grid.specs.Squares.{squares}
 use Rattle.grid.specs.Marks.{inflowWords}
-use Rattle.moves.specs.inner.Added.{amountAt, unreached, rowSquare}
+use Rattle.moves.specs.inner.Added.{amountAt, unpoured, rowSquare}
 use Rattle.moves.proofs.AddedLaws.{pour-none, poured-turn}
 use Rattle.moves.proofs.added.pour_all.Statement.{statement}
 use Rattle.moves.proofs.added.pour_all.Tie as tie
@@ -22,7 +22,7 @@ abbrev Inv-loop : tie.InvT-loop
 Inv-loop way inflow start end rain room₀ rows j₀ room j =
     (j ≤ length inflow / inflowWords)
     × (length room ≡ squares (way .shape))
-    × (room ≡ filled (squares (way .shape)) (unreached (way .shape) (way .rules) inflow start end rain j) (amountAt (way .shape) (way .rules) inflow start end rain) room₀)
+    × (room ≡ filled (squares (way .shape)) (unpoured (way .shape) (way .rules) inflow start end rain j) (amountAt (way .shape) (way .rules) inflow start end rain) room₀)
     × (allBelow j (λ k. leb (amountAt (way .shape) (way .rules) inflow start end rain (rowSquare (way .shape) (way .rules) inflow start end rain k)) mostDepth) ≡ true)
 
 abbrev μ-loop : tie.MeasureT-loop
@@ -83,7 +83,7 @@ returns-2 c =
       fits-is = sym
           (all-whole _ (c .before .loop .inv .3) e);
       stored = λ t. c .before .loop .inv .2 ∙ ap
-          (λ (n : ℕ). filled (squares (start .args .way .shape)) (unreached (start .args .way .shape) (start .args .way .rules) (start .args .inflow .now) (start .args .start) (start .args .end) (start .args .rain) n) (amountAt (start .args .way .shape) (start .args .way .rules) (start .args .inflow .now) (start .args .start) (start .args .end) (start .args .rain)) (start .args .room .now))
+          (λ (n : ℕ). filled (squares (start .args .way .shape)) (unpoured (start .args .way .shape) (start .args .way .rules) (start .args .inflow .now) (start .args .start) (start .args .end) (start .args .rain) n) (amountAt (start .args .way .shape) (start .args .way .rules) (start .args .inflow .now) (start .args .start) (start .args .end) (start .args .rain)) (start .args .room .now))
           e;
       long = c .before .loop .inv .1 ∙ sym (start .pre .1);
     }

@@ -1,24 +1,22 @@
--- `settling::reach::row_fits` meets its contract: all squares up to a column of the row fit; those that the walk passes have nothing in the room.
+-- `settling::reach::row_fits` meets its contract: the columns passed fit; those between two that are reached have nothing in the room.
 -- Assumes nothing.
 use mathlib.Core.Path.{_≡_, sym, _∙_}
-use mathlib.Core.Bool.{Bool, true, false}
-use Prim.Native.Nat.{ℕ, _-_, _+_, _≤_, _<_}
+use mathlib.Core.Bool.{Bool, true}
+use Prim.Native.Nat.{ℕ, _-_, _+_, _<_}
 use native.Mathlib.Omega.{arith}
-use lib.ListN.{getD}
 use borrow.Author.Tests.{not-true, not-false}
 use Rattle.reckon.specs.Tests.{allBelow}
 use Rattle.reckon.proofs.TestLaws.{all-more, all-fails, all-whole}
 use Rattle.grid.specs.Squares.{squares}
-use Rattle.grid.specs.Marks.{closed}
-use Rattle.grid.specs.Walks.{nextWithin}
-use Rattle.grid.proofs.WalkLaws.{within-from}
+use Rattle.grid.specs.inner.Visits.{Passes, Visits}
+use Rattle.grid.proofs.WalkLaws.{walk-visits, walk-ends, walk-nearer}
 use Rattle.settling.specs.inner.Settle.{fitsAt}
-use Rattle.settling.proofs.ReachLaws.{up-to, fits-skip}
+use Rattle.settling.proofs.ReachLaws.{fits-none}
 use Rattle.settling.proofs.reach.row_fits.Statement.{statement}
 use Rattle.settling.proofs.reach.row_fits.Tie as tie
 
 abbrev Inv-loop : tie.InvT-loop
-Inv-loop marks first reached room columns column₀ column = (column ≤ columns) × (allBelow (first + column) (fitsAt marks room) ≡ true)
+Inv-loop marks first reached room columns column₀ column = Visits reached columns (λ k. allBelow (first + k) (fitsAt marks room) ≡ true) column
 
 abbrev μ-loop : tie.MeasureT-loop
 μ-loop marks first reached room columns column₀ column = columns - column
@@ -39,19 +37,17 @@ asked c = c .before
 abbrev fit : tie.Start Inv-loop μ-loop → ℕ → Bool
 fit s = fitsAt (s .args .marks .now) (s .args .room .now)
 
--- the squares fit up to the next column that is reached, where they fit up to a column
-passed :
-    (s : tie.Start Inv-loop μ-loop) (column : ℕ) {next : ℕ} → column ≤ s .args .shape .columns →
-    next ≡ nextWithin (s .args .reached) column (s .args .shape .columns) → allBelow (s .args .first + column) (fit s) ≡ true →
-    (next ≤ s .args .shape .columns) × (allBelow (s .args .first + next) (fit s) ≡ true)
-passed s column h e t =
-    let shape = s .args .shape in
-    let marks = s .args .marks .now in
-    let room = s .args .room .now in (
-      omega (arith, e),
-      fits-skip marks room (omega (arith, e, within-from (s .args .reached) column (shape .columns) h))
-          (up-to shape (s .args .first) (s .args .reached) column (λ i. closed marks i ≡ false → getD room i 0 ≡ 0) (s .pre .1 .0) e) t,
-    )
+module _ (s : tie.Start Inv-loop μ-loop) where
+  abbrev Fit : ℕ → Type 0
+  Fit k = allBelow (s .args .first + k) (fit s) ≡ true
+
+  -- one column more
+  fit-more : (k : ℕ) → Fit k → fit s (s .args .first + k) ≡ true → Fit (k + 1)
+  fit-more k t e = all-whole (fit s) (all-more (fit s) (s .args .first + k) t e) (omega arith)
+
+  -- one that is not reached has nothing in the room
+  passes : Passes (s .args .reached) (s .args .shape .columns) Fit
+  passes k h b t = fit-more k t (fits-none (s .args .marks .now) (s .args .room .now) (s .args .first + k) (s .pre .1 .0 k h b))
 
 -- in a turn: the column's square is on the grid
 on-grid : (c : tie.In-loop Inv-loop μ-loop) → let z = turn c in start z .args .first + z .loop .column < squares (start z .args .shape)
@@ -65,7 +61,7 @@ next-within-requires c κs = (omega arith, c .before .before .pre .0 .0 .columns
 loop-holds : tie.Need-loop-holds Inv-loop μ-loop
 loop-holds c =
     let s = c .before .before .before in
-    passed s 0 (omega arith) (c .next-within .ensures) (all-whole (fit s) (s .pre .1 .1) (omega arith))
+    walk-visits (passes s) (s .pre .0 .0 .columns-high) 0 (omega arith) (c .next-within .ensures) (all-whole (fit s) (s .pre .1 .1) (omega arith))
 
 add-fits : tie.Need-add-fits Inv-loop μ-loop
 add-fits c = omega (arith, on-grid c, start (turn c) .pre .0 .0 .few)
@@ -92,14 +88,7 @@ next-after-requires c κs =
 loop-less : tie.Need-loop-less Inv-loop μ-loop
 loop-less c =
     let here = asked (c .before .before) in
-    let z = turn here in
-    let s = start z in
-    omega (
-      arith,
-      here .loop-test .taken,
-      c .next-after .ensures,
-      within-from (s .args .reached) (z .loop .column + 1) (s .args .shape .columns) (omega (arith, here .loop-test .taken)),
-    )
+    walk-nearer (start (turn here) .args .reached) (here .loop-test .taken) (c .next-after .ensures)
 
 loop-again : tie.Need-loop-again Inv-loop μ-loop
 loop-again c =
@@ -107,13 +96,11 @@ loop-again c =
     let z = turn (asked fitted) in
     let s = start z in
     let own : fit s (s .args .first + z .loop .column) ≡ true = sym (fitted .fits2 .ensures) ∙ not-false _ (c .before .if1 .left) in
-    passed s (z .loop .column + 1) (omega (arith, asked fitted .loop-test .taken)) (c .next-after .ensures)
-    (all-whole (fit s) (all-more (fit s) (s .args .first + z .loop .column) (z .loop .inv .1) own) (omega arith))
+    walk-visits (passes s) (s .pre .0 .0 .columns-high) (z .loop .column + 1) (omega (arith, asked fitted .loop-test .taken)) (c .next-after .ensures)
+    (fit-more s (z .loop .column) (z .loop .inv .held) own)
 
 returns-2 : tie.Need-returns-2 Inv-loop μ-loop
-returns-2 c =
-    let z = c .before in
-    sym (all-whole (fit (start z)) (z .loop .inv .1) (omega (arith, z .loop .inv .0, c .loop-test .left)))
+returns-2 c = sym (walk-ends (c .before .loop .inv) (c .loop-test .left))
 
 pub row-fits-spec : {M : Type 1} → statement M
 row-fits-spec =

@@ -1,23 +1,20 @@
 -- `settling::reach::write_lasts` meets its contract: the rows so far are written, each by the columns that were worked.
 -- Assumes nothing.
-use mathlib.Core.Path.{_≡_, refl, sym, ap, _∙_}
-use Prim.Native.Nat.{ℕ, _-_, _*_, _≤_}
-use native.Mathlib.Nat.{zero-mul}
+use mathlib.Core.Path.{refl}
+use Prim.Native.Nat.{_-_}
 use native.Mathlib.Omega.{arith}
 use lib.ListN.{getD}
-use Rattle.grid.specs.inner.Rows.{InRow}
-use Rattle.grid.proofs.SquareLaws.{row-begins, next-row}
+use Rattle.grid.specs.inner.Rows.{InRow, AtRow}
+use Rattle.grid.proofs.SquareLaws.{rows-begin, row-here, row-next, rows-end}
 use Rattle.ledger.specs.Runs.{Plan, plan}
-use Rattle.settling.specs.inner.Settle.{Written, unworked}
-use Rattle.settling.proofs.ReachLaws.{skip-written, same-written, then-written, alike-written, skips-worked}
+use Rattle.settling.specs.inner.Settle.{Written, skipsBy, workedRow}
+use Rattle.settling.proofs.ReachLaws.{skip-written, same-written, then-written, alike-written, skips-row}
 use Rattle.settling.proofs.reach.write_lasts.Statement.{statement}
 use Rattle.settling.proofs.reach.write_lasts.Tie as tie
 
 abbrev Inv-loop : tie.InvT-loop
 Inv-loop shape marks worked left lasts₀ rows columns row₀ first₀ lasts row first =
-    (row ≤ rows)
-    × (first ≡ row * columns)
-    × (Written (unworked (plan shape marks) worked) (λ i. getD left i 0) 0 first lasts₀ lasts)
+    AtRow rows columns row first × Written (skipsBy (plan shape marks) (workedRow worked)) (λ i. getD left i 0) 0 first lasts₀ lasts
 
 abbrev μ-loop : tie.MeasureT-loop
 μ-loop shape marks worked left lasts₀ rows columns row₀ first₀ lasts row first = rows - row
@@ -43,14 +40,14 @@ p c = plan (start c .args .shape) (start c .args .marks .now)
 
 -- in a turn: the row is one of the grid
 in-row : (c : tie.In-loop Inv-loop μ-loop) → InRow (p (turn c) .shape) (turn c .loop .first)
-in-row c = row-begins (p (turn c) .shape) (c .loop-test .taken) (turn c .loop .inv .1)
+in-row c = row-here (p (turn c) .shape) (turn c .loop .inv .0) (c .loop-test .taken)
 
 -- ---- the needs
 
 loop-holds : tie.Need-loop-holds Inv-loop μ-loop
 loop-holds c =
     let s = c .before .before .before .before in
-    (omega arith, sym (zero-mul (s .args .shape .columns)), skip-written (λ i x y. absurd (omega arith)))
+    (rows-begin _ _, skip-written (λ i x y. absurd (omega arith)))
 
 mul-write-row : tie.Need-mul-write-row Inv-loop μ-loop
 mul-write-row c = let s = start (turn c) in omega (arith, c .loop-test .taken, s .pre .1, s .pre .0 .0 .rows-high)
@@ -65,7 +62,7 @@ write-row-requires c κs =
     let here = c .before .before in
     let z = turn here in
     let s = start z in
-    (s .pre .0 .0, in-row here, s .pre .0 .1, s .pre .0 .2, omega (arith, z .loop .inv .2 .long, s .pre .0 .3))
+    (s .pre .0 .0, in-row here, s .pre .0 .1, s .pre .0 .2, omega (arith, z .loop .inv .1 .long, s .pre .0 .3))
 
 add-row : tie.Need-add-row Inv-loop μ-loop
 add-row c =
@@ -86,21 +83,18 @@ loop-again c =
     let here = asked stored in
     let z = turn here in
     let s = start z in (
-      omega (arith, here .loop-test .taken),
-      next-row (s .args .shape) (z .loop .row) (z .loop .inv .1),
-      then-written (omega arith) (omega arith) (z .loop .inv .2)
-          (alike-written (skips-worked (p z) (here .loop-test .taken) (z .loop .inv .1) (s .args .worked .now) refl) (stored .write-row .ensures)),
+      row-next (z .loop .inv .0) (here .loop-test .taken),
+      then-written (omega arith) (omega arith) (z .loop .inv .1)
+          (alike-written (skips-row (p z) (z .loop .row) (z .loop .inv .0 .begins) (workedRow (s .args .worked .now)) refl) (stored .write-row .ensures)),
     )
 
 same-length : tie.Need-same-length Inv-loop μ-loop
-same-length c = c .before .loop .inv .2 .long
+same-length c = c .before .loop .inv .1 .long
 
 returns : tie.Need-returns Inv-loop μ-loop
 returns c =
     let z = c .before in
-    let inv = z .loop .inv in
-    let all : z .loop .row ≡ start z .args .shape .rows = omega (arith, inv .0, c .loop-test .left) in
-    same-written (inv .2) (inv .1 ∙ ap (λ (k : ℕ). k * start z .args .shape .columns) all)
+    same-written (z .loop .inv .1) (rows-end (start z .args .shape) (z .loop .inv .0) (c .loop-test .left))
 
 pub write-lasts-spec : {M : Type 1} → statement M
 write-lasts-spec =

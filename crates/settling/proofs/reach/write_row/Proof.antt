@@ -1,25 +1,22 @@
--- `settling::reach::write_row` meets its contract: the row is written up to a column that the mask has; the walk passes only columns that are skipped.
+-- `settling::reach::write_row` meets its contract: the columns passed are written; those between two that the mask has are skipped.
 -- Assumes nothing.
-use mathlib.Core.Path.{_≡_, refl, ap, _∙_}
+use mathlib.Core.Path.{_≡_, refl, subst}
 use mathlib.Core.Bool.{Bool, true}
 use mathlib.Core.List.{List}
-use Prim.Native.Nat.{ℕ, _-_, _+_, _≤_, _<_}
+use Prim.Native.Nat.{ℕ, _-_, _+_, _<_}
 use native.Mathlib.Omega.{arith}
 use lib.ListN.{getD}
 use Rattle.grid.specs.Squares.{squares}
-use Rattle.grid.specs.Masks.{bitAt}
-use Rattle.grid.specs.Walks.{nextWithin}
-use Rattle.grid.proofs.WalkLaws.{within-from, within-set}
+use Rattle.grid.specs.inner.Visits.{Passes, Visits}
+use Rattle.grid.proofs.WalkLaws.{walk-visits, walk-ends, walk-nearer}
 use Rattle.settling.specs.inner.Settle.{Written, skipsIn}
-use Rattle.settling.proofs.ReachLaws.{up-to, one-written, skip-written, same-written, then-written, skips-clear, skips-closed}
+use Rattle.settling.proofs.ReachLaws.{one-written, skip-written, same-written, then-written, skips-clear, skips-closed}
 use Rattle.settling.proofs.reach.write_row.Statement.{statement}
 use Rattle.settling.proofs.reach.write_row.Tie as tie
 
 abbrev Inv-loop : tie.InvT-loop
 Inv-loop marks from first mask list₀ columns column₀ list column =
-    (column ≤ columns)
-    × (column < columns → bitAt mask column ≡ true)
-    × (Written (skipsIn marks first mask) (λ i. getD from i 0) first (first + column) list₀ list)
+    Visits mask columns (λ k. Written (skipsIn marks first mask) (λ i. getD from i 0) first (first + k) list₀ list) column
 
 abbrev μ-loop : tie.MeasureT-loop
 μ-loop marks from first mask list₀ columns column₀ list column = columns - column
@@ -47,24 +44,13 @@ module _ (s : tie.Start Inv-loop μ-loop) where
   abbrev amount : ℕ → ℕ
   amount i = getD (s .args .from .now) i 0
 
-  -- written up to the next column that the mask has, where it is written up to a column
-  passed :
-      (column : ℕ) {next : ℕ} {old new : List ℕ} → column ≤ s .args .shape .columns →
-      next ≡ nextWithin (s .args .mask) column (s .args .shape .columns) →
-      Written skips amount (s .args .first) (s .args .first + column) old new →
-      (next ≤ s .args .shape .columns)
-      × (next < s .args .shape .columns → bitAt (s .args .mask) next ≡ true)
-      × (Written skips amount (s .args .first) (s .args .first + next) old new)
-  passed column h e w =
-      let shape = s .args .shape in
-      let first = s .args .first in
-      let mask = s .args .mask in (
-        omega (arith, e),
-        λ l. ap (bitAt mask) e ∙ within-set mask column (shape .columns) (s .pre .0 .columns-high) (omega (arith, e, l)),
-        then-written (omega arith) (omega (arith, e, within-from mask column (shape .columns) h)) w
-            (skip-written
-            (up-to shape first mask column (λ i. skips i ≡ true) (λ k l z. skips-clear (s .args .marks .now) first mask k z) e)),
-      )
+  -- a column that the mask does not have is skipped
+  passes :
+      (old new : List ℕ) → Passes (s .args .mask) (s .args .shape .columns) (λ k. Written skips amount (s .args .first) (s .args .first + k) old new)
+  passes old new k h b w =
+      then-written (omega arith) (omega arith) w
+      (skip-written
+      (λ i x y. subst (λ (j : ℕ). skips j ≡ true) (let e : s .args .first + k ≡ i = omega arith in e) (skips-clear (s .args .marks .now) (s .args .first) (s .args .mask) k b)))
 
 -- in a turn: the column's square is on the grid
 on-grid : (c : tie.In-loop Inv-loop μ-loop) → let z = turn c in start z .args .first + z .loop .column < squares (start z .args .shape)
@@ -77,7 +63,8 @@ next-within-requires c κs = (omega arith, c .before .before .before .pre .0 .co
 
 loop-holds : tie.Need-loop-holds Inv-loop μ-loop
 loop-holds c =
-    passed (c .before .before .before .before) 0 (omega arith) (c .next-within .ensures) (skip-written (λ i x y. absurd (omega arith)))
+    let s = c .before .before .before .before in
+    walk-visits (passes s _ _) (s .pre .0 .columns-high) 0 (omega arith) (c .next-within .ensures) (skip-written (λ i x y. absurd (omega arith)))
 
 add-write-one : tie.Need-add-write-one Inv-loop μ-loop
 add-write-one c = omega (arith, on-grid c, start (turn c) .pre .0 .few)
@@ -88,7 +75,7 @@ write-one-requires c κs =
     let s = start (turn here) in (
       omega (arith, on-grid here, s .pre .2),
       omega (arith, on-grid here, s .pre .3),
-      omega (arith, on-grid here, s .pre .4, turn here .loop .inv .2 .long),
+      omega (arith, on-grid here, s .pre .4, turn here .loop .inv .held .long),
     )
 
 next-after-requires : tie.Need-next-after-requires Inv-loop μ-loop
@@ -99,14 +86,7 @@ next-after-requires c κs =
 loop-less : tie.Need-loop-less Inv-loop μ-loop
 loop-less c =
     let here = asked (written (c .before)) in
-    let z = turn here in
-    let s = start z in
-    omega (
-      arith,
-      here .loop-test .taken,
-      c .next-after .ensures,
-      within-from (s .args .mask) (z .loop .column + 1) (s .args .shape .columns) (omega (arith, here .loop-test .taken)),
-    )
+    walk-nearer (start (turn here) .args .mask) (here .loop-test .taken) (c .next-after .ensures)
 
 loop-again : tie.Need-loop-again Inv-loop μ-loop
 loop-again c =
@@ -116,19 +96,17 @@ loop-again c =
     let s = start z in
     let inv = z .loop .inv in
     let own =
-    one-written {skips = skips s} {amount = amount s} (omega (arith, on-grid here, s .pre .4, inv .2 .long))
-    (skips-closed (s .args .marks .now) (s .args .first) (s .args .mask) (z .loop .column) (inv .1 (here .loop-test .taken))) (stored .write-one .ensures)
+    one-written {skips = skips s} {amount = amount s} (omega (arith, on-grid here, s .pre .4, inv .held .long))
+    (skips-closed (s .args .marks .now) (s .args .first) (s .args .mask) (z .loop .column) (inv .visited (here .loop-test .taken))) (stored .write-one .ensures)
     refl in
-    passed s (z .loop .column + 1) (omega (arith, here .loop-test .taken)) (c .next-after .ensures)
-    (same-written (then-written (omega arith) (omega arith) (inv .2) own) (omega arith))
+    walk-visits (passes s _ _) (s .pre .0 .columns-high) (z .loop .column + 1) (omega (arith, here .loop-test .taken)) (c .next-after .ensures)
+    (same-written (then-written (omega arith) (omega arith) (inv .held) own) (omega arith))
 
 same-length : tie.Need-same-length Inv-loop μ-loop
-same-length c = c .before .loop .inv .2 .long
+same-length c = c .before .loop .inv .held .long
 
 returns : tie.Need-returns Inv-loop μ-loop
-returns c =
-    let inv = c .before .loop .inv in
-    same-written (inv .2) (omega (arith, inv .0, c .loop-test .left))
+returns c = walk-ends (c .before .loop .inv) (c .loop-test .left)
 
 pub write-row-spec : {M : Type 1} → statement M
 write-row-spec =

@@ -1,27 +1,27 @@
 -- `settling::spread::spread` meets its contract: the rows so far are spread.
 -- Assumes nothing.
-use mathlib.Core.Path.{_≡_, sym, ap, _∙_}
+use mathlib.Core.Path.{_≡_, refl}
 use mathlib.Core.Bool.{false}
 use mathlib.Core.List.{List}
-use Prim.Native.Nat.{ℕ, _-_, _*_, _≤_}
-use native.Mathlib.Nat.{zero-mul}
+use Prim.Native.Nat.{ℕ, _-_}
 use native.Mathlib.Omega.{arith}
 use lib.ListN.{getD}
 use Rattle.grid.specs.Marks.{closed}
-use Rattle.grid.specs.inner.Rows.{InRow}
-use Rattle.grid.proofs.SquareLaws.{row-begins, next-row}
+use Rattle.grid.specs.inner.Rows.{InRow, AtRow}
+use Rattle.grid.proofs.SquareLaws.{rows-begin, row-here, row-next, rows-end}
 use Rattle.ledger.specs.Runs.{Plan, plan}
 use Rattle.ledger.specs.Flows.{gone}
 use Rattle.ledger.specs.Record.{leavesIn}
 use Rattle.settling.specs.inner.Settle.{IdleAt, SpreadTo}
-use Rattle.settling.proofs.ReachLaws.{by-row}
+use Rattle.grid.specs.Walks.{bitOf}
+use Rattle.grid.proofs.WalkLaws.{by-row}
 use Rattle.settling.proofs.SpreadLaws.{spread-none, spread-all}
 use Rattle.settling.proofs.spread.spread.Statement.{statement}
 use Rattle.settling.proofs.spread.spread.Tie as tie
 
 abbrev Inv-loop : tie.InvT-loop
 Inv-loop shape marks rec left worked depths room₀ rows columns lost₀ row₀ first₀ room lost row first =
-    (row ≤ rows) × (first ≡ row * columns) × SpreadTo (plan shape marks) rec depths first lost room
+    AtRow rows columns row first × SpreadTo (plan shape marks) rec depths first lost room
 
 abbrev μ-loop : tie.MeasureT-loop
 μ-loop shape marks rec left worked depths room₀ rows columns lost₀ row₀ first₀ room lost row first = rows - row
@@ -49,6 +49,9 @@ module _ (s : tie.Start Inv-loop μ-loop) where
   abbrev depths : List ℕ
   depths = s .args .depths .now
 
+  abbrev masks : ℕ → ℕ
+  masks row = getD (s .args .worked .now) row 0
+
   -- a square that is idle unless it is closed, and one of which it is known what left
   abbrev Passed : ℕ → Type 0
   Passed i = closed (s .args .marks .now) i ≡ false → IdleAt rec depths i
@@ -58,14 +61,14 @@ module _ (s : tie.Start Inv-loop μ-loop) where
 
 -- in a turn: the row is one of the grid
 in-row : (c : tie.In-loop Inv-loop μ-loop) → InRow (start (c .before) .args .shape) (c .before .loop .first)
-in-row c = row-begins (start (c .before) .args .shape) (c .loop-test .taken) (c .before .loop .inv .1)
+in-row c = row-here (start (c .before) .args .shape) (c .before .loop .inv .0) (c .loop-test .taken)
 
 -- ---- the needs
 
 loop-holds : tie.Need-loop-holds Inv-loop μ-loop
 loop-holds c =
     let s = c .before .before .before .before .before .before in
-    (omega arith, sym (zero-mul (s .args .shape .columns)), spread-none (p s) (rec s) (depths s) (s .pre .0 .1))
+    (rows-begin _ _, spread-none (p s) (rec s) (depths s) (s .pre .0 .1))
 
 mul-spread-row : tie.Need-mul-spread-row Inv-loop μ-loop
 mul-spread-row c =
@@ -77,15 +80,16 @@ shared-slice-read-spread-row c =
     let s = start (here .before) in omega (arith, here .loop-test .taken, s .pre .1 .0, s .pre .0 .0 .recorded .fine .rows-high)
 
 spread-row-requires : tie.Need-spread-row-requires Inv-loop μ-loop
+unfolding bitOf
 spread-row-requires c κs =
     let here = c .before .before in
     let z = here .before in
     let s = start z in (
-      (s .pre .0 .0, in-row here, z .loop .inv .2),
+      (s .pre .0 .0, in-row here, z .loop .inv .1),
       (
         s .pre .0 .2,
-        by-row (s .args .shape) (here .loop-test .taken) (z .loop .inv .1) (s .args .worked .now) (Passed s) (s .pre .1 .1),
-        by-row (s .args .shape) (here .loop-test .taken) (z .loop .inv .1) (s .args .worked .now) (Left s) (s .pre .1 .2),
+        by-row (s .args .shape) (z .loop .row) (z .loop .inv .0 .begins) (masks s) (Passed s) (here .loop-test .taken) refl (s .pre .1 .1),
+        by-row (s .args .shape) (z .loop .row) (z .loop .inv .0 .begins) (masks s) (Left s) (here .loop-test .taken) refl (s .pre .1 .2),
       ),
     )
 
@@ -106,22 +110,19 @@ loop-again : tie.Need-loop-again Inv-loop μ-loop
 loop-again c =
     let here = asked (done c) in
     let z = here .before in (
-      omega (arith, here .loop-test .taken),
-      next-row (start z .args .shape) (z .loop .row) (z .loop .inv .1),
+      row-next (z .loop .inv .0) (here .loop-test .taken),
       done c .spread-row .ensures,
     )
 
 same-length : tie.Need-same-length Inv-loop μ-loop
-same-length c = omega (arith, c .before .loop .inv .2 .long, start (c .before) .pre .0 .1 .long)
+same-length c = omega (arith, c .before .loop .inv .1 .long, start (c .before) .pre .0 .1 .long)
 
 returns : tie.Need-returns Inv-loop μ-loop
 returns c =
     let z = c .before in
     let s = start z in
-    let inv = z .loop .inv in
-    let all : z .loop .row ≡ s .args .shape .rows = omega (arith, inv .0, c .loop-test .left) in
-    spread-all (p s) (rec s) (depths s) (s .pre .0 .0 .recorded .marks-long) (inv .2)
-    (inv .1 ∙ ap (λ (k : ℕ). k * s .args .shape .columns) all)
+    spread-all (p s) (rec s) (depths s) (s .pre .0 .0 .recorded .marks-long) (z .loop .inv .1)
+    (rows-end (s .args .shape) (z .loop .inv .0) (c .loop-test .left))
 
 pub spread-spec : {M : Type 1} → statement M
 spread-spec =

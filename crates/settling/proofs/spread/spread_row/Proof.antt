@@ -1,24 +1,21 @@
--- `settling::spread::spread_row` meets its contract: up to a column that was worked all is spread, those passed over being closed or idle.
+-- `settling::spread::spread_row` meets its contract: the columns passed are spread; those between two that were worked are closed or idle.
 -- Assumes nothing.
-use mathlib.Core.Path.{_≡_, ap, _∙_}
-use mathlib.Core.Bool.{true, false}
 use mathlib.Core.List.{List}
-use Prim.Native.Nat.{ℕ, _+_, _-_, _≤_, _<_}
+use Prim.Native.Nat.{ℕ, _+_, _-_, _≤_}
 use native.Mathlib.Omega.{arith}
-use Rattle.grid.specs.Marks.{closed}
-use Rattle.grid.specs.Masks.{bitAt}
+use Rattle.grid.specs.inner.Visits.{Passes, Visits}
 use Rattle.grid.proofs.SquareLaws.{row-column}
-use Rattle.grid.proofs.WalkLaws.{within-from, within-set}
+use Rattle.grid.proofs.WalkLaws.{walk-visits, walk-ends, walk-nearer}
 use Rattle.ledger.specs.Runs.{Plan, plan}
-use Rattle.settling.specs.inner.Settle.{IdleAt, SpreadTo}
-use Rattle.settling.proofs.ReachLaws.{up-to}
-use Rattle.settling.proofs.SpreadLaws.{spread-same, spread-skip}
+use Rattle.settling.specs.declared.spread.Lost.{Lost}
+use Rattle.settling.specs.inner.Settle.{SpreadTo}
+use Rattle.settling.proofs.SpreadLaws.{spread-same, spread-idle}
 use Rattle.settling.proofs.spread.spread_row.Statement.{statement}
 use Rattle.settling.proofs.spread.spread_row.Tie as tie
 
 abbrev Inv-loop : tie.InvT-loop
 Inv-loop shape marks rec left depths first worked room₀ columns lost₀ column₀ room lost column =
-    (column ≤ columns) × (column < columns → bitAt worked column ≡ true) × SpreadTo (plan shape marks) rec depths (first + column) lost room
+    Visits worked columns (λ k. SpreadTo (plan shape marks) rec depths (first + k) lost room) column
 
 abbrev μ-loop : tie.MeasureT-loop
 μ-loop shape marks rec left depths first worked room₀ columns lost₀ column₀ room lost column = columns - column
@@ -49,9 +46,9 @@ module _ (s : tie.Start Inv-loop μ-loop) where
   abbrev depths : List ℕ
   depths = s .args .depths .now
 
-  -- a square that is idle unless it is closed
-  abbrev Passed : ℕ → Type 0
-  Passed i = closed (s .args .marks .now) i ≡ false → IdleAt rec depths i
+  -- a column that was not worked is closed or idle
+  passes : (lost : Lost) (room : List ℕ) → Passes (s .args .worked) (s .args .shape .columns) (λ k. SpreadTo p rec depths (s .args .first + k) lost room)
+  passes lost room k h b t = spread-same p rec depths (spread-idle p rec depths (s .pre .1 .1 k h b) t) (omega arith)
 
   columns-high : s .args .shape .columns ≤ 64
   columns-high = s .pre .0 .0 .recorded .fine .columns-high
@@ -66,12 +63,7 @@ next-within-requires c κs =
 loop-holds : tie.Need-loop-holds Inv-loop μ-loop
 loop-holds c =
     let s = begin c in
-    let next = c .next-within .ensures in (
-      omega (arith, next),
-      (λ h. ap (bitAt (s .args .worked)) next ∙ within-set (s .args .worked) 0 (s .args .shape .columns) (columns-high s) (omega (arith, h, next))),
-      spread-skip (p s) (rec s) (depths s) (omega arith)
-          (λ i a b. up-to (s .args .shape) (s .args .first) (s .args .worked) 0 (Passed s) (s .pre .1 .1) next i (omega arith) b) (s .pre .0 .2),
-    )
+    walk-visits (passes s _ _) (columns-high s) 0 (omega arith) (c .next-within .ensures) (spread-same (p s) (rec s) (depths s) (s .pre .0 .2) (omega arith))
 
 add-spread-one : tie.Need-add-spread-one Inv-loop μ-loop
 add-spread-one c =
@@ -83,10 +75,10 @@ spread-one-requires c κs =
     let here = c .before in
     let z = here .before in
     let s = start z in (
-      (s .pre .0 .0, row-column (s .args .shape) (s .pre .0 .0 .recorded .fine) (s .pre .0 .1) (here .loop-test .taken), z .loop .inv .2),
+      (s .pre .0 .0, row-column (s .args .shape) (s .pre .0 .0 .recorded .fine) (s .pre .0 .1) (here .loop-test .taken), z .loop .inv .held),
       (
         omega (arith, s .pre .1 .0, s .pre .0 .0 .recorded .marks-long, s .pre .0 .1 .fits, here .loop-test .taken),
-        s .pre .1 .2 (z .loop .column) (here .loop-test .taken) (z .loop .inv .1 (here .loop-test .taken)),
+        s .pre .1 .2 (z .loop .column) (here .loop-test .taken) (z .loop .inv .visited (here .loop-test .taken)),
       ),
     )
 
@@ -98,13 +90,7 @@ next-after-requires c κs =
 loop-less : tie.Need-loop-less Inv-loop μ-loop
 loop-less c =
     let here = turn (done c) in
-    let z = here .before in
-    omega (
-      arith,
-      c .next-after .ensures,
-      within-from (start z .args .worked) (z .loop .column + 1) (start z .args .shape .columns) (omega (arith, here .loop-test .taken)),
-      here .loop-test .taken,
-    )
+    walk-nearer (start (here .before) .args .worked) (here .loop-test .taken) (c .next-after .ensures)
 
 loop-again : tie.Need-loop-again Inv-loop μ-loop
 loop-again c =
@@ -112,23 +98,14 @@ loop-again c =
     let here = turn d in
     let z = here .before in
     let s = start z in
-    let next = c .next-after .ensures in
-    let from = within-from (s .args .worked) (z .loop .column + 1) (s .args .shape .columns) (omega (arith, here .loop-test .taken)) in (
-      omega (arith, next),
-      (λ h. ap (bitAt (s .args .worked)) next ∙ within-set (s .args .worked) (z .loop .column + 1) (s .args .shape .columns) (columns-high s) (omega (arith, h, next))),
-      spread-skip (p s) (rec s) (depths s) (omega (arith, next, from))
-          (λ i a b. up-to (s .args .shape) (s .args .first) (s .args .worked) (z .loop .column + 1) (Passed s) (s .pre .1 .1) next i (omega arith) b)
-          (d .spread-one .ensures),
-    )
+    walk-visits (passes s _ _) (columns-high s) (z .loop .column + 1) (omega (arith, here .loop-test .taken)) (c .next-after .ensures)
+    (spread-same (p s) (rec s) (depths s) (d .spread-one .ensures) (omega arith))
 
 same-length : tie.Need-same-length Inv-loop μ-loop
-same-length c = omega (arith, c .before .loop .inv .2 .long, start (c .before) .pre .0 .2 .long)
+same-length c = omega (arith, c .before .loop .inv .held .long, start (c .before) .pre .0 .2 .long)
 
 returns : tie.Need-returns Inv-loop μ-loop
-returns c =
-    let z = c .before in
-    let s = start z in
-    spread-same (p s) (rec s) (depths s) (z .loop .inv .2) (omega (arith, z .loop .inv .0, c .loop-test .left))
+returns c = walk-ends (c .before .loop .inv) (c .loop-test .left)
 
 pub spread-row-spec : {M : Type 1} → statement M
 spread-row-spec =
