@@ -34,7 +34,7 @@ CONSTANTS = [
     ("COUNT_NUMBERS", "exports", "COUNT_NUMBERS"),
     ("HEADING_NUMBERS", "exports", "HEADING_NUMBERS"),
     ("LINE_NUMBERS", "exports", "LINE_NUMBERS"),
-    ("OUT_ROOM", "answer", "OUT_ROOM"),
+    ("OUT_ROOM", "programs", "OUT_ROOM"),
     ("RAIN_ROOM", "reckon", "RAIN_ROOM"),
     ("INFLOW_ROOM", "reckon", "INFLOW_ROOM"),
     ("MOVING", "exports", "MOVING"),
