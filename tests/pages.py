@@ -246,9 +246,9 @@ def hold_first_sheet(checks):
 
 def hold_size(checks):
     """README says how large the program is that may be copied elsewhere."""
-    told = re.search(r"`target/bin/meadow` has (\d+) kilobytes", (TOP / "README.md").read_text(encoding="utf-8"))
+    told = re.search(r"`target/bin/meadow` has some (\d+)0 kilobytes", (TOP / "README.md").read_text(encoding="utf-8"))
     size = (TOP / "target" / "bin" / "meadow").stat().st_size
-    checks.hold(told and int(told[1]) == round(size / 1000), f"README.md does not say that meadow has {round(size / 1000)} kilobytes")
+    checks.hold(told and int(told[1]) == round(size / 10_000), f"README.md does not say that meadow has some {round(size / 1000)} kilobytes")
 
 
 def main():

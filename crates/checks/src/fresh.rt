@@ -5,7 +5,7 @@ use grid::marks::marks_fine;
 use grid::squares::Shape;
 use grid::squares::shape_fine;
 use grid::squares::squares_of;
-use ledger::checks::one_each;
+use ledger::lent::one_each;
 use ledger::runs::Answer;
 use ledger::runs::Run;
 use reckon::ranges::side_fine;

@@ -1,4 +1,4 @@
--- `ledger::checks::waters_fine` meets its contract: every square passed so far was fine.
+-- `ledger::lent::waters_fine` meets its contract: every square passed so far was fine.
 -- Assumes nothing.
 use mathlib.Core.Path.{_≡_, sym, _∙_}
 use mathlib.Core.Bool.{true, _||_}
@@ -11,8 +11,8 @@ use Rattle.reckon.specs.Ranges.{waterFine}
 use Rattle.reckon.proofs.TestLaws.{all-none, all-more, all-fails, all-whole}
 use Rattle.grid.specs.Marks.{closed}
 use Rattle.ledger.specs.Checks.{watersFine}
-use Rattle.ledger.proofs.checks.waters_fine.Statement.{statement}
-use Rattle.ledger.proofs.checks.waters_fine.Tie as tie
+use Rattle.ledger.proofs.lent.waters_fine.Statement.{statement}
+use Rattle.ledger.proofs.lent.waters_fine.Tie as tie
 
 abbrev Inv-loop : tie.InvT-loop
 Inv-loop marks depths lasts squares square₀ square =

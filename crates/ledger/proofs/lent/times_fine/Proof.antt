@@ -1,4 +1,4 @@
--- `ledger::checks::times_fine` meets its contract: each early return is a test that fails, and the time lasted decides at last.
+-- `ledger::lent::times_fine` meets its contract: each early return is a test that fails, and the time lasted decides at last.
 -- Assumes nothing.
 use mathlib.Core.Path.{ap, _∙_}
 use Prim.Native.Nat.{ℕ}
@@ -9,8 +9,8 @@ use Rattle.reckon.specs.Ranges.{mostLength}
 use Rattle.ledger.specs.Record.{heldIn, lastedIn}
 use Rattle.ledger.proofs.CheckLaws.{times-fail, lasted-decides}
 use borrow.Author.Needs.{needs}
-use Rattle.ledger.proofs.checks.times_fine.Statement.{statement}
-use Rattle.ledger.proofs.checks.times_fine.Tie as tie
+use Rattle.ledger.proofs.lent.times_fine.Statement.{statement}
+use Rattle.ledger.proofs.lent.times_fine.Tie as tie
 
 held-before-requires : tie.Need-held-before-requires
 held-before-requires c κs = search needs

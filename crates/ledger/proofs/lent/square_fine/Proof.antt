@@ -1,9 +1,9 @@
--- `ledger::checks::square_fine` meets its contract: a closed square passes, another is judged by its water.
+-- `ledger::lent::square_fine` meets its contract: a closed square passes, another is judged by its water.
 -- Assumes nothing.
 use mathlib.Core.Path.{sym, _∙_}
 use borrow.Author.Needs.{needs}
-use Rattle.ledger.proofs.checks.square_fine.Statement.{statement}
-use Rattle.ledger.proofs.checks.square_fine.Tie as tie
+use Rattle.ledger.proofs.lent.square_fine.Statement.{statement}
+use Rattle.ledger.proofs.lent.square_fine.Tie as tie
 
 is-closed-requires : tie.Need-is-closed-requires
 is-closed-requires c κs = search needs

@@ -1,11 +1,11 @@
--- `ledger::checks::one_each` meets its contract: it compares with the number of squares.
+-- `ledger::lent::one_each` meets its contract: it compares with the number of squares.
 -- Assumes nothing.
 use mathlib.Core.Path.{ap}
 use Prim.Native.Nat.{ℕ}
 use lib.Dec.{eqb}
 use borrow.Author.Needs.{needs}
-use Rattle.ledger.proofs.checks.one_each.Statement.{statement}
-use Rattle.ledger.proofs.checks.one_each.Tie as tie
+use Rattle.ledger.proofs.lent.one_each.Statement.{statement}
+use Rattle.ledger.proofs.lent.one_each.Tie as tie
 
 squares-of-requires : tie.Need-squares-of-requires
 squares-of-requires c κs = search needs
