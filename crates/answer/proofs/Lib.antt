@@ -1,2 +1,3 @@
 pub mod ApartLaws
+pub mod Determined
 pub mod PrintLaws

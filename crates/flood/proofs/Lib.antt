@@ -1,4 +1,5 @@
 pub mod AccountLaws
+pub mod Determined
 pub mod RuleLaws
 pub mod RunToLaws
 pub mod StepCountLaws

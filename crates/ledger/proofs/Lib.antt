@@ -2,6 +2,7 @@ pub mod Account
 pub mod BackLaws
 pub mod Bridge
 pub mod CheckLaws
+pub mod Determined
 pub mod EngineLaws
 pub mod FlowLaws
 pub mod ReadBack

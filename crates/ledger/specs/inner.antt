@@ -1,3 +1,4 @@
+pub mod Determined
 pub mod Engine
 pub mod TakeBack
 pub mod Walks

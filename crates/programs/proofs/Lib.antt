@@ -1,3 +1,4 @@
+pub mod Determined
 pub mod EndedLaws
 pub mod HeldLaws
 pub mod MeadowLaws

@@ -1,4 +1,5 @@
 pub mod ByRecord
+pub mod Determined
 pub mod ReachLaws
 pub mod SettleLaws
 pub mod SpreadLaws
