@@ -1,0 +1,140 @@
+-- `hatches::taking::run_line` meets its contract: the table is filled, the run is made, and its rates are kept.
+-- what the arguments are
+-- Assumes nothing.
+use mathlib.Core.Path.{_≡_, refl, sym, ap, ap₂, _∙_}
+use mathlib.Core.List.{List}
+use Prim.Native.Nat.{ℕ, _+_, _≤_}
+use native.Mathlib.Omega.{arith}
+use lib.ListN.{length, length-replicate}
+use borrow.Author.Needs.{needs}
+use Rattle.reckon.specs.Tables.{inflowKind, tableRoom}
+use Rattle.ledger.specs.Runs.{Plan, World, plan, world}
+use Rattle.ledger.specs.Record.{roomSlots}
+use Rattle.moves.specs.Given.{Given, ground, given}
+use Rattle.flood.specs.Run.{runTo}
+use Rattle.sheet.proofs.JudgeLaws.{taken-long}
+use Rattle.hatches.specs.Log.{Evening, evening, hatchRows, ratesKept, ratesWith, logWith}
+use Rattle.hatches.specs.declared.lines.Entry.the-variants.{Rate}
+use Rattle.hatches.proofs.RefusalLaws.{Entered, entered-is, rate-number, rate-clock, rate-table, slots-are}
+use Rattle.hatches.proofs.RowLaws.{table-is, table-next, table-room}
+use Rattle.hatches.proofs.TakeLaws.{run-few, run-newest, rate-done}
+use Rattle.hatches.proofs.taking.run_line.Statement.{statement}
+use Rattle.hatches.proofs.taking.run_line.Tie as tie
+use Rattle.hatches.proofs.taking.run_line.Reads as reads
+use Rattle.hatches.proofs.taking.run_line.Lts as lts
+use Rattle.flood.proofs.run.run_to_wet.Reads as run-to-wet-reads
+use Rattle.hatches.proofs.log.further.Reads as further-reads
+use Rattle.hatches.proofs.log.rates_with.Reads as rates-with-reads
+use Rattle.hatches.proofs.rates.fill_table.Reads as fill-table-reads
+use Rattle.hatches.proofs.taking.keep_made.Reads as keep-made-reads
+use Rattle.ledger.proofs.record.record_size.Reads as record-size-reads
+use Rattle.trials.proofs.slots_in.Reads as slots-in-reads
+
+abbrev P : tie.Start → Plan
+P s = plan (s .args .shape) (s .args .marks .now)
+
+abbrev G : tie.Start → Given
+G s = given (ground (s .args .rules) (s .args .beds .now) (s .args .roughness .now) (s .args .rates .now)) (s .args .rain .now) (s .args .inflow .now)
+
+abbrev E : tie.Start → Evening
+E s = evening (s .args .depths .now) (s .args .lasts .now) (s .args .records .now) (s .args .began .now) (s .args .log)
+
+entered : (s : tie.Start) → Entered (P s) (G s) (E s) (Rate (s .args .clock) (s .args .number) (s .args .rate))
+entered s = entered-is (P s) (G s) (E s) _ (s .pre)
+
+fits : (s : tie.Start) → length (s .args .inflow .now) + length (hatchRows (s .args .log .hatches) (s .args .log .litres)) ≤ tableRoom inflowKind
+fits s = rate-table (P s) (s .args .inflow .now) (s .args .log) _ _ _ (entered s .draw)
+
+-- src/taking.rt:76:9
+fill-table-requires : tie.Need-fill-table-requires
+fill-table-requires c κs = let s = (c .before .before .before .before .before .before .before .before .before .before .before .before) in omega (arith, fits s, length-replicate {A = ℕ} (tableRoom inflowKind) 0)
+
+-- src/taking.rt:77:34
+record-size-requires : tie.Need-record-size-requires
+record-size-requires c κs = let s = (c .before .before .before .before .before .before .before .before .before .before .before .before .before) in entered s .lent .shape
+
+-- src/taking.rt:77:9
+slots-in-requires : tie.Need-slots-in-requires
+slots-in-requires c κs = search needs
+
+-- src/taking.rt:89:9
+array-share-prefix-table : tie.Need-array-share-prefix-table
+array-share-prefix-table c = let s = (c .before .before .before .before .before .before .before .before .before .before .before .before .before .before .before .before) in omega (arith, fits s, table-next (s .args .inflow .now) (s .args .log .hatches) (s .args .log .litres) (c .before .before .before .fill-table .ensures))
+
+-- src/taking.rt:89:9
+slice-aggregate-run-to-wet : tie.Need-slice-aggregate-run-to-wet
+slice-aggregate-run-to-wet c =
+    let s = (c .before .before .before .before .before .before .before .before .before .before .before .before .before .before .before .before .before) in
+    taken-long {size = tableRoom inflowKind} _ (omega (arith, fits s, table-next (s .args .inflow .now) (s .args .log .hatches) (s .args .log .litres) (c .before .before .before .before .fill-table .ensures)))
+    (table-room (s .args .inflow .now) (s .args .log .hatches) (s .args .log .litres) (omega (arith, fits s, length-replicate {A = ℕ} (tableRoom inflowKind) 0)) (c .before .before .before .before .fill-table .ensures))
+
+-- src/taking.rt:79:9
+run-to-wet-requires : tie.Need-run-to-wet-requires
+run-to-wet-requires c κs = search needs
+
+-- src/taking.rt:96:5
+keep-made-requires : tie.Need-keep-made-requires
+keep-made-requires c κs =
+    let s = (c .before .before .before .before .before .before .before .before .before .before .before .before .before .before .before .before .before .before .before .before .before .before .before .before .before .before .before .before .before .before) in
+    let k = slots-are (P s) (s .args .records .now) (c .before .before .before .before .before .before .before .before .before .before .before .before .before .before .before .before .record-size .ensures) (c .before .before .before .before .before .before .before .before .before .before .before .before .before .before .before .slots-in .ensures) in
+    (λ l. omega (arith, k, run-newest _ _ _ _ (c .before .before .before .before .before .before .before .before .before .run-to-wet .ensures .ends) l), omega (arith, k, entered s .lent .room))
+
+-- src/taking.rt:97:9
+rates-with-requires : tie.Need-rates-with-requires
+rates-with-requires c κs = let s = (c .before .before .before .before .before .before .before .before .before .before .before .before .before .before .before .before .before .before .before .before .before .before .before .before .before .before .before .before .before .before .before .before .before) in rate-number _ _ _ _ _ (entered s .line)
+
+-- src/taking.rt:100:32
+add-further : tie.Need-add-further
+add-further c = let s = (c .before .before .before .before .before .before .before .before .before .before .before .before .before .before .before .before .before .before .before .before .before .before .before .before .before .before .before .before .before .before .before .before .before .before .before .before) in omega (arith, run-few _ _ _ _ (c .before .before .before .before .before .before .before .before .before .before .before .before .before .before .before .run-to-wet .ensures .ends), entered s .steps-few, rate-clock _ _ _ _ _ (entered s .line))
+
+-- src/taking.rt:100:14
+further-requires : tie.Need-further-requires
+further-requires c κs = search needs
+
+-- src/taking.rt:53:1
+same-length : tie.Need-same-length
+same-length c = search needs
+
+-- src/taking.rt:53:1
+same-length-2 : tie.Need-same-length-2
+same-length-2 c = search needs
+
+-- src/taking.rt:53:1
+same-length-3 : tie.Need-same-length-3
+same-length-3 c = search needs
+
+-- src/taking.rt:53:1
+same-length-4 : tie.Need-same-length-4
+same-length-4 c = search needs
+
+-- src/taking.rt:53:1
+returns : tie.Need-returns
+returns c =
+    let s = (c .before .before .before .before .before .before .before .before .before .before .before .before .before .before .before .before .before .before .before .before .before .before .before .before .before .before .before .before .before .before .before .before .before .before .before .before .before) in
+    let k = slots-are (P s) (s .args .records .now) (c .before .before .before .before .before .before .before .before .before .before .before .before .before .before .before .before .before .before .before .before .before .before .before .record-size .ensures) (c .before .before .before .before .before .before .before .before .before .before .before .before .before .before .before .before .before .before .before .before .before .before .slots-in .ensures) in
+    rate-done (P s) (G s) (E s) (s .args .clock) (s .args .number) (s .args .rate)
+    (c .before .before .before .before .before .before .before .before .before .before .before .before .before .before .before .before .run-to-wet .ensures .ends
+    ∙ ap (λ (t : List ℕ). runTo (P s) (given (G s .lie) (G s .rain) t) (s .args .clock) (world (s .args .depths .now) (s .args .lasts .now) (s .args .records .now) (s .args .log .run)))
+    (table-is (s .args .inflow .now) (s .args .log .hatches) (s .args .log .litres) (c .before .before .before .before .before .before .before .before .before .before .before .before .before .before .before .before .before .before .before .before .before .before .before .before .fill-table .ensures)))
+    (c .before .before .before .before .before .before .keep-made .ensures ∙ ap (λ (n : ℕ). ratesKept n _ (s .args .log .run .newest) (s .args .log .litres) (s .args .began .now)) k)
+    (c .further .ensures ∙ ap (λ (l : List ℕ). logWith (s .args .log) _ _ l) (c .before .before .before .rates-with .ensures))
+
+pub run-line-spec : {M : Type 1} → statement M
+run-line-spec =
+    tie.close
+    (tie.spec
+    fill-table-requires
+    record-size-requires
+    slots-in-requires
+    array-share-prefix-table
+    slice-aggregate-run-to-wet
+    run-to-wet-requires
+    keep-made-requires
+    rates-with-requires
+    add-further
+    further-requires
+    same-length
+    same-length-2
+    same-length-3
+    same-length-4
+    returns)
