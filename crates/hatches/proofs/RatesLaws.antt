@@ -149,7 +149,8 @@ pub slot-copied :
     new ≡ placed (replicate mostHatches 0) 0 (take (end - at) (drop at began)) → new ≡ recordIn mostHatches began slot
 unfolding recordIn
 slot-copied began slot {at} {end} {new} h a b e =
-    let same : take (end - at) (drop at began) ≡ recordIn mostHatches began slot = ap₂ (λ (n k : ℕ). take n (drop k began)) (omega (arith, b)) a in
+    let nine : end - at ≡ mostHatches = omega (arith, b) in
+    let same : take (end - at) (drop at began) ≡ recordIn mostHatches began slot = ap₂ (λ (n k : ℕ). take n (drop k began)) nine a in
     let put : new ≡ placed (replicate mostHatches 0) 0 (recordIn mostHatches began slot) = e ∙ ap (placed (replicate mostHatches 0) 0) same in
     let long : length (placed (replicate mostHatches 0) 0 (recordIn mostHatches began slot)) ≡ mostHatches = length-placed (replicate mostHatches 0) 0 (recordIn mostHatches began slot) (omega (arith, nine-in began slot h)) in
     put

@@ -83,8 +83,8 @@ module _ (inflow : List ℕ) (log : Log) where
 
 -- ---- the square of a hatch
 
-pub square-inside : (s : Shape) {row column at : ℕ} {marks : List ℕ} → at ≡ squareAt s row column → row < s .rows → column < s .columns → length marks ≡ squares s → at < length marks
-square-inside s {row} {column} e h k l = omega (arith, e, l, mul-le-mul-right (s .columns) h, suc-mul row (s .columns))
+pub square-inside : (s : Shape) (marks : List ℕ) {row column at : ℕ} → at ≡ squareAt s row column → row < s .rows → column < s .columns → length marks ≡ squares s → at < length marks
+square-inside s marks {row} {column} e h k l = omega (arith, e, l, mul-le-mul-right (s .columns) h, suc-mul row (s .columns))
 
 pub closed-at : (p : Plan) {at square : ℕ} {closed b : Bool} → at ≡ square → closed ≡ shut p at → closed ≡ b → shut p square ≡ b
 closed-at p e h k = ap (shut p) (sym e) ∙ (sym h ∙ k)

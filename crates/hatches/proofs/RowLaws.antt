@@ -151,7 +151,9 @@ module _ (inflow : List ℕ) (hs : Hatches) (litres : List ℕ) where
   pub table-written :
       {old mid new : List ℕ} {r : ℕ} → length inflow + length (hatchRows hs litres) ≤ length old → mid ≡ placed old 0 inflow →
       Wrote (hatchRows hs litres) (length inflow) mid new r → Wrote (tableWith inflow hs litres) 0 old new r
-  table-written h e w = wrote-both (omega arith) (record { next = refl; room = e }) w
+  table-written {old} {mid} h e w =
+      let first : Wrote inflow 0 old mid (length inflow) = record { next = omega arith; room = e } in
+      wrote-both (omega arith) first w
 
   pub table-is : {old new : List ℕ} {r : ℕ} → Wrote (tableWith inflow hs litres) 0 old new r → take r new ≡ tableWith inflow hs litres
   table-is {old} {new} {r} w =

@@ -37,12 +37,12 @@ goOn-few (suc n) made w rest h k = h
 from-few : (p : Plan) (g : Given) (end most made : ℕ) (w : World) → runFrom p g end most made w .steps ≤ made + most
 unfolding runFrom pick
 from-few p g end zero made w = omega arith
-from-few p g end (suc most) made w = go (ltb (w .run .clock) end)
+from-few p g end (suc most) made w = go (ltb (w .run .clock) end) (from-few p g end most (suc made) (stepped p g w))
   where
-    go : (b : Bool) →
+    go : (b : Bool) → runFrom p g end most (suc made) (stepped p g w) .steps ≤ suc made + most →
         pick b (goOn (stepNumber p g w) made w (runFrom p g end most (suc made) (stepped p g w))) (ended 0 made w) .steps ≤ made + suc most
-    go true = goOn-few (stepNumber p g w) made w _ (omega arith) (omega (arith, from-few p g end most (suc made) (stepped p g w)))
-    go false = omega arith
+    go true h = goOn-few (stepNumber p g w) made w _ (omega arith) (omega arith)
+    go false h = omega arith
 
 module _ (p : Plan) (g : Given) (end : ℕ) (w : World) {e : Ended} (h : e ≡ runTo p g end w) where
   same-steps : e .steps ≡ runTo p g end w .steps
@@ -68,15 +68,17 @@ module _ (p : Plan) (g : Given) (end : ℕ) (w : World) {e : Ended} (h : e ≡ r
 
 module _ (p : Plan) (g : Given) (e : Evening) where
   pub rate-done :
-      (clock n rate : ℕ) {refused steps : ℕ} {depths lasts records began : List ℕ} {run : Run} {log : Log} →
-      ended refused steps (world depths lasts records run) ≡ lineRun p g e clock →
-      began ≡ ratesKept (slots p g e) steps (e .log .run .newest) (e .log .litres) (e .began) →
-      log ≡ logWith (e .log) run (e .log .steps + steps) (ratesWith (e .log .litres) n rate refused) →
+      (clock n rate : ℕ) {refused steps k : ℕ} {depths lasts records began written : List ℕ} {run : Run} {log : Log} →
+      ended refused steps (world depths lasts records run) ≡ lineRun p g e clock → k ≡ slots p g e →
+      began ≡ ratesKept k steps (e .log .run .newest) (e .log .litres) (e .began) → written ≡ ratesWith (e .log .litres) n rate refused →
+      log ≡ logWith (e .log) run (e .log .steps + steps) written →
       (refused ≡ lineRun p g e clock .number) × (evening depths lasts records began log ≡ afterRate p g e clock n rate)
   unfolding afterRate
-  rate-done clock n rate {depths = depths} {lasts} {records} h b l = (
+  rate-done clock n rate {refused} {steps} {depths = depths} {lasts} {records} {run = run} h z b v l = (
     ap (λ (x : Ended). x .number) h,
-    ap₂ (λ (k : List ℕ) (m : Log). evening depths lasts records k m) b l
+    ap₂ (λ (k : List ℕ) (m : Log). evening depths lasts records k m)
+    (b ∙ ap (λ (k : ℕ). ratesKept k steps (e .log .run .newest) (e .log .litres) (e .began)) z)
+    (l ∙ ap (λ (w : List ℕ). logWith (e .log) run (e .log .steps + steps) w) v)
     ∙ ap
     (λ (x : Ended).
     further p g e (x .world) (e .log .steps + x .steps) (ratesWith (e .log .litres) n rate (x .number)) (ratesKept (slots p g e) (x .steps) (e .log .run .newest) (e .log .litres) (e .began)))
@@ -84,14 +86,15 @@ module _ (p : Plan) (g : Given) (e : Evening) where
   )
 
   pub back-done :
-      (count : ℕ) {refused steps : ℕ} {depths lasts records : List ℕ} {run : Run} {log : Log} →
-      ended refused steps (world depths lasts records run) ≡ lineBack p g e count →
-      log ≡ logWith (e .log) run (e .log .steps - steps) (ratesBack (slots p g e) (e .began) (e .log) steps) →
+      (count : ℕ) {refused steps k : ℕ} {depths lasts records litres : List ℕ} {run : Run} {log : Log} →
+      ended refused steps (world depths lasts records run) ≡ lineBack p g e count → k ≡ slots p g e →
+      litres ≡ ratesBack k (e .began) (e .log) steps → log ≡ logWith (e .log) run (e .log .steps - steps) litres →
       (refused ≡ lineBack p g e count .number) × (evening depths lasts records (e .began) log ≡ afterBack p g e count)
   unfolding afterBack
-  back-done count {depths = depths} {lasts} {records} h l = (
+  back-done count {refused} {steps} {depths = depths} {lasts} {records} {run = run} h z r l = (
     ap (λ (x : Ended). x .number) h,
-    ap (λ (m : Log). evening depths lasts records (e .began) m) l
+    ap (λ (m : Log). evening depths lasts records (e .began) m)
+    (l ∙ ap (λ (w : List ℕ). logWith (e .log) run (e .log .steps - steps) w) (r ∙ ap (λ (k : ℕ). ratesBack k (e .began) (e .log) steps) z))
     ∙ ap (λ (x : Ended). further p g e (x .world) (e .log .steps - x .steps) (ratesBack (slots p g e) (e .began) (e .log) (x .steps)) (e .began)) h,
   )
 

@@ -40,7 +40,7 @@ pub struct Came {
 
 // The same rates for so many steps that a run made, none where it made none.
 fn keep_made(litres: &[u32; 9], slots: usize, newest: usize, steps: u64, began: &mut [u32])
-    requires { ⌜ ((0 < steps) → (newest < slots)) × (slots ≤ slotsIn mostHatches (length (now began))) ⌝ }
+    requires { ⌜ (length (now litres) ≡ mostHatches) × ((0 < steps) → (newest < slots)) × (slots ≤ slotsIn mostHatches (length (now began))) ⌝ }
     ensures { λ _. ⌜ now (began .exit) ≡ ratesKept slots steps newest (now (litres .entry)) (now (began .entry)) ⌝ }
 {
     if steps == 0 {

@@ -30,7 +30,7 @@ array-read-if1 c = search needs
 
 -- src/rates.rt:27:13
 add-count : tie.Need-add-count Inv-loop μ-loop
-add-count c = omega (arith, c .before .before .loop .inv, named-few _ (c .before .before .loop .hatch), c .before .loop-test .taken)
+add-count c = omega (arith, c .before .before .loop .inv, named-few ((c .before .before .before .before) .args .hatches .named) (c .before .before .loop .hatch), c .before .loop-test .taken)
 
 -- src/rates.rt:29:9
 add-hatch : tie.Need-add-hatch Inv-loop μ-loop

@@ -37,7 +37,7 @@ square-at-requires c κs = search needs
 
 -- src/refusals.rt:137:8
 is-closed-requires : tie.Need-is-closed-requires
-is-closed-requires c κs = let s = (c .before .before .before .before .before .before .before) in square-inside (s .args .shape) (c .square-at .ensures) (omega (arith, c .before .before .before .if1 .left)) (omega (arith, c .before .if2 .left)) (s .pre .1)
+is-closed-requires c κs = let s = (c .before .before .before .before .before .before .before) in square-inside (s .args .shape) (s .args .marks .now) (c .square-at .ensures) (omega (arith, c .before .before .before .if1 .left)) (omega (arith, c .before .if2 .left)) (s .pre .1)
 
 -- src/refusals.rt:138:9
 returns-3 : tie.Need-returns-3

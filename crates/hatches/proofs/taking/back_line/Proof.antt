@@ -69,10 +69,9 @@ same-length-2 c = search needs
 returns : tie.Need-returns
 returns c =
     let s = (c .before .before .before .before .before .before .before .before .before .before .before .before .before .before .before .before .before .before .before) in
-    let k = slots-are (P s) (s .args .records .now) (c .before .before .before .before .before .before .before .before .before .before .before .before .before .record-size .ensures) (c .before .before .before .before .before .before .before .before .before .before .before .before .slots-in .ensures) in
     λ g.
-    back-done (P s) g (E s) (s .args .count) (c .before .before .before .before .before .before .before .before .before .take-backs .ensures)
-    (c .further .ensures ∙ ap (λ (l : List ℕ). logWith (s .args .log) _ _ l) (c .before .before .before .before .rates-back .ensures ∙ ap (λ (n : ℕ). ratesBack n (s .args .began .now) (s .args .log) _) k))
+    back-done (P s) g (E s) (s .args .count) (c .before .before .before .before .before .before .before .before .before .take-backs .ensures) (slots-are (P s) (s .args .records .now) (c .before .before .before .before .before .before .before .before .before .before .before .before .before .record-size .ensures) (c .before .before .before .before .before .before .before .before .before .before .before .before .slots-in .ensures))
+    (c .before .before .before .before .rates-back .ensures) (c .further .ensures)
 
 pub back-line-spec : {M : Type 1} → statement M
 back-line-spec =

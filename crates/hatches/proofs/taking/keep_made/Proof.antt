@@ -17,7 +17,7 @@ returns c = let s = (c .before .before) in sym (ap (λ (n : Prim.Native.Nat.ℕ)
 
 -- src/taking.rt:49:5
 keep-rates-requires : tie.Need-keep-rates-requires
-keep-rates-requires c κs = let s = (c .before .before .before) in (search needs, s .pre .0 (omega (arith, c .before .if1 .left)), s .pre .1)
+keep-rates-requires c κs = let s = (c .before .before .before) in (s .pre .0, s .pre .1 (omega (arith, c .before .if1 .left)), s .pre .2)
 
 -- src/taking.rt:42:1
 same-length : tie.Need-same-length

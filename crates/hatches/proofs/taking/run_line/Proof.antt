@@ -13,7 +13,7 @@ use Rattle.ledger.specs.Record.{roomSlots}
 use Rattle.moves.specs.Given.{Given, ground, given}
 use Rattle.flood.specs.Run.{runTo}
 use Rattle.sheet.proofs.JudgeLaws.{taken-long}
-use Rattle.hatches.specs.Log.{Evening, evening, hatchRows, ratesKept, ratesWith, logWith}
+use Rattle.hatches.specs.Log.{mostHatches, Evening, evening, hatchRows, ratesKept, ratesWith, logWith}
 use Rattle.hatches.specs.declared.lines.Entry.the-variants.{Rate}
 use Rattle.hatches.proofs.RefusalLaws.{Entered, entered-is, rate-number, rate-clock, rate-table, slots-are}
 use Rattle.hatches.proofs.RowLaws.{table-is, table-next, table-room}
@@ -42,6 +42,9 @@ E s = evening (s .args .depths .now) (s .args .lasts .now) (s .args .records .no
 entered : (s : tie.Start) → Entered (P s) (G s) (E s) (Rate (s .args .clock) (s .args .number) (s .args .rate))
 entered s = entered-is (P s) (G s) (E s) _ (s .pre)
 
+nine : (s : tie.Start) → length (s .args .log .litres) ≡ mostHatches
+nine s = search needs
+
 fits : (s : tie.Start) → length (s .args .inflow .now) + length (hatchRows (s .args .log .hatches) (s .args .log .litres)) ≤ tableRoom inflowKind
 fits s = rate-table (P s) (s .args .inflow .now) (s .args .log) _ _ _ (entered s .draw)
 
@@ -59,7 +62,15 @@ slots-in-requires c κs = search needs
 
 -- src/taking.rt:89:9
 array-share-prefix-table : tie.Need-array-share-prefix-table
-array-share-prefix-table c = let s = (c .before .before .before .before .before .before .before .before .before .before .before .before .before .before .before .before) in omega (arith, fits s, table-next (s .args .inflow .now) (s .args .log .hatches) (s .args .log .litres) (c .before .before .before .fill-table .ensures))
+array-share-prefix-table c =
+    let s = (c .before .before .before .before .before .before .before .before .before .before .before .before .before .before .before .before) in
+    omega (
+      arith,
+      fits s,
+      table-next (s .args .inflow .now) (s .args .log .hatches) (s .args .log .litres) (c .before .before .before .fill-table .ensures),
+      table-room (s .args .inflow .now) (s .args .log .hatches) (s .args .log .litres) (omega (arith, fits s, length-replicate {A = ℕ} (tableRoom inflowKind) 0)) (c .before .before .before .fill-table .ensures),
+      length-replicate {A = ℕ} (tableRoom inflowKind) 0,
+    )
 
 -- src/taking.rt:89:9
 slice-aggregate-run-to-wet : tie.Need-slice-aggregate-run-to-wet
@@ -77,7 +88,7 @@ keep-made-requires : tie.Need-keep-made-requires
 keep-made-requires c κs =
     let s = (c .before .before .before .before .before .before .before .before .before .before .before .before .before .before .before .before .before .before .before .before .before .before .before .before .before .before .before .before .before .before) in
     let k = slots-are (P s) (s .args .records .now) (c .before .before .before .before .before .before .before .before .before .before .before .before .before .before .before .before .record-size .ensures) (c .before .before .before .before .before .before .before .before .before .before .before .before .before .before .before .slots-in .ensures) in
-    (λ l. omega (arith, k, run-newest _ _ _ _ (c .before .before .before .before .before .before .before .before .before .run-to-wet .ensures .ends) l), omega (arith, k, entered s .lent .room))
+    (nine s, λ l. omega (arith, k, run-newest _ _ _ _ (c .before .before .before .before .before .before .before .before .before .run-to-wet .ensures .ends) l), omega (arith, k, entered s .lent .room))
 
 -- src/taking.rt:97:9
 rates-with-requires : tie.Need-rates-with-requires
@@ -93,31 +104,29 @@ further-requires c κs = search needs
 
 -- src/taking.rt:53:1
 same-length : tie.Need-same-length
-same-length c = search needs
+same-length c = c .before .before .before .before .before .before .before .before .before .before .before .before .before .before .before .before .run-to-wet .kept .1 .1 .1 .1 .1 .1 .1 .1 .1 .1 .0
 
 -- src/taking.rt:53:1
 same-length-2 : tie.Need-same-length-2
-same-length-2 c = search needs
+same-length-2 c = c .before .before .before .before .before .before .before .before .before .before .before .before .before .before .before .before .run-to-wet .kept .1 .1 .1 .1 .1 .1 .1 .1 .1 .1 .1 .0
 
 -- src/taking.rt:53:1
 same-length-3 : tie.Need-same-length-3
-same-length-3 c = search needs
+same-length-3 c = c .before .before .before .before .before .before .before .before .before .before .before .before .before .before .before .before .run-to-wet .kept .1 .1 .1 .1 .1 .1 .1 .1 .1 .1 .1 .1 .0
 
 -- src/taking.rt:53:1
 same-length-4 : tie.Need-same-length-4
-same-length-4 c = search needs
+same-length-4 c = c .before .before .before .before .before .before .keep-made .kept .1 .1 .1 .1 .0
 
 -- src/taking.rt:53:1
 returns : tie.Need-returns
 returns c =
     let s = (c .before .before .before .before .before .before .before .before .before .before .before .before .before .before .before .before .before .before .before .before .before .before .before .before .before .before .before .before .before .before .before .before .before .before .before .before .before) in
-    let k = slots-are (P s) (s .args .records .now) (c .before .before .before .before .before .before .before .before .before .before .before .before .before .before .before .before .before .before .before .before .before .before .before .record-size .ensures) (c .before .before .before .before .before .before .before .before .before .before .before .before .before .before .before .before .before .before .before .before .before .before .slots-in .ensures) in
     rate-done (P s) (G s) (E s) (s .args .clock) (s .args .number) (s .args .rate)
     (c .before .before .before .before .before .before .before .before .before .before .before .before .before .before .before .before .run-to-wet .ensures .ends
     ∙ ap (λ (t : List ℕ). runTo (P s) (given (G s .lie) (G s .rain) t) (s .args .clock) (world (s .args .depths .now) (s .args .lasts .now) (s .args .records .now) (s .args .log .run)))
     (table-is (s .args .inflow .now) (s .args .log .hatches) (s .args .log .litres) (c .before .before .before .before .before .before .before .before .before .before .before .before .before .before .before .before .before .before .before .before .before .before .before .before .fill-table .ensures)))
-    (c .before .before .before .before .before .before .keep-made .ensures ∙ ap (λ (n : ℕ). ratesKept n _ (s .args .log .run .newest) (s .args .log .litres) (s .args .began .now)) k)
-    (c .further .ensures ∙ ap (λ (l : List ℕ). logWith (s .args .log) _ _ l) (c .before .before .before .rates-with .ensures))
+    (slots-are (P s) (s .args .records .now) (c .before .before .before .before .before .before .before .before .before .before .before .before .before .before .before .before .before .before .before .before .before .before .before .record-size .ensures) (c .before .before .before .before .before .before .before .before .before .before .before .before .before .before .before .before .before .before .before .before .before .before .slots-in .ensures)) (c .before .before .before .before .before .before .keep-made .ensures) (c .before .before .before .rates-with .ensures) (c .further .ensures)
 
 pub run-line-spec : {M : Type 1} → statement M
 run-line-spec =
