@@ -6,3 +6,4 @@ pub mod RefusalLaws
 pub mod RingSteps
 pub mod RowLaws
 pub mod TakeLaws
+pub mod ToldLaws

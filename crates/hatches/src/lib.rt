@@ -5,8 +5,10 @@
 //   rates      the hatches' rows of the inflow table, and the ring of rates beside the ring of records
 //   refusals   when a line is refused
 //   taking     Came; take_entry: what a line does
+//   telling    Told; take_line: a line read, taken, and what is printed of it
 pub mod lines;
 pub mod log;
 mod rates;
 mod refusals;
 pub mod taking;
+pub mod telling;
