@@ -1,6 +1,7 @@
 pub mod BackLaws
 pub mod LineLaws
 pub mod LogLaws
+pub mod NightLaws
 pub mod RatesLaws
 pub mod RefusalLaws
 pub mod RingSteps

@@ -6,8 +6,10 @@
 //   refusals   when a line is refused
 //   taking     Came; take_entry: what a line does
 //   telling    Told; take_line: a line read, taken, and what is printed of it
+//   program    Night; begin_log, go_on: the whole program short of its files
 pub mod lines;
 pub mod log;
+pub mod program;
 mod rates;
 mod refusals;
 pub mod taking;
