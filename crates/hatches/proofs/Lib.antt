@@ -8,3 +8,4 @@ pub mod RingSteps
 pub mod RowLaws
 pub mod TakeLaws
 pub mod ToldLaws
+pub mod WorkedLaws
