@@ -7,7 +7,7 @@ use Prim.Native.Nat.{ℕ, zero, suc, _+_, _*_, _/_, _%_, _≤_, _<_, min}
 use native.Mathlib.Nat.{div-add-mod', mod-lt, mul-le-mul-right}
 use native.Mathlib.Omega.{arith}
 use lib.Dec.{eqb, leb, ltb}
-use lib.ListN.{length, getD, set, take, drop, replicate, length-replicate, getD-replicate}
+use lib.ListN.{length, getD, set, take, drop, replicate, length-append, length-drop, length-replicate, getD-replicate}
 use lib.Seq.{ext-getD, length-take-le, take-at, drop-at}
 use borrow.Author.Tests.{leb-true, ltb-true, le-leb, lt-leb}
 use Rattle.reckon.specs.Tests.{pick, every}
@@ -201,10 +201,10 @@ module _ (s : List ℕ) (n : Night) (r : Stores) where
     night-stays =
         record {
           night-is = night;
-          depths-are = record { first = sym (ap (λ (x : Evening). x .depths) held); rest = refl };
-          lasts-are = record { first = sym (ap (λ (x : Evening). x .lasts) held); rest = refl };
-          records-are = record { first = sym (ap (λ (x : Evening). x .records) held); rest = refl };
-          began-are = record { first = sym (ap (λ (x : Evening). x .began) held); rest = refl };
+          depths-are = record { first = sym (ap (λ (x : Evening). x .depths) held); rest = refl; long = refl };
+          lasts-are = record { first = sym (ap (λ (x : Evening). x .lasts) held); rest = refl; long = refl };
+          records-are = record { first = sym (ap (λ (x : Evening). x .records) held); rest = refl; long = refl };
+          began-are = record { first = sym (ap (λ (x : Evening). x .began) held); rest = refl; long = refl };
           prints = prints;
         }
 
@@ -238,11 +238,12 @@ fits-both n r e f = each-every _ (e, (f, tt))
 
 -- ---- a line taken out of the rooms
 
-pub holds-part : (n : ℕ) (part old : List ℕ) {k : ℕ} {now : List ℕ} → length part ≡ k → k ≡ n → part ≡ now → Holds n now old (part ++ drop k old)
-holds-part n part old {k} {now} l e h =
+pub holds-part : (n : ℕ) (part old : List ℕ) {k : ℕ} {now : List ℕ} → length part ≡ k → k ≡ n → k ≤ length old → part ≡ now → Holds n now old (part ++ drop k old)
+holds-part n part old {k} {now} l e f h =
     record {
       first = take-at part (drop k old) n (l ∙ e) ∙ h;
       rest = drop-at part (drop k old) n (l ∙ e) ∙ ap (λ (j : ℕ). drop j old) e;
+      long = omega (arith, length-append part (drop k old), length-drop k old);
     }
 
 module _ (s : List ℕ) (n : Night) (r : Stores) where
@@ -267,21 +268,21 @@ module _ (s : List ℕ) (n : Night) (r : Stores) where
       ap (λ (x : ℕ). come x b c l) e ∙ (ap (λ (x : ℕ). come a′ x c l) f ∙ (ap (λ (x : ℕ). come a′ b′ x l) g ∙ ap (come a′ b′ c′) h))
 
   pub night-taken :
-      {z : Sizes} → SizesAre (n .heading) z → isLeft s n ≡ true → nightFits n r ≡ true → {t : Told} {a : Night} {depths lasts records began old new : List ℕ} →
+      {z : Sizes} → SizesAre (n .heading) z → Fitting z r → isLeft s n ≡ true → nightFits n r ≡ true → {t : Told} {a : Night} {depths lasts records began old new : List ℕ} →
       length depths ≡ z .squares → length lasts ≡ z .squares → length records ≡ z .records → length began ≡ z .began →
       TakesLine (planAt z) (givenAt z) s (n .at) (n .line) (eveningAt z) t (evening depths lasts records began (t .log)) old new → a ≡ nightTold n t (length s) →
       GoesOn s n r a (depths ++ drop (z .squares) (r .sheet .cells .depths)) (lasts ++ drop (z .squares) (r .lasts)) (records ++ drop (z .records) (r .records)) (began ++ drop (z .began) (r .began)) old new
   unfolding nightAfter eveningAfter textAfter
-  night-taken {z} sz left fits {t} {a} {depths} {lasts} {records} {began} {old} {new} ld ll lr lb w e =
+  night-taken {z} sz fit left fits {t} {a} {depths} {lasts} {records} {began} {old} {new} ld ll lr lb w e =
       let k : TakesLine (planHeld (n .heading) r) (givenHeld (n .heading) r) s (n .at) (n .line) (eveningHeld (n .heading) r (n .log)) t (evening depths lasts records began (t .log)) old new = subst (λ (y : Sizes). TakesLine (planAt y) (givenAt y) s (n .at) (n .line) (eveningAt y) t (evening depths lasts records began (t .log)) old new) (sizes-same (n .heading) sz) w in
       let after : evening depths lasts records began (t .log) ≡ eveningAfter s n r = k .evening-is ∙ sym (pick-true _ _ left ∙ pick-true _ _ fits) in
       let long : t .length ≡ length (nightLine s n r) = omega (arith, k .prints .wrote .next) in
       record {
         night-is = e ∙ (come-same (k .number-is) (k .next-is) long (ap (λ (x : Evening). x .log) (k .evening-is)) ∙ sym (pick-true _ _ left ∙ pick-true _ _ fits));
-        depths-are = holds-part (squares (n .heading .shape)) depths (r .sheet .cells .depths) ld (sz .squares-are) (ap (λ (x : Evening). x .depths) after);
-        lasts-are = holds-part (squares (n .heading .shape)) lasts (r .lasts) ll (sz .squares-are) (ap (λ (x : Evening). x .lasts) after);
-        records-are = holds-part (recordsLent (n .heading)) records (r .records) lr (sz .records-are) (ap (λ (x : Evening). x .records) after);
-        began-are = holds-part (ratesLent (n .heading)) began (r .began) lb (sz .began-is) (ap (λ (x : Evening). x .began) after);
+        depths-are = holds-part (squares (n .heading .shape)) depths (r .sheet .cells .depths) ld (sz .squares-are) (fit .depths) (ap (λ (x : Evening). x .depths) after);
+        lasts-are = holds-part (squares (n .heading .shape)) lasts (r .lasts) ll (sz .squares-are) (fit .lasts) (ap (λ (x : Evening). x .lasts) after);
+        records-are = holds-part (recordsLent (n .heading)) records (r .records) lr (sz .records-are) (fit .records) (ap (λ (x : Evening). x .records) after);
+        began-are = holds-part (ratesLent (n .heading)) began (r .began) lb (sz .began-is) (fit .began) (ap (λ (x : Evening). x .began) after);
         prints =
             subst (λ (j : ℕ). Prints (textAfter s n r) old new j) (sym (ap (λ (x : Night). x .length) e))
             (subst (λ (x : List ℕ). Prints x old new (t .length)) (sym (pick-true _ _ left ∙ pick-true _ _ fits)) (k .prints));

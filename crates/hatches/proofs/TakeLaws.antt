@@ -77,12 +77,12 @@ module _ (p : Plan) (g : Given) (e : Evening) where
   rate-done clock n rate {refused} {steps} {depths = depths} {lasts} {records} {run = run} h z b v l = (
     ap (λ (x : Ended). x .number) h,
     ap₂ (λ (k : List ℕ) (m : Log). evening depths lasts records k m)
-    (b ∙ ap (λ (k : ℕ). ratesKept k steps (e .log .run .newest) (e .log .litres) (e .began)) z)
-    (l ∙ ap (λ (w : List ℕ). logWith (e .log) run (e .log .steps + steps) w) v)
-    ∙ ap
-    (λ (x : Ended).
-    further p g e (x .world) (e .log .steps + x .steps) (ratesWith (e .log .litres) n rate (x .number)) (ratesKept (slots p g e) (x .steps) (e .log .run .newest) (e .log .litres) (e .began)))
-    h,
+        (b ∙ ap (λ (k : ℕ). ratesKept k steps (e .log .run .newest) (e .log .litres) (e .began)) z)
+        (l ∙ ap (λ (w : List ℕ). logWith (e .log) run (e .log .steps + steps) w) v)
+        ∙ ap
+        (λ (x : Ended).
+        further p g e (x .world) (e .log .steps + x .steps) (ratesWith (e .log .litres) n rate (x .number)) (ratesKept (slots p g e) (x .steps) (e .log .run .newest) (e .log .litres) (e .began)))
+        h,
   )
 
   pub back-done :
@@ -94,8 +94,8 @@ module _ (p : Plan) (g : Given) (e : Evening) where
   back-done count {refused} {steps} {depths = depths} {lasts} {records} {run = run} h z r l = (
     ap (λ (x : Ended). x .number) h,
     ap (λ (m : Log). evening depths lasts records (e .began) m)
-    (l ∙ ap (λ (w : List ℕ). logWith (e .log) run (e .log .steps - steps) w) (r ∙ ap (λ (k : ℕ). ratesBack k (e .began) (e .log) steps) z))
-    ∙ ap (λ (x : Ended). further p g e (x .world) (e .log .steps - x .steps) (ratesBack (slots p g e) (e .began) (e .log) (x .steps)) (e .began)) h,
+        (l ∙ ap (λ (w : List ℕ). logWith (e .log) run (e .log .steps - steps) w) (r ∙ ap (λ (k : ℕ). ratesBack k (e .began) (e .log) steps) z))
+        ∙ ap (λ (x : Ended). further p g e (x .world) (e .log .steps - x .steps) (ratesBack (slots p g e) (e .began) (e .log) (x .steps)) (e .began)) h,
   )
 
   -- ---- a line that is refused before its steps, and one that is not

@@ -22,8 +22,41 @@ pub log-cases : LogCases
 unfolding pick every refusal joined slotBefore slotAgo recordIn closed shapeFine roomSlots oneEach isByte wordAt isDigit digitsOf valueFrom wellFormed numberFrom numberAt fieldAt before readFields lineEnded readRest readLine digitsIn decimal fieldText fieldsText restText lineText refusedText cellText cellsText madeText readRate logLine isNamed hatchRow hatchRows keptRecords lineFine lentFine drawFine standingFine keptFine entryRefusals ratesBack isShown entryText bytesOf allBelow
 log-cases =
     record {
-      a-hatch = refl; a-rate = refl; a-back = refl; no-newline = refl; a-space = refl; rows = refl; first-rates = refl; kept-most = refl; kept-few = refl; kept-between = refl;
-      twice = refl; late = refl; ten = refl; none-zero = refl; closed = refl; missing-row = refl; missing-column = refl; taken = refl; over-64 = refl; just-64 = refl;
-      not-named = refl; no-multiple = refl; below = refl; above = refl; litres-high = refl; litres-most = refl; too-few = refl; all-kept = refl; unread = refl;
-      back-rates = refl; back-one = refl; back-none = refl; printed = refl; at-clock = refl; silent = refl; refused-line = refl; refused-none = refl;
+      a-hatch = refl;
+      a-rate = refl;
+      a-back = refl;
+      no-newline = refl;
+      a-space = refl;
+      rows = refl;
+      first-rates = refl;
+      kept-most = refl;
+      kept-few = refl;
+      kept-between = refl;
+      twice = refl;
+      late = refl;
+      ten = refl;
+      none-zero = refl;
+      closed = refl;
+      missing-row = refl;
+      missing-column = refl;
+      taken = refl;
+      over-64 = refl;
+      just-64 = refl;
+      not-named = refl;
+      no-multiple = refl;
+      below = refl;
+      above = refl;
+      litres-high = refl;
+      litres-most = refl;
+      too-few = refl;
+      all-kept = refl;
+      unread = refl;
+      back-rates = refl;
+      back-one = refl;
+      back-none = refl;
+      printed = refl;
+      at-clock = refl;
+      silent = refl;
+      refused-line = refl;
+      refused-none = refl;
     }

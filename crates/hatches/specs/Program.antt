@@ -104,6 +104,7 @@ module _ (h : Heading) where
 pub record Holds (n : ℕ) (part old new : List ℕ) : Type 0 where
   pub first : take n new ≡ part
   pub rest : drop n new ≡ drop n old
+  pub long : length new ≡ length old
 
 -- ---- one line more
 

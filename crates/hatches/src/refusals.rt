@@ -122,7 +122,14 @@ fn table_fits(numbers: usize, hatches: Hatches, more: usize) -> bool
 }
 
 // 4 for a hatch's line: its square is on the grid and not closed, and one row more fits the table.
-fn hatch_draw_fine(log: Log, row: u32, column: u32, shape: Shape, marks: &[u8], inflow: &[u32]) -> bool
+fn hatch_draw_fine(
+    log: Log,
+    row: u32,
+    column: u32,
+    shape: Shape,
+    marks: &[u8],
+    inflow: &[u32],
+) -> bool
     requires { ⌜ (ShapeInRange shape) × (length (now marks) ≡ squares shape) ⌝ }
     ensures { λ r. ⌜ ((number : ℕ) → r ≡ drawFine (plan shape (now (marks .entry))) (now (inflow .entry)) log (kinds.Hatch number row column)) ⌝ }
 {
@@ -156,7 +163,14 @@ fn draw_fine(entry: Entry, log: Log, shape: Shape, marks: &[u8], inflow: &[u32])
     ensures { λ r. ⌜ r ≡ drawFine (plan shape (now (marks .entry))) (now (inflow .entry)) log entry ⌝ }
 {
     match entry {
-        Entry::Hatch(number, row, column) => hatch_draw_fine(log, row, column, shape, marks, inflow),
+        Entry::Hatch(number, row, column) => hatch_draw_fine(
+            log,
+            row,
+            column,
+            shape,
+            marks,
+            inflow,
+        ),
         Entry::Rate(clock, number, litres) => rate_draw_fine(log, litres, inflow),
         Entry::Back(count) => true,
         Entry::Unread => true,

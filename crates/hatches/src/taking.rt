@@ -217,7 +217,17 @@ pub fn take_entry(
 ) -> Came
     ensures { λ r. ⌜ TakesEntry (plan shape (now (marks .entry))) (given (ground rules (now (beds .entry)) (now (roughness .entry)) (now (rates .entry))) (now (rain .entry)) (now (inflow .entry))) entry (evening (now (depths .entry)) (now (lasts .entry)) (now (records .entry)) (now (began .entry)) log) (r .number) (evening (now (depths .exit)) (now (lasts .exit)) (now (records .exit)) (now (began .exit)) (r .log)) ⌝ }
 {
-    let refused = entry_number(entry, log, shape, rules, marks, inflow, depths, records, began);
+    let refused = entry_number(
+        entry,
+        log,
+        shape,
+        rules,
+        marks,
+        inflow,
+        depths,
+        records,
+        began,
+    );
     if refused != 0 {
         return Came {
             number: refused,

@@ -36,11 +36,10 @@ take-entry-requires c κs = search needs
 -- src/telling.rt:111:9
 put-entry-requires : tie.Need-put-entry-requires
 put-entry-requires c κs =
-    let s = (c .before .before .before .before .before .before .before .before .before .before .before .before .before .before .before .before .before .before .before .before .before .before .before .before .before .before .before .before) in
-    (
+    let s = (c .before .before .before .before .before .before .before .before .before .before .before .before .before .before .before .before .before .before .before .before .before .before .before .before .before .before .before .before) in (
       λ z.
-      let l = told-lent (P s) (G s) (E s) _ (c .before .before .before .before .before .before .before .before .before .before .before .take-entry .ensures .number-is) z in
-      (l .shape, l .few, l .marks-long, c .before .before .before .before .before .before .before .before .before .before .before .take-entry .kept .1 .1 .1 .1 .1 .1 .1 .1 .1 .1 .0 ∙ l .depths-long),
+          let l = told-lent (P s) (G s) (E s) _ (c .before .before .before .before .before .before .before .before .before .before .before .take-entry .ensures .number-is) z in
+          (l .shape, l .few, l .marks-long, c .before .before .before .before .before .before .before .before .before .before .before .take-entry .kept .1 .1 .1 .1 .1 .1 .1 .1 .1 .1 .0 ∙ l .depths-long),
       search needs,
     )
 
