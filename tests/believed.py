@@ -1,18 +1,13 @@
-#!/usr/bin/env python3
 """tools/believed.py counts what it says it counts, finds each fault that it says it finds, in small projects made for it, and finds none in
 this one: what a reader must believe is short, and nothing in specs/ is there for nobody."""
 import contextlib
 import io
 import re
-import sys
 import tempfile
 from pathlib import Path
 
-TOP = Path(__file__).resolve().parent.parent
-sys.path[:0] = [str(TOP / "python"), str(TOP / "tools")]
-
-import believed  # noqa: E402
-from meadow.counted import Checks  # noqa: E402
+import believed
+from meadow.counted import Checks
 
 # Eight lines to believe in `low`, the head of its module and the order of its operator among them, and two in `flood`; two that only a layer
 # function gives, and two inside.

@@ -1,16 +1,11 @@
-#!/usr/bin/env python3
 """The cases of the program `worked`, read from its source and worked by document 01 in Python, held to crates/worked/stdout.
 
-worked.py --write writes that file instead.
+`bin/test worked --write` writes that file instead.
 """
-import sys
-from pathlib import Path
 
-sys.path.insert(0, str(Path(__file__).resolve().parent.parent / "python"))
-
-import lent  # noqa: E402
-from meadow.sources import program  # noqa: E402
-from stored import hold  # noqa: E402
+import lent
+from sources import program
+from stored import hold
 
 OUT = []
 STATE = ("depths", "lasts")

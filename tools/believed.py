@@ -17,13 +17,12 @@ import sys
 from collections import Counter
 from pathlib import Path
 
+from begin import ended
+from rattle import DEMANDS, crates, imported, statements
+from rattle.functions import library_functions
+from rattle.specs import Specs
+
 TOP = Path(__file__).resolve().parent.parent
-sys.path.insert(0, str(TOP / "python"))
-
-from rattle import DEMANDS, crates, imported, statements  # noqa: E402
-from rattle.functions import library_functions  # noqa: E402
-from rattle.specs import Specs  # noqa: E402
-
 # a little above what there is; a request that lands may raise it, with all of document 02 to 2,300 and no further
 MOST = 1450
 DETERMINED, WORKED = (DEMANDS, "Determined"), "Worked"
@@ -116,4 +115,4 @@ def main(words):
 
 
 if __name__ == "__main__":
-    sys.exit(main(sys.argv[1:]))
+    ended(lambda: main(sys.argv[1:]), "believed")

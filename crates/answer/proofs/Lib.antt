@@ -1,4 +1,2 @@
 pub mod ApartLaws
-pub mod MeadowLaws
 pub mod PrintLaws
-pub mod RunLaws

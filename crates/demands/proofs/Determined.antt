@@ -2,26 +2,31 @@
 -- Assumes nothing.
 use mathlib.Core.Path.{_≡_, sym, ap, _∙_}
 use mathlib.Core.List.{List}
+use lib.ListN.{length, replicate, length-replicate}
 use Prim.Native.Nat.{ℕ, _-_}
 use Rattle.reckon.proofs.RootLaws.{root-unique, begun-unique}
 use Rattle.rule.specs.declared.rules.Rules.{Rules}
 use Rattle.ledger.specs.Runs.{Plan, World, world}
-use Rattle.ledger.specs.inner.Settle.{SettlesTo, nextRecord}
+use Rattle.settling.specs.inner.Settle.{SettlesTo, nextRecord}
 use Rattle.ledger.specs.TakeBack.{TakesBack}
 use Rattle.ledger.specs.declared.runs.Run.{Run}
 use Rattle.ledger.specs.declared.runs.Answer.{Answer}
-use Rattle.ledger.specs.declared.settle.Settled.{Settled}
-use Rattle.moves.specs.Given.{Given}
+use Rattle.settling.specs.declared.settle.Settled.{Settled}
+use Rattle.checks.specs.Given.{Given}
 use Rattle.flood.specs.Step.{Steps, MakesStep}
-use Rattle.flood.specs.Run.{RunsTo, Freshens}
+use Rattle.checks.specs.Fresh.{Freshens}
+use Rattle.flood.specs.Run.{RunsTo}
 use Rattle.flood.specs.declared.run.Ran.{Ran}
 use Rattle.sight.specs.WetRows.{WetRowed}
 use Rattle.sight.specs.declared.wet_rows.Wet.{Wet}
 use Rattle.text.specs.Writing.{Wrote}
 use Rattle.sheet.specs.Sheet.{Rooms, Reads, roomsAfter}
+use Rattle.sheet.specs.declared.reading.Heading.{Heading}
 use Rattle.sheet.specs.declared.reading.Sheet.{Sheet}
+use Rattle.programs.specs.Reading.{ReadsWithin}
+use Rattle.programs.specs.Program.{RunsSheet}
 use Rattle.exports.specs.Steps.{ExportsStep, ExportsRun}
-use Rattle.demands.specs.Determined.{One, ReckonDetermined, TrialsDetermined, GridDetermined, RuleDetermined, LedgerDetermined, FloodDetermined, SightDetermined, TextDetermined, SheetDetermined, AnswerDetermined, ExportsDetermined, Determined}
+use Rattle.demands.specs.Determined.{One, ReckonDetermined, TrialsDetermined, GridDetermined, RuleDetermined, LedgerDetermined, SettlingDetermined, ChecksDetermined, FloodDetermined, SightDetermined, TextDetermined, SheetDetermined, AnswerDetermined, ProgramsDetermined, ExportsDetermined, Determined}
 use Rattle.demands.specs.Determined.{MovesDetermined}
 
 -- ---- one outcome
@@ -44,15 +49,20 @@ worldIn o = world (o .1 .0) (o .1 .1 .0) (o .1 .1 .1) (o .0 .run)
 same-four : {a b : Four} → a .0 .refused ≡ b .0 .refused → worldIn a ≡ worldIn b → a ≡ b
 same-four n w = λ j. (record { refused = n j; run = w j .run }, (w j .depths, (w j .lasts, w j .records)))
 
-settled-one : {p : Plan} {rec : List ℕ} {held : ℕ} {w : World} → One {Out = Four} (λ o. SettlesTo p rec held w (o .0 .refused) (worldIn o))
-settled-one a b x y = same-four (x .number ∙ sym (y .number)) (x .world-is ∙ sym (y .world-is))
-
--- the same where the record room stays
-stored-one :
-    {p : Plan} {held : ℕ} {w : World} → One {Out = Run × (List ℕ × List ℕ)} (λ o. SettlesTo p (nextRecord p w) held w 0 (world (o .1 .0) (o .1 .1) (w .records) (o .0)))
-stored-one a b x y =
+-- the record room stays
+settled-one :
+    {p : Plan} {held : ℕ} {w : World} →
+    One {Out = Settled × (List ℕ × List ℕ)} (λ o. SettlesTo p (nextRecord p w) held w (o .0 .refused) (world (o .1 .0) (o .1 .1) (w .records) (o .0 .run)))
+settled-one a b x y =
+    let n = x .number ∙ sym (y .number) in
     let e = x .world-is ∙ sym (y .world-is) in
-    λ j. (e j .run, (e j .depths, e j .lasts))
+    λ j. (record { refused = n j; run = e j .run }, (e j .depths, e j .lasts))
+
+-- whatever record room of so many numbers, there is one
+room-one : {f : List ℕ → ℕ} {numbers : ℕ} → One (λ r. (records : List ℕ) → length records ≡ numbers → r ≡ f records)
+room-one {f} {numbers} a b x y =
+    let there = length-replicate {A = ℕ} numbers 0 in
+    x (replicate numbers 0) there ∙ sym (y (replicate numbers 0) there)
 
 step-on-one : {p : Plan} {g : Given} {w : World} → One {Out = Four} (λ o. MakesStep p g w (o .0 .refused) (worldIn o))
 step-on-one a b x y = same-four (x .number ∙ sym (y .number)) (x .world-is ∙ sym (y .world-is))
@@ -103,6 +113,7 @@ reckon-determined =
       begun-cube-root = λ n a b. begun-unique;
       ended-cube-root = λ n a b. root-unique;
       soak-due = λ rate start end. exactly;
+      row-on = λ rows j r c. exactly;
       rain-by = λ rows t. exactly;
       inflow-by = λ rows r c side t. exactly;
       rain-added = λ rows start end. exactly;
@@ -180,10 +191,20 @@ ledger-determined =
       one-each = λ s numbers. exactly;
       waters-fine = λ p depths lasts. exactly;
       times-fine = λ rec. exactly;
-      settle = λ p rec held w. settled-one;
-      surely-settles = λ u depths room. exactly;
-      settle-stored = λ p held w. stored-one;
       take-back = λ p w. taken-one;
+    }
+
+settling-determined : SettlingDetermined
+settling-determined = record { settle = λ p held w. settled-one; surely-settles = λ u depths room. exactly }
+
+checks-determined : ChecksDetermined
+checks-determined =
+    record {
+      check = λ p g end depths lasts numbers u. room-one;
+      check-step = λ p g depths lasts numbers u. room-one;
+      fresh = λ p r before records. fresh-one;
+      fresh-run = λ r slots. exactly;
+      step-bounds = λ r clock end. exactly;
     }
 
 moves-determined : MovesDetermined
@@ -203,17 +224,9 @@ moves-determined =
 pub flood-determined : FloodDetermined
 flood-determined =
     record {
-      check = λ p g end w. exactly;
-      fresh = λ p r before records. fresh-one;
-      fresh-run = λ r slots. exactly;
-      step-bounds = λ r clock end. exactly;
       step = λ p g w. step-one;
-      step-wet = λ p g w. step-one;
-      step-by = λ p g w. step-one;
       step-on = λ p g w. step-on-one;
       run-to = λ p g end w. run-one;
-      run-to-wet = λ p g end w. run-one;
-      run-to-by = λ p g end w. run-one;
     }
 
 sight-determined : SightDetermined
@@ -234,6 +247,10 @@ text-determined =
       fields-at = λ text at count. exactly;
       rest-of-line = λ text at count. exactly;
       line-of = λ text at word count. exactly;
+      line-end = λ text at. exactly;
+      next-line = λ text at. exactly;
+      line-at = λ text at. exactly;
+      nth-line = λ text k. exactly;
       put-byte = λ byte at room. written;
       put-word = λ word at room. written;
       put-number = λ n at room. written;
@@ -250,6 +267,27 @@ answer-determined =
     record {
       put-refused = λ number line at room. written;
       put-world = λ p depths u steps at room. written;
+    }
+
+sheet-run-one :
+    {h : Heading} {held : Rooms} → One {Out = Ran × (List ℕ × (List ℕ × List ℕ))} (λ o. RunsSheet h held (o .0) (o .1 .0) (o .1 .1 .0) (o .1 .1 .1))
+sheet-run-one a b x y =
+    let e = x .ends ∙ sym (y .ends) in
+    λ j. (record { refused = e j .number; steps = e j .steps; run = e j .world .run }, (e j .world .depths, (e j .world .lasts, e j .world .records)))
+
+within-one :
+    {most : ℕ} {text : List ℕ} {before : Rooms} → One {Out = Sheet × Rooms} (λ o. ReadsWithin most text before (o .0) (o .1))
+within-one {most} {text} {before} a b x y =
+    let answers = x .answer ∙ sym (y .answer) in
+    let filled = x .rooms-are ∙ (ap (λ (z : Sheet). roomsAfter text z before) answers ∙ sym (y .rooms-are)) in
+    λ j. (answers j, filled j)
+
+programs-determined : ProgramsDetermined
+programs-determined =
+    record {
+      read-within = λ most text before. within-one;
+      run-sheet = λ h held. sheet-run-one;
+      put-ran = λ p depths ran at room a b x y. written a b (x .wrote) (y .wrote);
       meadow-of = λ text old a b x y. written a b (x .wrote) (y .wrote);
     }
 
@@ -321,11 +359,14 @@ determined =
       grid = grid-determined;
       rule = rule-determined;
       ledger = ledger-determined;
+      settling = settling-determined;
+      checks = checks-determined;
       moves = moves-determined;
       flood = flood-determined;
       sight = sight-determined;
       text = text-determined;
       sheet = sheet-determined;
       answer = answer-determined;
+      programs = programs-determined;
       exports = exports-determined;
     }

@@ -10,7 +10,7 @@ use Rattle.reckon.specs.Numbers as Numbers
 use Rattle.reckon.specs.Ranges.{WaterJudged, SideJudged, RateJudged}
 use Rattle.reckon.specs.Roots.{Root, Begun}
 use Rattle.reckon.specs.Soaking.{SoakDue}
-use Rattle.reckon.specs.Tables.{RainBy, InflowBy, RainAdded, InflowAdded, RainJudged, InflowJudged}
+use Rattle.reckon.specs.Tables.{RowOn, RainBy, InflowBy, RainAdded, InflowAdded, RainJudged, InflowJudged}
 use Rattle.trials.specs.Ring.{SlotsIn, SlotStart, SlotAfter, SlotBefore, KeptAfter, RingJudged}
 use Rattle.grid.specs.Squares.{squares, ShapeJudged, SquaresOf, SquareFound, NextColumn, BesideOn, OppositeOf, RimJudged}
 use Rattle.grid.specs.Marks.{ClosedJudged, ExitJudged, MarksJudged, InflowSquaresJudged}
@@ -27,26 +27,30 @@ use Rattle.rule.specs.declared.rules.Rules.{Rules}
 use Rattle.ledger.specs.Runs.{Plan, World, world, RunJudged}
 use Rattle.ledger.specs.Record.{SizeOf, HeldBefore, Lasted, Leaving, LastBefore, AddedBy, SoakedBy, GoneFrom, SentTo, CameTo, OffFrom, HeadPut, SquarePut}
 use Rattle.ledger.specs.Flows.{shut}
-use Rattle.ledger.specs.inner.Settle.{SettlesTo, SurelyJudged, nextRecord}
+use Rattle.settling.specs.inner.Settle.{SettlesTo, SurelyJudged, nextRecord}
 use Rattle.ledger.specs.Checks.{OneEach, WatersJudged, TimesJudged}
 use Rattle.ledger.specs.TakeBack.{TakesBack}
 use Rattle.ledger.specs.declared.runs.Run.{Run}
 use Rattle.ledger.specs.declared.runs.Answer.{Answer}
-use Rattle.ledger.specs.declared.settle.Settled.{Settled}
-use Rattle.moves.specs.Given.{Given, Ground}
+use Rattle.settling.specs.declared.settle.Settled.{Settled}
+use Rattle.checks.specs.Given.{Given, Ground}
 use Rattle.flood.specs.Step.{Steps, MakesStep}
-use Rattle.flood.specs.Refusals.{Checks}
-use Rattle.flood.specs.Bounds.{BoundsSteps}
-use Rattle.flood.specs.Run.{RunsTo, Freshens, FreshRunMade}
+use Rattle.checks.specs.Refusals.{Checks, ChecksStep}
+use Rattle.checks.specs.Bounds.{BoundsSteps}
+use Rattle.checks.specs.Fresh.{Freshens, FreshRunMade}
+use Rattle.flood.specs.Run.{RunsTo}
 use Rattle.flood.specs.declared.run.Ran.{Ran}
 use Rattle.sight.specs.Arrows.{Sees}
 use Rattle.sight.specs.WetRows.{OnesIn, WetRowed}
 use Rattle.sight.specs.declared.wet_rows.Wet.{Wet}
 use Rattle.text.specs.Reading.{ByteIs, WordAt, FieldAt, FieldsAt, RestOfLine, LineOf}
 use Rattle.text.specs.Reading as Reading
+use Rattle.text.specs.Lines.{LineEnd, NextLine, LineAt, NthLine}
 use Rattle.text.specs.Writing.{PutByte, PutWord, PutNumber, PutField, PutFields, PutLine}
 use Rattle.sheet.specs.Sheet.{Rooms, Reads}
-use Rattle.answer.specs.Program.{Prints, meadowText}
+use Rattle.programs.specs.Program.{RunsSheet, PutRan, Prints, meadowText}
+use Rattle.programs.specs.Reading.{ReadsWithin}
+use Rattle.sheet.specs.declared.reading.Heading.{Heading}
 use Rattle.sheet.specs.declared.reading.Sheet.{Sheet}
 use Rattle.exports.specs.Steps.{ExportsFresh, ExportsStep, ExportsRun, ExportsBack}
 use Rattle.exports.specs.Bounds.{ExportsBounds}
@@ -63,8 +67,8 @@ abbrev pub One : {Out : Type 0} → (Out → Type 0) → Type 0
 One {Out} allowed = (a b : Out) → allowed a → allowed b → a ≡ b
 
 -- what `fill` gives: the record, what left each square that is worked, and the rows of the squares that are worked and of those that send
-abbrev pub Fills : Walk → Plan → Ground → List ℕ → List ℕ → List ℕ → ℕ → ℕ → ℕ → List ℕ × (List ℕ × (List ℕ × List ℕ)) → Type 0
-Fills walk p o depths lasts added held start ms out =
+abbrev pub FillGives : Walk → Plan → Ground → List ℕ → List ℕ → List ℕ → ℕ → ℕ → ℕ → List ℕ × (List ℕ × (List ℕ × List ℕ)) → Type 0
+FillGives walk p o depths lasts added held start ms out =
     (RecordFilled p o depths lasts added held start ms (out .0))
     × (out .1 .1 .0 ≡ workedRows walk p depths lasts added)
     × (out .1 .1 .1 ≡ senderRows p o depths lasts ms)
@@ -88,6 +92,7 @@ pub record ReckonDetermined : Type 0 where
   pub begun-cube-root : (n : ℕ) → One (Begun 3 n 100)
   pub ended-cube-root : (n : ℕ) → One (Root 3 n)
   pub soak-due : (rate start end : ℕ) → One (SoakDue rate start end)
+  pub row-on : (rows : List ℕ) (j r c : ℕ) → One (RowOn rows j r c)
   pub rain-by : (rows : List ℕ) (t : ℕ) → One (RainBy rows t)
   pub inflow-by : (rows : List ℕ) (r c side t : ℕ) → One (InflowBy rows r c side t)
   pub rain-added : (rows : List ℕ) (start end : ℕ) → One (RainAdded rows start end)
@@ -135,7 +140,6 @@ pub record RuleDetermined : Type 0 where
   pub ground-fine : (bed roughness : ℕ) → One (GroundJudged bed roughness)
   pub weigh : (r : Rules) (depth last roughness ms : ℕ) (drops : List ℕ) → One (Weighs r depth last roughness ms drops)
 
--- `settle` and `settle_stored` are lent a working room too, `room`, and what is left in that is not promised: the one exception
 pub record LedgerDetermined : Type 0 where
   pub record-size : (s : Shape) → One (SizeOf s)
   pub held-before : (rec : List ℕ) → One (HeldBefore rec)
@@ -154,12 +158,20 @@ pub record LedgerDetermined : Type 0 where
   pub one-each : (s : Shape) (numbers : ℕ) → One (OneEach s numbers)
   pub waters-fine : (p : Plan) (depths lasts : List ℕ) → One (WatersJudged p depths lasts)
   pub times-fine : (rec : List ℕ) → One (TimesJudged rec)
-  pub settle : (p : Plan) (rec : List ℕ) (held : ℕ) (w : World) →
-      One {Out = Settled × (List ℕ × (List ℕ × List ℕ))} (λ o. SettlesTo p rec held w (o .0 .refused) (world (o .1 .0) (o .1 .1 .0) (o .1 .1 .1) (o .0 .run)))
-  pub surely-settles : (u : Run) (depths room : List ℕ) → One (SurelyJudged u depths room)
-  pub settle-stored : (p : Plan) (held : ℕ) (w : World) →
-      One {Out = Run × (List ℕ × List ℕ)} (λ o. SettlesTo p (nextRecord p w) held w 0 (world (o .1 .0) (o .1 .1) (w .records) (o .0)))
   pub take-back : (p : Plan) (w : World) → One {Out = Answer × (List ℕ × List ℕ)} (λ o. TakesBack p w (o .0) (o .1 .0) (o .1 .1))
+
+-- `settle` is lent a working room too, `room`, and what is left in that is not promised
+pub record SettlingDetermined : Type 0 where
+  pub settle : (p : Plan) (held : ℕ) (w : World) →
+      One {Out = Settled × (List ℕ × List ℕ)} (λ o. SettlesTo p (nextRecord p w) held w (o .0 .refused) (world (o .1 .0) (o .1 .1) (w .records) (o .0 .run)))
+  pub surely-settles : (u : Run) (depths room : List ℕ) → One (SurelyJudged u depths room)
+
+pub record ChecksDetermined : Type 0 where
+  pub check : (p : Plan) (g : Given) (end : ℕ) (depths lasts : List ℕ) (numbers : ℕ) (u : Run) → One (Checks p g end depths lasts numbers u)
+  pub check-step : (p : Plan) (g : Given) (depths lasts : List ℕ) (numbers : ℕ) (u : Run) → One (ChecksStep p g depths lasts numbers u)
+  pub fresh : (p : Plan) (r : Rules) (before records : List ℕ) → One {Out = Answer × List ℕ} (λ o. Freshens p r before records (o .0) (o .1))
+  pub fresh-run : (r : Rules) (slots : ℕ) → One (FreshRunMade r slots)
+  pub step-bounds : (r : Rules) (clock end : ℕ) → One (BoundsSteps r clock end)
 
 -- `add_water` and `fill` are lent working rooms too. What `add_water` leaves in its room is determined where the square is not closed, unless a
 -- square could not hold what is added; what `fill` leaves in its room `left`, where the square is worked and not closed.
@@ -170,28 +182,18 @@ pub record MovesDetermined : Type 0 where
       WaterAdded p g start end old (a .0) (a .1) → WaterAdded p g start end old (b .0) (b .1) →
       (a .0 ≡ b .0) × (a .0 ≡ true → (i : ℕ) → i < squares (p .shape) → shut p i ≡ false → getD (a .1) i 0 ≡ getD (b .1) i 0)
   pub fill : (walk : Walk) (p : Plan) (o : Ground) (depths lasts added : List ℕ) (held start ms : ℕ) (a b : List ℕ × (List ℕ × (List ℕ × List ℕ))) →
-      Fills walk p o depths lasts added held start ms a → Fills walk p o depths lasts added held start ms b →
+      FillGives walk p o depths lasts added held start ms a → FillGives walk p o depths lasts added held start ms b →
       (a .0 ≡ b .0)
       × ((i : ℕ) → i < squares (p .shape) → shut p i ≡ false → isWorked walk p depths lasts added i ≡ true → getD (a .1 .0) i 0 ≡ getD (b .1 .0) i 0)
       × (a .1 .1 .0 ≡ b .1 .1 .0)
       × (a .1 .1 .1 ≡ b .1 .1 .1)
 
--- a step and a run are the same relation by every square, by the wet walk and by a walk that is given
+-- by either walk; `step_on` is lent working rooms too, and what is left in these is not promised
 pub record FloodDetermined : Type 0 where
-  pub check : (p : Plan) (g : Given) (end : ℕ) (w : World) → One (Checks p g end w)
-  pub fresh : (p : Plan) (r : Rules) (before records : List ℕ) → One {Out = Answer × List ℕ} (λ o. Freshens p r before records (o .0) (o .1))
-  pub fresh-run : (r : Rules) (slots : ℕ) → One (FreshRunMade r slots)
-  pub step-bounds : (r : Rules) (clock end : ℕ) → One (BoundsSteps r clock end)
   pub step : (p : Plan) (g : Given) (w : World) → One {Out = Answer × (List ℕ × (List ℕ × List ℕ))} (λ o. Steps p g w (o .0) (o .1 .0) (o .1 .1 .0) (o .1 .1 .1))
-  pub step-wet : (p : Plan) (g : Given) (w : World) → One {Out = Answer × (List ℕ × (List ℕ × List ℕ))} (λ o. Steps p g w (o .0) (o .1 .0) (o .1 .1 .0) (o .1 .1 .1))
-  pub step-by : (p : Plan) (g : Given) (w : World) → One {Out = Answer × (List ℕ × (List ℕ × List ℕ))} (λ o. Steps p g w (o .0) (o .1 .0) (o .1 .1 .0) (o .1 .1 .1))
   pub step-on : (p : Plan) (g : Given) (w : World) →
       One {Out = Settled × (List ℕ × (List ℕ × List ℕ))} (λ o. MakesStep p g w (o .0 .refused) (world (o .1 .0) (o .1 .1 .0) (o .1 .1 .1) (o .0 .run)))
   pub run-to : (p : Plan) (g : Given) (end : ℕ) (w : World) →
-      One {Out = Ran × (List ℕ × (List ℕ × List ℕ))} (λ o. RunsTo p g end w (o .0) (o .1 .0) (o .1 .1 .0) (o .1 .1 .1))
-  pub run-to-wet : (p : Plan) (g : Given) (end : ℕ) (w : World) →
-      One {Out = Ran × (List ℕ × (List ℕ × List ℕ))} (λ o. RunsTo p g end w (o .0) (o .1 .0) (o .1 .1 .0) (o .1 .1 .1))
-  pub run-to-by : (p : Plan) (g : Given) (end : ℕ) (w : World) →
       One {Out = Ran × (List ℕ × (List ℕ × List ℕ))} (λ o. RunsTo p g end w (o .0) (o .1 .0) (o .1 .1 .0) (o .1 .1 .1))
 
 pub record SightDetermined : Type 0 where
@@ -207,6 +209,10 @@ pub record TextDetermined : Type 0 where
   pub fields-at : (text : List ℕ) (at count : ℕ) → One (FieldsAt text at count)
   pub rest-of-line : (text : List ℕ) (at count : ℕ) → One (RestOfLine text at count)
   pub line-of : (text : List ℕ) (at : ℕ) (word : List ℕ) (count : ℕ) → One (LineOf text at word count)
+  pub line-end : (text : List ℕ) (at : ℕ) → One (LineEnd text at)
+  pub next-line : (text : List ℕ) (at : ℕ) → One (NextLine text at)
+  pub line-at : (text : List ℕ) (at : ℕ) → One (LineAt text at)
+  pub nth-line : (text : List ℕ) (k : ℕ) → One (NthLine text k)
   pub put-byte : (byte at : ℕ) (room : List ℕ) → One {Out = ℕ × List ℕ} (λ o. PutByte byte at room (o .1) (o .0))
   pub put-word : (word : List ℕ) (at : ℕ) (room : List ℕ) → One {Out = ℕ × List ℕ} (λ o. PutWord word at room (o .1) (o .0))
   pub put-number : (n at : ℕ) (room : List ℕ) → One {Out = ℕ × List ℕ} (λ o. PutNumber n at room (o .1) (o .0))
@@ -222,6 +228,14 @@ pub record AnswerDetermined : Type 0 where
   pub put-refused : (number line at : ℕ) (room : List ℕ) → One {Out = ℕ × List ℕ} (λ o. PutRefused number line at room (o .1) (o .0))
   pub put-world : (p : Plan) (depths : List ℕ) (u : Run) (steps at : ℕ) (room : List ℕ) →
       One {Out = ℕ × List ℕ} (λ o. PutWorld p depths u steps at room (o .1) (o .0))
+
+-- a sheet's heading and the rooms that hold it stand for what a run is lent
+pub record ProgramsDetermined : Type 0 where
+  pub read-within : (most : ℕ) (text : List ℕ) (before : Rooms) → One {Out = Sheet × Rooms} (λ o. ReadsWithin most text before (o .0) (o .1))
+  pub run-sheet : (h : Heading) (held : Rooms) →
+      One {Out = Ran × (List ℕ × (List ℕ × List ℕ))} (λ o. RunsSheet h held (o .0) (o .1 .0) (o .1 .1 .0) (o .1 .1 .1))
+  pub put-ran : (p : Plan) (depths : List ℕ) (ran : Ran) (at : ℕ) (room : List ℕ) →
+      One {Out = ℕ × List ℕ} (λ o. PutRan p depths ran at room (o .1) (o .0))
   pub meadow-of : (text old : List ℕ) → One {Out = ℕ × List ℕ} (λ o. Prints (meadowText text) old (o .1) (o .0))
 
 -- what other languages call
@@ -257,10 +271,13 @@ pub record Determined : Type 0 where
   pub grid : GridDetermined
   pub rule : RuleDetermined
   pub ledger : LedgerDetermined
+  pub settling : SettlingDetermined
+  pub checks : ChecksDetermined
   pub moves : MovesDetermined
   pub flood : FloodDetermined
   pub sight : SightDetermined
   pub text : TextDetermined
   pub sheet : SheetDetermined
   pub answer : AnswerDetermined
+  pub programs : ProgramsDetermined
   pub exports : ExportsDetermined

@@ -1,9 +1,10 @@
 // Shows what is seen of a small meadow with closed squares, an exit, a dry and a still square: the arrow of each square, its speeds east
 // and north as bit patterns, and the wet rows; after a step, after another, and after a take-back, which must show the first step's
 // again. Then each refusal.
-use flood::fresh::fresh;
+use checks::fresh::fresh;
 use flood::step::step;
 use grid::squares::Shape;
+use grid::walks::Walk;
 use ledger::runs::Answer;
 use ledger::runs::Run;
 use ledger::take_back::take_back;
@@ -144,6 +145,7 @@ fn stepped(run: Run, depths: &mut [u32], lasts: &mut [u32], records: &mut [u32])
     let rates = RATES;
     let none: [u32; 0] = [];
     let answer = step(
+        Walk::All,
         SHAPE,
         RULES,
         run,

@@ -1,4 +1,5 @@
 pub mod ApartLaws
+pub mod EndLaws
 pub mod LineLaws
 pub mod ReadingLaws
 pub mod RoundTrip

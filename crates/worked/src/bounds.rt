@@ -8,8 +8,8 @@ use crate::meadow::show_run;
 use crate::printing::end_line;
 use crate::printing::field;
 use crate::printing::words;
-use flood::bounds::Bounds;
-use flood::bounds::step_bounds;
+use checks::bounds::Bounds;
+use checks::bounds::step_bounds;
 use rule::rules::Rules;
 
 // A line: both figures, that they do not hold, or the refusal's number.

@@ -6,6 +6,7 @@ use crate::printing::field;
 use crate::printing::run_fields;
 use flood::step::step;
 use grid::squares::Shape;
+use grid::walks::Walk;
 use ledger::runs::Answer;
 use ledger::runs::Run;
 use rule::rules::Rules;
@@ -58,6 +59,7 @@ fn columns_64() {
     let mut lasts = [0u32; 64];
     let mut records = [0u32; 450];
     let answer = step(
+        Walk::All,
         shape,
         rules(),
         start(),
@@ -90,6 +92,7 @@ fn columns_65() {
     let mut lasts = [0u32; 65];
     let mut records = [0u32; 457];
     let answer = step(
+        Walk::All,
         shape,
         rules(),
         start(),

@@ -4,11 +4,12 @@ use crate::printing::field;
 use crate::printing::fields;
 use crate::printing::run_fields;
 use crate::printing::words;
-use flood::fresh::fresh;
+use checks::fresh::fresh;
 use flood::run::Ran;
 use flood::run::run_to;
 use flood::step::step;
 use grid::squares::Shape;
+use grid::walks::Walk;
 use ledger::runs::Answer;
 use ledger::runs::Run;
 use ledger::take_back::take_back;
@@ -123,6 +124,7 @@ fn step_in(
         return Answer::Refused(0);
     }
     step(
+        Walk::All,
         shape,
         rules,
         run,
@@ -162,6 +164,7 @@ fn run_in(
         };
     }
     run_to(
+        Walk::All,
         shape,
         rules,
         run,

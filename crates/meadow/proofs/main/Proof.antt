@@ -1,24 +1,22 @@
 -- `meadow::main` is safe and ends: what is read lies in the text's room, and what is printed in the room for it.
 -- Assumes nothing.
-use mathlib.Core.Path.{_≡_, _∙_, sym}
+use mathlib.Core.Path.{_≡_, sym}
 use Prim.Native.Nat.{ℕ, _≤_}
 use native.Mathlib.Omega.{arith}
-use lib.ListN.{length, length-replicate}
+use lib.ListN.{length, replicate, length-replicate}
 use lib.Seq.{length-take-le}
-use Rattle.text.proofs.WritingLaws.{wrote-length}
 use borrow.Author.Needs.{needs}
-use Rattle.answer.specs.Program.{mostPrinted}
+use Rattle.programs.specs.Program.{mostPrinted}
+use Rattle.programs.proofs.EndedLaws.{printed-in, printed-long}
 use Rattle.meadow.proofs.main.Statement.{statement}
 use Rattle.meadow.proofs.main.Tie as tie
 
 -- what is printed lies in its room
-long : (c : tie.After-meadow-of) → length (c .meadow-of .last .1 .0) ≡ mostPrinted
-long c =
-    let empty = length-replicate {A = ℕ} mostPrinted 0 in
-    wrote-length (omega (arith, c .meadow-of .ensures .fits, empty)) (c .meadow-of .ensures .wrote) ∙ empty
+empty : length (replicate {A = ℕ} mostPrinted 0) ≡ mostPrinted
+empty = length-replicate {A = ℕ} mostPrinted 0
 
 within : (c : tie.After-meadow-of) → c .meadow-of .result ≤ length (c .meadow-of .last .1 .0)
-within c = omega (arith, c .meadow-of .ensures .fits, c .meadow-of .ensures .wrote .next, long c)
+within c = printed-in (omega (arith, empty)) (c .meadow-of .ensures)
 
 slice-aggregate-read-full : tie.Need-slice-aggregate-read-full
 slice-aggregate-read-full c = search needs
@@ -36,7 +34,7 @@ meadow-of-requires : tie.Need-meadow-of-requires
 meadow-of-requires c κs = search needs
 
 array-share-prefix-out : tie.Need-array-share-prefix-out
-array-share-prefix-out c = omega (arith, within c, long c)
+array-share-prefix-out c = omega (arith, within c, printed-long (omega (arith, empty)) (c .meadow-of .ensures), empty)
 
 slice-aggregate-write-all : tie.Need-slice-aggregate-write-all
 slice-aggregate-write-all c = sym (length-take-le _ _ (within (c .before)))

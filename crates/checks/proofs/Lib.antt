@@ -1,0 +1,3 @@
+pub mod BoundsLaws
+pub mod CheckLaws
+pub mod FreshLaws

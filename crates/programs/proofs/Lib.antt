@@ -1,0 +1,4 @@
+pub mod EndedLaws
+pub mod HeldLaws
+pub mod MeadowLaws
+pub mod RunLaws
