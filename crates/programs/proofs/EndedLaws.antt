@@ -5,6 +5,7 @@ use mathlib.Core.List.{List}
 use Prim.Native.Nat.{ℕ, _^_, _≤_, _<_}
 use native.Mathlib.Omega.{arith}
 use lib.ListN.{length, getD}
+use lib.Seq.{length-take-le}
 use borrow.Author.Tests.{eq-eqb, ne-eqb}
 use Rattle.reckon.proofs.TestLaws.{pick-true, pick-false, pick-both}
 use Rattle.grid.specs.Squares.{squares, mostSquares}
@@ -51,14 +52,12 @@ module _ (p : Plan) (depths : List ℕ) (a : Ran) (few : squares (p .shape) ≤ 
 
 -- ---- a text that is printed
 
+pub prints : {t old new : List ℕ} {r : ℕ} → mostPrinted ≤ length old → length t ≤ mostPrinted → Wrote t 0 old new r → Prints t old new r
+prints {t} {old} {new} {r} h g w =
+    let within : r ≤ length new = omega (arith, h, g, w .next, wrote-length (omega (arith, h, g)) w) in
+    record { wrote = w; fits = g; within = within; counted = sym (length-take-le r new within) }
+
 pub refused-printed :
-    {number line : ℕ} {old new : List ℕ} {r : ℕ} → number < 2 ^ 64 → line < 2 ^ 64 → Wrote (refusedText number line) 0 old new r →
-    Prints (refusedText number line) old new r
-refused-printed {number} {line} h g w = record { wrote = w; fits = omega (arith, refused-short number line h g) }
-
--- what a program writes lies in its room, which is as long as it was
-pub printed-long : {t old new : List ℕ} {r : ℕ} → mostPrinted ≤ length old → Prints t old new r → length new ≡ length old
-printed-long h w = wrote-length (omega (arith, h, w .fits)) (w .wrote)
-
-pub printed-in : {t old new : List ℕ} {r : ℕ} → mostPrinted ≤ length old → Prints t old new r → r ≤ length new
-printed-in h w = omega (arith, h, printed-long h w, w .fits, w .wrote .next)
+    {number line : ℕ} {old new : List ℕ} {r : ℕ} → mostPrinted ≤ length old → number < 2 ^ 64 → line < 2 ^ 64 →
+    Wrote (refusedText number line) 0 old new r → Prints (refusedText number line) old new r
+refused-printed {number} {line} l h g w = prints l (omega (arith, refused-short number line h g)) w

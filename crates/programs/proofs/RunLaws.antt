@@ -16,7 +16,8 @@ use Rattle.sheet.specs.Sheet.{Rooms, planIn, givenIn, noLasts, noRecords}
 use Rattle.sheet.specs.declared.reading.Heading.{Heading}
 use Rattle.sheet.proofs.JudgeLaws.{one-slot, world-same}
 use Rattle.programs.specs.inner.Held.{partsOf}
-use Rattle.programs.specs.Program.{programSquares, endedText, ranText, runText, RunsSheet, PutRan, Prints}
+use Rattle.programs.specs.Program.{programSquares, mostPrinted, endedText, ranText, runText, RunsSheet, PutRan, Prints}
+use Rattle.programs.proofs.EndedLaws.{prints}
 use Rattle.programs.proofs.HeldLaws.{partsAt}
 
 module _ (h : Heading) (held : Rooms) {a : Ran} {depths lasts records : List ℕ} where
@@ -41,13 +42,10 @@ module _ (h : Heading) (held : Rooms) {a : Ran} {depths lasts records : List ℕ
 -- the run of what belongs to a sheet, printed at the start of a room
 pub run-printed :
     (h : Heading) (held : Rooms) {n : ℕ} {a : Ran} {depths lasts records shown old new : List ℕ} {r : ℕ} → n ≡ squares (h .shape) →
-    squares (h .shape) ≤ programSquares → shown ≡ depths → RunsSheet h (partsAt n h held) a depths lasts records →
+    squares (h .shape) ≤ programSquares → mostPrinted ≤ length old → shown ≡ depths → RunsSheet h (partsAt n h held) a depths lasts records →
     PutRan (planIn (h .shape) (h .rules) (partsAt n h held)) shown a 0 old new r → Prints (runText h (partsOf h held)) old new r
-run-printed h held {n} {a} {old = old} {new} {r} e few d f w =
+run-printed h held {n} {a} {old = old} {new} {r} e few l d f w =
     let same =
-    ap (λ (l : List ℕ). ranText (planIn (h .shape) (h .rules) (partsAt n h held)) l a) d
+    ap (λ (x : List ℕ). ranText (planIn (h .shape) (h .rules) (partsAt n h held)) x a) d
     ∙ (run-is h (partsAt n h held) f ∙ ap (λ (k : ℕ). runText h (partsAt k h held)) e) in
-    record {
-      wrote = subst (λ (t : List ℕ). Wrote t 0 old new r) same (w .wrote);
-      fits = omega (arith, ap length same, w .fits, few);
-    }
+    prints l (omega (arith, ap length same, w .fits, few)) (subst (λ (t : List ℕ). Wrote t 0 old new r) same (w .wrote))

@@ -4,7 +4,7 @@ use mathlib.Core.Path.{_≡_}
 use mathlib.Core.List.{List, []}
 use Prim.Native.Nat.{ℕ, _+_, _*_, _≤_}
 use lib.Dec.{eqb, leb}
-use lib.ListN.{length}
+use lib.ListN.{length, take}
 use Rattle.reckon.specs.Tests.{pick}
 use Rattle.grid.specs.Squares.{squares}
 use Rattle.ledger.specs.Runs.{Plan, world}
@@ -69,7 +69,9 @@ pub record PutRan (p : Plan) (depths : List ℕ) (a : Ran) (at : ℕ) (old new :
   pub wrote : Wrote (ranText p depths a) at old new r
   pub fits : length (ranText p depths a) ≤ roomFor (squares (p .shape))
 
--- the text at the start of a room, where it fits; the rest of the room stays
+-- the text at the start of a room, where it fits; the rest of the room stays; the last two follow, and are what `&out[..r]` asks
 pub record Prints (t old new : List ℕ) (r : ℕ) : Type 0 where
   pub wrote : Wrote t 0 old new r
   pub fits : length t ≤ mostPrinted
+  pub within : r ≤ length new
+  pub counted : r ≡ length (take r new)

@@ -98,7 +98,7 @@ returns c =
     let t = c .before .before .before in
     let r = refused t in
     meadow-refused (start r .args .text .now) (read-as (t .sheet .given .1) (r .read-within .ensures))
-    (refused-printed (omega arith) (omega arith) (c .put-refused .ensures))
+    (refused-printed (omega arith) (omega arith) (omega arith) (c .put-refused .ensures))
 
 returns-2 : tie.Need-returns-2
 returns-2 c =

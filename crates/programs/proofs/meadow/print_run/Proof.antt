@@ -151,7 +151,7 @@ returns c =
     let r = ran (c .before .before .before .before) in
     let z = counted (r .before) in
     let s = start z in
-    run-printed (s .args .heading) (held s) (z .squares-of .ensures) (s .pre .0 .few) (first-part (after r) (rest r) (left r)) (r .run-sheet .ensures)
+    run-printed (s .args .heading) (held s) (z .squares-of .ensures) (s .pre .0 .few) (s .pre .1) (first-part (after r) (rest r) (left r)) (r .run-sheet .ensures)
     (c .before .before .put-ran .ensures)
 
 pub print-run-spec : {M : Type 1} → statement M
