@@ -19,7 +19,7 @@ use Rattle.ledger.specs.Runs.{Plan, World, Seen, world, seenOf}
 use Rattle.ledger.specs.Record.{roomSlots}
 use Rattle.ledger.specs.TakeBack.{backNumber, takenBack}
 use Rattle.ledger.specs.declared.runs.Run.{Run}
-use Rattle.moves.specs.Given.{Given}
+use Rattle.checks.specs.Given.{Given}
 use Rattle.flood.specs.Run.{Ended, goOn, runTo, stepsOn}
 use Rattle.answer.specs.Printed.{madeText}
 use Rattle.hatches.specs.Log.{Evening, evening, worldOf, opened, mostHatches, drawn, ratesKept, lineFine, keptFine, entryRefusals, entryNumber, stepsNumber, lineRun, lineBack, further, backFrom, afterHatch, afterRate, ratesBack, afterBack, entered, afterEntry}

@@ -20,7 +20,7 @@ use Rattle.reckon.proofs.TestLaws.{pick-true, pick-false, not-both, every-each,
 use Rattle.grid.specs.Squares.{squares, shapeFine}
 use Rattle.ledger.specs.Runs.{Plan, plan}
 use Rattle.ledger.specs.Record.{recordSize}
-use Rattle.moves.specs.Given.{Given, ground, given}
+use Rattle.checks.specs.Given.{Given, ground, given}
 use Rattle.sheet.specs.Lines.{rainWord, inflowWord}
 use Rattle.sheet.specs.Sheet.{Rooms, Cells, cellsRooms, rooms, planIn, givenIn, noLasts, lineOne, shapeOf, rainAt, rainRows, inflowAt, inflowRows, said, roomsFilled, cellsFilled, roomsAfter, roomsFine, headingOf, sheetOf}
 use Rattle.sheet.specs.declared.reading.Heading.{Heading}
@@ -29,7 +29,7 @@ use Rattle.sheet.specs.declared.reading.Sheet.the-variants.{Read, Refused}
 use Rattle.sheet.proofs.JudgeLaws.{said-from, table-taken, take-put, zeros-are}
 use Rattle.sheet.proofs.SheetLaws.{Well, well, rooms-shape, rooms-cells, rain-few, inflow-few}
 use Rattle.answer.specs.Printed.{refusedText}
-use Rattle.answer.specs.Program.{Prints, mostText, programRooms, programSquares}
+use Rattle.programs.specs.Program.{Prints, mostText, programRooms, programSquares}
 use Rattle.hatches.specs.Lines.{logLine}
 use Rattle.hatches.specs.Log.{Evening, evening, mostHatches, mostKept, mostNumbers, keptRecords, entryNumber, afterEntry}
 use Rattle.hatches.specs.Told.{lineTold}

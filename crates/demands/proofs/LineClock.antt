@@ -11,12 +11,12 @@ use Rattle.reckon.proofs.TestLaws.{pick-true}
 use Rattle.rule.specs.Length.{durationFor}
 use Rattle.ledger.specs.Runs.{Plan, World, seenOf}
 use Rattle.ledger.specs.Record.{ringOf}
-use Rattle.moves.specs.Given.{Given}
+use Rattle.checks.specs.Given.{Given}
 use Rattle.moves.specs.Moves.{stepDuration}
-use Rattle.flood.specs.Refusals.{runChecks}
+use Rattle.checks.specs.Refusals.{runChecks}
 use Rattle.flood.specs.Step.{stepNumber, stepped}
 use Rattle.flood.specs.Run.{Ended, ended, runTo}
-use Rattle.flood.proofs.CheckLaws.{ready, end-is, run-checks-step, run-checks-end}
+use Rattle.checks.proofs.CheckLaws.{ready, end-is, run-checks-step, run-checks-end}
 use Rattle.flood.proofs.RunToLaws.{Valid, still-valid, clock-after, clock-on, whole, run-ends, run-refused, run-steps, run-checked, run-passed}
 use Rattle.hatches.specs.Log.{Evening, worldOf, drawn, entryRefusals, entryNumber, stepsNumber, lineRun, afterRate, entered, afterEntry}
 use Rattle.hatches.specs.declared.lines.Entry.the-variants.{Rate}

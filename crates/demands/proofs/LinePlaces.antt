@@ -13,7 +13,7 @@ use Rattle.reckon.specs.Tests.{pick, refusal}
 use Rattle.reckon.proofs.TestLaws.{pick-true, pick-false, not-both}
 use Rattle.ledger.specs.Runs.{Plan}
 use Rattle.rule.specs.declared.rules.Rules.{Rules}
-use Rattle.moves.specs.Given.{Given}
+use Rattle.checks.specs.Given.{Given}
 use Rattle.text.specs.Reading.{Reading, newline, tab, mostNumber, isByte, wordAt, digitsOf, valueFrom, wellFormed, numberFrom, numberAt, fieldAt, withNumber, before, readFields, lineEnded, readRest, readLine}
 use Rattle.text.specs.Reading.Reading.{read, unread}
 use Rattle.text.specs.declared.reading.Number.{Number}

@@ -12,7 +12,7 @@ use Rattle.ledger.specs.Runs.{Plan, World, seenOf}
 use Rattle.sheet.specs.Sheet.{rooms}
 use Rattle.ledger.specs.Record.{roomSlots}
 use Rattle.trials.specs.Ring.{slotsIn}
-use Rattle.moves.specs.Given.{Given}
+use Rattle.checks.specs.Given.{Given}
 use Rattle.answer.specs.Printed.{madeText}
 use Rattle.hatches.specs.Log.{Evening, evening, opened, mostHatches, drawn, entryRefusals, entryNumber, lineRun, lineBack, afterEntry}
 use Rattle.hatches.specs.Told.{standsText}

@@ -20,17 +20,18 @@ use Rattle.grid.specs.Squares.{ShapeInRange, squares}
 use Rattle.grid.specs.declared.squares.Shape.{Shape}
 use Rattle.grid.proofs.SquareLaws.{ranges-of-fine}
 use Rattle.ledger.specs.Runs.{Plan, plan}
-use Rattle.moves.specs.Given.{Given, ground, given}
+use Rattle.checks.specs.Given.{Given, ground, given}
 use Rattle.ledger.specs.Record.{recordSize}
 use Rattle.ledger.specs.declared.runs.Run.{Run}
-use Rattle.flood.specs.Run.{freshRun}
+use Rattle.checks.specs.Fresh.{freshRun}
 use Rattle.answer.specs.Printed.{refusedText}
-use Rattle.answer.specs.Program.{Prints, mostText, programRooms, programSquares}
-use Rattle.sheet.specs.Sheet.{Rooms, rooms, roomsAfter, Reads}
+use Rattle.programs.specs.Program.{Prints, mostText, programRooms, programSquares}
+use Rattle.sheet.specs.Sheet.{Rooms, rooms, roomsAfter, lineOne, shapeOf, headingOf, Reads}
+use Rattle.sheet.proofs.SheetLaws.{Well, well, rooms-shape, rooms-cells}
 use Rattle.sheet.specs.declared.reading.Heading.{Heading}
 use Rattle.sheet.specs.declared.reading.Sheet.{Sheet}
 use Rattle.sheet.specs.declared.reading.Sheet.the-variants.{Read, Refused}
-use Rattle.text.proofs.WritingLaws.{placed-none}
+use Rattle.hatches.proofs.ToldLaws.{nothing-printed}
 use Rattle.hatches.specs.Log.{Evening, evening, opened, mostHatches, mostKept, mostNumbers, keptRecords}
 use Rattle.hatches.specs.Program.{Stores, stores, recordsLent, ratesLent, planHeld, givenHeld, eveningHeld, Holds, isLeft, nightFine, roomsFit, nightFits, nightOver, nightNumber, nightEvening, nightLine, nightNext, textAfter, eveningAfter, nightAfter, firstNight, noNight, sheetBegun, sheetBegunText, begun, begunText, begunStores, Begins, GoesOn}
 use Rattle.hatches.specs.Told.{TakesLine}
@@ -213,7 +214,7 @@ module _ (s : List ℕ) (n : Night) (r : Stores) where
   night-none f {a} {old} e =
       night-stays {a = a} {old = old} {new = old} (e ∙ sym (pick-false _ _ f)) (pick-false _ _ f)
       (subst (λ (t : List ℕ). Prints t old old (a .length)) (sym (pick-false _ _ f))
-      (record { wrote = record { next = ap (λ (x : Night). x .length) e ∙ omega arith; room = sym (placed-none old 0) }; fits = omega arith }))
+      (nothing-printed old (ap (λ (x : Night). x .length) e)))
 
   pub night-refused : isLeft s n ≡ true → nightFits n r ≡ false → {a : Night} {k : ℕ} {old new : List ℕ} → a ≡ nightOver n k → Prints (refusedText 1 0) old new k →
       GoesOn s n r a (r .sheet .cells .depths) (r .lasts) (r .records) (r .began) old new
@@ -305,6 +306,20 @@ zeros-of n old l e = e ∙ ap (λ (k : ℕ). replicate k 0) l
 pub read-zero : {s : List ℕ} {x after : Rooms} {a : Sheet} → x ≡ programRooms → Reads s x a after → Reads s programRooms a after
 read-zero {s} {after = after} {a} e f = subst (λ (y : Rooms). Reads s y a after) e f
 
+pub read-as : {s : List ℕ} {before after : Rooms} {a a′ : Sheet} → a ≡ a′ → Reads s before a after → Reads s before a′ after
+read-as {s} {before} {after} e f = subst (λ (z : Sheet). Reads s before z after) e f
+
+-- a sheet that was read has a fine shape of the program's squares
+pub read-fine : {s : List ℕ} {h : Heading} {after : Rooms} → Reads s programRooms (Read h) after → (ShapeInRange (h .shape)) × (squares (h .shape) ≤ programSquares)
+unfolding headingOf
+read-fine {s} {h} f =
+    let w = well s programRooms h (f .answer) in
+    let e : h .shape ≡ shapeOf s = ap (λ (z : Heading). z .shape) (w .heading) in
+    let few = rooms-cells (shapeOf s) (lineOne s .side) programRooms (w .fine) .0 in (
+      subst ShapeInRange (sym e) (rooms-shape (shapeOf s) (lineOne s .side) programRooms (w .fine)),
+      omega (arith, few, ap squares e, length-replicate {A = ℕ} programSquares 0),
+    )
+
 pub rooms-zero :
     {m b k s d r f : List ℕ} → m ≡ zeros programSquares → b ≡ zeros programSquares → k ≡ zeros programSquares → s ≡ zeros programSquares → d ≡ zeros programSquares →
     r ≡ zeros (tableRoom rainKind) → f ≡ zeros (tableRoom inflowKind) → rooms m b k s d r f ≡ programRooms
@@ -368,5 +383,5 @@ begin-opened sheet log {x} {l} {c} {b} {old} zl zc zb short shorter {h} f {a} e 
       stores-are = stores-same (f .rooms-are ∙ (ap (λ (y : Sheet). roomsAfter sheet y programRooms) (f .answer) ∙ sym (pick-true _ _ t ∙ pick-true _ _ u))) zl zc zb;
       prints =
           printed-as sheet log a (ap sheetBegunText (f .answer) ∙ sym (pick-true _ _ t ∙ pick-true _ _ u)) (ap (λ (y : Night). y .length) e)
-          (record { wrote = record { next = omega arith; room = sym (placed-none old 0) }; fits = omega arith });
+          (nothing-printed old refl);
     }

@@ -22,8 +22,8 @@ use Rattle.ledger.specs.Runs.{Plan, plan}
 use Rattle.ledger.specs.Flows.{shut}
 use Rattle.ledger.specs.Record.{recordSize, roomSlots}
 use Rattle.ledger.specs.Checks.{oneEach}
-use Rattle.moves.specs.Given.{Given}
-use Rattle.answer.specs.Program.{programSquares}
+use Rattle.checks.specs.Given.{Given}
+use Rattle.programs.specs.Program.{programSquares}
 use Rattle.hatches.specs.Log.{Evening, mostHatches, isNamed, isNumber, hatchRows, tableWith, lineFine, lentFine, drawFine, standingFine, keptFine, entryRefusals}
 use Rattle.hatches.specs.declared.lines.Entry.{Entry}
 use Rattle.hatches.specs.declared.lines.Entry.the-variants.{Hatch, Rate, Back, Unread}

@@ -14,11 +14,11 @@ use Rattle.trials.proofs.RingLaws.{fine-ring}
 use Rattle.ledger.specs.Runs.{Plan, World, plan, world, seenOf}
 use Rattle.ledger.specs.Record.{roomSlots, ringOf}
 use Rattle.ledger.specs.declared.runs.Run.{Run}
-use Rattle.moves.specs.Given.{Given, given}
+use Rattle.checks.specs.Given.{Given, given}
 use Rattle.flood.specs.Run.{Ended, ended, goOn, runFrom, runTo, stepsOn}
 use Rattle.flood.specs.Step.{stepNumber, stepped}
-use Rattle.flood.specs.Refusals.{runChecks}
-use Rattle.flood.proofs.CheckLaws.{ring-is}
+use Rattle.checks.specs.Refusals.{runChecks}
+use Rattle.checks.proofs.CheckLaws.{ring-is}
 use Rattle.flood.proofs.RunToLaws.{checks-passed}
 use Rattle.hatches.specs.Log.{Evening, evening, worldOf, drawn, tableWith, ratesKept, ratesWith, ratesBack, logWith, hatchNamed, lineRun, lineBack, further, slots, afterHatch, afterRate, afterBack, entered, stepsNumber, entryRefusals, entryNumber, afterEntry, TakesEntry}
 use Rattle.hatches.specs.declared.lines.Entry.{Entry}

@@ -12,11 +12,13 @@ use Rattle.reckon.specs.Tests.{pick, refusal}
 use Rattle.reckon.proofs.TestLaws.{pick-true, pick-false}
 use Rattle.grid.specs.Squares.{ShapeInRange, squares}
 use Rattle.ledger.specs.Runs.{Plan}
-use Rattle.moves.specs.Given.{Given}
+use Rattle.checks.specs.Given.{Given}
+use Rattle.ledger.specs.declared.runs.Run.{Run}
+use Rattle.answer.proofs.PrintLaws.{made-short}
 use Rattle.text.specs.Writing.{Wrote}
 use Rattle.text.proofs.WritingLaws.{placed-none}
 use Rattle.answer.specs.Printed.{refusedText, madeText}
-use Rattle.answer.specs.Program.{Prints, mostPrinted, programSquares}
+use Rattle.programs.specs.Program.{Prints, mostPrinted, programSquares}
 use Rattle.hatches.specs.Lines.{logLine}
 use Rattle.hatches.specs.Log.{Evening, evening, entryRefusals, entryNumber, afterEntry, TakesEntry}
 use Rattle.hatches.specs.Told.{isShown, standsText, entryText, TakesLine}
@@ -24,6 +26,12 @@ use Rattle.hatches.specs.declared.lines.LogLine.{LogLine}
 use Rattle.hatches.specs.declared.log.Log.{Log}
 use Rattle.hatches.specs.declared.lines.Entry.{Entry}
 use Rattle.hatches.proofs.RefusalLaws.{Lent, entered-is}
+
+-- the program's room holds a world of its squares
+pub made-fits :
+    (p : Plan) (depths : List ℕ) (u : Run) (steps : ℕ) → squares (p .shape) ≤ programSquares → ((i : ℕ) → getD depths i 0 < 2 ^ 32) → u .outflow < 2 ^ 64 → u .soaked < 2 ^ 64 →
+    steps < 2 ^ 64 → u .clock < 2 ^ 64 → length (madeText p depths u steps) ≤ mostPrinted
+made-fits p depths u steps few words hu hk hs hc = omega (arith, made-short p depths u steps (omega (arith, few)) words hu hk hs hc, few)
 
 module _ (p : Plan) (entry : Entry) (line : ℕ) (e : Evening) {old new : List ℕ} {r : ℕ} where
   pub told-line : {number : ℕ} → number ≡ 12 → Prints (refusedText 12 line) old new r → Prints (entryText p number entry line e) old new r
@@ -41,11 +49,15 @@ module _ (p : Plan) (entry : Entry) (line : ℕ) (e : Evening) {old new : List �
   told-world z h w =
       subst (λ (t : List ℕ). Prints t old new r) (sym (pick-true _ _ (eq-eqb _ _ z) ∙ pick-true _ _ h)) w
 
+-- nothing is printed
+pub nothing-printed : (old : List ℕ) {r : ℕ} → r ≡ 0 → Prints [] old old r
+nothing-printed old e = rw e (record { wrote = record { next = omega arith; room = sym (placed-none old 0) }; fits = omega arith; within = omega arith; counted = refl })
+
 pub told-nothing : (p : Plan) (entry : Entry) (line : ℕ) (e : Evening) {old : List ℕ} {number : ℕ} → number ≡ 0 → isShown entry ≡ false → Prints (entryText p number entry line e) old old 0
 unfolding entryText
 told-nothing p entry line e {old} z h =
     subst (λ (t : List ℕ). Prints t old old 0) (sym (pick-true _ _ (eq-eqb _ _ z) ∙ pick-false _ _ h))
-    (record { wrote = record { next = omega arith; room = sym (placed-none old 0) }; fits = omega arith })
+    (nothing-printed old refl)
 
 -- a line that is not refused was lent enough
 pub told-lent : (p : Plan) (g : Given) (e : Evening) (entry : Entry) {number : ℕ} → number ≡ entryNumber p g e entry → number ≡ 0 → Lent p (e .depths) (e .records) (e .began)

@@ -21,9 +21,9 @@ use Rattle.ledger.specs.Record.{recordSize, roomSlots}
 use Rattle.ledger.specs.Checks.{oneEach}
 use Rattle.ledger.specs.TakeBack.{backNumber, takenBack}
 use Rattle.ledger.specs.declared.runs.Run.{Run}
-use Rattle.moves.specs.Given.{Given, given}
+use Rattle.checks.specs.Given.{Given, given}
 use Rattle.flood.specs.Run.{Ended, ended, goOn, runTo}
-use Rattle.answer.specs.Program.{programSquares}
+use Rattle.programs.specs.Program.{programSquares}
 use Rattle.hatches.specs.declared.lines.Entry.{Entry}
 use Rattle.hatches.specs.declared.lines.Entry.the-variants.{Hatch, Rate, Back, Unread}
 use Rattle.hatches.specs.declared.log.Hatches.{Hatches}

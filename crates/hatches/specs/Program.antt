@@ -12,14 +12,14 @@ use Rattle.reckon.specs.Tables.{rainKind, inflowKind}
 use Rattle.grid.specs.Squares.{squares, shapeFine}
 use Rattle.ledger.specs.Runs.{Plan, plan}
 use Rattle.ledger.specs.Record.{recordSize}
-use Rattle.moves.specs.Given.{Given, ground, given}
-use Rattle.flood.specs.Run.{freshRun}
+use Rattle.checks.specs.Given.{Given, ground, given}
+use Rattle.checks.specs.Fresh.{freshRun}
 use Rattle.sheet.specs.Sheet.{Rooms, planIn, givenIn, noLasts, said, sheetOf, roomsAfter}
 use Rattle.sheet.specs.declared.reading.Heading.{Heading}
 use Rattle.sheet.specs.declared.reading.Sheet.{Sheet}
 use Rattle.sheet.specs.declared.reading.Sheet.the-variants.{Read, Refused}
 use Rattle.answer.specs.Printed.{refusedText}
-use Rattle.answer.specs.Program.{Prints, mostText, programRooms, programSquares}
+use Rattle.programs.specs.Program.{Prints, mostText, programRooms, programSquares}
 use Rattle.hatches.specs.Lines.{logLine}
 use Rattle.hatches.specs.Log.{Evening, evening, mostHatches, mostKept, mostNumbers, keptRecords, opened, entryNumber, afterEntry}
 use Rattle.hatches.specs.Told.{lineTold}

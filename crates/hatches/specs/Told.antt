@@ -7,9 +7,9 @@ use Prim.Native.Nat.{ℕ}
 use lib.Dec.{eqb}
 use Rattle.reckon.specs.Tests.{pick}
 use Rattle.ledger.specs.Runs.{Plan}
-use Rattle.moves.specs.Given.{Given}
+use Rattle.checks.specs.Given.{Given}
 use Rattle.answer.specs.Printed.{refusedText, madeText}
-use Rattle.answer.specs.Program.{Prints}
+use Rattle.programs.specs.Program.{Prints}
 use Rattle.hatches.specs.Lines.{logLine}
 use Rattle.hatches.specs.Log.{Evening, entryNumber, afterEntry}
 use Rattle.hatches.specs.declared.lines.Entry.{Entry}

@@ -11,7 +11,7 @@ use Rattle.rule.specs.declared.rules.Rules.{Rules}
 use Rattle.reckon.specs.Tests.{refusal}
 use Rattle.ledger.specs.Runs.{Plan, plan}
 use Rattle.ledger.specs.declared.runs.Run.{Run}
-use Rattle.moves.specs.Given.{Given, given, ground}
+use Rattle.checks.specs.Given.{Given, given, ground}
 use Rattle.hatches.specs.Lines.{logLine}
 use Rattle.hatches.specs.Log.{Evening, evening, opened, hatchNamed, logWith, hatchRows, keptRecords, entryRefusals, ratesBack}
 use Rattle.hatches.specs.Told.{entryText}

@@ -15,9 +15,6 @@ pub const MOST_KEPT: usize = 64;
 
 pub const MOST_NUMBERS: usize = 16_384;
 
-// The most squares that are taken.
-pub const PROGRAM_SQUARES: usize = 1_024;
-
 // Of each hatch whether it is named, and its row and column.
 pub struct Hatches {
     pub named: [bool; 9],

@@ -10,8 +10,9 @@ use crate::rates::rates_in;
 use crate::rates::slot_ago;
 use crate::refusals::entry_number;
 use flood::run::Ran;
-use flood::run::run_to_wet;
+use flood::run::run_to;
 use grid::squares::Shape;
+use grid::walks::Walk;
 use ledger::record::record_size;
 use ledger::runs::Answer;
 use ledger::runs::Run;
@@ -25,10 +26,10 @@ ghost use lib.ListN.{length};
 ghost use Rattle.reckon.specs.Tests.{refusal};
 ghost use Rattle.trials.specs.Ring.{slotsIn};
 ghost use Rattle.ledger.specs.Runs.{plan, world};
-ghost use Rattle.moves.specs.Given.{given, ground};
+ghost use Rattle.checks.specs.Given.{given, ground};
 ghost use Rattle.flood.specs.Run.{ended};
 ghost use Rattle.hatches.specs.Log.{TakesEntry, afterBack, afterRate, backFrom, entryRefusals, evening, keptFine, lentFine, lineBack, lineRun, mostHatches, ratesBack, ratesKept, standingFine};
-ghost use Rattle.moves.specs.Given as Givens;
+ghost use Rattle.checks.specs.Given as Givens;
 ghost use Rattle.hatches.specs.inner.Backs.{BacksOnce};
 ghost use Rattle.hatches.specs.declared.lines.Entry.the-variants as kinds;
 
@@ -76,7 +77,8 @@ fn run_line(
     let length = fill_table(inflow, log.hatches, litres, &mut table);
     let slots = trials::slots_in(record_size(shape), records.len());
     let before = log.run;
-    let ran = run_to_wet(
+    let ran = run_to(
+        Walk::Wet,
         shape,
         rules,
         before,

@@ -9,7 +9,7 @@ use lib.ListN.{length}
 use Rattle.reckon.specs.Tests.{every}
 use Rattle.reckon.specs.Tables.{rainKind, inflowKind, tableRoom}
 use Rattle.grid.specs.Squares.{squares}
-use Rattle.answer.specs.Program.{programSquares}
+use Rattle.programs.specs.Program.{programSquares}
 use Rattle.sheet.specs.declared.reading.Heading.{Heading}
 use Rattle.hatches.specs.Log.{mostHatches, mostKept, mostNumbers}
 use Rattle.hatches.specs.Program.{Stores, recordsLent, ratesLent}

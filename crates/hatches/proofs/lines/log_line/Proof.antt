@@ -6,56 +6,40 @@ use Rattle.hatches.proofs.LineLaws.{line-hatch, line-back, line-rate}
 use borrow.Author.Needs.{needs}
 use Rattle.hatches.proofs.lines.log_line.Statement.{statement}
 use Rattle.hatches.proofs.lines.log_line.Tie as tie
-use Rattle.hatches.proofs.lines.log_line.Reads as reads
-use Rattle.hatches.proofs.lines.log_line.Lts as lts
-use Rattle.hatches.proofs.lines.rate_line.Reads as rate-line-reads
-use Rattle.text.proofs.reading.line_of.Reads as line-of-reads
 
--- src/lines.rt:56:35
 slice-aggregate-line-of : tie.Need-slice-aggregate-line-of
 slice-aggregate-line-of c = search needs
 
--- src/lines.rt:56:9
 line-of-requires : tie.Need-line-of-requires
 line-of-requires c κs = search needs
 
--- src/lines.rt:60:33
 array-read-t14 : tie.Need-array-read-t14
 array-read-t14 c = search needs
 
--- src/lines.rt:60:44
 array-read-t17 : tie.Need-array-read-t17
 array-read-t17 c = search needs
 
--- src/lines.rt:60:55
 array-read-t20 : tie.Need-array-read-t20
 array-read-t20 c = search needs
 
--- src/lines.rt:59:9
 returns : tie.Need-returns
 returns c = line-hatch _ _ (c .before .before .line-of .ensures) (c .before .if1 .taken)
 
--- src/lines.rt:64:34
 slice-aggregate-line-of-2 : tie.Need-slice-aggregate-line-of-2
 slice-aggregate-line-of-2 c = search needs
 
--- src/lines.rt:64:9
 line-of-requires-2 : tie.Need-line-of-requires-2
 line-of-requires-2 c κs = search needs
 
--- src/lines.rt:68:32
 array-read-t26 : tie.Need-array-read-t26
 array-read-t26 c = search needs
 
--- src/lines.rt:67:9
 returns-2 : tie.Need-returns-2
 returns-2 c = line-back _ _ (c .before .before .before .before .before .line-of .ensures) (c .before .before .before .before .if1 .left) (c .before .before .line-of2 .ensures) (c .before .if2 .taken)
 
--- src/lines.rt:72:5
 rate-line-requires : tie.Need-rate-line-requires
 rate-line-requires c κs = search needs
 
--- src/lines.rt:53:1
 returns-3 : tie.Need-returns-3
 returns-3 c = line-rate _ _ (c .before .before .before .before .before .line-of .ensures) (c .before .before .before .before .if1 .left) (c .before .before .line-of2 .ensures) (c .before .if2 .left) (c .rate-line .ensures)
 

@@ -6,53 +6,37 @@ use Rattle.hatches.proofs.LineLaws.{rate-none, rate-unread, rate-read}
 use borrow.Author.Needs.{needs}
 use Rattle.hatches.proofs.lines.rate_line.Statement.{statement}
 use Rattle.hatches.proofs.lines.rate_line.Tie as tie
-use Rattle.hatches.proofs.lines.rate_line.Reads as reads
-use Rattle.hatches.proofs.lines.rate_line.Lts as lts
-use Rattle.hatches.proofs.lines.unread.Reads as unread-reads
-use Rattle.text.proofs.reading.number_at.Reads as number-at-reads
-use Rattle.text.proofs.reading.rest_of_line.Reads as rest-of-line-reads
 
--- src/lines.rt:38:35
 number-at-requires : tie.Need-number-at-requires
 number-at-requires c κs = search needs
 
--- src/lines.rt:38:20
 enum-known-clock : tie.Need-enum-known-clock
 enum-known-clock c = search needs
 
--- src/lines.rt:39:9
 enum-told : tie.Need-enum-told
 enum-told c = search needs
 
--- src/lines.rt:39:9
 unread-requires : tie.Need-unread-requires
 unread-requires c κs = search needs
 
--- src/lines.rt:39:9
 returns : tie.Need-returns
 returns c = c .unread .ensures ∙ rate-none _ _ (sym (c .before .enum-told .given .1) ∙ c .before .before .before .number-at .ensures)
 
--- src/lines.rt:41:9
 rest-of-line-requires : tie.Need-rest-of-line-requires
 rest-of-line-requires c κs = search needs
 
--- src/lines.rt:43:9
 unread-requires-2 : tie.Need-unread-requires-2
 unread-requires-2 c κs = search needs
 
--- src/lines.rt:43:9
 returns-2 : tie.Need-returns-2
 returns-2 c = c .unread2 .ensures ∙ rate-unread _ _ (sym (c .before .before .before .before .before .clock .given .1) ∙ c .before .before .before .before .before .before .before .number-at .ensures) (c .before .before .before .rest-of-line .ensures) (not-true _ (c .before .if1 .taken))
 
--- src/lines.rt:47:35
 array-read-t11 : tie.Need-array-read-t11
 array-read-t11 c = search needs
 
--- src/lines.rt:47:46
 array-read-t14 : tie.Need-array-read-t14
 array-read-t14 c = search needs
 
--- src/lines.rt:35:1
 returns-3 : tie.Need-returns-3
 returns-3 c = rate-read _ _ (sym (c .before .before .before .before .before .clock .given .1) ∙ c .before .before .before .before .before .before .before .number-at .ensures) (c .before .before .before .rest-of-line .ensures) (not-false _ (c .before .if1 .left))
 

@@ -1,17 +1,16 @@
 -- `hatches::program::begin_log` meets its contract: the rooms are cleared, and then the reader's refusals, or the first night.
 -- Assumes nothing.
 use mathlib.Core.Path.{_≡_}
-use Prim.Native.Nat.{_*_}
+use Prim.Native.Nat.{_*_, _≤_}
 use native.Mathlib.Omega.{arith}
 use lib.ListN.{length}
 use borrow.Author.Needs.{needs}
 use Rattle.reckon.specs.Tables.{rainKind, inflowKind, tableRoom}
 use Rattle.sheet.specs.Sheet.{Rooms, rooms, Reads}
-use Rattle.answer.specs.Program.{programRooms, programSquares}
-use Rattle.answer.proofs.PrintLaws.{refused-printed}
-use Rattle.answer.proofs.MeadowLaws.{read-as, meadow-shape, meadow-few}
+use Rattle.programs.specs.Program.{mostPrinted, programRooms, programSquares}
+use Rattle.programs.proofs.EndedLaws.{refused-printed}
 use Rattle.hatches.specs.Log.{mostHatches, mostKept, mostNumbers}
-use Rattle.hatches.proofs.NightLaws.{zeros, zeros-of, rooms-zero, read-zero, begin-long, begin-longer, begin-refused, begin-opened}
+use Rattle.hatches.proofs.NightLaws.{zeros, zeros-of, rooms-zero, read-zero, read-as, read-fine, begin-long, begin-longer, begin-refused, begin-opened}
 use Rattle.hatches.proofs.program.begin_log.Statement.{statement}
 use Rattle.hatches.proofs.program.begin_log.Tie as tie
 
@@ -79,6 +78,16 @@ zero-began c = zeros-of (mostKept * mostHatches) (c .before .before .before .bef
 zero-rooms : (c : tie.After-clear9) → rooms (c .before .before .before .before .before .before .before .before .before .before .before .before .before .before .before .before .before .before .clear-bytes .last .0) (c .before .before .before .before .before .before .before .before .before .before .before .before .before .before .before .before .clear .last .0) (c .before .before .before .before .before .before .before .before .before .before .before .before .before .before .clear2 .last .0) (c .before .before .before .before .before .before .before .before .before .before .before .before .clear3 .last .0) (c .before .before .before .before .before .before .clear6 .last .0) (c .before .before .before .before .before .before .before .before .before .before .clear4 .last .0) (c .before .before .before .before .before .before .before .before .clear5 .last .0) ≡ programRooms
 zero-rooms c = rooms-zero (zero-marks (c .before .before .before .before .before .before .before .before .before .before .before .before .before .before .before .before .before .before)) (zero-beds (c .before .before .before .before .before .before .before .before .before .before .before .before .before .before .before .before)) (zero-roughness (c .before .before .before .before .before .before .before .before .before .before .before .before .before .before)) (zero-rates (c .before .before .before .before .before .before .before .before .before .before .before .before)) (zero-depths (c .before .before .before .before .before .before)) (zero-rain (c .before .before .before .before .before .before .before .before .before .before)) (zero-inflow (c .before .before .before .before .before .before .before .before))
 
+-- what is printed has its room
+room-1 : (c : tie.After-put-refused-arg) → mostPrinted ≤ length (c .before .before .before .before .before .before .before .before .before .before .before .before .before .before .before .before .before .before .before .before .before .before .before .before .args .out .now)
+room-1 c = search needs
+
+room-2 : (c : tie.After-put-refused-arg2) → mostPrinted ≤ length (c .before .before .before .before .before .before .before .before .before .before .before .before .before .before .before .before .before .before .before .before .before .before .before .before .before .args .out .now)
+room-2 c = search needs
+
+room-3 : (c : tie.After-put-refused-arg3) → mostPrinted ≤ length (c .before .before .before .before .before .before .before .before .before .before .before .before .before .before .before .before .before .before .before .before .before .before .before .before .before .before .before .before .before .before .before .before .before .before .before .before .args .out .now)
+room-3 c = search needs
+
 -- the rooms after the reader, and that it has read them
 abbrev rooms-read : tie.After-read → Rooms
 rooms-read c =
@@ -88,107 +97,83 @@ rooms-read c =
 reads : (c : tie.After-read) → Reads (c .before .before .before .before .before .before .before .before .before .before .before .before .before .before .before .before .before .before .before .before .before .before .before .before .before .before .before .before .before .before .before .before .args .sheet .now) programRooms (c .read .result) (rooms-read c)
 reads c = read-zero (zero-rooms (c .before .before .before .before .before .before .before .before .before .before)) (c .read .ensures)
 
--- src/program.rt:164:5
 clear-bytes-requires : tie.Need-clear-bytes-requires
 clear-bytes-requires c κs = search needs
 
--- src/program.rt:165:5
 clear-requires : tie.Need-clear-requires
 clear-requires c κs = search needs
 
--- src/program.rt:166:5
 clear-requires-2 : tie.Need-clear-requires-2
 clear-requires-2 c κs = search needs
 
--- src/program.rt:167:5
 clear-requires-3 : tie.Need-clear-requires-3
 clear-requires-3 c κs = search needs
 
--- src/program.rt:168:5
 clear-requires-4 : tie.Need-clear-requires-4
 clear-requires-4 c κs = search needs
 
--- src/program.rt:169:5
 clear-requires-5 : tie.Need-clear-requires-5
 clear-requires-5 c κs = search needs
 
--- src/program.rt:170:5
 clear-requires-6 : tie.Need-clear-requires-6
 clear-requires-6 c κs = search needs
 
--- src/program.rt:171:5
 clear-requires-7 : tie.Need-clear-requires-7
 clear-requires-7 c κs = search needs
 
--- src/program.rt:172:5
 clear-requires-8 : tie.Need-clear-requires-8
 clear-requires-8 c κs = search needs
 
--- src/program.rt:173:5
 clear-requires-9 : tie.Need-clear-requires-9
 clear-requires-9 c κs = search needs
 
--- src/program.rt:175:25
 put-refused-requires : tie.Need-put-refused-requires
 put-refused-requires c κs = search needs
 
--- src/program.rt:175:9
 no-night-requires : tie.Need-no-night-requires
 no-night-requires c κs = search needs
 
--- src/program.rt:175:9
 returns : tie.Need-returns
 returns c =
     let s = (c .before .before .before .before .before .before .before .before .before .before .before .before .before .before .before .before .before .before .before .before .before .before .before .before .before .before) in
-    begin-long (s .args .sheet .now) (s .args .log .now) (zero-lasts ((c .before .before .before .before .before .before .before .before))) (zero-records ((c .before .before .before .before .before .before))) (zero-began ((c .before .before .before .before))) (zero-rooms ((c .before .before .before .before))) (c .before .before .before .if1 .taken) (c .no-night .ensures) (refused-printed (omega arith) (omega arith) (c .before .put-refused .ensures))
+    begin-long (s .args .sheet .now) (s .args .log .now) (zero-lasts ((c .before .before .before .before .before .before .before .before))) (zero-records ((c .before .before .before .before .before .before))) (zero-began ((c .before .before .before .before))) (zero-rooms ((c .before .before .before .before))) (c .before .before .before .if1 .taken) (c .no-night .ensures) (refused-printed (room-1 (c .before .before)) (omega arith) (omega arith) (c .before .put-refused .ensures))
 
--- src/program.rt:178:25
 put-refused-requires-2 : tie.Need-put-refused-requires-2
 put-refused-requires-2 c κs = search needs
 
--- src/program.rt:178:9
 no-night-requires-2 : tie.Need-no-night-requires-2
 no-night-requires-2 c κs = search needs
 
--- src/program.rt:178:9
 returns-2 : tie.Need-returns-2
 returns-2 c =
     let s = (c .before .before .before .before .before .before .before .before .before .before .before .before .before .before .before .before .before .before .before .before .before .before .before .before .before .before .before) in
-    begin-longer (s .args .sheet .now) (s .args .log .now) (zero-lasts ((c .before .before .before .before .before .before .before .before .before))) (zero-records ((c .before .before .before .before .before .before .before))) (zero-began ((c .before .before .before .before .before))) (c .before .before .before .before .if1 .left) (zero-rooms ((c .before .before .before .before .before))) (c .before .before .before .if2 .taken) (c .no-night2 .ensures) (refused-printed (omega arith) (omega arith) (c .before .put-refused2 .ensures))
+    begin-longer (s .args .sheet .now) (s .args .log .now) (zero-lasts ((c .before .before .before .before .before .before .before .before .before))) (zero-records ((c .before .before .before .before .before .before .before))) (zero-began ((c .before .before .before .before .before))) (c .before .before .before .before .if1 .left) (zero-rooms ((c .before .before .before .before .before))) (c .before .before .before .if2 .taken) (c .no-night2 .ensures) (refused-printed (room-2 (c .before .before)) (omega arith) (omega arith) (c .before .put-refused2 .ensures))
 
--- src/program.rt:180:11
 read-requires : tie.Need-read-requires
 read-requires c κs = search needs
 
--- src/program.rt:181:24
 enum-known-number : tie.Need-enum-known-number
 enum-known-number c = search needs
 
--- src/program.rt:181:50
 put-refused-requires-3 : tie.Need-put-refused-requires-3
 put-refused-requires-3 c κs = search needs
 
--- src/program.rt:181:41
 no-night-requires-3 : tie.Need-no-night-requires-3
 no-night-requires-3 c κs = search needs
 
--- src/program.rt:182:21
 enum-known-heading : tie.Need-enum-known-heading
 enum-known-heading c = search needs
 
--- src/program.rt:182:33
 first-night-requires : tie.Need-first-night-requires
 first-night-requires c κs =
     let v = read-as (c .before .heading .given .1) (reads ((c .before .before .before))) in
-    (meadow-shape _ v, meadow-few _ v)
+    read-fine v
 
--- src/program.rt:147:1
 returns-3 : tie.Need-returns-3
 returns-3 c =
     let s = (c .before .before .before .before .before .before .before .before .before .before .before .before .before .before .before .before .before .before .before .before .before .before .before .before .before .before .before .before .before .before .before .before .before .before .before .before .before .before) in
-    begin-refused (s .args .sheet .now) (s .args .log .now) (zero-lasts ((c .before .before .before .before .before .before .before .before .before .before .before .before .before .before .before .before .before .before .before .before))) (zero-records ((c .before .before .before .before .before .before .before .before .before .before .before .before .before .before .before .before .before .before))) (zero-began ((c .before .before .before .before .before .before .before .before .before .before .before .before .before .before .before .before))) (c .before .before .before .before .before .before .before .before .before .before .before .before .before .before .before .if1 .left) (c .before .before .before .before .before .before .before .before .before .before .before .before .before .before .if2 .left) (read-as (c .before .before .before .before .number .given .1) (reads ((c .before .before .before .before .before .before)))) (c .no-night3 .ensures) (refused-printed (omega arith) (omega arith) (c .before .put-refused3 .ensures))
+    begin-refused (s .args .sheet .now) (s .args .log .now) (zero-lasts ((c .before .before .before .before .before .before .before .before .before .before .before .before .before .before .before .before .before .before .before .before))) (zero-records ((c .before .before .before .before .before .before .before .before .before .before .before .before .before .before .before .before .before .before))) (zero-began ((c .before .before .before .before .before .before .before .before .before .before .before .before .before .before .before .before))) (c .before .before .before .before .before .before .before .before .before .before .before .before .before .before .before .if1 .left) (c .before .before .before .before .before .before .before .before .before .before .before .before .before .before .if2 .left) (read-as (c .before .before .before .before .number .given .1) (reads ((c .before .before .before .before .before .before)))) (c .no-night3 .ensures) (refused-printed (room-3 (c .before .before)) (omega arith) (omega arith) (c .before .put-refused3 .ensures))
 
--- src/program.rt:147:1
 returns-4 : tie.Need-returns-4
 returns-4 c =
     let s = (c .before .before .before .before .before .before .before .before .before .before .before .before .before .before .before .before .before .before .before .before .before .before .before .before .before .before .before .before .before .before .before .before .before .before .before .before) in

@@ -9,8 +9,6 @@ use Rattle.reckon.proofs.ListLaws.{filled-none}
 use Rattle.hatches.proofs.NightLaws.{cleared, clear-more, clear-long, clear-whole}
 use Rattle.hatches.proofs.program.clear.Statement.{statement}
 use Rattle.hatches.proofs.program.clear.Tie as tie
-use Rattle.hatches.proofs.program.clear.Reads as reads
-use Rattle.hatches.proofs.program.clear.Lts as lts
 
 abbrev Inv-loop : tie.InvT-loop
 Inv-loop room₀ i₀ room i =
@@ -20,35 +18,27 @@ abbrev μ-loop : tie.MeasureT-loop
 μ-loop room₀ i₀ room i =
     length room₀ - i
 
--- src/program.rt:73:5
 loop-holds : tie.Need-loop-holds Inv-loop μ-loop
 loop-holds c = filled-none _ _ _
 
--- src/program.rt:74:9
 mul-room : tie.Need-mul-room Inv-loop μ-loop
 mul-room c = let s = (c .before .before) in omega (arith, c .loop-test .taken, clear-long (s .args .room .now) _ (c .before .loop .inv))
 
--- src/program.rt:74:9
 slice-write-room : tie.Need-slice-write-room Inv-loop μ-loop
 slice-write-room c = search needs
 
--- src/program.rt:75:9
 add-i : tie.Need-add-i Inv-loop μ-loop
 add-i c = let s = (c .before .before) in omega (arith, c .loop-test .taken, clear-long (s .args .room .now) _ (c .before .loop .inv))
 
--- src/program.rt:73:5
 loop-less : tie.Need-loop-less Inv-loop μ-loop
 loop-less c = let s = (c .before .before) in omega (arith, c .loop-test .taken, clear-long (s .args .room .now) _ (c .before .loop .inv))
 
--- src/program.rt:73:5
 loop-again : tie.Need-loop-again Inv-loop μ-loop
 loop-again c = let s = (c .before .before) in clear-more (s .args .room .now) _ (omega (arith, c .loop-test .taken, clear-long (s .args .room .now) _ (c .before .loop .inv))) (c .before .loop .inv)
 
--- src/program.rt:69:1
 same-length : tie.Need-same-length Inv-loop μ-loop
 same-length c = let s = (c .before .before) in clear-long (s .args .room .now) _ (c .before .loop .inv)
 
--- src/program.rt:69:1
 returns : tie.Need-returns Inv-loop μ-loop
 returns c = let s = (c .before .before) in clear-whole (s .args .room .now) _ (c .before .loop .inv) (omega (arith, c .loop-test .left, clear-long (s .args .room .now) _ (c .before .loop .inv)))
 

@@ -5,25 +5,16 @@ use Rattle.hatches.proofs.NightLaws.{kept-some, night-first}
 use borrow.Author.Needs.{needs}
 use Rattle.hatches.proofs.program.first_night.Statement.{statement}
 use Rattle.hatches.proofs.program.first_night.Tie as tie
-use Rattle.hatches.proofs.program.first_night.Reads as reads
-use Rattle.hatches.proofs.program.first_night.Lts as lts
-use Rattle.flood.proofs.fresh.fresh_run.Reads as fresh-run-reads
-use Rattle.hatches.proofs.log.kept_records.Reads as kept-records-reads
-use Rattle.hatches.proofs.log.open_log.Reads as open-log-reads
 
--- src/program.rt:95:9
 kept-records-requires : tie.Need-kept-records-requires
 kept-records-requires c κs = search needs
 
--- src/program.rt:96:9
 fresh-run-requires : tie.Need-fresh-run-requires
 fresh-run-requires c κs = let s = (c .before) in omega (arith, c .kept-records .ensures, kept-some (s .args .heading .shape) (s .pre .1))
 
--- src/program.rt:103:14
 open-log-requires : tie.Need-open-log-requires
 open-log-requires c κs = search needs
 
--- src/program.rt:91:1
 returns : tie.Need-returns
 returns c = let s = (c .before .before .before) in night-first (s .args .heading) (s .args .length) (c .before .before .kept-records .ensures) (c .before .fresh-run .ensures) (c .open-log .ensures)
 

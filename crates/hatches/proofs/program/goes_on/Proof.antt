@@ -3,17 +3,13 @@
 use mathlib.Core.Path.{refl, sym}
 use borrow.Author.Tests.{eq-eqb, ne-eqb}
 use Rattle.reckon.proofs.TestLaws.{every-fails}
-use Rattle.flood.proofs.CheckLaws.{every-decided}
+use Rattle.checks.proofs.CheckLaws.{every-decided}
 use Rattle.hatches.proofs.program.goes_on.Statement.{statement}
 use Rattle.hatches.proofs.program.goes_on.Tie as tie
-use Rattle.hatches.proofs.program.goes_on.Reads as reads
-use Rattle.hatches.proofs.program.goes_on.Lts as lts
 
--- src/program.rt:232:9
 returns : tie.Need-returns
 returns c = sym (every-fails _ 0 (ne-eqb _ _ (c .if1 .taken)))
 
--- src/program.rt:228:1
 returns-2 : tie.Need-returns-2
 returns-2 c = every-decided _ 1 _ refl (λ t. (eq-eqb _ _ (c .before .if1 .left), (t, tt)))
 

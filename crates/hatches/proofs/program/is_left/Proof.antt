@@ -3,17 +3,13 @@
 use mathlib.Core.Path.{refl, sym}
 use borrow.Author.Tests.{not-true, not-false}
 use Rattle.reckon.proofs.TestLaws.{every-fails}
-use Rattle.flood.proofs.CheckLaws.{every-decided}
+use Rattle.checks.proofs.CheckLaws.{every-decided}
 use Rattle.hatches.proofs.program.is_left.Statement.{statement}
 use Rattle.hatches.proofs.program.is_left.Tie as tie
-use Rattle.hatches.proofs.program.is_left.Reads as reads
-use Rattle.hatches.proofs.program.is_left.Lts as lts
 
--- src/program.rt:152:9
 returns : tie.Need-returns
 returns c = sym (every-fails _ 0 (not-true _ (c .if1 .taken)))
 
--- src/program.rt:148:1
 returns-2 : tie.Need-returns-2
 returns-2 c = every-decided _ 1 _ refl (λ t. (not-false _ (c .before .if1 .left), (t, tt)))
 

@@ -7,19 +7,13 @@ use Rattle.hatches.specs.declared.program.Night.{Night}
 use borrow.Author.Needs.{needs}
 use Rattle.hatches.proofs.program.next_night.Statement.{statement}
 use Rattle.hatches.proofs.program.next_night.Tie as tie
-use Rattle.hatches.proofs.program.next_night.Reads as reads
-use Rattle.hatches.proofs.program.next_night.Lts as lts
-use Rattle.hatches.proofs.program.goes_on.Reads as goes-on-reads
 
--- src/program.rt:218:15
 goes-on-requires : tie.Need-goes-on-requires
 goes-on-requires c κs = search needs
 
--- src/program.rt:220:15
 add-t7 : tie.Need-add-t7
 add-t7 c = search needs
 
--- src/program.rt:211:1
 returns : tie.Need-returns
 returns c = let s = (c .before .before .before .before) in ap (λ (b : Bool). record { more = b; at = s .args .told .next; line = s .args .night .line + 1; length = s .args .told .length; heading = s .args .night .heading; log = s .args .told .log }) (c .before .goes-on .ensures)
 

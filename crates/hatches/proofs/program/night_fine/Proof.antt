@@ -6,50 +6,38 @@ use borrow.Author.Tests.{lt-leb, le-leb}
 use Rattle.reckon.proofs.TestLaws.{every-fails}
 use Rattle.grid.specs.Squares.{squares}
 use Rattle.grid.proofs.SquareLaws.{ranges-of-fine}
-use Rattle.answer.specs.Program.{programSquares}
-use Rattle.flood.proofs.CheckLaws.{fails-by, holds-by, every-decided}
+use Rattle.programs.specs.Program.{programSquares}
+use Rattle.checks.proofs.CheckLaws.{fails-by, holds-by, every-decided}
 use Rattle.hatches.specs.Program.{nightFine}
 use borrow.Author.Needs.{needs}
 use Rattle.hatches.proofs.program.night_fine.Statement.{statement}
 use Rattle.hatches.proofs.program.night_fine.Tie as tie
-use Rattle.hatches.proofs.program.night_fine.Reads as reads
-use Rattle.hatches.proofs.program.night_fine.Lts as lts
-use Rattle.grid.proofs.squares.shape_fine.Reads as shape-fine-reads
-use Rattle.grid.proofs.squares.squares_of.Reads as squares-of-reads
 
--- src/program.rt:163:9
 shape-fine-requires : tie.Need-shape-fine-requires
 shape-fine-requires c κs = search needs
 
--- src/program.rt:164:9
 returns : tie.Need-returns
 unfolding nightFine
 returns c = sym (every-fails _ 0 (fails-by (c .before .shape-fine .ensures) (c .if1 .taken)))
 
--- src/program.rt:166:26
 squares-of-requires : tie.Need-squares-of-requires
 squares-of-requires c κs = ranges-of-fine _ (holds-by (c .before .shape-fine .ensures) (c .if1 .left))
 
--- src/program.rt:167:9
 returns-2 : tie.Need-returns-2
 unfolding nightFine
 returns-2 c = let s = (c .before .before .before .before .before) in sym (every-fails _ 1 (lt-leb (squares (s .args .night .heading .shape)) programSquares (omega (arith, c .before .squares-of .ensures, c .if2 .taken))))
 
--- src/program.rt:170:9
 returns-3 : tie.Need-returns-3
 unfolding nightFine
 returns-3 c = sym (every-fails _ 2 (lt-leb _ _ (c .if3 .taken)))
 
--- src/program.rt:173:9
 returns-4 : tie.Need-returns-4
 unfolding nightFine
 returns-4 c = sym (every-fails _ 3 (lt-leb _ _ (c .if4 .taken)))
 
--- src/program.rt:175:19
 add-result : tie.Need-add-result
 add-result c = search needs
 
--- src/program.rt:158:1
 returns-5 : tie.Need-returns-5
 unfolding nightFine
 returns-5 c =

@@ -7,15 +7,10 @@ use Rattle.hatches.specs.declared.log.Log.{Log}
 use borrow.Author.Needs.{needs}
 use Rattle.hatches.proofs.program.no_night.Statement.{statement}
 use Rattle.hatches.proofs.program.no_night.Tie as tie
-use Rattle.hatches.proofs.program.no_night.Reads as reads
-use Rattle.hatches.proofs.program.no_night.Lts as lts
-use Rattle.hatches.proofs.log.open_log.Reads as open-log-reads
 
--- src/program.rt:142:14
 open-log-requires : tie.Need-open-log-requires
 open-log-requires c κs = search needs
 
--- src/program.rt:105:1
 returns : tie.Need-returns
 returns c = ap (λ (l : Log). record { more = false; at = 0; line = 0; length = c .before .args .length; heading = noHeading; log = l }) (c .open-log .ensures)
 

@@ -1,5 +1,4 @@
 -- `hatches::program::sizes_of` meets its contract.
--- the night that is asked
 -- Assumes nothing.
 use mathlib.Core.Path.{_≡_, refl, ap₂}
 use mathlib.Core.List.{[]}
@@ -11,47 +10,35 @@ use native.Mathlib.Omega.{arith}
 use Rattle.hatches.proofs.NightLaws.{Fine, fine-is, kept-fit, kept-few, sizes-made}
 use Rattle.hatches.proofs.program.sizes_of.Statement.{statement}
 use Rattle.hatches.proofs.program.sizes_of.Tie as tie
-use Rattle.hatches.proofs.program.sizes_of.Reads as reads
-use Rattle.hatches.proofs.program.sizes_of.Lts as lts
-use Rattle.grid.proofs.squares.squares_of.Reads as squares-of-reads
-use Rattle.hatches.proofs.log.kept_records.Reads as kept-records-reads
-use Rattle.ledger.proofs.record.record_size.Reads as record-size-reads
 
+-- the night that is asked
 fine : (s : tie.Start) → Fine (s .args .night)
 fine s = fine-is (s .args .night) (s .pre)
 
--- src/program.rt:184:9
 kept-records-requires : tie.Need-kept-records-requires
 kept-records-requires c κs = let s = (c .before) in fine s .shape
 
--- src/program.rt:186:18
 squares-of-requires : tie.Need-squares-of-requires
 squares-of-requires c κs = let s = (c .before .before) in fine s .shape
 
--- src/program.rt:187:15
 mul-t5 : tie.Need-mul-t5
 mul-t5 c = let s = (c .before .before .before .before) in omega (arith, fine s .rain)
 
--- src/program.rt:188:17
 mul-t6 : tie.Need-mul-t6
 mul-t6 c = let s = (c .before .before .before .before .before) in omega (arith, fine s .inflow)
 
--- src/program.rt:189:26
 record-size-requires : tie.Need-record-size-requires
 record-size-requires c κs = let s = (c .before .before .before .before .before) in fine s .shape
 
--- src/program.rt:189:18
 mul-t8 : tie.Need-mul-t8
 mul-t8 c =
     let s = (c .before .before .before .before .before .before) in
     let m : c .before .before .before .before .kept-records .result * c .record-size .result ≡ keptRecords (plan (s .args .night .heading .shape) []) * recordSize (plan (s .args .night .heading .shape) []) = ap₂ (λ (x y : ℕ). x * y) (c .before .before .before .before .kept-records .ensures) (c .record-size .ensures) in
     omega (arith, m, kept-fit (s .args .night .heading .shape))
 
--- src/program.rt:190:16
 mul-t9 : tie.Need-mul-t9
 mul-t9 c = let s = (c .before .before .before .before .before .before) in omega (arith, c .before .before .before .before .kept-records .ensures, kept-few (s .args .night .heading .shape))
 
--- src/program.rt:179:1
 returns : tie.Need-returns
 returns c = let s = (c .before .before .before .before .before .before) in sizes-made (s .args .night) (s .pre) (c .before .before .before .squares-of .ensures) (c .before .before .before .before .kept-records .ensures) (c .record-size .ensures) refl refl
 

@@ -9,8 +9,6 @@ use Rattle.hatches.specs.Log.{mostHatches}
 use Rattle.hatches.proofs.RowLaws.{namedBelow, named-none, named-more, named-same, named-few, rows-long}
 use Rattle.hatches.proofs.rates.count_named.Statement.{statement}
 use Rattle.hatches.proofs.rates.count_named.Tie as tie
-use Rattle.hatches.proofs.rates.count_named.Reads as reads
-use Rattle.hatches.proofs.rates.count_named.Lts as lts
 
 abbrev Inv-loop : tie.InvT-loop
 Inv-loop named count₀ hatch₀ count hatch =
@@ -20,31 +18,24 @@ abbrev μ-loop : tie.MeasureT-loop
 μ-loop named count₀ hatch₀ count hatch =
     mostHatches - hatch
 
--- src/rates.rt:25:5
 loop-holds : tie.Need-loop-holds Inv-loop μ-loop
 loop-holds c = (omega arith, named-none _)
 
--- src/rates.rt:26:12
 array-read-if1 : tie.Need-array-read-if1 Inv-loop μ-loop
 array-read-if1 c = search needs
 
--- src/rates.rt:27:13
 add-count : tie.Need-add-count Inv-loop μ-loop
 add-count c = omega (arith, c .before .before .loop .inv, named-few ((c .before .before .before .before) .args .hatches .named) (c .before .before .loop .hatch), c .before .loop-test .taken)
 
--- src/rates.rt:29:9
 add-hatch : tie.Need-add-hatch Inv-loop μ-loop
 add-hatch c = omega (arith, c .before .loop-test .taken)
 
--- src/rates.rt:25:5
 loop-less : tie.Need-loop-less Inv-loop μ-loop
 loop-less c = omega (arith, c .before .loop-test .taken)
 
--- src/rates.rt:25:5
 loop-again : tie.Need-loop-again Inv-loop μ-loop
 loop-again c = (omega (arith, c .before .loop-test .taken), ⊎-elim (λ w. w .1 ∙ named-more _ _ (c .before .before .loop .inv .1) (w .0 .taken)) (λ w. w .1 ∙ named-same _ _ (c .before .before .loop .inv .1) (w .0 .left)) (c .if1 .came))
 
--- src/rates.rt:19:1
 returns : tie.Need-returns Inv-loop μ-loop
 returns c =
     let s = (c .before .before .before) in

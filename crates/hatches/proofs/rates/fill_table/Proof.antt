@@ -8,20 +8,13 @@ use Rattle.hatches.proofs.RowLaws.{table-written}
 use borrow.Author.Needs.{needs}
 use Rattle.hatches.proofs.rates.fill_table.Statement.{statement}
 use Rattle.hatches.proofs.rates.fill_table.Tie as tie
-use Rattle.hatches.proofs.rates.fill_table.Reads as reads
-use Rattle.hatches.proofs.rates.fill_table.Lts as lts
-use Rattle.hatches.proofs.rates.put_rows.Reads as put-rows-reads
-use Rattle.reckon.proofs.copying.copy_into.Reads as copy-into-reads
 
--- src/rates.rt:80:5
 copy-into-requires : tie.Need-copy-into-requires
 copy-into-requires c κs = search needs
 
--- src/rates.rt:81:5
 put-rows-requires : tie.Need-put-rows-requires
 put-rows-requires c κs = search needs
 
--- src/rates.rt:71:1
 returns : tie.Need-returns
 returns c = let s = (c .before .before .before .before .before) in table-written (s .args .inflow .now) (s .args .hatches) (s .args .litres) (s .pre) (c .before .before .copy-into .ensures) (c .put-rows .ensures)
 

@@ -8,63 +8,46 @@ use Rattle.hatches.proofs.RowLaws.{row-none, row-named, row-put}
 use borrow.Author.Needs.{needs}
 use Rattle.hatches.proofs.rates.put_row.Statement.{statement}
 use Rattle.hatches.proofs.rates.put_row.Tie as tie
-use Rattle.hatches.proofs.rates.put_row.Reads as reads
-use Rattle.hatches.proofs.rates.put_row.Lts as lts
-use Rattle.reckon.proofs.copying.copy_into.Reads as copy-into-reads
 
--- src/rates.rt:40:9
 array-read-if1 : tie.Need-array-read-if1
 array-read-if1 c = search needs
 
--- src/rates.rt:41:9
 returns : tie.Need-returns
 returns c = let s = (c .before .before .before) in row-none (s .args .hatches) (s .args .t2) (s .args .hatch) (not-true _ (c .if1 .taken))
 
--- src/rates.rt:46:9
 mul-t15 : tie.Need-mul-t15
 mul-t15 c = search needs
 
--- src/rates.rt:46:9
 array-read-t18 : tie.Need-array-read-t18
 array-read-t18 c = search needs
 
--- src/rates.rt:47:9
 mul-t19 : tie.Need-mul-t19
 mul-t19 c = search needs
 
--- src/rates.rt:47:9
 array-read-t22 : tie.Need-array-read-t22
 array-read-t22 c = search needs
 
--- src/rates.rt:49:9
 cast-t23 : tie.Need-cast-t23
 cast-t23 c = search needs
 
--- src/rates.rt:50:9
 mul-t24 : tie.Need-mul-t24
 mul-t24 c = search needs
 
--- src/rates.rt:50:9
 array-read-t27 : tie.Need-array-read-t27
 array-read-t27 c = search needs
 
--- src/rates.rt:52:15
 slice-aggregate-copy-into : tie.Need-slice-aggregate-copy-into
 slice-aggregate-copy-into c = search needs
 
--- src/rates.rt:52:5
 copy-into-requires : tie.Need-copy-into-requires
 copy-into-requires c κs = let s = (c .before .before .before .before .before .before .before) in omega (arith, s .pre .1, ap length (row-named (s .args .hatches) (s .args .t2) (s .args .hatch) (not-false _ (c .before .before .before .before .if1 .left))))
 
--- src/rates.rt:53:5
 add-result : tie.Need-add-result
 add-result c = search needs
 
--- src/rates.rt:35:1
 same-length : tie.Need-same-length
 same-length c = search needs
 
--- src/rates.rt:35:1
 returns-2 : tie.Need-returns-2
 returns-2 c = let s = (c .before .before .before .before .before .before .before .before .before .before) in row-put (s .args .hatches) (s .args .t2) (s .args .hatch) (not-false _ (c .before .before .before .before .before .before .before .if1 .left)) (c .before .before .copy-into .ensures)
 

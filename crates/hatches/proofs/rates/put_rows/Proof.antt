@@ -8,9 +8,6 @@ use Rattle.hatches.specs.Log.{mostHatches, hatchRow}
 use Rattle.hatches.proofs.RowLaws.{rows-first, rows-room, row-fits, row-written, rows-written}
 use Rattle.hatches.proofs.rates.put_rows.Statement.{statement}
 use Rattle.hatches.proofs.rates.put_rows.Tie as tie
-use Rattle.hatches.proofs.rates.put_rows.Reads as reads
-use Rattle.hatches.proofs.rates.put_rows.Lts as lts
-use Rattle.hatches.proofs.rates.put_row.Reads as put-row-reads
 
 abbrev Inv-loop : tie.InvT-loop
 Inv-loop hatches litres table₀ at next₀ hatch₀ table next hatch =
@@ -20,31 +17,24 @@ abbrev μ-loop : tie.MeasureT-loop
 μ-loop hatches litres table₀ at next₀ hatch₀ table next hatch =
     mostHatches - hatch
 
--- src/rates.rt:63:5
 loop-holds : tie.Need-loop-holds Inv-loop μ-loop
 loop-holds c = (omega arith, rows-first _ _ _ _)
 
--- src/rates.rt:64:9
 put-row-requires : tie.Need-put-row-requires Inv-loop μ-loop
 put-row-requires c κs = let s = (c .before .before .before .before) in (c .before .loop-test .taken, row-fits (s .args .hatches) (s .args .litres) (s .args .at) (s .args .table .now) (s .pre) (c .before .before .loop .hatch) (c .before .before .loop .inv .1) (c .before .loop-test .taken))
 
--- src/rates.rt:65:9
 add-hatch : tie.Need-add-hatch Inv-loop μ-loop
 add-hatch c = omega (arith, c .before .before .before .before .loop-test .taken)
 
--- src/rates.rt:63:5
 loop-less : tie.Need-loop-less Inv-loop μ-loop
 loop-less c = omega (arith, c .before .before .before .before .loop-test .taken)
 
--- src/rates.rt:63:5
 loop-again : tie.Need-loop-again Inv-loop μ-loop
 loop-again c = let s = (c .before .before .before .before .before .before .before) in (omega (arith, c .before .before .before .before .loop-test .taken), row-written (s .args .hatches) (s .args .litres) (s .args .at) (s .args .table .now) (s .pre) (c .before .before .before .before .before .loop .hatch) (c .before .before .before .before .before .loop .inv .1) (c .before .before .before .before .loop-test .taken) (c .before .before .put-row .ensures))
 
--- src/rates.rt:57:1
 same-length : tie.Need-same-length Inv-loop μ-loop
 same-length c = let s = (c .before .before .before) in rows-room (s .args .hatches) (s .args .litres) (s .args .at) (s .args .table .now) (s .pre) (c .before .loop .hatch) (c .before .loop .inv .1) (c .before .loop .inv .0)
 
--- src/rates.rt:57:1
 returns : tie.Need-returns Inv-loop μ-loop
 returns c = let s = (c .before .before .before) in rows-written (s .args .hatches) (s .args .litres) (s .args .at) (s .args .table .now) (s .pre) (c .before .loop .hatch) (c .before .loop .inv .1) (omega (arith, c .before .loop .inv .0, c .loop-test .left))
 

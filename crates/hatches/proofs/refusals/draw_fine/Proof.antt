@@ -6,49 +6,35 @@ use Rattle.hatches.specs.Log.{drawFine}
 use borrow.Author.Needs.{needs}
 use Rattle.hatches.proofs.refusals.draw_fine.Statement.{statement}
 use Rattle.hatches.proofs.refusals.draw_fine.Tie as tie
-use Rattle.hatches.proofs.refusals.draw_fine.Reads as reads
-use Rattle.hatches.proofs.refusals.draw_fine.Lts as lts
-use Rattle.hatches.proofs.refusals.hatch_draw_fine.Reads as hatch-draw-fine-reads
-use Rattle.hatches.proofs.refusals.rate_draw_fine.Reads as rate-draw-fine-reads
 
--- src/refusals.rt:159:22
 enum-known-entry : tie.Need-enum-known-entry
 enum-known-entry c = search needs
 
--- src/refusals.rt:159:46
 hatch-draw-fine-requires : tie.Need-hatch-draw-fine-requires
 hatch-draw-fine-requires c κs = search needs
 
--- src/refusals.rt:160:21
 enum-known-entry-2 : tie.Need-enum-known-entry-2
 enum-known-entry-2 c = search needs
 
--- src/refusals.rt:160:47
 rate-draw-fine-requires : tie.Need-rate-draw-fine-requires
 rate-draw-fine-requires c κs = search needs
 
--- src/refusals.rt:161:21
 enum-known-entry-3 : tie.Need-enum-known-entry-3
 enum-known-entry-3 c = search needs
 
--- src/refusals.rt:162:26
 enum-told : tie.Need-enum-told
 enum-told c = search needs
 
--- src/refusals.rt:154:1
 returns : tie.Need-returns
 returns c = c .hatch-draw-fine .ensures _ ∙ ap (drawFine _ _ _) (sym (c .before .before .entry .given .1))
 
--- src/refusals.rt:154:1
 returns-2 : tie.Need-returns-2
 returns-2 c = c .rate-draw-fine .ensures _ _ _ ∙ ap (drawFine _ _ _) (sym (c .before .before .entry2 .given .1))
 
--- src/refusals.rt:154:1
 returns-3 : tie.Need-returns-3
 unfolding drawFine
 returns-3 c = let s = (c .before .before .before .before .before) in ap (drawFine (plan (s .args .shape) (s .args .marks .now)) (s .args .inflow .now) (s .args .log)) (sym (c .before .entry3 .given .1))
 
--- src/refusals.rt:154:1
 returns-4 : tie.Need-returns-4
 unfolding drawFine
 returns-4 c = let s = (c .before .before .before .before) in ap (drawFine (plan (s .args .shape) (s .args .marks .now)) (s .args .inflow .now) (s .args .log)) (sym (c .enum-told .given .1))

@@ -2,34 +2,23 @@
 -- Assumes nothing.
 use mathlib.Core.Path.{sym, _∙_}
 use Rattle.reckon.proofs.TestLaws.{refusal-here, refusal-later, passed-refusal}
-use Rattle.flood.proofs.CheckLaws.{fails-by, holds-by}
+use Rattle.checks.proofs.CheckLaws.{fails-by, holds-by}
 use Rattle.hatches.specs.Log.{entryRefusals}
 use Rattle.hatches.proofs.RefusalLaws.{lent-is}
 use borrow.Author.Needs.{needs}
 use Rattle.hatches.proofs.refusals.entry_number.Statement.{statement}
 use Rattle.hatches.proofs.refusals.entry_number.Tie as tie
-use Rattle.hatches.proofs.refusals.entry_number.Reads as reads
-use Rattle.hatches.proofs.refusals.entry_number.Lts as lts
-use Rattle.hatches.proofs.refusals.draw_fine.Reads as draw-fine-reads
-use Rattle.hatches.proofs.refusals.kept_fine.Reads as kept-fine-reads
-use Rattle.hatches.proofs.refusals.lent_fine.Reads as lent-fine-reads
-use Rattle.hatches.proofs.refusals.line_fine.Reads as line-fine-reads
-use Rattle.hatches.proofs.refusals.standing_fine.Reads as standing-fine-reads
 
--- src/refusals.rt:204:9
 line-fine-requires : tie.Need-line-fine-requires
 line-fine-requires c κs = search needs
 
--- src/refusals.rt:205:9
 returns : tie.Need-returns
 unfolding entryRefusals
 returns c = λ beds roughness rates rain lasts. sym (refusal-here 12 _ (fails-by (c .before .line-fine .ensures) (c .if1 .taken)))
 
--- src/refusals.rt:207:9
 lent-fine-requires : tie.Need-lent-fine-requires
 lent-fine-requires c κs = search needs
 
--- src/refusals.rt:208:9
 returns-2 : tie.Need-returns-2
 unfolding entryRefusals
 returns-2 c =
@@ -38,11 +27,9 @@ returns-2 c =
     (refusal-later 12 _ (holds-by (c .before .before .before .line-fine .ensures) (c .before .before .if1 .left))
     ∙ refusal-here 1 _ (fails-by (c .before .lent-fine .ensures) (c .if2 .taken)))
 
--- src/refusals.rt:210:9
 draw-fine-requires : tie.Need-draw-fine-requires
 draw-fine-requires c κs = let l = lent-is _ _ _ _ (holds-by (c .before .lent-fine .ensures) (c .if2 .left)) in (l .shape, l .marks-long)
 
--- src/refusals.rt:211:9
 returns-3 : tie.Need-returns-3
 unfolding entryRefusals
 returns-3 c =
@@ -52,11 +39,9 @@ returns-3 c =
     ∙ (refusal-later 1 _ (holds-by (c .before .before .before .lent-fine .ensures) (c .before .before .if2 .left))
     ∙ refusal-here 4 _ (fails-by (c .before .draw-fine .ensures) (c .if3 .taken))))
 
--- src/refusals.rt:213:9
 standing-fine-requires : tie.Need-standing-fine-requires
 standing-fine-requires c κs = search needs
 
--- src/refusals.rt:214:9
 returns-4 : tie.Need-returns-4
 unfolding entryRefusals
 returns-4 c =
@@ -67,11 +52,9 @@ returns-4 c =
     ∙ (refusal-later 4 _ (holds-by (c .before .before .before .draw-fine .ensures) (c .before .before .if3 .left))
     ∙ refusal-here 6 _ (fails-by (c .before .standing-fine .ensures) (c .if4 .taken)))))
 
--- src/refusals.rt:216:9
 kept-fine-requires : tie.Need-kept-fine-requires
 kept-fine-requires c κs = search needs
 
--- src/refusals.rt:217:9
 returns-5 : tie.Need-returns-5
 unfolding entryRefusals
 returns-5 c =
@@ -83,7 +66,6 @@ returns-5 c =
     ∙ (refusal-later 6 _ (holds-by (c .before .before .before .standing-fine .ensures) (c .before .before .if4 .left))
     ∙ refusal-here 10 _ (fails-by (c .before .kept-fine .ensures) (c .if5 .taken))))))
 
--- src/refusals.rt:191:1
 returns-6 : tie.Need-returns-6
 unfolding entryRefusals
 returns-6 c =

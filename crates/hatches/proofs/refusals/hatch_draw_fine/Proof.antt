@@ -9,48 +9,36 @@ use Rattle.reckon.proofs.TestLaws.{every-fails}
 use Rattle.grid.specs.Squares.{squareAt}
 use Rattle.ledger.specs.Runs.{plan}
 use Rattle.ledger.specs.Flows.{shut}
-use Rattle.flood.proofs.CheckLaws.{every-decided}
+use Rattle.checks.proofs.CheckLaws.{every-decided}
 use Rattle.hatches.specs.Log.{drawFine}
 use Rattle.hatches.proofs.RefusalLaws.{square-inside, closed-at, table-judged}
 use borrow.Author.Needs.{needs}
 use Rattle.hatches.proofs.refusals.hatch_draw_fine.Statement.{statement}
 use Rattle.hatches.proofs.refusals.hatch_draw_fine.Tie as tie
-use Rattle.hatches.proofs.refusals.hatch_draw_fine.Reads as reads
-use Rattle.hatches.proofs.refusals.hatch_draw_fine.Lts as lts
-use Rattle.grid.proofs.marks.is_closed.Reads as is-closed-reads
-use Rattle.grid.proofs.squares.square_at.Reads as square-at-reads
-use Rattle.hatches.proofs.refusals.table_fits.Reads as table-fits-reads
 
--- src/refusals.rt:132:9
 returns : tie.Need-returns
 unfolding drawFine
 returns c = λ number. sym (every-fails _ 0 (le-ltb _ _ (c .if1 .taken)))
 
--- src/refusals.rt:135:9
 returns-2 : tie.Need-returns-2
 unfolding drawFine
 returns-2 c = λ number. sym (every-fails _ 1 (le-ltb _ _ (c .if2 .taken)))
 
--- src/refusals.rt:137:25
 square-at-requires : tie.Need-square-at-requires
 square-at-requires c κs = search needs
 
--- src/refusals.rt:137:8
 is-closed-requires : tie.Need-is-closed-requires
 is-closed-requires c κs = let s = (c .before .before .before .before .before .before .before) in square-inside (s .args .shape) (s .args .marks .now) (c .square-at .ensures) (omega (arith, c .before .before .before .if1 .left)) (omega (arith, c .before .if2 .left)) (s .pre .1)
 
--- src/refusals.rt:138:9
 returns-3 : tie.Need-returns-3
 unfolding drawFine
 returns-3 c =
     let s = (c .before .before .before .before .before .before .before .before .before) in
     λ number. sym (every-fails _ 2 (ap not (closed-at (plan (s .args .shape) (s .args .marks .now)) (c .before .before .square-at .ensures) (c .before .is-closed .ensures) (c .if3 .taken))))
 
--- src/refusals.rt:140:5
 table-fits-requires : tie.Need-table-fits-requires
 table-fits-requires c κs = search needs
 
--- src/refusals.rt:125:1
 returns-4 : tie.Need-returns-4
 unfolding drawFine
 returns-4 c =

@@ -4,35 +4,27 @@ use mathlib.Core.Path.{sym, ap, _∙_}
 use mathlib.Core.Bool.{not}
 use borrow.Author.Tests.{lt-leb, le-leb, not-true, not-false}
 use Rattle.reckon.proofs.TestLaws.{every-fails, each-every}
-use Rattle.flood.proofs.CheckLaws.{every-decided}
+use Rattle.checks.proofs.CheckLaws.{every-decided}
 use Rattle.hatches.specs.Log.{lineFine}
 use borrow.Author.Needs.{needs}
 use Rattle.hatches.proofs.refusals.hatch_line_fine.Statement.{statement}
 use Rattle.hatches.proofs.refusals.hatch_line_fine.Tie as tie
-use Rattle.hatches.proofs.refusals.hatch_line_fine.Reads as reads
-use Rattle.hatches.proofs.refusals.hatch_line_fine.Lts as lts
-use Rattle.hatches.proofs.log.is_named.Reads as is-named-reads
 
--- src/refusals.rt:52:9
 returns : tie.Need-returns
 unfolding lineFine
 returns c = λ rules row column. sym (every-fails _ 0 (not-true _ (c .if1 .taken)))
 
--- src/refusals.rt:55:9
 returns-2 : tie.Need-returns-2
 unfolding lineFine
 returns-2 c = λ rules row column. sym (every-fails _ 1 (every-fails _ 0 (lt-leb _ _ (c .if2 .taken))))
 
--- src/refusals.rt:58:9
 returns-3 : tie.Need-returns-3
 unfolding lineFine
 returns-3 c = λ rules row column. sym (every-fails _ 1 (every-fails _ 1 (lt-leb _ _ (c .if3 .taken))))
 
--- src/refusals.rt:60:6
 is-named-requires : tie.Need-is-named-requires
 is-named-requires c κs = search needs
 
--- src/refusals.rt:48:1
 returns-4 : tie.Need-returns-4
 unfolding lineFine
 returns-4 c =

@@ -4,18 +4,13 @@ use Rattle.hatches.proofs.RefusalLaws.{multiple-none}
 use borrow.Author.Needs.{needs}
 use Rattle.hatches.proofs.refusals.is_multiple.Statement.{statement}
 use Rattle.hatches.proofs.refusals.is_multiple.Tie as tie
-use Rattle.hatches.proofs.refusals.is_multiple.Reads as reads
-use Rattle.hatches.proofs.refusals.is_multiple.Lts as lts
 
--- src/refusals.rt:42:9
 returns : tie.Need-returns
 returns c = multiple-none _ (c .if1 .taken)
 
--- src/refusals.rt:44:5
 rem-result : tie.Need-rem-result
 rem-result c = search needs
 
--- src/refusals.rt:38:1
 returns-2 : tie.Need-returns-2
 returns-2 c = search needs
 

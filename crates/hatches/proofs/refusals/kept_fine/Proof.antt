@@ -5,45 +5,34 @@ use Rattle.hatches.specs.Log.{keptFine}
 use borrow.Author.Needs.{needs}
 use Rattle.hatches.proofs.refusals.kept_fine.Statement.{statement}
 use Rattle.hatches.proofs.refusals.kept_fine.Tie as tie
-use Rattle.hatches.proofs.refusals.kept_fine.Reads as reads
-use Rattle.hatches.proofs.refusals.kept_fine.Lts as lts
 
--- src/refusals.rt:183:22
 enum-known-entry : tie.Need-enum-known-entry
 enum-known-entry c = search needs
 
--- src/refusals.rt:184:21
 enum-known-entry-2 : tie.Need-enum-known-entry-2
 enum-known-entry-2 c = search needs
 
--- src/refusals.rt:185:21
 enum-known-entry-3 : tie.Need-enum-known-entry-3
 enum-known-entry-3 c = search needs
 
--- src/refusals.rt:185:31
 cast-result : tie.Need-cast-result
 cast-result c = search needs
 
--- src/refusals.rt:186:26
 enum-told : tie.Need-enum-told
 enum-told c = search needs
 
--- src/refusals.rt:178:1
 returns : tie.Need-returns
 unfolding keptFine
 returns c = ap (keptFine (c .before .before .before .before .args .log)) (sym (c .before .entry .given .1))
 
--- src/refusals.rt:178:1
 returns-2 : tie.Need-returns-2
 unfolding keptFine
 returns-2 c = ap (keptFine (c .before .before .before .before .args .log)) (sym (c .before .entry2 .given .1))
 
--- src/refusals.rt:178:1
 returns-3 : tie.Need-returns-3
 unfolding keptFine
 returns-3 c = ap (keptFine (c .before .before .before .before .before .args .log)) (sym (c .before .before .entry3 .given .1))
 
--- src/refusals.rt:178:1
 returns-4 : tie.Need-returns-4
 unfolding keptFine
 returns-4 c = ap (keptFine (c .before .before .before .args .log)) (sym (c .enum-told .given .1))

@@ -1,7 +1,7 @@
 -- `hatches::refusals::lent_fine` meets its contract: the first test that fails decides, and where each before it holds the last does.
 -- Assumes nothing.
 use Rattle.grid.specs.Squares.{squares}
-use Rattle.answer.specs.Program.{programSquares}
+use Rattle.programs.specs.Program.{programSquares}
 use mathlib.Core.Path.{sym, _∙_}
 use native.Mathlib.Omega.{arith}
 use borrow.Author.Tests.{lt-leb, le-leb}
@@ -9,69 +9,50 @@ use Rattle.reckon.proofs.TestLaws.{every-fails}
 use Rattle.grid.proofs.SquareLaws.{ranges-of-fine}
 use Rattle.ledger.specs.Runs.{plan}
 use Rattle.ledger.specs.Checks.{oneEach}
-use Rattle.flood.proofs.CheckLaws.{fails-by, holds-by, every-decided}
+use Rattle.checks.proofs.CheckLaws.{fails-by, holds-by, every-decided}
 use Rattle.hatches.specs.Log.{lentFine}
 use Rattle.hatches.proofs.RefusalLaws.{slots-judged}
 use borrow.Author.Needs.{needs}
 use Rattle.hatches.proofs.refusals.lent_fine.Statement.{statement}
 use Rattle.hatches.proofs.refusals.lent_fine.Tie as tie
-use Rattle.hatches.proofs.refusals.lent_fine.Reads as reads
-use Rattle.hatches.proofs.refusals.lent_fine.Lts as lts
-use Rattle.grid.proofs.squares.shape_fine.Reads as shape-fine-reads
-use Rattle.grid.proofs.squares.squares_of.Reads as squares-of-reads
-use Rattle.ledger.proofs.checks.one_each.Reads as one-each-reads
-use Rattle.ledger.proofs.record.record_size.Reads as record-size-reads
-use Rattle.trials.proofs.slots_in.Reads as slots-in-reads
 
--- src/refusals.rt:97:9
 shape-fine-requires : tie.Need-shape-fine-requires
 shape-fine-requires c κs = search needs
 
--- src/refusals.rt:98:9
 returns : tie.Need-returns
 unfolding lentFine oneEach
 returns c = sym (every-fails _ 0 (fails-by (c .before .shape-fine .ensures) (c .if1 .taken)))
 
--- src/refusals.rt:100:26
 squares-of-requires : tie.Need-squares-of-requires
 squares-of-requires c κs = ranges-of-fine _ (holds-by (c .before .shape-fine .ensures) (c .if1 .left))
 
--- src/refusals.rt:101:9
 returns-2 : tie.Need-returns-2
 unfolding lentFine oneEach
 returns-2 c = let s = (c .before .before .before .before .before .before .before .before) in sym (every-fails _ 1 (lt-leb (squares (s .args .shape)) programSquares (omega (arith, c .before .squares-of .ensures, c .if2 .taken))))
 
--- src/refusals.rt:103:9
 one-each-requires : tie.Need-one-each-requires
 one-each-requires c κs = ranges-of-fine _ (holds-by (c .before .before .before .shape-fine .ensures) (c .before .before .if1 .left))
 
--- src/refusals.rt:104:9
 returns-3 : tie.Need-returns-3
 unfolding lentFine oneEach
 returns-3 c = sym (every-fails _ 2 (fails-by (c .before .one-each .ensures) (c .if3 .taken)))
 
--- src/refusals.rt:106:9
 one-each-requires-2 : tie.Need-one-each-requires-2
 one-each-requires-2 c κs = ranges-of-fine _ (holds-by (c .before .before .before .before .before .shape-fine .ensures) (c .before .before .before .before .if1 .left))
 
--- src/refusals.rt:107:9
 returns-4 : tie.Need-returns-4
 unfolding lentFine oneEach
 returns-4 c = sym (every-fails _ 3 (fails-by (c .before .one-each2 .ensures) (c .if4 .taken)))
 
--- src/refusals.rt:109:34
 record-size-requires : tie.Need-record-size-requires
 record-size-requires c κs = ranges-of-fine _ (holds-by (c .before .before .before .before .before .before .before .shape-fine .ensures) (c .before .before .before .before .before .before .if1 .left))
 
--- src/refusals.rt:109:9
 slots-in-requires : tie.Need-slots-in-requires
 slots-in-requires c κs = search needs
 
--- src/refusals.rt:110:14
 slots-in-requires-2 : tie.Need-slots-in-requires-2
 slots-in-requires-2 c κs = search needs
 
--- src/refusals.rt:94:1
 returns-5 : tie.Need-returns-5
 unfolding lentFine oneEach
 returns-5 c =

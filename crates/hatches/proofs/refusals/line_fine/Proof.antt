@@ -5,49 +5,35 @@ use Rattle.hatches.specs.Log.{lineFine}
 use borrow.Author.Needs.{needs}
 use Rattle.hatches.proofs.refusals.line_fine.Statement.{statement}
 use Rattle.hatches.proofs.refusals.line_fine.Tie as tie
-use Rattle.hatches.proofs.refusals.line_fine.Reads as reads
-use Rattle.hatches.proofs.refusals.line_fine.Lts as lts
-use Rattle.hatches.proofs.refusals.hatch_line_fine.Reads as hatch-line-fine-reads
-use Rattle.hatches.proofs.refusals.rate_line_fine.Reads as rate-line-fine-reads
 
--- src/refusals.rt:86:22
 enum-known-entry : tie.Need-enum-known-entry
 enum-known-entry c = search needs
 
--- src/refusals.rt:86:46
 hatch-line-fine-requires : tie.Need-hatch-line-fine-requires
 hatch-line-fine-requires c κs = search needs
 
--- src/refusals.rt:87:21
 enum-known-entry-2 : tie.Need-enum-known-entry-2
 enum-known-entry-2 c = search needs
 
--- src/refusals.rt:87:47
 rate-line-fine-requires : tie.Need-rate-line-fine-requires
 rate-line-fine-requires c κs = search needs
 
--- src/refusals.rt:88:21
 enum-known-entry-3 : tie.Need-enum-known-entry-3
 enum-known-entry-3 c = search needs
 
--- src/refusals.rt:89:26
 enum-told : tie.Need-enum-told
 enum-told c = search needs
 
--- src/refusals.rt:82:1
 returns : tie.Need-returns
 returns c = c .hatch-line-fine .ensures _ _ _ ∙ ap (lineFine _ _) (sym (c .before .before .entry .given .1))
 
--- src/refusals.rt:82:1
 returns-2 : tie.Need-returns-2
 returns-2 c = c .rate-line-fine .ensures _ ∙ ap (lineFine _ _) (sym (c .before .before .entry2 .given .1))
 
--- src/refusals.rt:82:1
 returns-3 : tie.Need-returns-3
 unfolding lineFine
 returns-3 c = ap (lineFine (c .before .before .before .args .rules) (c .before .before .before .args .log)) (sym (c .before .entry3 .given .1))
 
--- src/refusals.rt:82:1
 returns-4 : tie.Need-returns-4
 unfolding lineFine
 returns-4 c = ap (lineFine (c .before .before .args .rules) (c .before .before .args .log)) (sym (c .enum-told .given .1))

@@ -3,26 +3,20 @@
 use mathlib.Core.Path.{sym, _∙_}
 use borrow.Author.Tests.{lt-leb, le-leb}
 use Rattle.reckon.proofs.TestLaws.{every-fails}
-use Rattle.flood.proofs.CheckLaws.{every-decided}
+use Rattle.checks.proofs.CheckLaws.{every-decided}
 use Rattle.hatches.specs.Log.{drawFine}
 use Rattle.hatches.proofs.RefusalLaws.{table-judged-as}
 use borrow.Author.Needs.{needs}
 use Rattle.hatches.proofs.refusals.rate_draw_fine.Statement.{statement}
 use Rattle.hatches.proofs.refusals.rate_draw_fine.Tie as tie
-use Rattle.hatches.proofs.refusals.rate_draw_fine.Reads as reads
-use Rattle.hatches.proofs.refusals.rate_draw_fine.Lts as lts
-use Rattle.hatches.proofs.refusals.table_fits.Reads as table-fits-reads
 
--- src/refusals.rt:148:9
 returns : tie.Need-returns
 unfolding drawFine
 returns c = λ p clock number. sym (every-fails _ 0 (lt-leb _ _ (c .if1 .taken)))
 
--- src/refusals.rt:150:5
 table-fits-requires : tie.Need-table-fits-requires
 table-fits-requires c κs = search needs
 
--- src/refusals.rt:144:1
 returns-2 : tie.Need-returns-2
 unfolding drawFine
 returns-2 c =

@@ -3,40 +3,30 @@
 use mathlib.Core.Path.{refl, sym}
 use borrow.Author.Tests.{lt-leb, le-leb}
 use Rattle.reckon.proofs.TestLaws.{every-fails}
-use Rattle.flood.proofs.CheckLaws.{fails-by, holds-by, every-decided}
+use Rattle.checks.proofs.CheckLaws.{fails-by, holds-by, every-decided}
 use Rattle.hatches.specs.Log.{lineFine}
 use borrow.Author.Needs.{needs}
 use Rattle.hatches.proofs.refusals.rate_line_fine.Statement.{statement}
 use Rattle.hatches.proofs.refusals.rate_line_fine.Tie as tie
-use Rattle.hatches.proofs.refusals.rate_line_fine.Reads as reads
-use Rattle.hatches.proofs.refusals.rate_line_fine.Lts as lts
-use Rattle.hatches.proofs.log.is_named.Reads as is-named-reads
-use Rattle.hatches.proofs.refusals.is_multiple.Reads as is-multiple-reads
 
--- src/refusals.rt:67:9
 is-named-requires : tie.Need-is-named-requires
 is-named-requires c κs = search needs
 
--- src/refusals.rt:68:9
 returns : tie.Need-returns
 unfolding lineFine
 returns c = λ litres. sym (every-fails _ 0 (fails-by (c .before .is-named .ensures) (c .if1 .taken)))
 
--- src/refusals.rt:71:9
 is-multiple-requires : tie.Need-is-multiple-requires
 is-multiple-requires c κs = search needs
 
--- src/refusals.rt:72:9
 returns-2 : tie.Need-returns-2
 unfolding lineFine
 returns-2 c = λ litres. sym (every-fails _ 1 (fails-by (c .before .is-multiple .ensures) (c .if2 .taken)))
 
--- src/refusals.rt:75:9
 returns-3 : tie.Need-returns-3
 unfolding lineFine
 returns-3 c = λ litres. sym (every-fails _ 2 (lt-leb _ _ (c .if3 .taken)))
 
--- src/refusals.rt:64:1
 returns-4 : tie.Need-returns-4
 unfolding lineFine
 returns-4 c =

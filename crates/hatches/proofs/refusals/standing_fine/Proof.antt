@@ -3,19 +3,15 @@
 use mathlib.Core.Path.{refl, sym}
 use borrow.Author.Tests.{lt-leb, le-leb}
 use Rattle.reckon.proofs.TestLaws.{every-fails}
-use Rattle.flood.proofs.CheckLaws.{every-decided}
+use Rattle.checks.proofs.CheckLaws.{every-decided}
 use Rattle.hatches.specs.Log.{standingFine}
 use Rattle.hatches.proofs.refusals.standing_fine.Statement.{statement}
 use Rattle.hatches.proofs.refusals.standing_fine.Tie as tie
-use Rattle.hatches.proofs.refusals.standing_fine.Reads as reads
-use Rattle.hatches.proofs.refusals.standing_fine.Lts as lts
 
--- src/refusals.rt:172:9
 returns : tie.Need-returns
 unfolding standingFine
 returns c = sym (every-fails _ 0 (lt-leb _ _ (c .if1 .taken)))
 
--- src/refusals.rt:167:1
 returns-2 : tie.Need-returns-2
 unfolding standingFine
 returns-2 c = every-decided _ 1 _ refl (λ t. (le-leb _ _ (c .before .before .if1 .left), (t, tt)))

@@ -11,31 +11,22 @@ use Rattle.reckon.specs.Tables.{inflowKind, tableRoom}
 use borrow.Author.Needs.{needs}
 use Rattle.hatches.proofs.refusals.table_fits.Statement.{statement}
 use Rattle.hatches.proofs.refusals.table_fits.Tie as tie
-use Rattle.hatches.proofs.refusals.table_fits.Reads as reads
-use Rattle.hatches.proofs.refusals.table_fits.Lts as lts
-use Rattle.hatches.proofs.rates.count_named.Reads as count-named-reads
 
--- src/refusals.rt:119:9
 returns : tie.Need-returns
 returns c = λ litres. sym (lt-leb (c .before .args .numbers + length (hatchRows (c .before .args .hatches) litres) + c .before .args .more) (tableRoom inflowKind) (omega (arith, c .if1 .taken)))
 
--- src/refusals.rt:121:15
 count-named-requires : tie.Need-count-named-requires
 count-named-requires c κs = search needs
 
--- src/refusals.rt:121:15
 mul-result : tie.Need-mul-result
 mul-result c = search needs
 
--- src/refusals.rt:121:5
 add-result : tie.Need-add-result
 add-result c = search needs
 
--- src/refusals.rt:121:5
 add-result-2 : tie.Need-add-result-2
 add-result-2 c = search needs
 
--- src/refusals.rt:114:1
 returns-2 : tie.Need-returns-2
 returns-2 c = λ litres. ap (λ (n : ℕ). leb (c .before .before .args .numbers + n + c .before .before .args .more) (tableRoom inflowKind)) (sym (c .count-named .ensures .0 litres))
 

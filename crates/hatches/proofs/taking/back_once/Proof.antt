@@ -5,45 +5,33 @@ use Rattle.hatches.proofs.BackLaws.{back-done, back-refused}
 use borrow.Author.Needs.{needs}
 use Rattle.hatches.proofs.taking.back_once.Statement.{statement}
 use Rattle.hatches.proofs.taking.back_once.Tie as tie
-use Rattle.hatches.proofs.taking.back_once.Reads as reads
-use Rattle.hatches.proofs.taking.back_once.Lts as lts
-use Rattle.ledger.proofs.take_back.take_back.Reads as take-back-reads
 
--- src/taking.rt:115:11
 take-back-requires : tie.Need-take-back-requires
 take-back-requires c κs = search needs
 
--- src/taking.rt:116:22
 enum-known-before : tie.Need-enum-known-before
 enum-known-before c = search needs
 
--- src/taking.rt:121:25
 enum-known-number : tie.Need-enum-known-number
 enum-known-number c = search needs
 
--- src/taking.rt:105:1
 same-length : tie.Need-same-length
 same-length c = search needs
 
--- src/taking.rt:105:1
 same-length-2 : tie.Need-same-length-2
 same-length-2 c = search needs
 
--- src/taking.rt:105:1
 returns : tie.Need-returns
 returns c =
     let s = (c .before .before .before .before .before .before .before .before .before .before .before .before .before .before) in
     back-done (plan (s .args .shape) (s .args .marks .now)) (world (s .args .depths .now) (s .args .lasts .now) (s .args .records .now) (s .args .run)) (c .before .before .before .before .before .before .before .take-back .ensures) (c .before .before2 .given .1)
 
--- src/taking.rt:105:1
 same-length-3 : tie.Need-same-length-3
 same-length-3 c = search needs
 
--- src/taking.rt:105:1
 same-length-4 : tie.Need-same-length-4
 same-length-4 c = search needs
 
--- src/taking.rt:105:1
 returns-2 : tie.Need-returns-2
 returns-2 c =
     let s = (c .before .before .before .before .before .before .before .before .before .before .before .before .before .before) in

@@ -6,24 +6,17 @@ use Rattle.hatches.specs.Log.{ratesKept}
 use borrow.Author.Needs.{needs}
 use Rattle.hatches.proofs.taking.keep_made.Statement.{statement}
 use Rattle.hatches.proofs.taking.keep_made.Tie as tie
-use Rattle.hatches.proofs.taking.keep_made.Reads as reads
-use Rattle.hatches.proofs.taking.keep_made.Lts as lts
-use Rattle.hatches.proofs.rates.keep_rates.Reads as keep-rates-reads
 
--- src/taking.rt:47:9
 returns : tie.Need-returns
 unfolding ratesKept
 returns c = let s = (c .before .before) in sym (ap (λ (n : Prim.Native.Nat.ℕ). ratesKept (s .args .slots) n (s .args .newest) (s .args .litres .now) (s .args .began .now)) (c .if1 .taken))
 
--- src/taking.rt:49:5
 keep-rates-requires : tie.Need-keep-rates-requires
 keep-rates-requires c κs = let s = (c .before .before .before) in (s .pre .0, s .pre .1 (omega (arith, c .before .if1 .left)), s .pre .2)
 
--- src/taking.rt:42:1
 same-length : tie.Need-same-length
 same-length c = search needs
 
--- src/taking.rt:42:1
 returns-2 : tie.Need-returns-2
 returns-2 c = search needs
 

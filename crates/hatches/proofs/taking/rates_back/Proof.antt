@@ -9,29 +9,20 @@ use Rattle.hatches.proofs.RatesLaws.{back-some}
 use borrow.Author.Needs.{needs}
 use Rattle.hatches.proofs.taking.rates_back.Statement.{statement}
 use Rattle.hatches.proofs.taking.rates_back.Tie as tie
-use Rattle.hatches.proofs.taking.rates_back.Reads as reads
-use Rattle.hatches.proofs.taking.rates_back.Lts as lts
-use Rattle.hatches.proofs.rates.rates_in.Reads as rates-in-reads
-use Rattle.hatches.proofs.rates.slot_ago.Reads as slot-ago-reads
 
--- src/taking.rt:171:9
 returns : tie.Need-returns
 unfolding ratesBack
 returns c = let s = (c .before .before .before) in sym (ap (ratesBack (s .args .slots) (s .args .began .now) (s .args .log)) (c .before .if1 .taken))
 
--- src/taking.rt:174:49
 sub-slot-ago : tie.Need-sub-slot-ago
 sub-slot-ago c = search needs
 
--- src/taking.rt:174:21
 slot-ago-requires : tie.Need-slot-ago-requires
 slot-ago-requires c κs = let s = (c .before .before .before) in s .pre .0 (omega (arith, c .before .if1 .left))
 
--- src/taking.rt:174:5
 rates-in-requires : tie.Need-rates-in-requires
 rates-in-requires c κs = let s = (c .before .before .before .before) in omega (arith, c .slot-ago .ensures, ago-below (s .args .slots) (s .args .steps - 1) (s .args .log .run .newest) (s .pre .0 (omega (arith, c .before .before .if1 .left))), s .pre .1)
 
--- src/taking.rt:166:1
 returns-2 : tie.Need-returns-2
 returns-2 c = let s = (c .before .before .before .before .before) in back-some (s .args .slots) (s .args .began .now) (s .args .log) (omega (arith, c .before .before .before .if1 .left)) (c .before .slot-ago .ensures) (c .rates-in .ensures)
 

@@ -1,5 +1,4 @@
 -- `hatches::taking::run_line` meets its contract: the table is filled, the run is made, and its rates are kept.
--- what the arguments are
 -- Assumes nothing.
 use mathlib.Core.Path.{_≡_, refl, sym, ap, ap₂, _∙_}
 use mathlib.Core.List.{List}
@@ -10,7 +9,7 @@ use borrow.Author.Needs.{needs}
 use Rattle.reckon.specs.Tables.{inflowKind, tableRoom}
 use Rattle.ledger.specs.Runs.{Plan, World, plan, world}
 use Rattle.ledger.specs.Record.{roomSlots}
-use Rattle.moves.specs.Given.{Given, ground, given}
+use Rattle.checks.specs.Given.{Given, ground, given}
 use Rattle.flood.specs.Run.{runTo}
 use Rattle.sheet.proofs.JudgeLaws.{taken-long}
 use Rattle.hatches.specs.Log.{mostHatches, Evening, evening, hatchRows, ratesKept, ratesWith, logWith}
@@ -20,16 +19,8 @@ use Rattle.hatches.proofs.RowLaws.{table-is, table-next, table-room}
 use Rattle.hatches.proofs.TakeLaws.{run-few, run-newest, rate-done}
 use Rattle.hatches.proofs.taking.run_line.Statement.{statement}
 use Rattle.hatches.proofs.taking.run_line.Tie as tie
-use Rattle.hatches.proofs.taking.run_line.Reads as reads
-use Rattle.hatches.proofs.taking.run_line.Lts as lts
-use Rattle.flood.proofs.run.run_to_wet.Reads as run-to-wet-reads
-use Rattle.hatches.proofs.log.further.Reads as further-reads
-use Rattle.hatches.proofs.log.rates_with.Reads as rates-with-reads
-use Rattle.hatches.proofs.rates.fill_table.Reads as fill-table-reads
-use Rattle.hatches.proofs.taking.keep_made.Reads as keep-made-reads
-use Rattle.ledger.proofs.record.record_size.Reads as record-size-reads
-use Rattle.trials.proofs.slots_in.Reads as slots-in-reads
 
+-- what the arguments are
 abbrev P : tie.Start → Plan
 P s = plan (s .args .shape) (s .args .marks .now)
 
@@ -48,19 +39,15 @@ nine s = search needs
 fits : (s : tie.Start) → length (s .args .inflow .now) + length (hatchRows (s .args .log .hatches) (s .args .log .litres)) ≤ tableRoom inflowKind
 fits s = rate-table (P s) (s .args .inflow .now) (s .args .log) _ _ _ (entered s .draw)
 
--- src/taking.rt:76:9
 fill-table-requires : tie.Need-fill-table-requires
 fill-table-requires c κs = let s = (c .before .before .before .before .before .before .before .before .before .before .before .before) in omega (arith, fits s, length-replicate {A = ℕ} (tableRoom inflowKind) 0)
 
--- src/taking.rt:77:34
 record-size-requires : tie.Need-record-size-requires
 record-size-requires c κs = let s = (c .before .before .before .before .before .before .before .before .before .before .before .before .before) in entered s .lent .shape
 
--- src/taking.rt:77:9
 slots-in-requires : tie.Need-slots-in-requires
 slots-in-requires c κs = search needs
 
--- src/taking.rt:89:9
 array-share-prefix-table : tie.Need-array-share-prefix-table
 array-share-prefix-table c =
     let s = (c .before .before .before .before .before .before .before .before .before .before .before .before .before .before .before .before) in
@@ -72,58 +59,47 @@ array-share-prefix-table c =
       length-replicate {A = ℕ} (tableRoom inflowKind) 0,
     )
 
--- src/taking.rt:89:9
-slice-aggregate-run-to-wet : tie.Need-slice-aggregate-run-to-wet
-slice-aggregate-run-to-wet c =
+slice-aggregate-run-to : tie.Need-slice-aggregate-run-to
+slice-aggregate-run-to c =
     let s = (c .before .before .before .before .before .before .before .before .before .before .before .before .before .before .before .before .before) in
     taken-long {size = tableRoom inflowKind} _ (omega (arith, fits s, table-next (s .args .inflow .now) (s .args .log .hatches) (s .args .log .litres) (c .before .before .before .before .fill-table .ensures)))
     (table-room (s .args .inflow .now) (s .args .log .hatches) (s .args .log .litres) (omega (arith, fits s, length-replicate {A = ℕ} (tableRoom inflowKind) 0)) (c .before .before .before .before .fill-table .ensures))
 
--- src/taking.rt:79:9
-run-to-wet-requires : tie.Need-run-to-wet-requires
-run-to-wet-requires c κs = search needs
+run-to-requires : tie.Need-run-to-requires
+run-to-requires c κs = search needs
 
--- src/taking.rt:96:5
 keep-made-requires : tie.Need-keep-made-requires
 keep-made-requires c κs =
     let s = (c .before .before .before .before .before .before .before .before .before .before .before .before .before .before .before .before .before .before .before .before .before .before .before .before .before .before .before .before .before .before) in
     let k = slots-are (P s) (s .args .records .now) (c .before .before .before .before .before .before .before .before .before .before .before .before .before .before .before .before .record-size .ensures) (c .before .before .before .before .before .before .before .before .before .before .before .before .before .before .before .slots-in .ensures) in
-    (nine s, λ l. omega (arith, k, run-newest _ _ _ _ (c .before .before .before .before .before .before .before .before .before .run-to-wet .ensures .ends) l), omega (arith, k, entered s .lent .room))
+    (nine s, λ l. omega (arith, k, run-newest _ _ _ _ (c .before .before .before .before .before .before .before .before .before .run-to .ensures .ends) l), omega (arith, k, entered s .lent .room))
 
--- src/taking.rt:97:9
 rates-with-requires : tie.Need-rates-with-requires
 rates-with-requires c κs = let s = (c .before .before .before .before .before .before .before .before .before .before .before .before .before .before .before .before .before .before .before .before .before .before .before .before .before .before .before .before .before .before .before .before .before) in rate-number _ _ _ _ _ (entered s .line)
 
--- src/taking.rt:100:32
 add-further : tie.Need-add-further
-add-further c = let s = (c .before .before .before .before .before .before .before .before .before .before .before .before .before .before .before .before .before .before .before .before .before .before .before .before .before .before .before .before .before .before .before .before .before .before .before .before) in omega (arith, run-few _ _ _ _ (c .before .before .before .before .before .before .before .before .before .before .before .before .before .before .before .run-to-wet .ensures .ends), entered s .steps-few, rate-clock _ _ _ _ _ (entered s .line))
+add-further c = let s = (c .before .before .before .before .before .before .before .before .before .before .before .before .before .before .before .before .before .before .before .before .before .before .before .before .before .before .before .before .before .before .before .before .before .before .before .before) in omega (arith, run-few _ _ _ _ (c .before .before .before .before .before .before .before .before .before .before .before .before .before .before .before .run-to .ensures .ends), entered s .steps-few, rate-clock _ _ _ _ _ (entered s .line))
 
--- src/taking.rt:100:14
 further-requires : tie.Need-further-requires
 further-requires c κs = search needs
 
--- src/taking.rt:53:1
 same-length : tie.Need-same-length
-same-length c = c .before .before .before .before .before .before .before .before .before .before .before .before .before .before .before .before .run-to-wet .kept .1 .1 .1 .1 .1 .1 .1 .1 .1 .1 .0
+same-length c = c .before .before .before .before .before .before .before .before .before .before .before .before .before .before .before .before .run-to .kept .1 .1 .1 .1 .1 .1 .1 .1 .1 .1 .1 .0
 
--- src/taking.rt:53:1
 same-length-2 : tie.Need-same-length-2
-same-length-2 c = c .before .before .before .before .before .before .before .before .before .before .before .before .before .before .before .before .run-to-wet .kept .1 .1 .1 .1 .1 .1 .1 .1 .1 .1 .1 .0
+same-length-2 c = c .before .before .before .before .before .before .before .before .before .before .before .before .before .before .before .before .run-to .kept .1 .1 .1 .1 .1 .1 .1 .1 .1 .1 .1 .1 .0
 
--- src/taking.rt:53:1
 same-length-3 : tie.Need-same-length-3
-same-length-3 c = c .before .before .before .before .before .before .before .before .before .before .before .before .before .before .before .before .run-to-wet .kept .1 .1 .1 .1 .1 .1 .1 .1 .1 .1 .1 .1 .0
+same-length-3 c = c .before .before .before .before .before .before .before .before .before .before .before .before .before .before .before .before .run-to .kept .1 .1 .1 .1 .1 .1 .1 .1 .1 .1 .1 .1 .1 .0
 
--- src/taking.rt:53:1
 same-length-4 : tie.Need-same-length-4
 same-length-4 c = c .before .before .before .before .before .before .keep-made .kept .1 .1 .1 .1 .0
 
--- src/taking.rt:53:1
 returns : tie.Need-returns
 returns c =
     let s = (c .before .before .before .before .before .before .before .before .before .before .before .before .before .before .before .before .before .before .before .before .before .before .before .before .before .before .before .before .before .before .before .before .before .before .before .before .before) in
     rate-done (P s) (G s) (E s) (s .args .clock) (s .args .number) (s .args .rate)
-    (c .before .before .before .before .before .before .before .before .before .before .before .before .before .before .before .before .run-to-wet .ensures .ends
+    (c .before .before .before .before .before .before .before .before .before .before .before .before .before .before .before .before .run-to .ensures .ends
     ∙ ap (λ (t : List ℕ). runTo (P s) (given (G s .lie) (G s .rain) t) (s .args .clock) (world (s .args .depths .now) (s .args .lasts .now) (s .args .records .now) (s .args .log .run)))
     (table-is (s .args .inflow .now) (s .args .log .hatches) (s .args .log .litres) (c .before .before .before .before .before .before .before .before .before .before .before .before .before .before .before .before .before .before .before .before .before .before .before .before .fill-table .ensures)))
     (slots-are (P s) (s .args .records .now) (c .before .before .before .before .before .before .before .before .before .before .before .before .before .before .before .before .before .before .before .before .before .before .before .record-size .ensures) (c .before .before .before .before .before .before .before .before .before .before .before .before .before .before .before .before .before .before .before .before .before .before .slots-in .ensures)) (c .before .before .before .before .before .before .keep-made .ensures) (c .before .before .before .rates-with .ensures) (c .further .ensures)
@@ -136,8 +112,8 @@ run-line-spec =
     record-size-requires
     slots-in-requires
     array-share-prefix-table
-    slice-aggregate-run-to-wet
-    run-to-wet-requires
+    slice-aggregate-run-to
+    run-to-requires
     keep-made-requires
     rates-with-requires
     add-further

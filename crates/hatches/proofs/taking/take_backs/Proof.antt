@@ -9,9 +9,6 @@ use Rattle.ledger.specs.Runs.{plan, world}
 use Rattle.hatches.proofs.BackLaws.{Backing, backing-first, backing-on, backing-stops, backing-ends}
 use Rattle.hatches.proofs.taking.take_backs.Statement.{statement}
 use Rattle.hatches.proofs.taking.take_backs.Tie as tie
-use Rattle.hatches.proofs.taking.take_backs.Reads as reads
-use Rattle.hatches.proofs.taking.take_backs.Lts as lts
-use Rattle.hatches.proofs.taking.back_once.Reads as back-once-reads
 
 abbrev Inv-loop : tie.InvT-loop
 Inv-loop count shape marks depths₀ lasts₀ records most at₀ steps₀ depths lasts at steps =
@@ -21,47 +18,36 @@ abbrev μ-loop : tie.MeasureT-loop
 μ-loop count shape marks depths₀ lasts₀ records most at₀ steps₀ depths lasts at steps =
     most - steps
 
--- src/taking.rt:144:5
 loop-holds : tie.Need-loop-holds Inv-loop μ-loop
 loop-holds c = (backing-first _ _ _, refl, refl)
 
--- src/taking.rt:145:13
 back-once-requires : tie.Need-back-once-requires Inv-loop μ-loop
 back-once-requires c κs = tt
 
--- src/taking.rt:149:13
 same-length : tie.Need-same-length Inv-loop μ-loop
 same-length c = c .before .before .before .before .before .before .back-once .kept .1 .1 .1 .0 ∙ c .before .before .before .before .before .before .before .before .before .before .loop .inv .1
 
--- src/taking.rt:149:13
 same-length-2 : tie.Need-same-length-2 Inv-loop μ-loop
 same-length-2 c = c .before .before .before .before .before .before .back-once .kept .1 .1 .1 .1 .0 ∙ c .before .before .before .before .before .before .before .before .before .before .loop .inv .2
 
--- src/taking.rt:149:13
 returns : tie.Need-returns Inv-loop μ-loop
 returns c = backing-stops _ _ _ (c .before .before .before .before .before .before .before .before .before .before .loop .inv .0) (c .before .before .before .before .before .before .before .before .before .loop-test .taken) (c .before .before .before .before .before .before .back-once .ensures) (c .if1 .taken)
 
--- src/taking.rt:156:9
 add-steps : tie.Need-add-steps Inv-loop μ-loop
 add-steps c = omega (arith, c .before .before .before .before .before .before .before .before .before .loop-test .taken)
 
--- src/taking.rt:144:5
 loop-less : tie.Need-loop-less Inv-loop μ-loop
 loop-less c = omega (arith, c .before .before .before .before .before .before .before .before .before .loop-test .taken)
 
--- src/taking.rt:144:5
 loop-again : tie.Need-loop-again Inv-loop μ-loop
 loop-again c = (backing-on _ _ _ (c .before .before .before .before .before .before .before .before .before .before .loop .inv .0) (c .before .before .before .before .before .before .before .before .before .loop-test .taken) (c .before .before .before .before .before .before .back-once .ensures) (c .if1 .left), c .before .before .before .before .before .before .back-once .kept .1 .1 .1 .0 ∙ c .before .before .before .before .before .before .before .before .before .before .loop .inv .1, c .before .before .before .before .before .before .back-once .kept .1 .1 .1 .1 .0 ∙ c .before .before .before .before .before .before .before .before .before .before .loop .inv .2)
 
--- src/taking.rt:130:1
 same-length-3 : tie.Need-same-length-3 Inv-loop μ-loop
 same-length-3 c = c .before .loop .inv .1
 
--- src/taking.rt:130:1
 same-length-4 : tie.Need-same-length-4 Inv-loop μ-loop
 same-length-4 c = c .before .loop .inv .2
 
--- src/taking.rt:130:1
 returns-2 : tie.Need-returns-2 Inv-loop μ-loop
 returns-2 c = backing-ends _ _ _ (c .before .loop .inv .0) (c .loop-test .left)
 

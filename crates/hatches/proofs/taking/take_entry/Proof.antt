@@ -1,5 +1,4 @@
 -- `hatches::taking::take_entry` meets its contract: the checks, and then what the kind of line does.
--- what the arguments are
 -- Assumes nothing.
 use mathlib.Core.Path.{_≡_, sym, ap, _∙_}
 use mathlib.Core.List.{List}
@@ -7,20 +6,15 @@ use Prim.Native.Nat.{ℕ}
 use borrow.Author.Needs.{needs}
 use Rattle.reckon.specs.Tests.{refusal}
 use Rattle.ledger.specs.Runs.{Plan, plan}
-use Rattle.moves.specs.Given.{Given, ground, given}
+use Rattle.checks.specs.Given.{Given, ground, given}
 use Rattle.hatches.specs.Log.{Evening, evening, entryRefusals, lineFine}
 use Rattle.hatches.specs.declared.lines.Entry.{Entry}
 use Rattle.hatches.proofs.RefusalLaws.{entered-is, entered-back, hatch-number}
 use Rattle.hatches.proofs.TakeLaws.{take-refused, took-hatch, took-rate, took-back, took-none}
 use Rattle.hatches.proofs.taking.take_entry.Statement.{statement}
 use Rattle.hatches.proofs.taking.take_entry.Tie as tie
-use Rattle.hatches.proofs.taking.take_entry.Reads as reads
-use Rattle.hatches.proofs.taking.take_entry.Lts as lts
-use Rattle.hatches.proofs.log.name_hatch.Reads as name-hatch-reads
-use Rattle.hatches.proofs.refusals.entry_number.Reads as entry-number-reads
-use Rattle.hatches.proofs.taking.back_line.Reads as back-line-reads
-use Rattle.hatches.proofs.taking.run_line.Reads as run-line-reads
 
+-- what the arguments are
 abbrev P : tie.Start → Plan
 P s = plan (s .args .shape) (s .args .marks .now)
 
@@ -30,126 +24,96 @@ G s = given (ground (s .args .rules) (s .args .beds .now) (s .args .roughness .n
 abbrev E : tie.Start → Evening
 E s = evening (s .args .depths .now) (s .args .lasts .now) (s .args .records .now) (s .args .began .now) (s .args .log)
 
--- src/taking.rt:220:9
 entry-number-requires : tie.Need-entry-number-requires
 entry-number-requires c κs = search needs
 
--- src/taking.rt:222:9
 same-length : tie.Need-same-length
 same-length c = search needs
 
--- src/taking.rt:222:9
 same-length-2 : tie.Need-same-length-2
 same-length-2 c = search needs
 
--- src/taking.rt:222:9
 same-length-3 : tie.Need-same-length-3
 same-length-3 c = search needs
 
--- src/taking.rt:222:9
 returns : tie.Need-returns
 returns c = let s = (c .before .before .before .before .before .before .before .before .before .before .before .before .before .before .before) in take-refused (P s) (G s) (E s) _ (c .before .entry-number .ensures _ _ _ _ _) (c .if1 .taken)
 
--- src/taking.rt:228:22
 enum-known-entry : tie.Need-enum-known-entry
 enum-known-entry c = search needs
 
--- src/taking.rt:230:18
 name-hatch-requires : tie.Need-name-hatch-requires
 name-hatch-requires c κs =
     let s = (c .before .before .before .before .before .before .before .before .before .before .before .before .before .before .before .before .before .before) in
     hatch-number (s .args .rules) (s .args .log) _ _ _
     (ap (lineFine (s .args .rules) (s .args .log)) (sym (c .before .entry .given .1)) ∙ entered-is (P s) (G s) (E s) _ (sym (c .before .before .before .before .entry-number .ensures _ _ _ _ _) ∙ c .before .before .before .if1 .left) .line)
 
--- src/taking.rt:232:21
 enum-known-entry-2 : tie.Need-enum-known-entry-2
 enum-known-entry-2 c = search needs
 
--- src/taking.rt:232:47
 run-line-requires : tie.Need-run-line-requires
 run-line-requires c κs = let s = (c .before .before .before .before .before .before .before .before .before .before .before .before .before .before .before .before .before .before .before .before .before .before) in ap (λ (x : Entry). refusal (entryRefusals (P s) (G s) (E s) x)) (sym (c .before .before .before .before .before .entry2 .given .1)) ∙ (sym (c .before .before .before .before .before .before .before .before .entry-number .ensures _ _ _ _ _) ∙ c .before .before .before .before .before .before .before .if1 .left)
 
--- src/taking.rt:250:21
 enum-known-entry-3 : tie.Need-enum-known-entry-3
 enum-known-entry-3 c = search needs
 
--- src/taking.rt:250:31
 back-line-requires : tie.Need-back-line-requires
 back-line-requires c κs = let s = (c .before .before .before .before .before .before .before .before .before .before .before .before .before .before .before .before .before .before .before .before .before .before) in entered-back (P s) (G s) (E s) (sym (c .before .before .before .before .before .before .before .before .entry-number .ensures _ _ _ _ _) ∙ c .before .before .before .before .before .before .before .if1 .left) (c .before .before .before .before .before .entry3 .given .1)
 
--- src/taking.rt:251:26
 enum-told : tie.Need-enum-told
 enum-told c = search needs
 
--- src/taking.rt:202:1
 same-length-4 : tie.Need-same-length-4
 same-length-4 c = search needs
 
--- src/taking.rt:202:1
 same-length-5 : tie.Need-same-length-5
 same-length-5 c = search needs
 
--- src/taking.rt:202:1
 same-length-6 : tie.Need-same-length-6
 same-length-6 c = search needs
 
--- src/taking.rt:202:1
 returns-2 : tie.Need-returns-2
 returns-2 c = let s = (c .before .before .before .before .before .before .before .before .before .before .before .before .before .before .before .before .before .before .before) in took-hatch (P s) (G s) (E s) (sym (c .before .before .before .before .before .entry-number .ensures _ _ _ _ _) ∙ c .before .before .before .before .if1 .left) (c .before .before .entry .given .1) (c .name-hatch .ensures)
 
--- src/taking.rt:202:1
 same-length-7 : tie.Need-same-length-7
 same-length-7 c = search needs
 
--- src/taking.rt:202:1
 same-length-8 : tie.Need-same-length-8
 same-length-8 c = search needs
 
--- src/taking.rt:202:1
 same-length-9 : tie.Need-same-length-9
 same-length-9 c = search needs
 
--- src/taking.rt:202:1
 same-length-10 : tie.Need-same-length-10
 same-length-10 c = search needs
 
--- src/taking.rt:202:1
 returns-3 : tie.Need-returns-3
 returns-3 c = let s = (c .before .before .before .before .before .before .before .before .before .before .before .before .before .before .before .before .before .before .before .before .before .before .before .before .before .before .before .before .before .before .before) in took-rate (P s) (G s) (E s) (sym (c .before .before .before .before .before .before .before .before .before .before .before .before .before .before .before .before .before .entry-number .ensures _ _ _ _ _) ∙ c .before .before .before .before .before .before .before .before .before .before .before .before .before .before .before .before .if1 .left) (c .before .before .before .before .before .before .before .before .before .before .before .before .before .before .entry2 .given .1) (c .before .before .before .before .before .before .before .before .run-line .ensures)
 
--- src/taking.rt:202:1
 same-length-11 : tie.Need-same-length-11
 same-length-11 c = search needs
 
--- src/taking.rt:202:1
 same-length-12 : tie.Need-same-length-12
 same-length-12 c = search needs
 
--- src/taking.rt:202:1
 same-length-13 : tie.Need-same-length-13
 same-length-13 c = search needs
 
--- src/taking.rt:202:1
 same-length-14 : tie.Need-same-length-14
 same-length-14 c = search needs
 
--- src/taking.rt:202:1
 returns-4 : tie.Need-returns-4
 returns-4 c = let s = (c .before .before .before .before .before .before .before .before .before .before .before .before .before .before .before .before .before .before .before .before .before .before .before .before .before .before .before) in took-back (P s) (G s) (E s) (sym (c .before .before .before .before .before .before .before .before .before .before .before .before .before .entry-number .ensures _ _ _ _ _) ∙ c .before .before .before .before .before .before .before .before .before .before .before .before .if1 .left) (c .before .before .before .before .before .before .before .before .before .before .entry3 .given .1) (c .before .before .before .before .back-line .ensures (G s))
 
--- src/taking.rt:202:1
 same-length-15 : tie.Need-same-length-15
 same-length-15 c = search needs
 
--- src/taking.rt:202:1
 same-length-16 : tie.Need-same-length-16
 same-length-16 c = search needs
 
--- src/taking.rt:202:1
 same-length-17 : tie.Need-same-length-17
 same-length-17 c = search needs
 
--- src/taking.rt:202:1
 returns-5 : tie.Need-returns-5
 returns-5 c = let s = (c .before .before .before .before .before .before .before .before .before .before .before .before .before .before .before .before .before) in took-none (P s) (G s) (E s) (sym (c .before .before .before .entry-number .ensures _ _ _ _ _) ∙ c .before .before .if1 .left) (c .enum-told .given .1)
 

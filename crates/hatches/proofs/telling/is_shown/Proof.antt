@@ -5,41 +5,31 @@ use Rattle.hatches.specs.Told.{isShown}
 use borrow.Author.Needs.{needs}
 use Rattle.hatches.proofs.telling.is_shown.Statement.{statement}
 use Rattle.hatches.proofs.telling.is_shown.Tie as tie
-use Rattle.hatches.proofs.telling.is_shown.Reads as reads
-use Rattle.hatches.proofs.telling.is_shown.Lts as lts
 
--- src/telling.rt:36:22
 enum-known-entry : tie.Need-enum-known-entry
 enum-known-entry c = search needs
 
--- src/telling.rt:37:21
 enum-known-entry-2 : tie.Need-enum-known-entry-2
 enum-known-entry-2 c = search needs
 
--- src/telling.rt:38:21
 enum-known-entry-3 : tie.Need-enum-known-entry-3
 enum-known-entry-3 c = search needs
 
--- src/telling.rt:39:26
 enum-told : tie.Need-enum-told
 enum-told c = search needs
 
--- src/telling.rt:32:1
 returns : tie.Need-returns
 unfolding isShown
 returns c = ap isShown (sym (c .before .entry .given .1))
 
--- src/telling.rt:32:1
 returns-2 : tie.Need-returns-2
 unfolding isShown
 returns-2 c = ap isShown (sym (c .before .entry2 .given .1))
 
--- src/telling.rt:32:1
 returns-3 : tie.Need-returns-3
 unfolding isShown
 returns-3 c = ap isShown (sym (c .before .entry3 .given .1))
 
--- src/telling.rt:32:1
 returns-4 : tie.Need-returns-4
 unfolding isShown
 returns-4 c = ap isShown (sym (c .enum-told .given .1))

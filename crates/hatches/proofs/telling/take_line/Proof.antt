@@ -1,21 +1,16 @@
 -- `hatches::telling::take_line` meets its contract: what the line says is done, and then printed.
--- what the arguments are
 -- Assumes nothing.
 use mathlib.Core.Path.{_≡_, _∙_}
 use native.Mathlib.Omega.{arith}
 use Rattle.ledger.specs.Runs.{Plan, plan}
-use Rattle.moves.specs.Given.{Given, ground, given}
+use Rattle.checks.specs.Given.{Given, ground, given}
 use Rattle.hatches.specs.Log.{Evening, evening}
 use Rattle.hatches.proofs.ToldLaws.{told-lent, told-whole}
 use borrow.Author.Needs.{needs}
 use Rattle.hatches.proofs.telling.take_line.Statement.{statement}
 use Rattle.hatches.proofs.telling.take_line.Tie as tie
-use Rattle.hatches.proofs.telling.take_line.Reads as reads
-use Rattle.hatches.proofs.telling.take_line.Lts as lts
-use Rattle.hatches.proofs.lines.log_line.Reads as log-line-reads
-use Rattle.hatches.proofs.taking.take_entry.Reads as take-entry-reads
-use Rattle.hatches.proofs.telling.put_entry.Reads as put-entry-reads
 
+-- what the arguments are
 abbrev P : tie.Start → Plan
 P s = plan (s .args .shape) (s .args .marks .now)
 
@@ -25,15 +20,12 @@ G s = given (ground (s .args .rules) (s .args .beds .now) (s .args .roughness .n
 abbrev E : tie.Start → Evening
 E s = evening (s .args .depths .now) (s .args .lasts .now) (s .args .records .now) (s .args .began .now) (s .args .log)
 
--- src/telling.rt:91:9
 log-line-requires : tie.Need-log-line-requires
 log-line-requires c κs = search needs
 
--- src/telling.rt:93:9
 take-entry-requires : tie.Need-take-entry-requires
 take-entry-requires c κs = search needs
 
--- src/telling.rt:111:9
 put-entry-requires : tie.Need-put-entry-requires
 put-entry-requires c κs =
     let s = (c .before .before .before .before .before .before .before .before .before .before .before .before .before .before .before .before .before .before .before .before .before .before .before .before .before .before .before .before) in (
@@ -43,23 +35,18 @@ put-entry-requires c κs =
       search needs,
     )
 
--- src/telling.rt:70:1
 same-length : tie.Need-same-length
 same-length c = search needs
 
--- src/telling.rt:70:1
 same-length-2 : tie.Need-same-length-2
 same-length-2 c = search needs
 
--- src/telling.rt:70:1
 same-length-3 : tie.Need-same-length-3
 same-length-3 c = search needs
 
--- src/telling.rt:70:1
 same-length-4 : tie.Need-same-length-4
 same-length-4 c = search needs
 
--- src/telling.rt:70:1
 returns : tie.Need-returns
 returns c =
     let s = (c .before .before .before .before .before .before .before .before .before .before .before .before .before .before .before .before .before .before .before .before .before .before .before .before .before .before .before .before .before) in
