@@ -1,4 +1,5 @@
 pub mod BackLaws
+pub mod Determined
 pub mod LineLaws
 pub mod LogLaws
 pub mod NightLaws

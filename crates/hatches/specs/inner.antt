@@ -1,3 +1,4 @@
-pub mod Rates
 pub mod Backs
+pub mod Determined
+pub mod Rates
 pub mod Sizes
