@@ -18,7 +18,7 @@ same-length-3 : tie.Need-same-length-3
 same-length-3 c = search needs
 
 returns : tie.Need-returns
-returns c = search (after-run _)
+returns c = after-run (c .before .before .before .before .before .before .before .before .before .before .before .before .before .before .before .before .before .before .before .args .walk) (c .before .before .before .before .before .before .run-to .ensures)
 
 pub after-run-to-spec : {M : Type 1} → statement M
 after-run-to-spec =
