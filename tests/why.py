@@ -400,11 +400,13 @@ def hold_files(checks, files):
     checks.hold((said.returncode, said.stdout) == (0, sense), f"a log that is taken: {said.stdout!r}{said.stderr!r}")
     files.put(hatchlog.SHEETS["puddle"], written("hatch 1 0 0"))
     said = told_of_log(files)
-    checks.hold(said.returncode == 0 and "nothing is printed of this log" in said.stdout, f"a log that prints nothing: {said.stdout!r}{said.stderr!r}")
+    nothing = said.returncode == 0 and "nothing is printed of this log" in said.stdout
+    checks.hold(nothing, f"a log that prints nothing: {said.stdout!r}{said.stderr!r}")
     for gone, kind in ((files.log, "log"), (files.sheet, "sheet")):
         gone.unlink()
         said = told_of_log(files)
-        right = said.returncode == 1 and said.stdout.startswith("refused by 12\n") and f"the {kind} {gone} cannot be opened: No such" in said.stdout
+        head, *words = said.stdout.splitlines()
+        right = said.returncode == 1 and head == "refused by 12" and f"the {kind} {gone} cannot be opened: No such" in words[0]
         checks.hold(right, f"no {kind}: {said.stdout!r}{said.stderr!r}")
 
 
