@@ -10,7 +10,7 @@ use grid::squares::Shape;
 use grid::squares::shape_fine;
 use grid::squares::square_at;
 use grid::squares::squares_of;
-use ledger::checks::one_each;
+use ledger::lent::one_each;
 use ledger::record::record_size;
 use programs::limits::PROGRAM_SQUARES;
 use reckon::ranges::LAST_CLOCK;
