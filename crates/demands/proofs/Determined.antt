@@ -1,8 +1,8 @@
 -- The contract of every entry point leaves one outcome: each is an equation for all that a call gives.
 -- Assumes nothing.
-use mathlib.Core.Path.{_≡_, sym, ap, _∙_}
-use mathlib.Core.List.{List}
-use lib.ListN.{length, replicate, length-replicate}
+use mathlib.Core.Path.{_≡_, sym, ap, ap₂, _∙_}
+use mathlib.Core.List.{List, _++_}
+use lib.ListN.{length, replicate, length-replicate, take-append-drop}
 use Prim.Native.Nat.{ℕ}
 use Rattle.reckon.specs.Outcomes.{One}
 use Rattle.reckon.proofs.OutcomeLaws.{exactly}
