@@ -44,16 +44,16 @@ fn handed_of_two(came: Came, after: usize, length: usize) -> usize
 fn take_lines(
     begun: Night,
     log: &[u8],
-    marks: &[u8],
-    beds: &[u32],
-    roughness: &[u32],
-    rates: &[u32],
-    rain: &[u32],
-    inflow: &[u32],
-    depths: &mut [u32],
-    lasts: &mut [u32],
-    records: &mut [u32],
-    began: &mut [u32],
+    marks: &[u8; PROGRAM_SQUARES],
+    beds: &[u32; PROGRAM_SQUARES],
+    roughness: &[u32; PROGRAM_SQUARES],
+    rates: &[u32; PROGRAM_SQUARES],
+    rain: &[u32; RAIN_ROOM],
+    inflow: &[u32; INFLOW_ROOM],
+    depths: &mut [u32; PROGRAM_SQUARES],
+    lasts: &mut [u32; PROGRAM_SQUARES],
+    records: &mut [u32; MOST_NUMBERS],
+    began: &mut [u32; RATES_ROOM],
 ) {
     let mut night = begun;
     while night.more {
