@@ -1,7 +1,8 @@
 """Hatch logs, worked and damaged: a sheet, a log, what is tried in words, and the answer, worked by hand; names that cannot be opened; and
 random logs with `back`. The built `hatchlog` and document 02 in Python give the same. What the gate holds the program to is worked anew too.
 
-`bin/test hatchlog --seed N` makes other random logs; `bin/test hatchlog --write` writes the program's stored output.
+`bin/test hatchlog --seed N` makes other random logs; `bin/test hatchlog --write` writes the program's stored output, and `--write FOLDER` each
+log with its sheet and its answer there, random ones too, for other tests to read.
 """
 import os
 import pwd
@@ -599,6 +600,8 @@ def hold_rights(checks, files):
 
 # ---- random logs
 
+SEED, RANDOM_LOGS = 107, 200
+
 
 def random_sheet(chance):
     """A small sheet with walls, exits, rain, inflow and soaking; the end is not used."""
@@ -686,18 +689,42 @@ def hold_stored(checks):
         checks.hold(path.read_text(encoding="ascii") == stored_text(), "the stored output of hatchlog is not what document 02 gives")
 
 
+def cases():
+    """A name, a sheet's text, a log's and the answer: of the table, of lines that cannot be read, and of random logs by document 02 in Python."""
+    for name, sheet, _, lines, answer in CASES:
+        yield name, SHEETS[sheet], written(*lines), answer_of(answer)
+    for at_place, (_, log, answer) in enumerate(unreadable()):
+        yield f"unreadable-{at_place}", SHEETS["puddle"], log, answer_of(answer)
+    chance = random.Random(SEED + 1)
+    for turn in range(4 * RANDOM_LOGS):
+        sheet, text = random_sheet(chance)
+        log = random_log(chance, sheet)
+        log = slipped(chance, log) if chance.random() < 0.25 else log
+        yield f"random-{turn}", text, log, answered(text.encode("latin-1"), log.encode("latin-1"))
+
+
+def write_cases(folder):
+    """Every case as three files."""
+    for name, *texts in cases():
+        for kind, text in zip(("sheet", "log", "log.out"), texts):
+            (folder / f"{name}.{kind}").write_bytes(text.encode("latin-1"))
+
+
 def main():
     if sys.argv[1:] == ["--write"]:
         (TOP / "crates" / "hatchlog" / "stdout").write_text(stored_text(), encoding="ascii")
         return
-    seed = int(sys.argv[2]) if sys.argv[1:2] == ["--seed"] else 107
+    if sys.argv[1:2] == ["--write"]:
+        write_cases(Path(sys.argv[2]))
+        return
+    seed = int(sys.argv[2]) if sys.argv[1:2] == ["--seed"] else SEED
     checks = Checks("hatchlog")
     with tempfile.TemporaryDirectory() as folder:
         files = Files(folder)
         hold_table(checks, files)
         hold_names(checks, files)
         hold_rights(checks, files)
-        hold_random(checks, files, seed, 200)
+        hold_random(checks, files, seed, RANDOM_LOGS)
     hold_stored(checks)
     checks.end()
 
