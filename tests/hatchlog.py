@@ -637,11 +637,11 @@ def random_log(chance, sheet):
     clock = 0
     for _ in range(chance.randint(2, 14)):
         if chance.random() < 0.4:
-            lines.append(f"back {chance.choice((0, 1, 1, 1, 2, 2, 3, 4, 6, 11))}")
-            clock -= clock and chance.choice((0, update))
+            lines.append(f"back {chance.choice((0, 1, 1, 1, 1, 2, 2, 2, 3, 4, 6, 11) if clock else (0, 0, 0, 1))}")
+            clock -= clock and chance.choice((0, 0, 0, 0, update))
         else:
             clock += update * chance.choice((0, 1, 1, 1, 2, 3, 6))
-            lines.append(f"{clock} {chance.choice(numbers)} {chance.choice((0, 1, 5, 40, 300, 1_000, 20_000))}")
+            lines.append(f"{clock} {chance.choice(numbers)} {chance.choice((0, 0, 1, 5, 40, 300, 1_000, 1_000, 20_000))}")
     return written(*lines)
 
 
