@@ -38,9 +38,9 @@ def walled_pair():
     return sheet.text(SECOND)
 
 
-def largest():
-    """As many squares as are taken, level and dry."""
-    sheet = flat_grid(32, 32)
+def dry_grid(size):
+    """So many squares by as many, level and dry."""
+    sheet = flat_grid(size, size)
     for place in sheet.squares:
         sheet.put(place, 0, 100)
     return sheet.text(0)
@@ -63,7 +63,8 @@ SHEETS = {
     "seven metres": one_square(7).text(SECOND),
     # steps of 400, 400 and 200 ms
     "short steps": one_square(shortest=400, longest=400).text(SECOND),
-    "largest": largest(),
+    "largest": dry_grid(32),
+    "hundred": dry_grid(10),
     "63 rows": with_rows(63),
     "64 rows": with_rows(64),
     "64 showers": after(A_SHOWER, 64)(BASES["puddle"]),
@@ -95,9 +96,9 @@ def at(clock, *depths, steps=None, outflow=0, soaked=0):
     )
 
 
-def dry(steps):
-    """What is printed of the largest sheet after so many seconds."""
-    depths = {(row, column): 0 for row in range(32) for column in range(32)}
+def dry(steps, size=32):
+    """What is printed of a dry sheet after so many seconds."""
+    depths = {(row, column): 0 for row in range(size) for column in range(size)}
     return answer_text(depths, {"outflow": 0, "soaked": 0, "steps": steps, "clock": steps * SECOND})
 
 
@@ -327,6 +328,9 @@ CASES = [
         [NAMED, "0 1 1", "69000 1 2", "70000 1 4", "back 1", "70000 1 0", "back 64", "7000 1 0"],
         [at(0, 1_000), at(69_000, 70_000), at(70_000, 72_000), at(69_000, 70_000), at(70_000, 72_000), at(6_000, 7_000), at(7_000, 8_000)],
     ),
+    # 16,384 / 702 = 23
+    ("kept-23", "hundred", "100 squares, 30 steps, 23 of them back", [NAMED, "30000 1 0", "back 23"], [dry(30, 10), dry(7, 10)]),
+    ("kept-24", "hundred", "24 of them", [NAMED, "30000 1 0", "back 24"], [dry(30, 10), (10, 0)]),
     ("kept-2", "largest", "1,024 squares, three steps, two of them back", [NAMED, "3000 1 0", "back 2"], [dry(3), dry(1)]),
     ("kept-3", "largest", "three of them", [NAMED, "3000 1 0", "back 3"], [dry(3), (10, 0)]),
     # hatch lines: 12 first, then 4
