@@ -1,7 +1,8 @@
 """Hatch logs, worked and damaged: a sheet, a log, what is tried in words, and the answer, worked by hand; names that cannot be opened; and
 random logs with `back`. The built `hatchlog` and document 02 in Python give the same. What the gate holds the program to is worked anew too.
 
-`bin/test hatchlog --seed N` makes other random logs; `bin/test hatchlog --write` writes the program's stored output.
+`bin/test hatchlog --seed N` makes other random logs; `bin/test hatchlog --write` writes the program's stored output, and `--write FOLDER` each
+log with its sheet and its answer there, random ones too, for other tests to read.
 """
 import os
 import pwd
@@ -37,9 +38,9 @@ def walled_pair():
     return sheet.text(SECOND)
 
 
-def largest():
-    """As many squares as are taken, level and dry."""
-    sheet = flat_grid(32, 32)
+def dry_grid(size):
+    """So many squares by as many, level and dry."""
+    sheet = flat_grid(size, size)
     for place in sheet.squares:
         sheet.put(place, 0, 100)
     return sheet.text(0)
@@ -62,7 +63,8 @@ SHEETS = {
     "seven metres": one_square(7).text(SECOND),
     # steps of 400, 400 and 200 ms
     "short steps": one_square(shortest=400, longest=400).text(SECOND),
-    "largest": largest(),
+    "largest": dry_grid(32),
+    "hundred": dry_grid(10),
     "63 rows": with_rows(63),
     "64 rows": with_rows(64),
     "64 showers": after(A_SHOWER, 64)(BASES["puddle"]),
@@ -94,9 +96,9 @@ def at(clock, *depths, steps=None, outflow=0, soaked=0):
     )
 
 
-def dry(steps):
-    """What is printed of the largest sheet after so many seconds."""
-    depths = {(row, column): 0 for row in range(32) for column in range(32)}
+def dry(steps, size=32):
+    """What is printed of a dry sheet after so many seconds."""
+    depths = {(row, column): 0 for row in range(size) for column in range(size)}
     return answer_text(depths, {"outflow": 0, "soaked": 0, "steps": steps, "clock": steps * SECOND})
 
 
@@ -326,6 +328,9 @@ CASES = [
         [NAMED, "0 1 1", "69000 1 2", "70000 1 4", "back 1", "70000 1 0", "back 64", "7000 1 0"],
         [at(0, 1_000), at(69_000, 70_000), at(70_000, 72_000), at(69_000, 70_000), at(70_000, 72_000), at(6_000, 7_000), at(7_000, 8_000)],
     ),
+    # 16,384 / 702 = 23
+    ("kept-23", "hundred", "100 squares, 30 steps, 23 of them back", [NAMED, "30000 1 0", "back 23"], [dry(30, 10), dry(7, 10)]),
+    ("kept-24", "hundred", "24 of them", [NAMED, "30000 1 0", "back 24"], [dry(30, 10), (10, 0)]),
     ("kept-2", "largest", "1,024 squares, three steps, two of them back", [NAMED, "3000 1 0", "back 2"], [dry(3), dry(1)]),
     ("kept-3", "largest", "three of them", [NAMED, "3000 1 0", "back 3"], [dry(3), (10, 0)]),
     # hatch lines: 12 first, then 4
@@ -599,6 +604,8 @@ def hold_rights(checks, files):
 
 # ---- random logs
 
+SEED, RANDOM_LOGS = 107, 200
+
 
 def random_sheet(chance):
     """A small sheet with walls, exits, rain, inflow and soaking; the end is not used."""
@@ -634,11 +641,11 @@ def random_log(chance, sheet):
     clock = 0
     for _ in range(chance.randint(2, 14)):
         if chance.random() < 0.4:
-            lines.append(f"back {chance.choice((0, 1, 1, 1, 2, 2, 3, 4, 6, 11))}")
-            clock -= clock and chance.choice((0, update))
+            lines.append(f"back {chance.choice((0, 1, 1, 1, 1, 2, 2, 2, 3, 4, 6, 11) if clock else (0, 0, 0, 1))}")
+            clock -= clock and chance.choice((0, 0, 0, 0, update))
         else:
             clock += update * chance.choice((0, 1, 1, 1, 2, 3, 6))
-            lines.append(f"{clock} {chance.choice(numbers)} {chance.choice((0, 1, 5, 40, 300, 1_000, 20_000))}")
+            lines.append(f"{clock} {chance.choice(numbers)} {chance.choice((0, 0, 1, 5, 40, 300, 1_000, 1_000, 20_000))}")
     return written(*lines)
 
 
@@ -686,18 +693,42 @@ def hold_stored(checks):
         checks.hold(path.read_text(encoding="ascii") == stored_text(), "the stored output of hatchlog is not what document 02 gives")
 
 
+def cases():
+    """A name, a sheet's text, a log's and the answer: of the table, of lines that cannot be read, and of random logs by document 02 in Python."""
+    for name, sheet, _, lines, answer in CASES:
+        yield name, SHEETS[sheet], written(*lines), answer_of(answer)
+    for at_place, (_, log, answer) in enumerate(unreadable()):
+        yield f"unreadable-{at_place}", SHEETS["puddle"], log, answer_of(answer)
+    chance = random.Random(SEED + 1)
+    for turn in range(4 * RANDOM_LOGS):
+        sheet, text = random_sheet(chance)
+        log = random_log(chance, sheet)
+        log = slipped(chance, log) if chance.random() < 0.25 else log
+        yield f"random-{turn}", text, log, answered(text.encode("latin-1"), log.encode("latin-1"))
+
+
+def write_cases(folder):
+    """Every case as three files."""
+    for name, *texts in cases():
+        for kind, text in zip(("sheet", "log", "log.out"), texts):
+            (folder / f"{name}.{kind}").write_bytes(text.encode("latin-1"))
+
+
 def main():
     if sys.argv[1:] == ["--write"]:
         (TOP / "crates" / "hatchlog" / "stdout").write_text(stored_text(), encoding="ascii")
         return
-    seed = int(sys.argv[2]) if sys.argv[1:2] == ["--seed"] else 107
+    if sys.argv[1:2] == ["--write"]:
+        write_cases(Path(sys.argv[2]))
+        return
+    seed = int(sys.argv[2]) if sys.argv[1:2] == ["--seed"] else SEED
     checks = Checks("hatchlog")
     with tempfile.TemporaryDirectory() as folder:
         files = Files(folder)
         hold_table(checks, files)
         hold_names(checks, files)
         hold_rights(checks, files)
-        hold_random(checks, files, seed, 200)
+        hold_random(checks, files, seed, RANDOM_LOGS)
     hold_stored(checks)
     checks.end()
 

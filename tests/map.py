@@ -223,7 +223,7 @@ def hold_evening(checks):
     said = whole_words(made.stdout)
     for words in (
         "walled-evening: water after 30 min",
-        "clock 30 min, after 180 steps, and 72 steps taken back",
+        "clock 30 min, after 180 steps; 72 taken back",
         "on the meadow: 2,586 m³",
         "hatch 1 at 0,1: 800 l/s from 0 to 20 min",
         "hatch 2 at 2,1: 600 l/s from 5 to 20 min",
@@ -261,7 +261,7 @@ def hold_log_hatches(checks, room):
             ["0 4 10", "60000 4 50", "120000 4 90", "180000 4 0", "back 8", "120000 4 5", "180000 4 0"],
             [
                 "hatch 4 at 0,0: 10 l/s from 0 to 1 min, 50 l/s from 1 to 2 min, 5 l/s from 2 to 3 min",
-                "clock 3 min, after 18 steps, and 8 steps taken back",
+                "clock 3 min, after 18 steps; 8 taken back",
             ],
             (2, 2),
         ),

@@ -257,6 +257,7 @@ LOG_PLACES = {
     "kept-65": (LOG, ["line 3: it would take 65 steps back, and 64 are kept; 70 stand, and with 1 square at most 64 are kept: write back→64"]),
     "kept-none-left": (LOG, ["line 4: ", "6 stand", *NONE_KEPT]),
     "kept-again": (LOG, ["line 6: ", "6 stand", *NONE_KEPT]),
+    "kept-24": (LOG, ["line 3: it would take 24 steps back, and 23 are kept; 30 stand, and with 100 squares at most 23 are kept"]),
     "kept-3": (LOG, ["line 3: it would take 3 steps back, and 2 are kept; 3 stand, and with 1,024 squares at most 2 are kept: write back→2"]),
     "hatch-0": (LOG, ["line 1: the hatch's number is 0: number hatches 1 to 9", "line 1 may be hatch→number→row→column"]),
     "hatch-10": (LOG, ["line 1: the hatch's number is 10: number hatches 1 to 9"]),

@@ -1,6 +1,7 @@
 """The legend of a map: what its shades and signs mean, how large each class of depth is, and the answer in words."""
 from textwrap import wrap
 
+from ..logs.nights import Night
 from ..rule.weighing import WEIGHTED
 from ..sheets.standing import STEEP
 from ..words.hatches import hatches_in
@@ -96,7 +97,7 @@ def say_totals(column, pair, standing):
     for name, amount in volumes(pair.account()).items():
         column.say(f"{name}: {volume(amount)}", ' class="volume"')
     column.say(deepest_words(answer))
-    back = f", and {steps(pair.taken_back)} taken back" if pair.taken_back else ""
+    back = f"; {pair.taken_back:,} taken back" if pair.taken_back else ""
     column.say(f"clock {time(answer.clock)}, after {steps(answer.steps)}{back}")
     if sheet.run["edition"] == WEIGHTED:
         column.say(standing_words(standing))
@@ -110,7 +111,8 @@ def say_tables(column, pair):
     for line in lines[:MOST_LISTED]:
         column.say(line, f' fill="{HATCH}"' if line.startswith("hatch") else "", SMALL, gap=-2)
     if len(lines) > MOST_LISTED:
-        column.say(f"and {len(lines) - MOST_LISTED} more: tools/tell.py lists them", "", SMALL, gap=-2)
+        where = "the sheet and the log list them" if isinstance(pair, Night) else "tools/tell.py lists them"
+        column.say(f"and {len(lines) - MOST_LISTED} more: {where}", "", SMALL, gap=-2)
 
 
 def legend(x, y, pair, standing):
