@@ -39,7 +39,8 @@ GIVEN = {
     "tell_rows": tell_rows,
     "arrow": lent.arrow,
     "fresh": lent.freshens,
-    "step": lent.steps,
+    "fresh_run": lent.fresh_run,
+    "step": lent.steps_by,
     "take_back": lent.takes_back,
     "run_after": lent.run_after,
 }

@@ -60,7 +60,8 @@ def tell_same(a, b):
 GIVEN = {
     "write_all": write_all,
     "print_decimal": print_decimal,
-    "step": lent.steps,
+    "fresh_run": lent.fresh_run,
+    "step": lent.steps_by,
     "number_of": lent.number_of,
     "run_after": lent.run_after,
     "fresh_in": in_room(lent.freshens, -1),

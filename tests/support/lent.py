@@ -54,6 +54,11 @@ def steps(*parts):
     return answer(step, meadow(*parts))
 
 
+def steps_by(_walk, *parts):
+    """One step by a walk, of which document 01 knows nothing."""
+    return steps(*parts)
+
+
 def runs_to(shape, rules, run, end, *slices):
     """A run to an end."""
     m = meadow(shape, rules, run, *slices)
@@ -62,6 +67,13 @@ def runs_to(shape, rules, run, end, *slices):
 
 
 NO_SHAPE = Struct(rows=0, columns=0)
+
+
+def fresh_run(rules, slots):
+    """The run value of a fresh run in a record room with so many slots."""
+    m = meadow(NO_SHAPE, rules, None, [], [], [], [], [], [], [], [], [])
+    m.newest = slots - 1
+    return run_of(m)
 
 
 def step_bounds(rules, clock, end):

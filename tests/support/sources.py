@@ -33,6 +33,7 @@ def python_of(text):
     text = re.sub(r"\b(\d[\d_]*)(u8|u32|u64|usize)\b", r"\1", text)
     text = re.sub(r" as \w+", "", text)
     text = re.sub(r"\b[a-z]\w*::", "", text)
+    text = re.sub(r"\b[A-Z]\w*::([A-Z]\w*)", r'"\1"', text)
     text = re.sub(r"\[([^\[\];]+); ([^\[\];]+)\]", r"[\1] * (\2)", text)
     while STRUCT.search(text):
         text = STRUCT.sub(made, text)

@@ -2,6 +2,7 @@
 // and north as bit patterns, and the wet rows; after a step, after another, and after a take-back, which must show the first step's
 // again. Then each refusal.
 use checks::fresh::fresh;
+use checks::fresh::fresh_run;
 use flood::step::step;
 use grid::squares::Shape;
 use grid::walks::Walk;
@@ -238,15 +239,10 @@ fn main() {
     let mut depths = DEPTHS;
     let mut lasts = [0u32; 9];
     let mut records = [0u32; ROOM];
-    let before = Run {
-        clock: 0,
-        length: 0,
-        outflow: 0,
-        kept: 0,
-        newest: 0,
-        soaked: 0,
-    };
-    let mut run = run_after(fresh(SHAPE, RULES, &marks, &mut lasts, &records), before);
+    let mut run = run_after(
+        fresh(SHAPE, RULES, &marks, &mut lasts, &records),
+        fresh_run(RULES, 1),
+    );
     tell_all(b"fresh\n", run, &depths, &records);
     run = stepped(run, &mut depths, &mut lasts, &mut records);
     tell_all(b"a step\n", run, &depths, &records);
