@@ -5,9 +5,9 @@ from pathlib import Path
 
 sys.path.insert(0, str(Path(__file__).resolve().parent.parent / "python"))
 
-from meadow.grounds import HELD_MOUTH, MILLIMETRE, drowned_meadow, filling_pond, opened_pond, walled_meadow, worked  # noqa: E402
-from meadow.lines import HOUR, MINUTE, SECOND, Sheet  # noqa: E402
-from meadow.programs import ended  # noqa: E402
+from meadow.programs import ended
+from meadow.sheets.grounds import HELD_MOUTH, MILLIMETRE, drowned_meadow, filling_pond, opened_pond, walled_meadow, worked
+from meadow.sheets.lines import HOUR, MINUTE, SECOND, Sheet
 
 
 def document_01():

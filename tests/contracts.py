@@ -1,29 +1,29 @@
-#!/usr/bin/env python3
 """Every public function of a library says what it gives: it has a contract, which speaks of its answer, of each slice that it was lent to
-write as it is afterwards, and of every other slice; and the determinacy records have a field for it, over the very relation that its
-contract names. Every entry point is called by a function of the crate `calls`, which promises of it what the demands say. Changed functions, of
-which each has a fault that the test must find, show that it looks."""
+write as it is afterwards, and of every other slice; and one determinacy record has a field for it, over the very relation that its contract
+names: that of its own crate for a layer function, that of the demands for an entry point. Every record is proved. Every entry point is called by
+a function of the crate `calls`, which promises of it what the demands say. Changed functions, of which each has a fault that the test must find,
+show that it looks."""
 import re
-import sys
-from pathlib import Path
 
-TOP = Path(__file__).resolve().parent.parent
-sys.path.insert(0, str(TOP / "python"))
-
-from meadow.counted import Checks  # noqa: E402
-from rattle import DEMANDS, imported  # noqa: E402
-from rattle.functions import library_functions  # noqa: E402
-from rattle.specs import Specs  # noqa: E402
+from meadow.counted import Checks
+from meadow.programs import TOP
+from rattle import DEMANDS, imported
+from rattle.functions import library_functions
+from rattle.specs import Specs
 
 # the exported functions have this before the name of the call
 EXPORTED = "flood_"
 # Rooms of which a contract promises nothing, because nobody reads what is left in them (docs/CONTRACTS.md says why), and slices that a
 # `requires` asks to say only what the record says already, so that nothing depends on them.
-NOT_SAID = {("ledger", f"settle::{name}", slice) for name in ("settle", "settle_stored") for slice in ("room", "left", "worked", "senders")}
+NOT_SAID = {(crate, name, slice) for crate, name in (("settling", "settle::settle"), ("flood", "step::step_on")) for slice in ("room", "left", "worked", "senders")}
 
 
-# Calls that an entry point makes of another with all that it is lent: what they promise is promised there.
-UNDER_ANOTHER = ("step_by", "run_to_by")
+# What comes of a file is the system's to say: what these functions give is not determined by what they are lent, so that no record has a field
+# for them (docs/CONTRACTS.md).
+OF_THE_SYSTEM = ("files",)
+# what a field says of its relation; of these two, which leave parts of a room open, it says the rest in full
+ONE = ("reckon", "Outcomes", "One")
+IN_PART = {("moves", "add-water"), ("moves", "fill")}
 
 
 def claim(clause):
@@ -54,16 +54,18 @@ def head(part):
 
 
 class Records:
-    """The determinacy records: the text of each field, by the crate's name in lower case and the field's own."""
+    """The determinacy records: the names of each crate's, and the text of each field, by the crate where its record stands, the crate of its
+    function and its own name."""
 
     def __init__(self, specs):
-        self.specs, self.fields = specs, {}
-        for (crate, name), module in specs.modules.items():
-            if crate == DEMANDS:
-                for each in module.definitions.values():
-                    found = re.fullmatch(r"(\w+)Determined", each.name)
-                    for field, text in re.findall(r"^ *pub (\S+) : (.*(?:\n {5,}.*)*)", "\n".join(each.lines), re.M) if found else ():
-                        self.fields[found[1].lower(), field] = (module, text)
+        self.specs, self.names, self.fields = specs, {}, {}
+        for (crate, _), module in specs.modules.items():
+            for each in module.definitions.values():
+                found = re.fullmatch(r"(\w+)Determined", each.name)
+                if found:
+                    self.names.setdefault(crate, []).append(each.name)
+                    for field, text in re.findall(r"^ *pub (\S+) : (.*(?:\n {5,}.*)*)", "\n".join(each.lines), re.M):
+                        self.fields[crate, found[1].lower(), field] = (module, text)
 
     def named(self, place):
         """The definitions that a field names, those behind the names of its own file included."""
@@ -81,8 +83,9 @@ def is_relation(specs, key):
 
 
 def place(function):
-    """The field of a function."""
-    return function.crate.replace("_", ""), function.name.removeprefix(EXPORTED).replace("_", "-")
+    """The field of a function: a layer function's stands in its own crate, an entry point's in the demands."""
+    home = DEMANDS if function.is_entry else function.crate
+    return home, function.crate.replace("_", ""), function.name.removeprefix(EXPORTED).replace("_", "-")
 
 
 def hold_contract(hold, function):
@@ -104,20 +107,21 @@ def hold_contract(hold, function):
 def hold_field(hold, specs, records, function):
     """A field, over the relation that the contract names."""
     name, field = f"{function.crate}::{function.path}", place(function)
-    if not hold(field in records.fields, f"no determinacy record has a field for {name}"):
+    if not hold(field in records.fields, f"no determinacy record of {field[0]} has a field for {name}"):
         return
     said = [specs.named(head(part), function.imports) for clause in function.ensures for part in conjuncts(claim(clause)[1])]
     heads, named = set().union(*said), records.named(field)
+    hold((ONE in named) != (field[1:] in IN_PART), f"the field of {name} does not say that there is one outcome")
     hold(heads and all(said) and heads <= named, f"the field of {name} is not over the relation of its contract: {sorted(heads - named)}")
-    others = {key for key in named - heads if is_relation(specs, key)}
+    others = {key for key in named - heads - {ONE} if is_relation(specs, key)}
     hold(not others, f"the field of {name} is over a relation that its contract does not name: {sorted(others)}")
 
 
 def hold_tied(hold, functions, calls):
     """Each entry point has its function in `calls`, whose whole body is that call; and there is no other function there."""
-    wanted = {f"after_{function.name}": function for function in functions if function.is_entry and function.name not in UNDER_ANOTHER}
+    wanted = {f"after_{function.name}": function for function in functions if function.is_entry}
     for name, function in wanted.items():
-        hold(re.fullmatch(rf"{function.name}\([\w\s,]*\)", calls.get(name, "")), f"no function of `calls` makes the call {function.crate}::{function.path}")
+        hold(re.fullmatch(rf"{function.name}\((?:[\w\s,]|\.len\(\))*\)", calls.get(name, "")), f"no function of `calls` makes the call {function.crate}::{function.path}")
     hold(set(calls) <= set(wanted), f"`calls` has a function for no entry point: {sorted(set(calls) - set(wanted))}")
 
 
@@ -130,11 +134,26 @@ def bodies(top):
 def hold_all(hold, specs, records, functions):
     for function in functions:
         hold_contract(hold, function)
-        hold_field(hold, specs, records, function)
+        if function.crate not in OF_THE_SYSTEM:
+            hold_field(hold, specs, records, function)
     wanted = {place(function) for function in functions}
-    crates = {function.crate.replace("_", "") for function in functions}
-    for crate, field in records.fields:
-        hold((crate, field) in wanted and crate in crates, f"the determinacy record of {crate} has a field {field}, which is no public function")
+    hold(len(wanted) == len(functions), "two public functions share a field")
+    for home, crate, field in records.fields:
+        hold((home, crate, field) in wanted, f"a determinacy record of {home} has a field for {crate} {field}, which does not belong there")
+
+
+def hold_proved(hold, records, proofs):
+    """Each determinacy record is a type of which a law that its crate declares is the proof."""
+    for crate, names in records.names.items():
+        for name in names:
+            hold(re.search(rf"^(pub )?\S+ : {name}$", proofs.get(crate, ""), re.M), f"{crate} does not prove its {name}")
+
+
+def determinacy_proofs(top):
+    """{crate: the laws of its proofs/Determined.antt}, of those that declare one."""
+    folders = [path.parent for path in sorted(top.glob("crates/*/proofs/Determined.antt"))]
+    declared = [folder for folder in folders if "pub mod Determined\n" in (folder / "Lib.antt").read_text(encoding="utf-8")]
+    return {folder.parent.name: (folder / "Determined.antt").read_text(encoding="utf-8") for folder in declared}
 
 
 def faults(functions):
@@ -156,6 +175,9 @@ def faults(functions):
     yield "a relation besides", one._replace(ensures=[clause, ends(f"{other} {answer}")])
     yield "a relation of that name from elsewhere", one._replace(imports=({**names, relation: ("nowhere", "Nothing")}, modules))
     yield "no field", one._replace(name="nosuch")
+    yield "a layer function's field in place of an entry point's", one._replace(requires=[" ⌜ ⊥ ⌝ "])
+    layer = next(function for function in functions if function.requires and function._replace(requires=[]).is_entry)
+    yield "an entry point's field in place of a layer function's", layer._replace(requires=[])
 
 
 def main():
@@ -164,6 +186,12 @@ def main():
     records, functions = Records(specs), list(library_functions(TOP))
     checks.hold(functions != [], "there is no public function")
     hold_all(checks.hold, specs, records, functions)
+    proofs = determinacy_proofs(TOP)
+    hold_proved(checks.hold, records, proofs)
+    for crate in records.names:
+        found = []
+        hold_proved(lambda right, _: found.append(bool(right)), records, {**proofs, crate: ""})
+        checks.hold(not all(found), f"a fault is not found: {crate} proves no determinacy record")
     calls = bodies(TOP)
     hold_tied(checks.hold, functions, calls)
     for name in calls:

@@ -1,18 +1,15 @@
-#!/usr/bin/env python3
 """Damaged sheets, and some that are whole: a base sheet, an edit in words and as an edit, and the answer. The built `meadow` and document
 01 in Python give it.
 
-damaged.py --write FOLDER writes each sheet and its answer there, for other tests to read.
+`bin/test damaged --write FOLDER` writes each sheet and its answer there, for other tests to read.
 """
 import sys
 from pathlib import Path
 
-sys.path.insert(0, str(Path(__file__).resolve().parent.parent / "python"))
-
-from meadow.counted import Checks  # noqa: E402
-from meadow.lines import INFLOW, RAIN, SECOND, SQUARE, Sheet, answer_text, line_of, place_of, refused_text  # noqa: E402
-from meadow.programs import TOP, printed  # noqa: E402
-from meadow.sheets import MOST_BYTES, answered  # noqa: E402
+from meadow.counted import Checks
+from meadow.programs import TOP, printed
+from meadow.sheets.lines import INFLOW, RAIN, SECOND, SQUARE, Sheet, answer_text, line_of, place_of, refused_text
+from meadow.sheets.reading import MOST_BYTES, answered
 
 # ---- base sheets
 

@@ -1,23 +1,28 @@
-#!/usr/bin/env python3
 """The gate, the installer and bin/run themselves, in a folder of their own with stand-ins for the kit and for Debian's tools: nothing
-passes that was skipped or not counted, what cannot be installed is said, and a program is built again when a source is newer."""
+passes that was skipped or not counted, two tests run at a time and are told in order, what cannot be installed is said, and a program is
+built again when a source is newer."""
 import os
 import platform
 import shutil
 import subprocess
-import sys
 import tempfile
 from pathlib import Path
 
-TOP = Path(__file__).resolve().parent.parent
-sys.path.insert(0, str(TOP / "python"))
-
-from meadow.counted import Checks  # noqa: E402
+from meadow.counted import Checks
+from meadow.programs import TOP
 
 VERDICT = "12 passed, 0 failed"
+PROVED = "rt: all proved"
 NOTE = "Proof.antt:1:1: note: large solution: the implicit argument"
-PASSES = 'echo "one: 3 checks, 0 skipped, 0 failed"'
+LINTED = 'print("linters: 2 checks, 0 skipped, 0 failed")'
+PASSES = 'print("one: 3 checks, 0 skipped, 0 failed")'
 SKIPS = 'echo "two: skipped: all of it: no moon here"; echo "two: 0 checks, 1 skipped, 0 failed"'
+# a test that says when it begins, ends only after another has begun, and then prints
+WAITS = """touch began-{name}
+for _ in $(seq 100); do [ ! -e began-{other} ] || break; sleep 0.1; done
+[ -e began-{other} ] || exit 1
+echo "{name} saw {other}"
+echo "{name}: 1 checks, 0 skipped, 0 failed\""""
 
 
 class Room:
@@ -25,17 +30,16 @@ class Room:
 
     def __init__(self, folder):
         self.top, self.stand_ins = Path(folder) / "top", Path(folder) / "stand-ins"
-        for name in (".ci/run", "bin/setup", "bin/run"):
+        for name in (".ci/run", "bin/run", "bin/setup", "bin/test", "tests/support/started.py"):
             (self.top / name).parent.mkdir(parents=True, exist_ok=True)
             shutil.copy(TOP / name, self.top / name)
-        (self.top / "tests").mkdir()
         self.stand_ins.mkdir()
 
     def write(self, name, body):
-        """A script of the project."""
+        """A script of the project, in Python or for bash."""
         path = self.top / name
         path.parent.mkdir(parents=True, exist_ok=True)
-        path.write_text(f"#!/usr/bin/env bash\n{body}\n")
+        path.write_text(f"{body}\n" if path.suffix == ".py" else f"#!/usr/bin/env bash\n{body}\n")
         path.chmod(0o755)
 
     def stand_in(self, name, body):
@@ -54,23 +58,27 @@ class Room:
 
 
 def hold_gate(checks, room, name, passes, ends, **more):
-    """Whether the gate passes, how its output ends, and that gate.log has the same lines."""
+    """Whether the gate passes, how its output ends, and that gate.log has the same lines; what it printed."""
     status, printed = room.ran("bash", ".ci/run", **more)
     lines = printed.splitlines()
     checks.hold((status == 0) == passes, f"{name}: the gate ends with {status}")
     checks.hold(lines[-len(ends) :] == ends, f"{name}: the gate ends with {lines[-2:]}")
     checks.hold((VERDICT in lines) == passes, f"{name}: the verdict is given, or not given")
     checks.hold((room.top / "gate.log").read_text() == printed and NOTE not in printed, f"{name}: gate.log has other lines")
+    return printed
 
 
 def gate(checks, room):
     """The gate with tests of several kinds."""
-    kit = f'[ "$1" = ci ] || exit 1; echo "{NOTE}"; echo "rt: all proved"; echo "{VERDICT}"'
+    kit = f'[ "$1" = ci ] || exit 1; echo "{NOTE}"; echo "{PROVED}"; echo "{VERDICT}"'
     room.stand_in("rt", kit)
     room.write("bin/setup", "exit 0")
+    room.write("tests/outside/build.sh", "tools() { :; }; archive() { echo built >>library; }")
     hold_gate(checks, room, "no test", False, ["gate: there is no test under tests/"])
-    room.write("tests/one.sh", PASSES)
-    hold_gate(checks, room, "a test that passes", True, ["gate: 1 tests, 3 checks, 0 skipped", VERDICT])
+    room.write("tests/linters.py", LINTED)
+    room.write("tests/one.py", PASSES)
+    hold_gate(checks, room, "a test that passes", True, ["gate: 2 tests, 5 checks, 0 skipped", VERDICT])
+    checks.hold((room.top / "library").read_text() == "built\n", "the static library is not built once")
     room.write("tests/two.sh", SKIPS)
     said = "gate: 1 skipped: two: all of it: no moon here"
     hold_gate(checks, room, "a skip", False, [said + "; CI_ALLOW_SKIP=1 lets them pass"])
@@ -85,8 +93,36 @@ def gate(checks, room):
     room.write("bin/setup", "exit 1")
     hold_gate(checks, room, "no set-up", False, ["gate: bin/setup did not pass; CI_ALLOW_SKIP=1 goes on without"])
     room.write("bin/setup", "exit 0")
+    room.write("tests/linters.py", "raise SystemExit(1)")
+    printed = hold_gate(checks, room, "a linter finds something", False, ["gate: tests/linters.py did not pass: status 1"])
+    checks.hold(PROVED not in printed, "the gate proves all before it says what a linter found")
+    room.write("tests/linters.py", LINTED)
     room.stand_in("rt", kit + "; exit 1")
     hold_gate(checks, room, "rt ci fails", False, ["gate: rt ci did not pass: status 1"])
+
+
+def two_at_a_time(checks, room):
+    """Tests on two cores: each sees the other begun, and what they print comes whole and in their order, whichever ends first."""
+    room.stand_in("nproc", "echo 2")
+    room.stand_in("rt", f'echo "{PROVED}"; echo "{VERDICT}"')
+    room.write("bin/setup", "exit 0")
+    room.write("tests/outside/build.sh", "tools() { :; }; archive() { :; }")
+    room.write("tests/linters.py", LINTED)
+    room.write("tests/one.sh", WAITS.format(name="one", other="two") + "; sleep 0.5")
+    room.write("tests/two.sh", WAITS.format(name="two", other="one"))
+    of_one = ["gate: tests/one.sh", "one saw two", "one: 1 checks, 0 skipped, 0 failed"]
+    of_two = ["gate: tests/two.sh", "two saw one", "two: 1 checks, 0 skipped, 0 failed"]
+    hold_gate(checks, room, "two at a time", True, [*of_one, *of_two, "gate: 3 tests, 4 checks, 0 skipped", VERDICT])
+    for name in ("one", "two"):
+        (room.top / f"began-{name}").unlink()
+    room.write("tests/one.sh", WAITS.format(name="one", other="two") + "; exit 3")
+    room.write("tests/two.sh", WAITS.format(name="two", other="one") + "; sleep 0.5; touch two-ended")
+    hold_gate(checks, room, "one of two fails", False, [*of_one, "gate: tests/one.sh did not pass: status 3"])
+    checks.hold((room.top / "two-ended").exists(), "the gate ends while a test is under way")
+    room.stand_in("nproc", "echo 1")
+    for name in ("one", "two"):
+        room.write(f"tests/{name}.sh", f'[ ! -e under-way ] || exit 1; touch under-way; sleep 0.2; rm under-way; echo "{name}: 1 checks, 0 skipped, 0 failed"')
+    hold_gate(checks, room, "one core", True, ["gate: 3 tests, 4 checks, 0 skipped", VERDICT])
 
 
 def setup(checks, room):
@@ -127,7 +163,7 @@ def runner(checks, room):
 
 def main():
     checks = Checks("gate")
-    for part in (gate, setup, runner):
+    for part in (gate, two_at_a_time, setup, runner):
         with tempfile.TemporaryDirectory() as folder:
             part(checks, Room(folder))
     checks.end()

@@ -1,15 +1,9 @@
-#!/usr/bin/env python3
 """crates/exports/flood.h and tests/outside/declared.rs say what the exported functions take and give, and every exported function stands
 in them, with the stack that suffices for it."""
 import re
-import sys
-from pathlib import Path
 
-TOP = Path(__file__).resolve().parent.parent
-sys.path[:0] = [str(TOP / "python"), str(TOP / "tools")]
-
-import header  # noqa: E402
-from meadow.counted import Checks  # noqa: E402
+import header
+from meadow.counted import Checks
 
 
 def main():

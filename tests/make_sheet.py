@@ -1,4 +1,3 @@
-#!/usr/bin/env python3
 """tools/make_sheet.py on beds, plans and tables whose sheet is worked by hand, and on what cannot be one; tools/depths.py takes answers back
 to the map that the beds came from, micrometre by micrometre."""
 import shutil
@@ -7,13 +6,11 @@ import sys
 import tempfile
 from pathlib import Path
 
-sys.path.insert(0, str(Path(__file__).resolve().parent.parent / "python"))
-
-from meadow.counted import Checks  # noqa: E402
-from meadow.grids import grid_in  # noqa: E402
-from meadow.lines import Answer  # noqa: E402
-from meadow.programs import TOP  # noqa: E402
-from meadow.sheets import read  # noqa: E402
+from meadow.counted import Checks
+from meadow.programs import TOP
+from meadow.sheets.lines import Answer
+from meadow.sheets.reading import read
+from meadow.surveys.grids import grid_in
 
 SAMPLES = TOP / "samples"
 HEAD = "ncols 3\nnrows 2\nxllcorner 432100.50\nyllcorner -12.25\ncellsize 10\nNODATA_value -9999\n"

@@ -1,4 +1,3 @@
-#!/usr/bin/env python3
 """The map of each sample has a wall for each closed square, an exit for each exit, water just where the answer has it, a sign for each
 hatch and standing square, and the answer's volumes; each square tells its depth; the shades are right in black and white; an answer that
 is not the sheet's, a part of one and a refusal have no map."""
@@ -9,13 +8,11 @@ import xml.etree.ElementTree as tree
 from itertools import pairwise
 from pathlib import Path
 
-sys.path.insert(0, str(Path(__file__).resolve().parent.parent / "python"))
-
-from meadow.counted import Checks  # noqa: E402
-from meadow.lines import MINUTE, Answer, Sheet, answer_text, refused_text  # noqa: E402
-from meadow.programs import TOP  # noqa: E402
-from meadow.shades import CLASSES, HIGH_GROUND, LOW_GROUND, grey, ground  # noqa: E402
-from meadow.sheets import read  # noqa: E402
+from meadow.counted import Checks
+from meadow.maps.shades import CLASSES, HIGH_GROUND, LOW_GROUND, grey, ground
+from meadow.programs import TOP
+from meadow.sheets.lines import MINUTE, Answer, Sheet, answer_text, refused_text
+from meadow.sheets.reading import read
 
 TOOL = TOP / "tools" / "map.py"
 SAMPLES = TOP / "samples"

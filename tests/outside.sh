@@ -25,7 +25,7 @@ fi
 damaged=$built/damaged
 rm -rf "$damaged"
 mkdir -p "$damaged"
-if ! { python3 tests/damaged.py --write "$damaged" && archive && build_c header && build compare; }; then
+if ! { bin/test damaged --write "$damaged" && archive && build_c header && build compare; }; then
     ended 0 0 1
 fi
 failed=0

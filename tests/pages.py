@@ -1,24 +1,23 @@
-#!/usr/bin/env python3
 """The pages are true of the sources: every public function stands in docs/CONTRACTS.md, every file and name that docs/METHOD.md cites is
-there, its ranges and its worked square are those of document 01 in Python, the pictures are as made, no table has a cell too long to read,
-every path and every name in backticks is there, and README's first sheet gives README's answer."""
+there, its ranges and its worked square are those of document 01 in Python, pictures and tables of crates are as made, no table has a cell too long to read,
+every path and every name in backticks is there, each edit says which fact refuses it and where, README's first sheet gives README's answer, and
+`meadow` is as large as it says."""
 import re
-import sys
 from pathlib import Path
 
-TOP = Path(__file__).resolve().parent.parent
-sys.path[:0] = [str(TOP / "python"), str(TOP / "tools")]
-
-import pictures  # noqa: E402
-from meadow.counted import Checks  # noqa: E402
-from meadow.programs import printed  # noqa: E402
-from meadow.ranges import RANGES  # noqa: E402
-from meadow.worked_square import AMOUNTS  # noqa: E402
-from rattle.functions import library_functions  # noqa: E402
+import architecture
+import edits
+import pictures
+from meadow.counted import Checks
+from meadow.programs import TOP, printed
+from meadow.rule.ranges import RANGES
+from meadow.rule.worked_square import AMOUNTS
+from rattle.functions import library_functions
 
 CRATES = TOP / "crates"
 METHOD = TOP / "docs" / "METHOD.md"
 CONTRACTS = TOP / "docs" / "CONTRACTS.md"
+DEMANDS = TOP / "docs" / "DEMANDS.md"
 # "some 30 words"
 MOST_WORDS = 35
 SHORT_CELLS = ("CONTRACTS.md", "DEMANDS.md")
@@ -145,7 +144,15 @@ def hold_pictures(checks):
     for name, made in pictures.PICTURES.items():
         stored = pictures.FOLDER / name
         checks.hold(stored.exists() and stored.read_text(encoding="utf-8") == made(), f"docs/pictures/{name} is not what tools/pictures.py makes")
-    checks.hold(pictures.page() == METHOD.read_text(encoding="utf-8"), "the crates of docs/METHOD.md are not those of crates.txt: tools/pictures.py")
+
+
+def hold_crates(checks):
+    """What is said of the crates is what tools/architecture.py makes of the sources: each says in a sentence what it is."""
+    for name, words in architecture.described():
+        checks.hold(words.endswith("."), f"the root of the crate {name} does not begin with a sentence")
+    for page, made in architecture.pages().items():
+        name = page.relative_to(TOP)
+        checks.hold(page.read_text(encoding="utf-8") == made, f"the crates of {name} are not those of the sources: tools/architecture.py --write")
 
 
 def hold_cells(checks):
@@ -167,12 +174,30 @@ def hold_paths(checks):
             checks.hold(path.exists(), f"{page.relative_to(TOP)} names {path.relative_to(TOP)}, which is not there")
 
 
+def hold_edits(checks):
+    """Each edit says which fact refuses it, and where: by a name that its crate has, or in words. The table is made of them, and those that
+    docs/DEMANDS.md cites are there."""
+    found = list(edits.edits())
+    for edit in found:
+        name = f"{edit.crate}/must-fail/{edit.name}.edit"
+        checks.hold(edit.fact and edit.where, f"crates/{name} does not say which fact refuses it, and where")
+        sources = [path for kind in ("rt", "antt") for path in (CRATES / edit.crate).rglob(f"*.{kind}")]
+        there = {path.stem for path in sources}.union(*(NAME.findall(path.read_text(encoding="utf-8")) for path in sources))
+        checks.hold(" " in edit.where or edit.where in there, f"crates/{name} says {edit.where}, and its crate has no such name")
+    checks.hold(edits.page() == CONTRACTS.read_text(encoding="utf-8"), "docs/CONTRACTS.md has not the table of edits that tools/edits.py makes")
+    there = {f"{edit.crate}/{edit.name}" for edit in found}
+    cited = [row[-1] for heads, rows in tables(DEMANDS.read_text(encoding="utf-8")) if heads[-1] == "tried by the edits" for row in rows]
+    checks.hold(cited != [], "docs/DEMANDS.md cites no edit")
+    for name in (name for cell in cited for name in ticked(cell)):
+        checks.hold(name in there, f"docs/DEMANDS.md cites the edit {name}, which is not there")
+
+
 def source_names():
-    """Every word that stands in a source or is the name of one, but for this file."""
+    """Every word that stands in a source or is the name of one, but for this file and for what edits say."""
     names = set(NAME.findall((TOP / "crates.txt").read_text(encoding="utf-8")))
     for path in (path for folder in SOURCES for path in (TOP / folder).rglob("*")):
         names |= {path.name, path.stem}
-        if path.is_file() and path.suffix != ".pyc" and path != Path(__file__).resolve():
+        if path.is_file() and path.suffix not in (".pyc", ".edit") and path != Path(__file__).resolve():
             names |= {name.rstrip("'-") for name in NAME.findall(path.read_text(encoding="utf-8"))}
     return names
 
@@ -219,6 +244,13 @@ def hold_first_sheet(checks):
         checks.hold(told == answer[1].replace(" ", "\t"), f"README.md's first sheet gives {told!r}")
 
 
+def hold_size(checks):
+    """README says how large the program is that may be copied elsewhere."""
+    told = re.search(r"`target/bin/meadow` has some (\d+)0 kilobytes", (TOP / "README.md").read_text(encoding="utf-8"))
+    size = (TOP / "target" / "bin" / "meadow").stat().st_size
+    checks.hold(told and int(told[1]) == round(size / 10_000), f"README.md does not say that meadow has some {round(size / 1000)} kilobytes")
+
+
 def main():
     checks = Checks("pages")
     functions = list(library_functions(TOP))
@@ -227,10 +259,13 @@ def main():
     hold_entries(checks, functions)
     hold_method(checks)
     hold_pictures(checks)
+    hold_crates(checks)
     hold_cells(checks)
     hold_paths(checks)
     hold_code(checks)
+    hold_edits(checks)
     hold_first_sheet(checks)
+    hold_size(checks)
     checks.end()
 
 

@@ -1,16 +1,11 @@
-#!/usr/bin/env python3
 """The two roots that crates/panel works aloud, in plain Python: decimal, place by place from the top, each digit raised while its power
 still fits. docs/ROOTS.md must hold the program's output as it is.
 
-panel.py --write writes crates/panel/stdout.
+`bin/test panel --write` writes crates/panel/stdout.
 """
-import sys
-from pathlib import Path
 
-TOP = Path(__file__).resolve().parent.parent
-sys.path[:0] = [str(TOP / "python"), str(TOP / "tests")]
-
-from stored import hold  # noqa: E402
+from meadow.programs import TOP
+from stored import hold
 
 PAGE = TOP / "docs" / "ROOTS.md"
 NAMES = {2: "square", 3: "cube"}

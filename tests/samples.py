@@ -1,14 +1,11 @@
-#!/usr/bin/env python3
 """The samples are what samples/make.py makes, byte for byte, and the built `meadow` prints of each sheet the answer beside it."""
 import subprocess
 import sys
 import tempfile
 from pathlib import Path
 
-sys.path.insert(0, str(Path(__file__).resolve().parent.parent / "python"))
-
-from meadow.counted import Checks  # noqa: E402
-from meadow.programs import TOP, printed  # noqa: E402
+from meadow.counted import Checks
+from meadow.programs import TOP, printed
 
 SAMPLES = TOP / "samples"
 

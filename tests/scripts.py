@@ -1,19 +1,18 @@
-#!/usr/bin/env python3
-"""The project's own scripts: each Python file says what it is for, the fields of a sheet's lines are listed in one of them alone, nothing
-but bin/setup installs, a tool whose output nobody reads any more ends quietly, and what it prints is UTF-8 everywhere."""
+"""The project's own scripts: each Python file says what it is for, the packages look only at those below them, the fields of a sheet's
+lines are listed in one file alone, nothing but bin/setup installs, a tool whose output nobody reads any more ends quietly, and what it
+prints is UTF-8 everywhere."""
 import ast
 import os
 import re
 import subprocess
 import sys
-from pathlib import Path
 
-TOP = Path(__file__).resolve().parent.parent
-sys.path.insert(0, str(TOP / "python"))
+from meadow.counted import Checks
+from meadow.programs import TOP
+from meadow.sheets.lines import SQUARE
 
-from meadow.counted import Checks  # noqa: E402
-from meadow.lines import SQUARE  # noqa: E402
-
+# the lowest first
+PACKAGES = ("rule", "sheets", "words", "surveys", "maps")
 FOLDERS = ("python", "samples", "tests", "tools", "validation")
 SAMPLE = [TOP / "samples" / f"walled-meadow.{kind}" for kind in ("sheet", "out")]
 # a tool, and words with which it prints
@@ -26,11 +25,19 @@ def hold_docstrings(checks, files):
         checks.hold(ast.get_docstring(ast.parse(path.read_text(encoding="utf-8"))), f"{path.relative_to(TOP)} does not say what it is for")
 
 
+def hold_packages(checks):
+    """A package of python/meadow imports only from those before it."""
+    for at, package in enumerate(PACKAGES):
+        for path in sorted((TOP / "python" / "meadow" / package).glob("*.py")):
+            above = set(re.findall(r"^from \.\.(\w+)\.", path.read_text(encoding="utf-8"), re.M)) - set(PACKAGES[:at])
+            checks.hold(not above, f"{path.relative_to(TOP)} looks at {above}")
+
+
 def hold_one_table(checks, files):
     """The word of a square's line stands as a text in the table of fields only."""
     word = re.compile(rf"""["']{SQUARE}["']|{SQUARE}\\t""")
     places = [path.relative_to(TOP).as_posix() for path in files if word.search(path.read_text(encoding="utf-8"))]
-    checks.hold(places == ["python/meadow/lines.py"], f"the fields of a square's line are listed in {places}")
+    checks.hold(places == ["python/meadow/sheets/lines.py"], f"the fields of a square's line are listed in {places}")
 
 
 def hold_installers(checks):
@@ -66,6 +73,7 @@ def main():
     files = [path for folder in FOLDERS for path in sorted((TOP / folder).rglob("*.py"))]
     checks.hold(files != [], "there is no Python file")
     hold_docstrings(checks, files)
+    hold_packages(checks)
     hold_one_table(checks, files)
     hold_installers(checks)
     hold_quiet(checks)

@@ -1,16 +1,11 @@
-#!/usr/bin/env python3
 """The cases of the program `seen`, read from its source and worked by document 01 in Python, held to crates/seen/stdout.
 
-seen.py --write writes that file instead.
+`bin/test seen --write` writes that file instead.
 """
-import sys
-from pathlib import Path
 
-sys.path.insert(0, str(Path(__file__).resolve().parent.parent / "python"))
-
-import lent  # noqa: E402
-from meadow.sources import program  # noqa: E402
-from stored import hold  # noqa: E402
+import lent
+from sources import program
+from stored import hold
 
 OUT = []
 
@@ -44,7 +39,8 @@ GIVEN = {
     "tell_rows": tell_rows,
     "arrow": lent.arrow,
     "fresh": lent.freshens,
-    "step": lent.steps,
+    "fresh_run": lent.fresh_run,
+    "step": lent.steps_by,
     "take_back": lent.takes_back,
     "run_after": lent.run_after,
 }

@@ -1,17 +1,12 @@
-#!/usr/bin/env python3
 """Document 02, #112, in plain Python: random runs from a multiple of U make no more steps than the most that is told before, and unless
 they are refused no fewer than the least; each figure is met, also where rounding tells; and the figures of a few runs by hand."""
 import random
-import sys
-from pathlib import Path
 
-sys.path.insert(0, str(Path(__file__).resolve().parent.parent / "python"))
-
-from meadow.bounds import step_bounds, steps_over  # noqa: E402
-from meadow.counted import Checks  # noqa: E402
-from meadow.refusals import Refused  # noqa: E402
-from meadow.steps import run_to  # noqa: E402
-from meadow.world import Meadow  # noqa: E402
+from meadow.counted import Checks
+from meadow.rule.bounds import step_bounds, steps_over
+from meadow.rule.refusals import Refused
+from meadow.rule.steps import run_to
+from meadow.rule.world import Meadow
 
 RUNS = 300
 RULES = {"side": 1, "tolerance": 100, "shortest": 300, "longest": 700, "update": 1000, "edge": 10_000, "edition": 1}

@@ -1,16 +1,13 @@
-#!/usr/bin/env python3
 """tools/standing.py on small ponds that are worked by hand, and on the samples."""
 import subprocess
 import sys
 import tempfile
 from pathlib import Path
 
-sys.path.insert(0, str(Path(__file__).resolve().parent.parent / "python"))
-
-from meadow.counted import Checks  # noqa: E402
-from meadow.lines import SECOND, Sheet, answer_text  # noqa: E402
-from meadow.programs import TOP  # noqa: E402
-from meadow.weighing import EDITIONS, WEIGHTED  # noqa: E402
+from meadow.counted import Checks
+from meadow.programs import TOP
+from meadow.rule.weighing import EDITIONS, WEIGHTED
+from meadow.sheets.lines import SECOND, Sheet, answer_text
 
 TOOL = TOP / "tools" / "standing.py"
 # Beds and depths of three squares in a row, D 10, roughness 300, steps of 1000 ms; the edge slope where the middle square is an exit; then

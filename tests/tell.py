@@ -1,4 +1,3 @@
-#!/usr/bin/env python3
 """tools/tell.py on sheets, steps and an account worked by hand, on what is likely a slip, on the samples, and on answers that are wrong."""
 import re
 import subprocess
@@ -6,12 +5,10 @@ import sys
 import tempfile
 from pathlib import Path
 
-sys.path.insert(0, str(Path(__file__).resolve().parent.parent / "python"))
-
-from meadow import units  # noqa: E402
-from meadow.counted import Checks  # noqa: E402
-from meadow.lines import HOUR, MINUTE, Sheet, answer_text  # noqa: E402
-from meadow.programs import TOP  # noqa: E402
+from meadow.counted import Checks
+from meadow.programs import TOP
+from meadow.sheets.lines import HOUR, MINUTE, Sheet, answer_text
+from meadow.words import units
 
 TOOL = TOP / "tools" / "tell.py"
 SAMPLES = TOP / "samples"

@@ -1,23 +1,19 @@
-#!/usr/bin/env python3
 """Every command of docs/TOOLS.md prints what stands below it there, and each tool has an example; README's first command prints the answer
 byte for byte and ends with one line of sense, and its next makes the map; bin/meadow says what is wrong where there is no answer."""
 import re
 import shutil
 import subprocess
-import sys
 import tempfile
 from pathlib import Path
 
-TOP = Path(__file__).resolve().parent.parent
-sys.path.insert(0, str(TOP / "python"))
-
-from damaged import CASES, answer_of, sheet_of  # noqa: E402
-from meadow.counted import Checks  # noqa: E402
+from damaged import CASES, answer_of, sheet_of
+from meadow.counted import Checks
+from meadow.programs import TOP
 
 PAGE, README = TOP / "docs" / "TOOLS.md", TOP / "README.md"
 SAMPLES = TOP / "samples"
-# tools that look after the project itself, and the one that bin/meadow ends with; all others are for the warden and the keeper
-OWN = {"believed", "header", "pictures", "sense", "speed"}
+# what tools begin with, those that look after the project itself, and the one that bin/meadow ends with; all others are for the warden and the keeper
+OWN = {"architecture", "begin", "believed", "dev", "edits", "header", "pictures", "places", "sense", "speed", "unused"}
 FOR_PEOPLE = ["bin/meadow", *(f"tools/{path.name}" for path in sorted((TOP / "tools").glob("*.py")) if path.stem not in OWN)]
 LEFT_OUT = "..."
 # what the commands of the pages need beside them

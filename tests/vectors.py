@@ -1,19 +1,14 @@
-#!/usr/bin/env python3
 """The rows of the program `vectors`, read from its source and worked by document 01 in Python, by each edition of the rule, held to
 crates/vectors/stdout.
 
-vectors.py --write writes that file instead.
+`bin/test vectors --write` writes that file instead.
 """
-import sys
-from pathlib import Path
 
-sys.path.insert(0, str(Path(__file__).resolve().parent.parent / "python"))
-
-from meadow.ranges import RANGES, fine  # noqa: E402
-from meadow.sources import constants  # noqa: E402
-from meadow.step_length import candidates  # noqa: E402
-from meadow.weighing import EDITIONS, weigh  # noqa: E402
-from stored import hold  # noqa: E402
+from meadow.rule.ranges import RANGES, fine
+from meadow.rule.step_length import candidates
+from meadow.rule.weighing import EDITIONS, weigh
+from sources import constants
+from stored import hold
 
 NAMES = ("side", "tolerance", "depth", "last", "roughness", "lasted")
 # a level less another

@@ -1,4 +1,3 @@
-#!/usr/bin/env python3
 """tools/why.py over the table of damaged sheets, and over slips of its own: the number and the line are meadow's, and the words name the
 right place and what to write there."""
 import random
@@ -7,14 +6,12 @@ import sys
 import tempfile
 from pathlib import Path
 
-sys.path.insert(0, str(Path(__file__).resolve().parent.parent / "python"))
-
-from damaged import A_HATCH, A_SHOWER, BASES, CASES, after, answer_of, before, field, on_line, sheet_of, spaces, word  # noqa: E402
-from meadow.counted import Checks  # noqa: E402
-from meadow.lines import MINUTE, Sheet  # noqa: E402
-from meadow.programs import TOP  # noqa: E402
-from meadow.reasons import IN_THE_RUN, NOT_FOUND, reasons, refusal  # noqa: E402
-from meadow.sheets import answered  # noqa: E402
+from damaged import A_HATCH, A_SHOWER, BASES, CASES, after, answer_of, before, field, on_line, sheet_of, spaces, word
+from meadow.counted import Checks
+from meadow.programs import TOP
+from meadow.sheets.lines import MINUTE, Sheet
+from meadow.sheets.reading import answered
+from meadow.words.reasons import IN_THE_RUN, NOT_FOUND, reasons, refusal
 
 TOOL = TOP / "tools" / "why.py"
 OLD_SQUARE = ["line 4: it has 6 fields after its word and should have 7: say the rate", "soak rate at this line's end"]

@@ -1,16 +1,11 @@
-#!/usr/bin/env python3
 """The cases of the program `worked`, read from its source and worked by document 01 in Python, held to crates/worked/stdout.
 
-worked.py --write writes that file instead.
+`bin/test worked --write` writes that file instead.
 """
-import sys
-from pathlib import Path
 
-sys.path.insert(0, str(Path(__file__).resolve().parent.parent / "python"))
-
-import lent  # noqa: E402
-from meadow.sources import program  # noqa: E402
-from stored import hold  # noqa: E402
+import lent
+from sources import program
+from stored import hold
 
 OUT = []
 STATE = ("depths", "lasts")
@@ -65,7 +60,8 @@ def tell_same(a, b):
 GIVEN = {
     "write_all": write_all,
     "print_decimal": print_decimal,
-    "step": lent.steps,
+    "fresh_run": lent.fresh_run,
+    "step": lent.steps_by,
     "number_of": lent.number_of,
     "run_after": lent.run_after,
     "fresh_in": in_room(lent.freshens, -1),

@@ -6,8 +6,7 @@
 What must be believed is what the demands and the contracts of the entry points reach, name by name, through the definitions of specs/.
 Beside it stand the lines that only contracts of layer functions reach, and those of specs/inner/ (what only our own functions ask and
 give). Imports, lists of modules, comments and blank lines are not counted, nor is a Worked.antt (cases worked by hand, which are proved).
-The crate `demands` restates the letter and is counted apart, as is every crate above it; its Determined.antt names every contract there is,
-and is no demand by itself.
+The crate `demands` restates the letter and is counted apart, as is every crate above it.
 
 With --idle the definitions that no demand and no entry point reaches are named. Ends with status 1 where a file outside specs/inner/ looks
 into it, a definition that must be believed stands in it, a definition outside it is reached by no contract at all, or what must be believed
@@ -17,23 +16,22 @@ import sys
 from collections import Counter
 from pathlib import Path
 
+from begin import ended
+from rattle import crates, imported, statements
+from rattle.functions import library_functions
+from rattle.specs import Specs
+
 TOP = Path(__file__).resolve().parent.parent
-sys.path.insert(0, str(TOP / "python"))
-
-from rattle import DEMANDS, crates, imported, statements  # noqa: E402
-from rattle.functions import library_functions  # noqa: E402
-from rattle.specs import Specs  # noqa: E402
-
 # a little above what there is; a request that lands may raise it, with all of document 02 to 2,300 and no further
 MOST = 1450
-DETERMINED, WORKED = (DEMANDS, "Determined"), "Worked"
+WORKED = "Worked"
 BELIEVED, LAYER, IDLE, INNER = "believed", "layers", "reached by nothing", "inner"
 
 
 def roots(top, specs):
     """What the demands and the entry points name, and what the contracts of the other public functions name."""
     said = statements(top)
-    demands = {key for key in specs.definitions if key[0] in said and key[:2] != DETERMINED}
+    demands = {key for key in specs.definitions if key[0] in said}
     entries, layers = set(), set()
     for function in library_functions(top):
         clauses = "\n".join(function.requires + function.ensures)
@@ -44,8 +42,7 @@ def roots(top, specs):
 def places(top, specs):
     """Where each definition that is counted belongs, and what must be believed although it stands in specs/inner/."""
     first, second = roots(top, specs)
-    beyond = lambda key: key[:2] == DETERMINED
-    needed, known = specs.reached(first, beyond), specs.reached(second, beyond)
+    needed, known = specs.reached(first), specs.reached(second)
     found, hidden, said = {}, [], statements(top)
     for key, each in specs.definitions.items():
         if each.module == WORKED or each.crate in said:
@@ -61,7 +58,7 @@ def places(top, specs):
 def looks_inside(specs):
     """Each file outside specs/inner/ that imports from it."""
     for (crate, name), module in specs.modules.items():
-        if not name.startswith("inner.") and (crate, name) != DETERMINED:
+        if not name.startswith("inner."):
             names, modules = imported(module.text)
             seen = {where for where in [*names.values(), *modules.values()] if where[1].startswith("inner.")}
             yield from (f"{crate}/specs/{name}.antt imports {where[0]}/specs/{where[1].replace('.', '/')}.antt" for where in sorted(seen))
@@ -116,4 +113,4 @@ def main(words):
 
 
 if __name__ == "__main__":
-    sys.exit(main(sys.argv[1:]))
+    ended(lambda: main(sys.argv[1:]), "believed")

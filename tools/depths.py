@@ -6,14 +6,11 @@ The corner is that of the side file which tools/make_sheet.py writes beside a sh
 was answered to another sheet is refused.
 """
 import sys
-from pathlib import Path
 
-sys.path.insert(0, str(Path(__file__).resolve().parent.parent / "python"))
-
-from meadow.depths import csv_of, esri_of  # noqa: E402
-from meadow.pairs import balanced, pair_in  # noqa: E402
-from meadow.places import Place, place_file, place_beside  # noqa: E402
-from meadow.programs import ended  # noqa: E402
+from begin import ended
+from meadow.sheets.pairs import balanced, pair_in
+from meadow.surveys.depths import csv_of, esri_of
+from meadow.surveys.places import Place, place_file, place_beside
 
 
 def main():

@@ -9,6 +9,8 @@ import re
 import sys
 from pathlib import Path
 
+from begin import ended
+
 ROOT = Path(__file__).resolve().parent.parent
 CRATES = ROOT / "crates"
 SOURCES = CRATES / "exports" / "src"
@@ -32,7 +34,7 @@ CONSTANTS = [
     ("COUNT_NUMBERS", "exports", "COUNT_NUMBERS"),
     ("HEADING_NUMBERS", "exports", "HEADING_NUMBERS"),
     ("LINE_NUMBERS", "exports", "LINE_NUMBERS"),
-    ("OUT_ROOM", "answer", "OUT_ROOM"),
+    ("OUT_ROOM", "programs", "OUT_ROOM"),
     ("RAIN_ROOM", "reckon", "RAIN_ROOM"),
     ("INFLOW_ROOM", "reckon", "INFLOW_ROOM"),
     ("MOVING", "exports", "MOVING"),
@@ -278,7 +280,4 @@ def main():
 
 
 if __name__ == "__main__":
-    sys.path.insert(0, str(ROOT / "python"))
-    from meadow.programs import ended
-
     ended(main, "header")

@@ -7,18 +7,15 @@ rows and columns counted from 0, from the north and from the west. A depth, roug
 Prints the sheet in a person's units, and what in it is likely a slip. No sheet that is there already is written over without --replace.
 """
 import argparse
-import sys
 from pathlib import Path
 
-sys.path.insert(0, str(Path(__file__).resolve().parent.parent / "python"))
-
-from meadow.grids import grid_in, number  # noqa: E402
-from meadow.lines import USUAL_RUN, Unreadable  # noqa: E402
-from meadow.places import Place, place_file, place_text  # noqa: E402
-from meadow.programs import ended  # noqa: E402
-from meadow.reasons import why_not  # noqa: E402
-from meadow.surveys import MILLIMETRE_AN_HOUR, clock, hold_shape, index, litres, marks_of, plan_in, sheet_of, spread, whole  # noqa: E402
-from meadow.telling import telling  # noqa: E402
+from begin import ended
+from meadow.sheets.lines import USUAL_RUN, Unreadable
+from meadow.surveys.grids import grid_in, number
+from meadow.surveys.making import MILLIMETRE_AN_HOUR, clock, hold_shape, index, litres, marks_of, plan_in, sheet_of, spread, whole
+from meadow.surveys.places import Place, place_file, place_text
+from meadow.words.reasons import why_not
+from meadow.words.telling import telling
 
 USUAL = ", ".join(f"{name} {value}" for name, value in USUAL_RUN.items())
 

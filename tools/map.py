@@ -1,15 +1,13 @@
 #!/usr/bin/env python3
-"""map.py SHEET > MAP.svg: runs `meadow` on a sheet and draws a map of what it answers; python/meadow/drawing.py says what it shows.
+"""map.py SHEET > MAP.svg: runs `meadow` on a sheet and draws a map of what it answers; python/meadow/maps/drawing.py says what it shows.
 map.py SHEET ANSWER > MAP.svg: draws an answer that is there already; what was answered to another sheet is refused.
 """
 import sys
 from pathlib import Path
 
-sys.path.insert(0, str(Path(__file__).resolve().parent.parent / "python"))
-
-from meadow.drawing import svg  # noqa: E402
-from meadow.pairs import balanced, pair_in  # noqa: E402
-from meadow.programs import ended  # noqa: E402
+from begin import ended
+from meadow.maps.drawing import svg
+from meadow.sheets.pairs import balanced, pair_in
 
 
 def main():

@@ -1,20 +1,14 @@
 #!/usr/bin/env python3
-"""pictures.py: makes the pictures of README, docs/METHOD.md and docs/SPEED.md in docs/pictures/, and the picture of the crates in
-docs/METHOD.md itself.
+"""pictures.py: makes the pictures of README, docs/METHOD.md and docs/SPEED.md in docs/pictures/.
 
-The map is that of the sample `walled-meadow`, the crates are those of crates.txt, the square is the one worked in docs/METHOD.md, the times
-are those of the table in docs/SPEED.md.
+The map is that of the sample `walled-meadow`, the square is the one worked in docs/METHOD.md, the times are those of the table in
+docs/SPEED.md.
 """
-import re
-import sys
-from pathlib import Path
-
-sys.path.insert(0, str(Path(__file__).resolve().parent.parent / "python"))
-
-from meadow.drawing import svg  # noqa: E402
-from meadow.pairs import balanced, pair_in  # noqa: E402
-from meadow.programs import TOP, ended  # noqa: E402
-from meadow.worked_square import AMOUNTS, DROPS  # noqa: E402
+from begin import ended
+from meadow.maps.drawing import svg
+from meadow.programs import TOP
+from meadow.rule.worked_square import AMOUNTS, DROPS
+from meadow.sheets.pairs import balanced, pair_in
 
 WATER, WALL, GROUND, INK, PALE = "#9ecae1", "#4a4a4a", "#e9ddb8", "#222222", "#777777"
 COLOURS = ("#08519c", "#31a354", "#8c6d31", "#d94801", "#6a51a3")
@@ -140,22 +134,6 @@ def wet_shares():
     return picture.text()
 
 
-def crates():
-    """Each listed crate and program with those that it may look at, as Mermaid; what follows from another arrow is left out."""
-    sees = {}
-    for line in (TOP / "crates.txt").read_text().splitlines():
-        if line and not line.startswith("#"):
-            name, others = line.split(":")
-            sees[name] = [other for other in others.split() if other in sees]
-    lines = ["graph TD"]
-    for name, others in sees.items():
-        program = (TOP / "crates" / name / "src" / "main.rt").exists()
-        lines.append(f"  {name}([{name}])" if program else f"  {name}[{name}]")
-        direct = [other for other in others if not any(other in sees[via] for via in others)]
-        lines += [f"  {name} --> {other}" for other in direct]
-    return "".join(line + "\n" for line in lines)
-
-
 def walled_meadow():
     """The map of the sample with its answer."""
     sheet, answer = (TOP / "samples" / f"walled-meadow.{kind}" for kind in ("sheet", "out"))
@@ -164,20 +142,12 @@ def walled_meadow():
 
 PICTURES = {"walled-meadow.svg": walled_meadow, "square.svg": one_square, "ring.svg": ring, "wet-shares.svg": wet_shares}
 FOLDER = TOP / "docs" / "pictures"
-PAGE = TOP / "docs" / "METHOD.md"
-
-
-def page():
-    """docs/METHOD.md with the picture of the crates as they are."""
-    return re.sub(r"(?<=```mermaid\n).*?(?=```\n)", lambda _: crates(), PAGE.read_text(encoding="utf-8"), flags=re.S)
 
 
 def main():
     for name, made in PICTURES.items():
         (FOLDER / name).write_text(made(), encoding="utf-8")
         print(f"docs/pictures/{name}")
-    PAGE.write_text(page(), encoding="utf-8")
-    print("docs/METHOD.md")
     return 0
 
 

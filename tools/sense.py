@@ -2,16 +2,13 @@
 """sense.py SHEET ANSWER: one line of sense about what `meadow` printed of a sheet: how much water is where, the deepest place, the clock
 and the steps; or, of a refusal, the likeliest reason. bin/meadow ends with it."""
 import sys
-from pathlib import Path
 
-sys.path.insert(0, str(Path(__file__).resolve().parent.parent / "python"))
-
-from meadow.lines import Answer  # noqa: E402
-from meadow.pairs import balanced, bytes_as_text, pair_of  # noqa: E402
-from meadow.programs import ended  # noqa: E402
-from meadow.reasons import reasons, refusal  # noqa: E402
-from meadow.sense import sense  # noqa: E402
-from meadow.sheets import read  # noqa: E402
+from begin import ended
+from meadow.sheets.lines import Answer
+from meadow.sheets.pairs import balanced, bytes_as_text, pair_of
+from meadow.sheets.reading import read
+from meadow.words.reasons import reasons, refusal
+from meadow.words.sense import sense
 
 
 def main():

@@ -9,9 +9,8 @@ from collections import defaultdict
 from pathlib import Path
 from statistics import median
 
-sys.path.insert(0, str(Path(__file__).resolve().parent.parent / "python"))
+from begin import ended
 
-from meadow.programs import ended  # noqa: E402
 
 SQUARES = 64 * 64
 TENTH, ALL, NONE = "10 in 100", "100 in 100", "dry"

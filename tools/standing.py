@@ -2,17 +2,14 @@
 """standing.py SHEET [ANSWER]: counts and lists the standing squares of what `meadow` answers, or answered, to a sheet.
 
 Prints `standing` and the count, `steep` and how many of them fall by 1 mm or more on some side, then for each, the steepest first,
-`square`, row, column, depth, least drop and greatest drop in µm. python/meadow/standing.py says what a standing square is. A sheet
+`square`, row, column, depth, least drop and greatest drop in µm. python/meadow/sheets/standing.py says what a standing square is. A sheet
 of edition 2 or 3 has none. What was answered to another sheet is refused.
 """
 import sys
-from pathlib import Path
 
-sys.path.insert(0, str(Path(__file__).resolve().parent.parent / "python"))
-
-from meadow.pairs import balanced, pair_in  # noqa: E402
-from meadow.programs import ended  # noqa: E402
-from meadow.standing import STEEP, standing_squares  # noqa: E402
+from begin import ended
+from meadow.sheets.pairs import balanced, pair_in
+from meadow.sheets.standing import STEEP, standing_squares
 
 
 def main():

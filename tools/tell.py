@@ -8,17 +8,14 @@ on the meadow, gone by the exits and soaked, together; then the water of the sta
 equal to the micrometre ("The water account"); where they are not, or the answer is another sheet's, it fails.
 """
 import sys
-from pathlib import Path
 
-sys.path.insert(0, str(Path(__file__).resolve().parent.parent / "python"))
-
-from meadow.account import account, lines_of  # noqa: E402
-from meadow.lines import Answer  # noqa: E402
-from meadow.pairs import bytes_as_text, pair_of  # noqa: E402
-from meadow.programs import ended  # noqa: E402
-from meadow.refusals import check  # noqa: E402
-from meadow.sheets import meadow_of, read  # noqa: E402
-from meadow.telling import telling  # noqa: E402
+from begin import ended
+from meadow.rule.refusals import check
+from meadow.sheets.account import account, lines_of
+from meadow.sheets.lines import Answer
+from meadow.sheets.pairs import bytes_as_text, pair_of
+from meadow.sheets.reading import meadow_of, read
+from meadow.words.telling import telling
 
 
 def main():

@@ -4,16 +4,14 @@
 The number and the line are meadow's own. Ends with status 1 where the sheet is refused; of one that is taken it says what came of it.
 """
 import sys
-from pathlib import Path
 
-sys.path.insert(0, str(Path(__file__).resolve().parent.parent / "python"))
-
-from meadow.lines import Answer  # noqa: E402
-from meadow.pairs import bytes_as_text, pair_of  # noqa: E402
-from meadow.programs import ended, printed  # noqa: E402
-from meadow.reasons import reasons, refusal  # noqa: E402
-from meadow.sense import sense  # noqa: E402
-from meadow.sheets import read  # noqa: E402
+from begin import ended
+from meadow.programs import printed
+from meadow.sheets.lines import Answer
+from meadow.sheets.pairs import bytes_as_text, pair_of
+from meadow.sheets.reading import read
+from meadow.words.reasons import reasons, refusal
+from meadow.words.sense import sense
 
 
 def main():

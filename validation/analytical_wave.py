@@ -2,10 +2,10 @@
 import math
 
 import unrounded
-from meadow.lines import HOUR, MINUTE, SECOND, Sheet
 from meadow.programs import meadow
-from meadow.sheets import with_answer
-from meadow.step_length import fresh_length
+from meadow.rule.step_length import fresh_length
+from meadow.sheets.lines import HOUR, MINUTE, SECOND, Sheet
+from meadow.sheets.reading import with_answer
 from shared import claim, limits, table
 
 SPEED = 1.0

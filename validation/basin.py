@@ -1,8 +1,8 @@
 """A basin under rain and inflow, closed or with exits and soaking ground: the water account balances to the micrometre."""
-from meadow.account import account
-from meadow.lines import DAY, HOUR, MINUTE, Sheet
 from meadow.programs import meadow
-from meadow.weighing import EDITIONS
+from meadow.rule.weighing import EDITIONS
+from meadow.sheets.account import account
+from meadow.sheets.lines import DAY, HOUR, MINUTE, Sheet
 from shared import claim, table, uneven
 
 SIDE = 7

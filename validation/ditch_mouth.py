@@ -1,6 +1,6 @@
 """The ditch mouth: how near an exit comes to a ditch that goes on, as a cliff and at edge slopes about that of the bed."""
-from meadow.lines import HOUR, MINUTE, SECOND, Sheet
 from meadow.programs import meadow
+from meadow.sheets.lines import HOUR, MINUTE, SECOND, Sheet
 from shared import USUAL, claim, limits, table
 
 SQUARES = 32

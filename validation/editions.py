@@ -4,14 +4,14 @@ import basin
 import lake
 import long_step
 import pond
-from meadow.account import account
-from meadow.grounds import HELD_MOUTH, LEAT, drowned_meadow, filling_pond, opened_pond
-from meadow.lines import DAY, HOUR, MINUTE, SECOND, Unreadable
 from meadow.programs import meadow
-from meadow.sheets import with_answer
-from meadow.standing import standing_squares
-from meadow.step_length import fresh_length
-from meadow.weighing import EDITIONS, WEIGHTED
+from meadow.rule.step_length import fresh_length
+from meadow.rule.weighing import EDITIONS, WEIGHTED
+from meadow.sheets.account import account
+from meadow.sheets.grounds import HELD_MOUTH, LEAT, drowned_meadow, filling_pond, opened_pond
+from meadow.sheets.lines import DAY, HOUR, MINUTE, SECOND, Unreadable
+from meadow.sheets.reading import with_answer
+from meadow.sheets.standing import standing_squares
 from shared import USUAL, claim, limits, table
 
 # source 000, Fig. 5: fixed steps of three and four times the least one of Table 1, in ms

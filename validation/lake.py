@@ -1,6 +1,6 @@
 """A lake at rest over a hump: exactly nothing moves."""
-from meadow.lines import DAY, HOUR, Sheet
 from meadow.programs import meadow
+from meadow.sheets.lines import DAY, HOUR, Sheet
 from shared import claim, table, uneven
 
 LEVEL = 50_000_000

@@ -2,8 +2,8 @@
 import math
 
 from ditch_mouth import FLOW, SQUARES, along, ditch, normal_depth
-from meadow.lines import HOUR, MINUTE, Sheet
 from meadow.programs import meadow
+from meadow.sheets.lines import HOUR, MINUTE, Sheet
 from shared import USUAL, claim, limits, table
 
 SIZE = 16

@@ -5,19 +5,19 @@ from pathlib import Path
 
 sys.path.insert(0, str(Path(__file__).resolve().parent.parent / "python"))
 
-from analytical_wave import WAVES, compare, fold, wave_depth, wave_sheet  # noqa: E402
-from ditch_mouth import BED_EDGE, BELOW_EDGE, FLOW, SQUARES, normal_depth, profile  # noqa: E402
-from editions import FIXED, wave as wave_by  # noqa: E402
-from long_step import RUNS, level_meadow  # noqa: E402
-from meadow.drawing import svg  # noqa: E402
-from meadow.grounds import HELD_MOUTH, opened_pond  # noqa: E402
-from meadow.lines import HOUR, MINUTE, SECOND  # noqa: E402
-from meadow.pairs import pair_of  # noqa: E402
-from meadow.programs import TOP, ended, meadow  # noqa: E402
-from meadow.sheets import read  # noqa: E402
-from pond import settled  # noqa: E402
-from shared import limits  # noqa: E402
-from soaking import SAMPLE  # noqa: E402
+from analytical_wave import WAVES, compare, fold, wave_depth, wave_sheet
+from ditch_mouth import BED_EDGE, BELOW_EDGE, FLOW, SQUARES, normal_depth, profile
+from editions import FIXED, wave as wave_by
+from long_step import RUNS, level_meadow
+from meadow.maps.drawing import svg
+from meadow.programs import TOP, ended, meadow
+from meadow.sheets.grounds import HELD_MOUTH, opened_pond
+from meadow.sheets.lines import HOUR, MINUTE, SECOND
+from meadow.sheets.pairs import pair_of
+from meadow.sheets.reading import read
+from pond import settled
+from shared import limits
+from soaking import SAMPLE
 
 FOLDER = TOP / "docs" / "pictures"
 WIDTH, HEIGHT = 640, 300

@@ -1,8 +1,8 @@
 """Standing squares: a pond that has settled does not empty when a mouth is opened beside it."""
-from meadow.grounds import HELD_MOUTH, POND, filling_pond, opened_pond
-from meadow.lines import HOUR, MINUTE
 from meadow.programs import TOP, meadow
-from meadow.standing import STEEP, standing_squares
+from meadow.sheets.grounds import HELD_MOUTH, POND, filling_pond, opened_pond
+from meadow.sheets.lines import HOUR, MINUTE
+from meadow.sheets.standing import STEEP, standing_squares
 from shared import claim, table
 
 SAMPLE = TOP / "samples" / "held-pond.sheet"

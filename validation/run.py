@@ -10,22 +10,22 @@ from pathlib import Path
 
 sys.path.insert(0, str(Path(__file__).resolve().parent.parent / "python"))
 
-import analytical_wave  # noqa: E402
-import basin  # noqa: E402
-import ditch_mouth  # noqa: E402
-import editions  # noqa: E402
-import lake  # noqa: E402
-import long_step  # noqa: E402
-import pond  # noqa: E402
-import soaking  # noqa: E402
-import thin_water  # noqa: E402
-import turns  # noqa: E402
-import update_time  # noqa: E402
-import walls  # noqa: E402
-import wetting_front  # noqa: E402
-from meadow.counted import Checks  # noqa: E402
-from meadow.programs import TOP, ended  # noqa: E402
-from shared import Wrong  # noqa: E402
+import analytical_wave
+import basin
+import ditch_mouth
+import editions
+import lake
+import long_step
+import pond
+import soaking
+import thin_water
+import turns
+import update_time
+import walls
+import wetting_front
+from meadow.counted import Checks
+from meadow.programs import TOP, ended
+from shared import Wrong
 
 PAGE = TOP / "docs" / "VALIDATION.md"
 PARTS = {

@@ -1,7 +1,7 @@
 """Soaking: what has soaked by the clock, rain against soaking, and where the rain of a meadow goes."""
-from meadow.lines import HOUR, MINUTE, SECOND, Sheet
 from meadow.programs import TOP, meadow
-from meadow.sheets import read
+from meadow.sheets.lines import HOUR, MINUTE, SECOND, Sheet
+from meadow.sheets.reading import read
 from shared import USUAL, claim, limits, table, uneven
 
 PITS, SIDE = 9, 10

@@ -1,8 +1,8 @@
 """Thin water: amounts in whole µm keep it where it is."""
-from meadow.lines import HOUR, MINUTE, Sheet
 from meadow.programs import meadow
-from meadow.ranges import MOST_DEPTH
-from meadow.weighing import speed, weigh
+from meadow.rule.ranges import MOST_DEPTH
+from meadow.rule.weighing import speed, weigh
+from meadow.sheets.lines import HOUR, MINUTE, Sheet
 from shared import USUAL, claim, limits, table
 
 SIDE = 10

@@ -1,6 +1,6 @@
 """Mirror images and quarter turns of a sheet give mirrored and turned answers."""
-from meadow.lines import MINUTE, Sheet
 from meadow.programs import meadow
+from meadow.sheets.lines import MINUTE, Sheet
 from shared import claim, table, uneven
 
 ROWS, COLUMNS = 9, 13

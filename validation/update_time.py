@@ -1,7 +1,7 @@
 """The update time on the walled meadow: under a flood that rises fast it matters, since the step length is held between."""
-from meadow.grounds import LEAT, drowned_meadow
-from meadow.lines import MINUTE, SECOND
 from meadow.programs import meadow
+from meadow.sheets.grounds import LEAT, drowned_meadow
+from meadow.sheets.lines import MINUTE, SECOND
 from shared import table
 
 END = 3 * MINUTE

@@ -1,6 +1,6 @@
 """The walled wheel house: whatever ground is tried inside or around it, no water enters, and nothing inside changes an answer outside."""
-from meadow.lines import HOUR, MINUTE, Sheet
 from meadow.programs import meadow
+from meadow.sheets.lines import HOUR, MINUTE, Sheet
 from shared import claim, table, uneven
 
 SIZE = 18

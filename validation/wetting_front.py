@@ -1,8 +1,8 @@
 """What a constant soak rate leaves out: dry ground drinks faster, by the formula of Green and Ampt."""
 import math
 
-from meadow.lines import HOUR, Sheet
 from meadow.programs import meadow
+from meadow.sheets.lines import HOUR, Sheet
 from shared import claim, table
 
 # rates in µm an hour, by order of magnitude

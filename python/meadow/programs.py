@@ -4,8 +4,8 @@ import subprocess
 import sys
 from pathlib import Path
 
-from .lines import Answer, Unreadable
-from .refusals import Refused
+from .rule.refusals import Refused
+from .sheets.lines import Answer, Unreadable
 
 TOP = Path(__file__).resolve().parent.parent.parent
 

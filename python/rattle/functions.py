@@ -7,9 +7,9 @@ from . import crates, imported, statements
 HEAD = re.compile(r'^pub (?:extern "C" )?(?:const )?fn (\w+)\(', re.M)
 CLAUSE = re.compile(r"^    (requires|ensures) \{(.*?)\}$", re.M | re.S)
 SLICE = re.compile(r"&(mut )?\[")
-# crates of which only our own crates call the functions, but for the one named; every other function that asks nothing is an entry point
-LAYERS = ("reckon", "trials", "grid", "rule", "ledger", "moves", "text")
-ENTRY_OF_A_LAYER = ("ledger", "take_back")
+# crates of which only our own crates call the functions, but for those named; every other function that asks nothing is an entry point
+LAYERS = ("reckon", "trials", "grid", "rule", "ledger", "settling", "moves", "text", "files", "programs")
+ENTRIES_OF_LAYERS = {("ledger", "take_back"), ("programs", "meadow_of")}
 
 
 class Function(NamedTuple):
@@ -37,7 +37,7 @@ class Function(NamedTuple):
     @property
     def is_entry(self):
         """Whether a program or another language may call it."""
-        return not self.requires and (self.crate not in LAYERS or (self.crate, self.name) == ENTRY_OF_A_LAYER)
+        return not self.requires and (self.crate not in LAYERS or (self.crate, self.name) in ENTRIES_OF_LAYERS)
 
 
 def closing(text, start):

@@ -1,4 +1,3 @@
-#!/usr/bin/env python3
 """A real GDAL reads the grids that tools/depths.py writes, each depth to the micrometre, NODATA at closed squares alone and the corner where
 it was; and tools/make_sheet.py reads grids that GDAL writes of them."""
 import json
@@ -9,14 +8,12 @@ from array import array
 from decimal import Decimal
 from pathlib import Path
 
-TOP = Path(__file__).resolve().parent.parent.parent
-sys.path.insert(0, str(TOP / "python"))
-
-from meadow.counted import Checks  # noqa: E402
-from meadow.lines import Sheet  # noqa: E402
-from meadow.pairs import pair_in  # noqa: E402
-from meadow.places import Place, place_file, place_text  # noqa: E402
-from meadow.sheets import read  # noqa: E402
+from meadow.counted import Checks
+from meadow.programs import TOP
+from meadow.sheets.lines import Sheet
+from meadow.sheets.pairs import pair_in
+from meadow.sheets.reading import read
+from meadow.surveys.places import Place, place_file, place_text
 
 SAMPLES = TOP / "samples"
 # corners with and without decimals, and on both sides of 0
@@ -99,7 +96,7 @@ def hold_back(checks, room):
 
 
 def main():
-    checks = Checks("long")
+    checks = Checks("gdal")
     with tempfile.TemporaryDirectory() as folder:
         room = Path(folder)
         (room / "deep.sheet").write_text(deep())

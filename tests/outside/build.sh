@@ -1,5 +1,8 @@
-# Read by tests/outside.sh and bin/speed at the repository's root. Rust programs that link the static library are x86-64: there any rustc
-# builds them and they run as they are; on Arm they are built with Debian's packages for x86-64 and run under Debian's emulator.
+# shellcheck shell=bash
+# shellcheck disable=SC2034 # what is set here is used by those who read it
+# Read by the gate, tests/outside.sh, tests/stack.sh and bin/speed at the repository's root. Rust programs that link the static library are
+# x86-64: there any rustc builds them and they run as they are; on Arm they are built with Debian's packages for x86-64 and run under
+# Debian's emulator.
 
 built=target/outside
 compile=()
@@ -25,15 +28,19 @@ tools() {
     machine="aarch64, x86-64 programs emulated by $(qemu-x86_64 --version | head -n 1)"
 }
 
-# archive: proves and builds target/staticlib/libexports.a, unless it is newer than everything that it is made of
+# archive: proves and builds target/staticlib/libexports.a, unless it is newer than everything that it is made of. Tests that run at the same
+# time wait for one another here, so that the first alone builds it.
 archive() {
     local made_of=(crates.txt crates '(' -type d -o -name '*.rt' -o -name '*.antt' -o -name crates.txt ')')
-    [ -n "$(find "${made_of[@]}" -newer target/staticlib/libexports.a 2>&1 | head -n 1)" ] || return 0
-    if ! rt staticlib exports >"$built/staticlib.log" 2>&1; then
-        echo "outside: rt staticlib exports failed:"
-        tail -n 20 "$built/staticlib.log"
-        return 1
-    fi
+    (
+        flock 9
+        [ -n "$(find "${made_of[@]}" -newer target/staticlib/libexports.a 2>&1 | head -n 1)" ] || exit 0
+        if ! rt staticlib exports >"$built/staticlib.log" 2>&1; then
+            echo "outside: rt staticlib exports failed:"
+            tail -n 20 "$built/staticlib.log"
+            exit 1
+        fi
+    ) 9>"$built/staticlib.lock"
 }
 
 # for release, in one unit

@@ -5,7 +5,6 @@ use crate::declared::{self, BOUNDS_NUMBERS, COUNT_NUMBERS, HEADING_NUMBERS, LINE
 use crate::lent;
 use crate::library::{self, Walk};
 use crate::meadows::{Lent, Sizes};
-use crate::plain::Plain;
 use crate::reference::{self, Arrow, Bounds, Heading, Made, Meadow, Run};
 use crate::rival::Rival;
 use crate::roots::{Digits, Guesses};
@@ -56,8 +55,7 @@ pub const ANSWERS: [(Call, &[u32]); 9] = [
 ];
 
 /// The benchmark's Rust engines.
-const ENGINES: [(&str, lent::RunTo); 3] = [
-    ("the plain engine", lent::run_to::<Plain>),
+const ENGINES: [(&str, lent::RunTo); 2] = [
     ("the rival (digits)", lent::run_to::<Rival<Digits>>),
     ("the rival (fast roots)", lent::run_to::<Rival<Guesses>>),
 ];

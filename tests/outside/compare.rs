@@ -13,7 +13,6 @@ mod lent;
 mod library;
 mod limits;
 mod meadows;
-mod plain;
 mod reference;
 mod rival;
 mod roots;

@@ -1,4 +1,4 @@
-//! Document 01's run on plain vectors, written to win: what the library's time is held against first of all. The ground is a plane with
+//! Document 01's run on plain vectors, written to win: what the library's time is held against. The ground is a plane with
 //! walls round the grid, so that no side is tested; a level is bed and depth in one, and a wall where a square is closed. A row's wet
 //! squares are the bits of one number, and so are those that sent water; both are kept from step to step, and a dry square costs nothing.
 //! What leaves a square goes to its neighbours when it is worked. A slot of the record room is cleared once; then only words that are not

@@ -43,11 +43,10 @@ extern "C" {
 /// One step, with the parameters of `flood_step`.
 type Step = fn(usize, usize, &[u64], &[u8], &[u32], &[u32], &[u32], &[u32], &[u32], &mut [u32], &mut [u32], &mut [u32], &mut [u64]) -> u32;
 
-fn engines() -> [(&'static str, RunTo); 5] {
+fn engines() -> [(&'static str, RunTo); 4] {
     [
         ("library", declared::flood_run_to),
         ("wet walk", declared::flood_run_to_wet),
-        ("plain.rs", engine_plain::RUN_TO),
         ("rival", engine_rival::RUN_TO),
         ("rival, fast roots", engine_rival_fast::RUN_TO),
     ]

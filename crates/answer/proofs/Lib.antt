@@ -1,4 +1,3 @@
 pub mod ApartLaws
-pub mod MeadowLaws
+pub mod Determined
 pub mod PrintLaws
-pub mod RunLaws

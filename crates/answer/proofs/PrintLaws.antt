@@ -7,21 +7,18 @@ use Prim.Native.Nat.{ℕ, zero, suc, _+_, _*_, _/_, _%_, _^_, _≤_, _<_}
 use native.Mathlib.Nat.{le-refl, not-suc-le-zero, le-of-suc-le-suc, div-le-self, mod-le, mul-suc}
 use native.Mathlib.Omega.{arith}
 use lib.ListN.{length, getD, length-append}
-use borrow.Author.Tests.{eq-eqb, ne-eqb}
 use Rattle.reckon.specs.Lists.{joined, placed}
 use Rattle.reckon.proofs.TestLaws.{pick-true, pick-false, pick-both}
 use Rattle.reckon.proofs.ListLaws.{joined-none, joined-more}
 use Rattle.grid.specs.Squares.{squares, mostSquares}
-use Rattle.ledger.specs.Runs.{Plan, World, world}
+use Rattle.ledger.specs.Runs.{Plan}
 use Rattle.ledger.specs.Flows.{shut}
 use Rattle.ledger.specs.declared.runs.Run.{Run}
-use Rattle.flood.specs.Run.{ended}
 use Rattle.text.specs.Writing.{lineText, Wrote}
 use Rattle.text.proofs.ReadingLaws.{by-lt}
 use Rattle.text.proofs.WritingLaws.{fields-text-short, line-text-long, placed-none, wrote-both, wrote-length}
 use Rattle.sheet.specs.Lines.{cellWord}
 use Rattle.answer.specs.Printed.{mostRefused, refusedWord, outWord, soakWord, stepsWord, clockWord, refusedText, cellText, cellsText, madeText}
-use Rattle.answer.specs.Program.{mostPrinted, programSquares, endedText, Prints}
 
 -- ---- how long a line can get
 
@@ -228,32 +225,3 @@ module _ (p : Plan) (depths : List ℕ) (u : Run) (steps : ℕ) where
                 (wrote-both (omega (arith, w .next, long-a, fits, made-length, three, two)) x
                 (wrote-both (omega (arith, w .next, x .next, long-b, fits, made-length, two)) s
                 (wrote-both (omega (arith, w .next, x .next, s .next, long-c, fits, made-length)) y v)))
-
--- ---- what the program prints
-
-pub refused-printed :
-    {number line : ℕ} {old new : List ℕ} {r : ℕ} → number < 2 ^ 64 → line < 2 ^ 64 → Wrote (refusedText number line) 0 old new r →
-    Prints (refusedText number line) old new r
-refused-printed {number} {line} h g w = record { wrote = w; fits = omega (arith, refused-short number line h g) }
-
-pub ended-refused :
-    {number : ℕ} (p : Plan) (steps : ℕ) (w : World) {old new : List ℕ} {r : ℕ} → (number ≡ 0 → ⊥) → Prints (refusedText number 0) old new r →
-    Prints (endedText p (ended number steps w)) old new r
-unfolding endedText
-ended-refused p steps w {old} {new} {r} d k =
-    subst (λ (t : List ℕ). Prints t old new r) (sym (pick-false _ _ (ne-eqb _ _ d))) k
-
--- the room of the program holds a world of its squares
-module _
-    (p : Plan) (depths : List ℕ) (u : Run) (steps : ℕ) (few : squares (p .shape) ≤ programSquares)
-    (words : (i : ℕ) → getD depths i 0 < 2 ^ 32) (hu : u .outflow < 2 ^ 64) (hk : u .soaked < 2 ^ 64) (hs : steps < 2 ^ 64)
-    (hc : u .clock < 2 ^ 64) where
-  pub made-fits : length (madeText p depths u steps) ≤ mostPrinted
-  made-fits = omega (arith, made-short p depths u steps (omega (arith, few)) words hu hk hs hc, few)
-
-  pub made-printed :
-      {number : ℕ} {old new : List ℕ} {r : ℕ} (lasts records : List ℕ) → number ≡ 0 → Wrote (madeText p depths u steps) 0 old new r →
-      Prints (endedText p (ended number steps (world depths lasts records u))) old new r
-  unfolding endedText
-  made-printed {old = old} {new} {r} lasts records z w =
-      subst (λ (t : List ℕ). Prints t old new r) (sym (pick-true _ _ (eq-eqb _ _ z))) (record { wrote = w; fits = made-fits })

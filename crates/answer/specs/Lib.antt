@@ -1,2 +1,2 @@
 pub mod Printed
-pub mod Program
+pub mod inner

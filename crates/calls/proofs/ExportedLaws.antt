@@ -23,20 +23,21 @@ use Rattle.ledger.specs.TakeBack.{TakesBack, backNumber, takenBack}
 use Rattle.ledger.specs.Walls.{Untouched}
 use Rattle.ledger.specs.declared.runs.Run.{Run}
 use Rattle.ledger.specs.declared.runs.Answer.the-variants.{Done}
-use Rattle.moves.specs.Given.{Given}
+use Rattle.checks.specs.Given.{Given}
 use Rattle.flood.specs.Step.{Steps, stepNumber, stepped}
-use Rattle.flood.specs.Bounds.{figures, boundsOf, toldBounds}
-use Rattle.flood.specs.Run.{Ended, ended, RunsTo, Freshens, runTo, freshNumber, freshRun, freshLasts}
+use Rattle.checks.specs.Bounds.{figures, boundsOf, toldBounds}
+use Rattle.checks.specs.Fresh.{Freshens, freshNumber, freshRun, freshLasts}
+use Rattle.flood.specs.Run.{Ended, ended, RunsTo, runTo}
 use Rattle.flood.specs.declared.run.Ran.{Ran}
-use Rattle.flood.specs.declared.bounds.StepBounds.{StepBounds}
-use Rattle.flood.specs.declared.bounds.Bounds.{Bounds}
-use Rattle.flood.specs.declared.bounds.Bounds.the-variants.{Bounded}
+use Rattle.checks.specs.declared.bounds.StepBounds.{StepBounds}
+use Rattle.checks.specs.declared.bounds.Bounds.{Bounds}
+use Rattle.checks.specs.declared.bounds.Bounds.the-variants.{Bounded}
 use Rattle.sight.specs.WetRows.{onesOver}
 use Rattle.sheet.specs.Sheet.{Rooms, Reads, headingOf, sheetOf, roomsAfter}
 use Rattle.sheet.specs.declared.reading.Heading.{Heading}
 use Rattle.sheet.specs.declared.reading.Sheet.{Sheet}
 use Rattle.sheet.specs.declared.reading.Sheet.the-variants.{Read}
-use Rattle.answer.specs.Program.{meadowText, mostPrinted}
+use Rattle.programs.specs.Program.{meadowText, mostPrinted}
 use Rattle.exports.specs.Numbers.{rulesFrom, runValueFrom, runNumbers, runSize, headingNumbers}
 use Rattle.exports.specs.Refusals.{numberIf, unlessRefused, unlessChecks, lastCheck}
 use Rattle.exports.specs.Steps.{answerNumber, ExportsFresh, ExportsStep, ExportsRun, ExportsBack, bothSized, ranSized}

@@ -18,24 +18,25 @@ use Rattle.grid.specs.Masks.{wetMasks}
 use Rattle.grid.specs.declared.walks.Walk.{Walk}
 use Rattle.rule.specs.Length.{isUpdate}
 use Rattle.rule.specs.declared.rules.Rules.{Rules}
-use Rattle.ledger.specs.Runs.{Plan, World, plan, world, answered}
+use Rattle.ledger.specs.Runs.{Plan, World, plan, world, answered, seenOf}
 use Rattle.ledger.specs.Flows.{shut}
-use Rattle.ledger.specs.Record.{roomSlots}
+use Rattle.ledger.specs.Record.{roomSlots, ringOf}
 use Rattle.ledger.specs.TakeBack.{TakesBack, backNumber, takenBack}
 use Rattle.ledger.specs.Walls.{Untouched}
 use Rattle.ledger.specs.declared.runs.Run.{Run}
 use Rattle.ledger.specs.declared.runs.Answer.{Answer}
 use Rattle.ledger.specs.declared.runs.Answer.the-variants.{Done}
-use Rattle.moves.specs.Given.{Given}
-use Rattle.flood.specs.Refusals.{Checks, runChecks}
-use Rattle.flood.specs.Bounds.{BoundsSteps, boundsNumber, spansWhole, figures, toldBounds, boundsOf, boundsRefusals}
+use Rattle.checks.specs.Given.{Given}
+use Rattle.checks.specs.Refusals.{Checks, ChecksStep, stepChecks, runChecks}
+use Rattle.checks.specs.Bounds.{BoundsSteps, boundsNumber, spansWhole, figures, toldBounds, boundsOf, boundsRefusals}
 use Rattle.flood.specs.Step.{Steps, stepNumber, stepped}
-use Rattle.flood.specs.Run.{Ended, RunsTo, Freshens, runTo, freshNumber, freshRun, freshLasts, freshRefusals}
-use Rattle.flood.proofs.FreshLaws.{fresh-sizes, sizes-lent}
+use Rattle.checks.specs.Fresh.{Freshens, freshNumber, freshRun, freshLasts, freshRefusals}
+use Rattle.flood.specs.Run.{Ended, RunsTo, runTo}
+use Rattle.checks.proofs.FreshLaws.{fresh-sizes, sizes-lent}
 use Rattle.flood.specs.declared.run.Ran.{Ran}
-use Rattle.flood.specs.declared.bounds.StepBounds.{StepBounds}
-use Rattle.flood.specs.declared.bounds.Bounds.{Bounds}
-use Rattle.flood.specs.declared.bounds.Bounds.the-variants.{Bounded}
+use Rattle.checks.specs.declared.bounds.StepBounds.{StepBounds}
+use Rattle.checks.specs.declared.bounds.Bounds.{Bounds}
+use Rattle.checks.specs.declared.bounds.Bounds.the-variants.{Bounded}
 use Rattle.sight.specs.Arrows.{Sees, arrowRefusals, arrowNumber, seenAt, seenBy}
 use Rattle.sight.specs.WetRows.{WetRowed, onesOver, wetNumber, counted}
 use Rattle.sight.specs.declared.arrows.Sight.{Sight}
@@ -46,7 +47,7 @@ use Rattle.sheet.specs.declared.reading.Heading.{Heading}
 use Rattle.sheet.specs.declared.reading.Sheet.{Sheet}
 use Rattle.sheet.specs.declared.reading.Sheet.the-variants.{Read, Refused}
 use Rattle.text.specs.Writing.{Wrote}
-use Rattle.answer.specs.Program.{meadowText}
+use Rattle.programs.specs.Program.{meadowText}
 use Rattle.exports.specs.Bounds.{boundsTold}
 use Rattle.exports.specs.Steps.{answerNumber}
 use Rattle.exports.specs.Sights.{sightNumber, wetNumberOf}
@@ -145,8 +146,15 @@ after-fresh {p} {r} {before} {records} {a} {lasts} s =
     long : freshNumber p r before records ≡ 0 → {i : ℕ} → i < squares (p .shape) → i < length before
     long none h = omega (arith, sizes-lent (p .shape) (p .marks) (r .«square_side») before (fresh-sizes p r before records none) .1)
 
-pub after-check : (p : Plan) (g : Given) (end : ℕ) (w : World) {r : ℕ} → Checks p g end w r → TableSays (runChecks p g end w) r
-after-check p g end w s = rw s (demand-1 .exactly-when p .check g end w)
+pub after-check :
+    (p : Plan) (g : Given) (end : ℕ) (w : World) {r : ℕ} → Checks p g end (w .depths) (w .lasts) (length (w .records)) (w .run) r →
+    TableSays (runChecks p g end w) r
+after-check p g end w s = rw (s (w .records) refl) (demand-1 .exactly-when p .check g end w)
+
+pub after-check-step :
+    (p : Plan) (g : Given) (w : World) {r : ℕ} → ChecksStep p g (w .depths) (w .lasts) (length (w .records)) (w .run) r →
+    TableSays (stepChecks p g (ringOf p w) (seenOf w)) r
+after-check-step p g w s = rw (s (w .records) refl) (demand-1 .exactly-when p .check-step g w)
 
 pub after-bounds : (r : Rules) (clock end : ℕ) {a : Bounds} → BoundsSteps r clock end a → AfterBounds r clock end a
 unfolding boundsOf figures spansWhole isUpdate

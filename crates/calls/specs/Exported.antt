@@ -18,17 +18,18 @@ use Rattle.ledger.specs.Record.{ringOf, roomSlots}
 use Rattle.ledger.specs.After.{lateRefusals}
 use Rattle.ledger.specs.TakeBack.{backRefusals}
 use Rattle.ledger.specs.Walls.{Untouched}
-use Rattle.moves.specs.Given.{Given}
+use Rattle.checks.specs.Given.{Given}
 use Rattle.moves.specs.Moves.{stepMoves}
-use Rattle.flood.specs.Refusals.{stepChecks}
-use Rattle.flood.specs.Bounds.{boundsRefusals, boundsNumber}
-use Rattle.flood.specs.Run.{runTo, freshRefusals, freshRun}
+use Rattle.checks.specs.Refusals.{stepChecks}
+use Rattle.checks.specs.Bounds.{boundsRefusals, boundsNumber}
+use Rattle.checks.specs.Fresh.{freshRefusals, freshRun}
+use Rattle.flood.specs.Run.{runTo}
 use Rattle.sight.specs.Arrows.{arrowRefusals, seenAt}
 use Rattle.sight.specs.WetRows.{wetRefusals}
 use Rattle.sheet.specs.Sheet.{Rooms}
 use Rattle.sheet.specs.declared.reading.Heading.{Heading}
 use Rattle.sheet.specs.declared.reading.Sheet.the-variants.{Read}
-use Rattle.answer.specs.Program.{mostPrinted}
+use Rattle.programs.specs.Program.{mostPrinted}
 use Rattle.exports.specs.Numbers.{rulesFrom, runValueFrom, runSize, countSize, headingNumbers}
 use Rattle.exports.specs.Steps.{bothSized, ranSized}
 use Rattle.exports.specs.Refusals.{lastCheck, unlessChecks}

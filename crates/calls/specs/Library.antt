@@ -19,15 +19,16 @@ use Rattle.ledger.specs.Walls.{Untouched}
 use Rattle.ledger.specs.declared.runs.Run.{Run}
 use Rattle.ledger.specs.declared.runs.Answer.{Answer}
 use Rattle.ledger.specs.declared.runs.Answer.the-variants.{Done}
-use Rattle.moves.specs.Given.{Given}
+use Rattle.checks.specs.Given.{Given}
 use Rattle.moves.specs.Moves.{stepMoves}
-use Rattle.flood.specs.Refusals.{stepChecks, runChecks}
-use Rattle.flood.specs.Bounds.{boundsRefusals, boundsNumber}
-use Rattle.flood.specs.Run.{ended, runTo, freshRefusals, freshRun}
+use Rattle.checks.specs.Refusals.{stepChecks, runChecks}
+use Rattle.checks.specs.Bounds.{boundsRefusals, boundsNumber}
+use Rattle.checks.specs.Fresh.{freshRefusals, freshRun}
+use Rattle.flood.specs.Run.{ended, runTo}
 use Rattle.flood.specs.declared.run.Ran.{Ran}
-use Rattle.flood.specs.declared.bounds.StepBounds.{StepBounds}
-use Rattle.flood.specs.declared.bounds.Bounds.{Bounds}
-use Rattle.flood.specs.declared.bounds.Bounds.the-variants.{Bounded}
+use Rattle.checks.specs.declared.bounds.StepBounds.{StepBounds}
+use Rattle.checks.specs.declared.bounds.Bounds.{Bounds}
+use Rattle.checks.specs.declared.bounds.Bounds.the-variants.{Bounded}
 use Rattle.sight.specs.Arrows.{arrowRefusals, seenAt}
 use Rattle.sight.specs.WetRows.{wetRefusals}
 use Rattle.sight.specs.declared.arrows.Sight.{Sight}
@@ -37,7 +38,7 @@ use Rattle.sheet.specs.Sheet.{Rooms}
 use Rattle.sheet.specs.declared.reading.Heading.{Heading}
 use Rattle.sheet.specs.declared.reading.Sheet.{Sheet}
 use Rattle.sheet.specs.declared.reading.Sheet.the-variants.{Read}
-use Rattle.answer.specs.Program.{meadowText}
+use Rattle.programs.specs.Program.{meadowText}
 use Rattle.exports.specs.Bounds.{boundsTold}
 use Rattle.exports.specs.Steps.{answerNumber}
 use Rattle.exports.specs.Sights.{sightNumber, wetNumberOf}

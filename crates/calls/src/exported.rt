@@ -11,7 +11,7 @@ use exports::steps::flood_step;
 use exports::steps::flood_step_wet;
 use exports::steps::flood_take_back;
 ghost use Rattle.ledger.specs.Runs.{plan, world};
-ghost use Rattle.moves.specs.Given.{given, ground};
+ghost use Rattle.checks.specs.Given.{given, ground};
 ghost use Rattle.sight.specs.Arrows.{view};
 ghost use Rattle.sheet.specs.Sheet.{rooms};
 ghost use Rattle.exports.specs.Numbers.{rulesFrom, runValueFrom, shapeFrom};

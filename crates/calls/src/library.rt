@@ -1,20 +1,20 @@
 // Each public call of the libraries, made as it is lent, with a contract in the letter's words: what specs/Library.antt says that its caller has.
 // A call whose own contract said less would be refused here.
-use answer::program::OUT_ROOM;
-use answer::program::meadow_of;
-use flood::bounds::Bounds;
-use flood::bounds::step_bounds;
-use flood::checks::check;
-use flood::fresh::fresh;
+use checks::bounds::Bounds;
+use checks::bounds::step_bounds;
+use checks::fresh::fresh;
+use checks::refusals::check;
+use checks::refusals::check_step;
 use flood::run::Ran;
 use flood::run::run_to;
-use flood::run::run_to_wet;
 use flood::step::step;
-use flood::step::step_wet;
 use grid::squares::Shape;
+use grid::walks::Walk;
 use ledger::runs::Answer;
 use ledger::runs::Run;
 use ledger::take_back::take_back;
+use programs::limits::OUT_ROOM;
+use programs::meadow::meadow_of;
 use rule::rules::Rules;
 use sheet::reading::Sheet;
 use sheet::reading::read;
@@ -22,9 +22,10 @@ use sight::arrows::Sight;
 use sight::arrows::arrow;
 use sight::wet_rows::Wet;
 use sight::wet_rows::wet_rows;
-ghost use Rattle.ledger.specs.Runs.{plan, world};
-ghost use Rattle.moves.specs.Given.{given, ground};
-ghost use Rattle.flood.specs.Refusals.{runChecks};
+ghost use Rattle.ledger.specs.Runs.{plan, world, seenOf};
+ghost use Rattle.ledger.specs.Record.{ringOf};
+ghost use Rattle.checks.specs.Given.{given, ground};
+ghost use Rattle.checks.specs.Refusals.{runChecks, stepChecks};
 ghost use Rattle.sight.specs.Arrows.{view};
 ghost use Rattle.sheet.specs.Sheet.{rooms};
 ghost use Rattle.demands.specs.Table.{TableSays};
@@ -34,6 +35,7 @@ ghost use Rattle.calls.specs.Library.{AfterArrow, AfterBack, AfterBounds
 // ---- steps, runs and take-backs
 
 pub fn after_step(
+    walk: Walk,
     shape: Shape,
     rules: Rules,
     run: Run,
@@ -50,38 +52,7 @@ pub fn after_step(
     ensures { λ r. ⌜ AfterStep (plan shape (now (marks .entry))) (given (ground rules (now (beds .entry)) (now (roughness .entry)) (now (rates .entry))) (now (rain .entry)) (now (inflow .entry))) (world (now (depths .entry)) (now (lasts .entry)) (now (records .entry)) run) r (world (now (depths .exit)) (now (lasts .exit)) (now (records .exit)) (runAfter r run)) ⌝ }
 {
     step(
-        shape,
-        rules,
-        run,
-        marks,
-        beds,
-        roughness,
-        rates,
-        rain,
-        inflow,
-        depths,
-        lasts,
-        records,
-    )
-}
-
-pub fn after_step_wet(
-    shape: Shape,
-    rules: Rules,
-    run: Run,
-    marks: &[u8],
-    beds: &[u32],
-    roughness: &[u32],
-    rates: &[u32],
-    rain: &[u32],
-    inflow: &[u32],
-    depths: &mut [u32],
-    lasts: &mut [u32],
-    records: &mut [u32],
-) -> Answer
-    ensures { λ r. ⌜ AfterStep (plan shape (now (marks .entry))) (given (ground rules (now (beds .entry)) (now (roughness .entry)) (now (rates .entry))) (now (rain .entry)) (now (inflow .entry))) (world (now (depths .entry)) (now (lasts .entry)) (now (records .entry)) run) r (world (now (depths .exit)) (now (lasts .exit)) (now (records .exit)) (runAfter r run)) ⌝ }
-{
-    step_wet(
+        walk,
         shape,
         rules,
         run,
@@ -98,6 +69,7 @@ pub fn after_step_wet(
 }
 
 pub fn after_run_to(
+    walk: Walk,
     shape: Shape,
     rules: Rules,
     run: Run,
@@ -115,40 +87,7 @@ pub fn after_run_to(
     ensures { λ r. ⌜ AfterRun (plan shape (now (marks .entry))) (given (ground rules (now (beds .entry)) (now (roughness .entry)) (now (rates .entry))) (now (rain .entry)) (now (inflow .entry))) end (world (now (depths .entry)) (now (lasts .entry)) (now (records .entry)) run) r (world (now (depths .exit)) (now (lasts .exit)) (now (records .exit)) (r .run)) ⌝ }
 {
     run_to(
-        shape,
-        rules,
-        run,
-        end,
-        marks,
-        beds,
-        roughness,
-        rates,
-        rain,
-        inflow,
-        depths,
-        lasts,
-        records,
-    )
-}
-
-pub fn after_run_to_wet(
-    shape: Shape,
-    rules: Rules,
-    run: Run,
-    end: u64,
-    marks: &[u8],
-    beds: &[u32],
-    roughness: &[u32],
-    rates: &[u32],
-    rain: &[u32],
-    inflow: &[u32],
-    depths: &mut [u32],
-    lasts: &mut [u32],
-    records: &mut [u32],
-) -> Ran
-    ensures { λ r. ⌜ AfterRun (plan shape (now (marks .entry))) (given (ground rules (now (beds .entry)) (now (roughness .entry)) (now (rates .entry))) (now (rain .entry)) (now (inflow .entry))) end (world (now (depths .entry)) (now (lasts .entry)) (now (records .entry)) run) r (world (now (depths .exit)) (now (lasts .exit)) (now (records .exit)) (r .run)) ⌝ }
-{
-    run_to_wet(
+        walk,
         shape,
         rules,
         run,
@@ -222,7 +161,39 @@ pub fn after_check(
         inflow,
         depths,
         lasts,
-        records,
+        records.len(),
+    )
+}
+
+pub fn after_check_step(
+    shape: Shape,
+    rules: Rules,
+    run: Run,
+    marks: &[u8],
+    beds: &[u32],
+    roughness: &[u32],
+    rates: &[u32],
+    rain: &[u32],
+    inflow: &[u32],
+    depths: &[u32],
+    lasts: &[u32],
+    records: &[u32],
+) -> u32
+    ensures { λ r. ⌜ TableSays (stepChecks (plan shape (now (marks .entry))) (given (ground rules (now (beds .entry)) (now (roughness .entry)) (now (rates .entry))) (now (rain .entry)) (now (inflow .entry))) (ringOf (plan shape (now (marks .entry))) (world (now (depths .entry)) (now (lasts .entry)) (now (records .entry)) run)) (seenOf (world (now (depths .entry)) (now (lasts .entry)) (now (records .entry)) run))) r ⌝ }
+{
+    check_step(
+        shape,
+        rules,
+        run,
+        marks,
+        beds,
+        roughness,
+        rates,
+        rain,
+        inflow,
+        depths,
+        lasts,
+        records.len(),
     )
 }
 

@@ -11,11 +11,11 @@ use Rattle.ledger.specs.Runs.{Plan, World, world}
 use Rattle.ledger.specs.Account.{water, held}
 use Rattle.ledger.specs.declared.runs.Run.{Run}
 use Rattle.ledger.specs.declared.runs.Answer.the-variants.{Done}
-use Rattle.moves.specs.Given.{Given}
+use Rattle.checks.specs.Given.{Given}
 use Rattle.moves.specs.Account.{tablesBy}
 use Rattle.moves.proofs.AccountLaws.{tables-start, tables-go-on, tables-alike}
 use Rattle.flood.specs.Step.{stepped}
-use Rattle.flood.specs.Run.{freshRun, Freshens}
+use Rattle.checks.specs.Fresh.{freshRun, Freshens}
 use Rattle.flood.proofs.AccountLaws.{step-accounts}
 use Rattle.flood.proofs.RunToLaws.{checks-passed, clock-on}
 use Rattle.demands.specs.Demand3.{Call, Trail, alone, AllMade, NeverMade}

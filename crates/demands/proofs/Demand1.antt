@@ -8,10 +8,10 @@ use Rattle.ledger.specs.Runs.{Plan}
 use Rattle.ledger.specs.TakeBack.{backRefusals, backNumber, earlyRefusals}
 use Rattle.ledger.specs.After.{lateRefusals}
 use Rattle.ledger.proofs.Bridge.{refused-stays}
-use Rattle.flood.specs.Refusals.{checkRefusals}
-use Rattle.flood.specs.Bounds.{boundsRefusals, boundsNumber}
+use Rattle.checks.specs.Refusals.{checkRefusals}
+use Rattle.checks.specs.Bounds.{boundsRefusals, boundsNumber}
 use Rattle.flood.specs.Step.{stepNumber}
-use Rattle.flood.specs.Run.{freshRefusals, freshNumber, freshLasts}
+use Rattle.checks.specs.Fresh.{freshRefusals, freshNumber, freshLasts}
 use Rattle.flood.proofs.RunToLaws.{refused-is, run-checked}
 use Rattle.sight.specs.Refusals.{sharedRefusals}
 use Rattle.sight.specs.Arrows.{arrowEarlyRefusals, arrowRefusals, arrowNumber}
@@ -33,6 +33,7 @@ exactly-when p =
       take-back = λ w. table-says _ tt;
       fresh = λ r lasts records. table-says _ tt;
       check = λ g end w. table-says _ tt;
+      check-step = λ g w. table-says _ tt;
       step-bounds = λ r clock end. table-says _ tt;
       arrow = λ D w row column. table-says _ tt;
       wet-rows = λ depths least numbers. table-says _ tt;

@@ -38,14 +38,15 @@ use Rattle.ledger.specs.Walls.{Walled, Untouched}
 use Rattle.ledger.proofs.ReadBack.{leaves-read, closed-read, step-long, step-held, step-lasted, step-off, step-soaked-grid, step-came, step-gone, step-last, step-added, step-soaked}
 use Rattle.ledger.proofs.Walls.{goes-where, walls-stay-dry, after-untouched, back-untouched}
 use Rattle.ledger.specs.declared.runs.Run.{Run}
-use Rattle.moves.specs.Given.{Given, ground, given}
+use Rattle.checks.specs.Given.{Given, ground, given}
 use Rattle.moves.specs.Drops.{sideDrop, dropsOf}
 use Rattle.moves.specs.Moves.{squareCandidates, candidates, leavesFor, soakedFor, addedFor, stepLength, stepDuration, stepMoves}
-use Rattle.flood.specs.Refusals.{groundsFine, checkRefusals, runChecks}
+use Rattle.checks.specs.Refusals.{groundsFine, checkRefusals, runChecks}
 use Rattle.flood.specs.Step.{stepNumber, stepped}
-use Rattle.flood.specs.Run.{Ended, ended, goOn, runFrom, runTo, freshRefusals, freshNumber, freshRun, freshLasts}
+use Rattle.checks.specs.Fresh.{freshRefusals, freshNumber, freshRun, freshLasts}
+use Rattle.flood.specs.Run.{Ended, ended, goOn, runFrom, runTo}
 use Rattle.sight.proofs.Alike.{AlikeDepths, AlikeRecords, arrow-alike, wet-alike}
-use Rattle.flood.proofs.CheckLaws.{ready, ring-is}
+use Rattle.checks.proofs.CheckLaws.{ready, ring-is}
 use Rattle.moves.proofs.MoveLaws.{leaves-open, soaked-open, lost-covered, flood-walled, off-none}
 use Rattle.flood.proofs.RunToLaws.{made-is, refused-is, checks-passed}
 use Rattle.demands.specs.Closed.{SameOpen, SameGiven, SameRecord, SameRoom, SameWorld, SameEnd}

@@ -33,14 +33,15 @@ use Rattle.ledger.proofs.Bridge.{outcome-then, refused-stays, back-bridge, step
 use Rattle.ledger.proofs.EngineLaws.{Looks, seen-look, engine-laws}
 use Rattle.ledger.specs.declared.runs.Run.{Run}
 use Rattle.ledger.specs.declared.runs.Answer.the-variants.{Done}
-use Rattle.moves.specs.Given.{Given}
+use Rattle.checks.specs.Given.{Given}
 use Rattle.moves.specs.Moves.{stepMoves}
-use Rattle.flood.specs.Refusals.{runChecks}
+use Rattle.checks.specs.Refusals.{runChecks}
 use Rattle.flood.specs.Step.{stepNumber, stepped}
 use Rattle.flood.specs.inner.Rule.{floodRule}
-use Rattle.flood.specs.Run.{Ended, ended, goOn, runFrom, runTo, freshRefusals, freshNumber, freshRun, freshLasts, Freshens}
-use Rattle.flood.proofs.CheckLaws.{each-long}
-use Rattle.flood.proofs.FreshLaws.{fresh-sizes, fresh-slots}
+use Rattle.checks.specs.Fresh.{freshRefusals, freshNumber, freshRun, freshLasts, Freshens}
+use Rattle.flood.specs.Run.{Ended, ended, goOn, runFrom, runTo}
+use Rattle.checks.proofs.CheckLaws.{each-long}
+use Rattle.checks.proofs.FreshLaws.{fresh-sizes, fresh-slots}
 use Rattle.flood.proofs.RuleLaws.{flood-owed}
 use Rattle.flood.proofs.RunToLaws.{made-is, refused-is}
 use Rattle.demands.specs.Demand3.{Call, stepping, running, takingBack, standAfter, Trail, start, called, series, alone, AllMade, Fresh, NeverMade, BackOfFresh, Demand3}

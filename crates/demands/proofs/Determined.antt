@@ -1,61 +1,35 @@
--- Every contract leaves one outcome: each is an equation for all that a call gives.
+-- The contract of every entry point leaves one outcome: each is an equation for all that a call gives.
 -- Assumes nothing.
 use mathlib.Core.Path.{_≡_, sym, ap, _∙_}
 use mathlib.Core.List.{List}
-use Prim.Native.Nat.{ℕ, _-_}
-use Rattle.reckon.proofs.RootLaws.{root-unique, begun-unique}
+use lib.ListN.{length, replicate, length-replicate}
+use Prim.Native.Nat.{ℕ}
+use Rattle.reckon.specs.Outcomes.{One}
+use Rattle.reckon.proofs.OutcomeLaws.{exactly}
 use Rattle.rule.specs.declared.rules.Rules.{Rules}
-use Rattle.ledger.specs.Runs.{Plan, World, world}
-use Rattle.ledger.specs.inner.Settle.{SettlesTo, nextRecord}
+use Rattle.ledger.specs.Runs.{Plan, World}
 use Rattle.ledger.specs.TakeBack.{TakesBack}
-use Rattle.ledger.specs.declared.runs.Run.{Run}
 use Rattle.ledger.specs.declared.runs.Answer.{Answer}
-use Rattle.ledger.specs.declared.settle.Settled.{Settled}
-use Rattle.moves.specs.Given.{Given}
-use Rattle.flood.specs.Step.{Steps, MakesStep}
-use Rattle.flood.specs.Run.{RunsTo, Freshens}
+use Rattle.checks.specs.Given.{Given}
+use Rattle.flood.specs.Step.{Steps}
+use Rattle.checks.specs.Fresh.{Freshens}
+use Rattle.flood.specs.Run.{RunsTo}
 use Rattle.flood.specs.declared.run.Ran.{Ran}
 use Rattle.sight.specs.WetRows.{WetRowed}
 use Rattle.sight.specs.declared.wet_rows.Wet.{Wet}
-use Rattle.text.specs.Writing.{Wrote}
+use Rattle.text.proofs.Determined.{written}
 use Rattle.sheet.specs.Sheet.{Rooms, Reads, roomsAfter}
 use Rattle.sheet.specs.declared.reading.Sheet.{Sheet}
 use Rattle.exports.specs.Steps.{ExportsStep, ExportsRun}
-use Rattle.demands.specs.Determined.{One, ReckonDetermined, TrialsDetermined, GridDetermined, RuleDetermined, LedgerDetermined, FloodDetermined, SightDetermined, TextDetermined, SheetDetermined, AnswerDetermined, ExportsDetermined, Determined}
-use Rattle.demands.specs.Determined.{MovesDetermined}
+use Rattle.demands.specs.Determined.{LedgerDetermined, ChecksDetermined, FloodDetermined, SightDetermined, SheetDetermined, ProgramsDetermined, ExportsDetermined, Determined}
 
 -- ---- one outcome
 
--- what is equal to one thing
-exactly : {A : Type 0} {x : A} → One {Out = A} (λ r. r ≡ x)
-exactly a b p q = p ∙ sym q
-
--- a number and a room written
-written : {t : List ℕ} {at : ℕ} {old : List ℕ} → One {Out = ℕ × List ℕ} (λ o. Wrote t at old (o .1) (o .0))
-written a b p q = λ j. ((p .next ∙ sym (q .next)) j, (p .room ∙ sym (q .room)) j)
-
--- two answers that tell a number, and two worlds, each equal to one
-abbrev Four : Type 0
-Four = Settled × (List ℕ × (List ℕ × List ℕ))
-
-abbrev worldIn : Four → World
-worldIn o = world (o .1 .0) (o .1 .1 .0) (o .1 .1 .1) (o .0 .run)
-
-same-four : {a b : Four} → a .0 .refused ≡ b .0 .refused → worldIn a ≡ worldIn b → a ≡ b
-same-four n w = λ j. (record { refused = n j; run = w j .run }, (w j .depths, (w j .lasts, w j .records)))
-
-settled-one : {p : Plan} {rec : List ℕ} {held : ℕ} {w : World} → One {Out = Four} (λ o. SettlesTo p rec held w (o .0 .refused) (worldIn o))
-settled-one a b x y = same-four (x .number ∙ sym (y .number)) (x .world-is ∙ sym (y .world-is))
-
--- the same where the record room stays
-stored-one :
-    {p : Plan} {held : ℕ} {w : World} → One {Out = Run × (List ℕ × List ℕ)} (λ o. SettlesTo p (nextRecord p w) held w 0 (world (o .1 .0) (o .1 .1) (w .records) (o .0)))
-stored-one a b x y =
-    let e = x .world-is ∙ sym (y .world-is) in
-    λ j. (e j .run, (e j .depths, e j .lasts))
-
-step-on-one : {p : Plan} {g : Given} {w : World} → One {Out = Four} (λ o. MakesStep p g w (o .0 .refused) (worldIn o))
-step-on-one a b x y = same-four (x .number ∙ sym (y .number)) (x .world-is ∙ sym (y .world-is))
+-- whatever record room of so many numbers, there is one
+room-one : {f : List ℕ → ℕ} {numbers : ℕ} → One (λ r. (records : List ℕ) → length records ≡ numbers → r ≡ f records)
+room-one {f} {numbers} a b x y =
+    let there = length-replicate {A = ℕ} numbers 0 in
+    x (replicate numbers 0) there ∙ sym (y (replicate numbers 0) there)
 
 taken-one : {p : Plan} {w : World} → One {Out = Answer × (List ℕ × List ℕ)} (λ o. TakesBack p w (o .0) (o .1 .0) (o .1 .1))
 taken-one a b x y = λ j. ((x .answer ∙ sym (y .answer)) j, ((x .depths-are ∙ sym (y .depths-are)) j, (x .lasts-are ∙ sym (y .lasts-are)) j))
@@ -87,171 +61,29 @@ read-one {text} {before} a b x y =
 
 -- ---- crate by crate
 
-reckon-determined : ReckonDetermined
-reckon-determined =
-    record {
-      lesser = λ a b. exactly;
-      greater = λ a b. exactly;
-      number = λ list at. exactly;
-      part = λ d x y. exactly;
-      copy-into = λ from old at. exactly;
-      water-fine = λ depth last. exactly;
-      side-fine = λ side. exactly;
-      rate-fine = λ rate. exactly;
-      square-root = λ n a b. root-unique;
-      cube-root = λ n a b. root-unique;
-      begun-cube-root = λ n a b. begun-unique;
-      ended-cube-root = λ n a b. root-unique;
-      soak-due = λ rate start end. exactly;
-      rain-by = λ rows t. exactly;
-      inflow-by = λ rows r c side t. exactly;
-      rain-added = λ rows start end. exactly;
-      inflow-added = λ rows r c side start end. exactly;
-      rain-fine = λ rows. exactly;
-      inflow-fine = λ rows. exactly;
-    }
-
-trials-determined : TrialsDetermined
-trials-determined =
-    record {
-      slots-in = λ size numbers. exactly;
-      slot-start = λ size slot. exactly;
-      slot-after = λ k newest. exactly;
-      slot-before = λ k newest. exactly;
-      kept-after = λ k kept. exactly;
-      ring-fine = λ k kept newest. exactly;
-    }
-
-grid-determined : GridDetermined
-grid-determined =
-    record {
-      shape-fine = λ s. exactly;
-      squares-of = λ s. exactly;
-      square-at = λ s row column. exactly;
-      next-column = λ s column. exactly;
-      beside-on = λ s square side. exactly;
-      opposite-side = λ side. exactly;
-      on-rim = λ s square. exactly;
-      is-closed = λ marks square. exactly;
-      is-exit = λ marks square. exactly;
-      marks-fine = λ s marks. exactly;
-      inflow-squares-fine = λ s marks rows. exactly;
-      row-mask = λ marks numbers least first columns. exactly;
-      mask-rows = λ s marks depths least. exactly;
-      ones = λ mask. exactly;
-      next-set = λ mask column. exactly;
-      next-within = λ mask column columns. exactly;
-      next-after = λ mask column columns. exactly;
-      beside-set = λ rows row. exactly;
-    }
-
-rule-determined : RuleDetermined
-rule-determined =
-    record {
-      drop-to = λ own neighbour. exactly;
-      drop-off = λ r depth. exactly;
-      shorter = λ r best depth roughness drops. exactly;
-      held-length = λ r candidate. exactly;
-      is-update = λ r clock. exactly;
-      duration-for = λ r clock length. exactly;
-      steps-over = λ time length. exactly;
-      rules-fine = λ r. exactly;
-      ground-fine = λ bed roughness. exactly;
-      weigh = λ r depth last roughness ms drops. exactly;
-    }
-
 ledger-determined : LedgerDetermined
-ledger-determined =
-    record {
-      record-size = λ s. exactly;
-      held-before = λ rec. exactly;
-      lasted = λ rec. exactly;
-      leaving = λ rec square side. exactly;
-      last-before = λ rec square. exactly;
-      added-by = λ rec square. exactly;
-      soaked-by = λ rec square. exactly;
-      gone-from = λ rec square. exactly;
-      sent-to = λ p rec square side. exactly;
-      came-to = λ p rec square. exactly;
-      off-from = λ p rec square. exactly;
-      put-head = λ rec held lasts. exactly;
-      put-square = λ rec square leaves last added soaked. exactly;
-      run-fine = λ k u. exactly;
-      one-each = λ s numbers. exactly;
-      waters-fine = λ p depths lasts. exactly;
-      times-fine = λ rec. exactly;
-      settle = λ p rec held w. settled-one;
-      surely-settles = λ u depths room. exactly;
-      settle-stored = λ p held w. stored-one;
-      take-back = λ p w. taken-one;
-    }
+ledger-determined = record { take-back = λ p w. taken-one }
 
-moves-determined : MovesDetermined
-moves-determined =
+checks-determined : ChecksDetermined
+checks-determined =
     record {
-      step-length = λ p o depths clock held. exactly;
-      rows-apart = λ inflow. exactly;
-      add-water =
-          λ p g start end old a b x y.
-          let same = x .fits-is ∙ sym (y .fits-is) in
-          (same, λ t i h c. x .stored t i h c ∙ sym (y .stored (sym same ∙ t) i h c));
-      fill =
-          λ walk p o depths lasts added held start ms a b x y.
-          (x .0 ∙ sym (y .0), λ i h c w. x .3 i h c w ∙ sym (y .3 i h c w), x .1 ∙ sym (y .1), x .2 ∙ sym (y .2));
+      check = λ p g end depths lasts numbers u. room-one;
+      check-step = λ p g depths lasts numbers u. room-one;
+      fresh = λ p r before records. fresh-one;
+      step-bounds = λ r clock end. exactly;
     }
 
 pub flood-determined : FloodDetermined
-flood-determined =
-    record {
-      check = λ p g end w. exactly;
-      fresh = λ p r before records. fresh-one;
-      fresh-run = λ r slots. exactly;
-      step-bounds = λ r clock end. exactly;
-      step = λ p g w. step-one;
-      step-wet = λ p g w. step-one;
-      step-by = λ p g w. step-one;
-      step-on = λ p g w. step-on-one;
-      run-to = λ p g end w. run-one;
-      run-to-wet = λ p g end w. run-one;
-      run-to-by = λ p g end w. run-one;
-    }
+flood-determined = record { step = λ p g w. step-one; run-to = λ p g end w. run-one }
 
 sight-determined : SightDetermined
-sight-determined =
-    record {
-      arrow = λ p D w row column. exactly;
-      ones-in = λ rows. exactly;
-      wet-rows = λ p depths least old. wet-one;
-    }
-
-text-determined : TextDetermined
-text-determined =
-    record {
-      byte-is = λ text at byte. exactly;
-      word-at = λ text at word. exactly;
-      number-at = λ text at. exactly;
-      field-at = λ text at. exactly;
-      fields-at = λ text at count. exactly;
-      rest-of-line = λ text at count. exactly;
-      line-of = λ text at word count. exactly;
-      put-byte = λ byte at room. written;
-      put-word = λ word at room. written;
-      put-number = λ n at room. written;
-      put-field = λ n at room. written;
-      put-fields = λ values at room. written;
-      put-line = λ word values at room. written;
-    }
+sight-determined = record { arrow = λ p D w row column. exactly; wet-rows = λ p depths least old. wet-one }
 
 sheet-determined : SheetDetermined
 sheet-determined = record { read = λ text before. read-one }
 
-answer-determined : AnswerDetermined
-answer-determined =
-    record {
-      put-refused = λ number line at room. written;
-      put-world = λ p depths u steps at room. written;
-      meadow-of = λ text old a b x y. written a b (x .wrote) (y .wrote);
-    }
+programs-determined : ProgramsDetermined
+programs-determined = record { meadow-of = λ text old a b x y. written a b (x .wrote) (y .wrote) }
 
 exported-step-one :
     {p : Plan} {g : Given} {w : World} {rules old : List ℕ} →
@@ -316,16 +148,11 @@ exports-determined =
 pub determined : Determined
 determined =
     record {
-      reckon = reckon-determined;
-      trials = trials-determined;
-      grid = grid-determined;
-      rule = rule-determined;
       ledger = ledger-determined;
-      moves = moves-determined;
+      checks = checks-determined;
       flood = flood-determined;
       sight = sight-determined;
-      text = text-determined;
       sheet = sheet-determined;
-      answer = answer-determined;
+      programs = programs-determined;
       exports = exports-determined;
     }

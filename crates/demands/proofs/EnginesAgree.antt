@@ -6,7 +6,7 @@ use Rattle.grid.specs.declared.walks.Walk.{Walk}
 use Rattle.grid.specs.declared.walks.Walk.the-variants.{All, Wet}
 use Rattle.ledger.specs.Runs.{Plan, World}
 use Rattle.ledger.specs.declared.runs.Answer.{Answer}
-use Rattle.moves.specs.Given.{Given}
+use Rattle.checks.specs.Given.{Given}
 use Rattle.flood.specs.Step.{Steps}
 use Rattle.flood.specs.Run.{RunsTo}
 use Rattle.flood.specs.declared.run.Ran.{Ran}
@@ -20,15 +20,13 @@ pub step-is :
     (u : Walk) (p : Plan) (g : Given) (w : World) (o : Answer × (List ℕ × (List ℕ × List ℕ))) → StepBy u p g w o →
     Steps p g w (o .0) (o .1 .0) (o .1 .1 .0) (o .1 .1 .1)
 unfolding StepBy
-step-is All p g w o s = s
-step-is Wet p g w o s = s
+step-is walk p g w o s = s
 
 pub run-is :
     (u : Walk) (p : Plan) (g : Given) (end : ℕ) (w : World) (o : Ran × (List ℕ × (List ℕ × List ℕ))) → RunBy u p g end w o →
     RunsTo p g end w (o .0) (o .1 .0) (o .1 .1 .0) (o .1 .1 .1)
 unfolding RunBy
-run-is All p g end w o s = s
-run-is Wet p g end w o s = s
+run-is walk p g end w o s = s
 
 exported-step-is :
     (u : Walk) (p : Plan) (g : Given) (w : World) (rules old : List ℕ) (o : ℕ × (List ℕ × (List ℕ × (List ℕ × List ℕ)))) → ExportedStepBy u p g w rules old o →

@@ -17,16 +17,17 @@ use Rattle.rule.specs.declared.rules.Rules.{Rules}
 use Rattle.ledger.specs.Runs.{Plan, World}
 use Rattle.ledger.specs.After.{lateRefusals}
 use Rattle.ledger.specs.TakeBack.{backRefusals, backNumber, earlyRefusals}
-use Rattle.moves.specs.Given.{Given}
-use Rattle.flood.specs.Refusals.{checkRefusals, runChecks}
+use Rattle.checks.specs.Given.{Given}
+use Rattle.checks.specs.Refusals.{checkRefusals, runChecks}
 use Rattle.flood.specs.Step.{stepNumber}
-use Rattle.flood.specs.Run.{Ended, ended, runTo, freshRefusals, freshNumber}
+use Rattle.checks.specs.Fresh.{freshRefusals, freshNumber}
+use Rattle.flood.specs.Run.{Ended, ended, runTo}
 use Rattle.flood.proofs.RunToLaws.{run-checked}
-use Rattle.flood.specs.Bounds.{boundsRefusals, boundsNumber, toldBounds, boundsOf}
-use Rattle.flood.specs.declared.bounds.StepBounds.{StepBounds}
-use Rattle.flood.specs.declared.bounds.Bounds.{Bounds}
-use Rattle.flood.specs.declared.bounds.Bounds.the-variants.{Bounded, NotBounded}
-use Rattle.flood.specs.declared.bounds.Bounds.the-variants as Told
+use Rattle.checks.specs.Bounds.{boundsRefusals, boundsNumber, toldBounds, boundsOf}
+use Rattle.checks.specs.declared.bounds.StepBounds.{StepBounds}
+use Rattle.checks.specs.declared.bounds.Bounds.{Bounds}
+use Rattle.checks.specs.declared.bounds.Bounds.the-variants.{Bounded, NotBounded}
+use Rattle.checks.specs.declared.bounds.Bounds.the-variants as Told
 use Rattle.sight.specs.Refusals.{sharedRefusals}
 use Rattle.sight.specs.Arrows.{view, arrowEarlyRefusals, arrowRefusals, arrowNumber, sighted, seenBy, seenAt}
 use Rattle.sight.specs.WetRows.{wetRefusals, wetNumber, onesOver}
@@ -37,7 +38,7 @@ use Rattle.sight.proofs.Alike.{AlikeDepths, wet-number-alike}
 use Rattle.grid.proofs.MaskLaws.{masks-alike}
 use Rattle.text.proofs.WritingLaws.{placed-none}
 use Rattle.sheet.specs.Sheet.{Rooms, roomsAfter}
-use Rattle.answer.specs.Program.{meadowText}
+use Rattle.programs.specs.Program.{meadowText}
 use Rattle.sheet.specs.declared.reading.Sheet.{Sheet}
 use Rattle.sheet.specs.declared.reading.Sheet.the-variants.{Read}
 use Rattle.sheet.specs.declared.reading.Sheet.the-variants as Reading

@@ -16,12 +16,12 @@ use Rattle.reckon.proofs.TestLaws.{not-both, pick-true, pick-false, failing-bef
 use Rattle.reckon.proofs.ListLaws.{length-filled, filled-in, filled-past, filled-skipped}
 use Rattle.grid.specs.Squares.{squares}
 use Rattle.grid.specs.Marks.{closed}
-use Rattle.flood.specs.Refusals.{checkRefusals}
+use Rattle.checks.specs.Refusals.{checkRefusals}
 use Rattle.text.specs.Reading.{lineFrom}
 use Rattle.text.proofs.LineLaws.{line-add}
 use Rattle.sheet.specs.Lines.{xLetter, letterOf, lineHead}
 use Rattle.sheet.specs.Sheet.{Rooms, Reads, cellFrom, cellsAt, cellsRead, closedFrom, cellsFilled, roomsFilled, roomsAfter, lineOne, shapeOf, roomsFine, badLine, checksIn, checksOf, headingOf, judged, sheetOf}
-use Rattle.answer.specs.Program.{endedText, runText, meadowText, sheetText}
+use Rattle.programs.specs.Program.{endedText, runText, meadowText, sheetText}
 use Rattle.sheet.specs.declared.reading.Heading.{Heading}
 use Rattle.sheet.specs.declared.reading.Sheet.{Sheet}
 use Rattle.sheet.specs.declared.reading.Sheet.the-variants.{Read, Refused}

@@ -10,7 +10,6 @@ use borrow.Author.Tests.{eq-eqb, ne-eqb}
 use Rattle.reckon.specs.Tests.{pick}
 use Rattle.reckon.proofs.TestLaws.{pick-true, pick-false}
 use Rattle.grid.specs.declared.walks.Walk.{Walk}
-use Rattle.grid.specs.declared.walks.Walk.the-variants.{All, Wet}
 use Rattle.ledger.specs.Runs.{Plan, World, world, answered}
 use Rattle.ledger.specs.Record.{newestRecord}
 use Rattle.ledger.specs.Account.{held}
@@ -18,7 +17,7 @@ use Rattle.ledger.specs.TakeBack.{TakesBack, backNumber, takenBack, worldBefore
 use Rattle.ledger.specs.declared.runs.Run.{Run}
 use Rattle.ledger.specs.declared.runs.Answer.{Answer}
 use Rattle.ledger.specs.declared.runs.Answer.the-variants.{Done, Refused}
-use Rattle.moves.specs.Given.{Given}
+use Rattle.checks.specs.Given.{Given}
 use Rattle.flood.specs.Step.{Steps, stepNumber, stepped}
 use Rattle.flood.specs.Run.{Ended, RunsTo, runTo}
 use Rattle.flood.specs.declared.run.Ran.{Ran}
@@ -131,14 +130,12 @@ module _ (p : Plan) where
 pub plays-step : (walk : Walk) {p : Plan} {g : Given} {w : World} {a : Answer} {depths lasts records : List ℕ} → Steps p g w a depths lasts records →
     Played p (stepping g) w (world depths lasts records (runAfter a (w .run)))
 unfolding StepBy
-plays-step All {a = a} {depths} {lasts} {records} s = by-step All (a, (depths, (lasts, records))) s
-plays-step Wet {a = a} {depths} {lasts} {records} s = by-step Wet (a, (depths, (lasts, records))) s
+plays-step walk {a = a} {depths} {lasts} {records} s = by-step walk (a, (depths, (lasts, records))) s
 
 pub plays-run : (walk : Walk) {p : Plan} {g : Given} {end : ℕ} {w : World} {a : Ran} {depths lasts records : List ℕ} → RunsTo p g end w a depths lasts records →
     Played p (running g end) w (world depths lasts records (a .run))
 unfolding RunBy
-plays-run All {a = a} {depths} {lasts} {records} s = by-run All (a, (depths, (lasts, records))) s
-plays-run Wet {a = a} {depths} {lasts} {records} s = by-run Wet (a, (depths, (lasts, records))) s
+plays-run walk {a = a} {depths} {lasts} {records} s = by-run walk (a, (depths, (lasts, records))) s
 
 pub plays-back : {p : Plan} {w : World} {a : Answer} {depths lasts : List ℕ} → TakesBack p w a depths lasts →
     Played p takingBack w (world depths lasts (w .records) (runAfter a (w .run)))

@@ -13,11 +13,11 @@ use Rattle.ledger.specs.After.{lateRefusals}
 use Rattle.ledger.specs.Record.{ringOf}
 use Rattle.moves.specs.Moves.{stepMoves}
 use Rattle.exports.specs.Refusals.{lastCheck}
-use Rattle.moves.specs.Given.{Given}
-use Rattle.flood.specs.Refusals.{stepChecks, runChecks}
+use Rattle.checks.specs.Given.{Given}
+use Rattle.checks.specs.Refusals.{stepChecks, runChecks}
 use Rattle.flood.specs.Step.{stepNumber, stepped}
 use Rattle.flood.specs.Run.{runTo}
-use Rattle.flood.proofs.CheckLaws.{checks-named, run-checks-step}
+use Rattle.checks.proofs.CheckLaws.{checks-named, run-checks-step}
 use Rattle.flood.proofs.RunToLaws.{Valid, still-valid, clock-on, whole, run-ends, run-refused, run-steps, run-passed}
 use Rattle.flood.specs.Run.{stepsOn}
 use Rattle.demands.specs.Demand1.{StopsBefore}

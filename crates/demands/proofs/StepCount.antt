@@ -7,12 +7,12 @@ use Rattle.rule.specs.Bounds.{mostSteps, leastSteps}
 use Rattle.rule.specs.declared.rules.Rules.{Rules}
 use Rattle.rule.proofs.SpanLaws.{over-reached, over-least}
 use Rattle.ledger.specs.Runs.{Plan, World}
-use Rattle.moves.specs.Given.{Given}
+use Rattle.checks.specs.Given.{Given}
 use Rattle.flood.specs.Run.{runTo}
-use Rattle.flood.specs.Bounds.{boundsOf, figures}
-use Rattle.flood.specs.declared.bounds.StepBounds.{StepBounds}
-use Rattle.flood.specs.declared.bounds.Bounds.the-variants.{Bounded}
-use Rattle.flood.proofs.BoundsLaws.{bounded-says, whole-spans}
+use Rattle.checks.specs.Bounds.{boundsOf, figures}
+use Rattle.checks.specs.declared.bounds.StepBounds.{StepBounds}
+use Rattle.checks.specs.declared.bounds.Bounds.the-variants.{Bounded}
+use Rattle.checks.proofs.BoundsLaws.{bounded-says, whole-spans}
 use Rattle.flood.proofs.StepCountLaws.{run-counted}
 use Rattle.demands.specs.StepCount.{CountedSteps, StepCount}
 

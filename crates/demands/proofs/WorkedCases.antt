@@ -26,16 +26,17 @@ use Rattle.ledger.specs.Checks.{oneEach, watersFine, timesFine}
 use Rattle.ledger.specs.TakeBack.{heldAndGone, cameAndAdded, depthBefore, squareRestorable, restorable, worldBefore, backRefusals, backNumber, takenBack, earlyRefusals}
 use Rattle.moves.specs.Drops.{sideDrop, dropsOf}
 use Rattle.moves.specs.Moves.{squareCandidates, candidates, leavesFor, soakedFor, addedFor, stepLength, stepDuration}
-use Rattle.flood.specs.Refusals.{squareGroundFine, groundsFine, endFine, checkRefusals}
+use Rattle.checks.specs.Refusals.{squareGroundFine, groundsFine, endFine, checkRefusals}
 use Rattle.flood.specs.Step.{stepNumber, stepped}
-use Rattle.flood.specs.Run.{goOn, runFrom, runTo, freshRun}
+use Rattle.checks.specs.Fresh.{freshRun}
+use Rattle.flood.specs.Run.{goOn, runFrom, runTo}
 use Rattle.text.specs.Reading.{isByte, wordAt, isDigit, digitsOf, valueFrom, wellFormed, numberFrom, numberAt, fieldAt, before, readFields, lineEnded, readRest, readLine, padded, asFields, lineLength, nextLine, lineFrom}
 use Rattle.text.specs.Writing.{digitsIn, decimal, fieldText, fieldsText, restText, lineText}
 use Rattle.sheet.specs.Lines.{asGrid, gridLine, asRun, runLine, noCell, closedCell, asOpen, openCell, markedCell, placedCell, cellLine}
 use Rattle.sheet.specs.Sheet.{rooms, cellsRooms, shapeOf, lineTwo, rainTable, inflowTable, said, cellsRead, rowsRead, tableRows, badLine, cellsFilled, roomsFilled, roomsFine, checksIn, headingOf, judged, sheetOf}
 use Rattle.answer.specs.Printed.{refusedText, cellText, cellsText, madeText}
-use Rattle.answer.specs.Program.{endedText, runText, meadowText}
-use Rattle.answer.specs.Program.{sheetText}
+use Rattle.programs.specs.Program.{endedText, runText, meadowText}
+use Rattle.programs.specs.Program.{sheetText}
 use Rattle.sight.specs.Refusals.{depthsFine, sharedRefusals}
 use Rattle.sight.specs.Speeds.{quotientOf}
 use Rattle.sight.specs.Speeds as Speeds

@@ -9,9 +9,9 @@ use Rattle.ledger.specs.Runs.{Plan, World, world}
 use Rattle.ledger.specs.Account.{water, held}
 use Rattle.ledger.specs.declared.runs.Run.{Run}
 use Rattle.ledger.specs.declared.runs.Answer.the-variants.{Done}
-use Rattle.moves.specs.Given.{Given}
+use Rattle.checks.specs.Given.{Given}
 use Rattle.moves.specs.Account.{tablesGive, tablesBy, SameTables}
-use Rattle.flood.specs.Run.{Freshens}
+use Rattle.checks.specs.Fresh.{Freshens}
 use Rattle.demands.specs.Demand3.{Call, Trail, start, series, alone}
 
 module _ (p : Plan) where

@@ -10,7 +10,7 @@ use Rattle.grid.specs.Marks.{Alike}
 use Rattle.ledger.specs.Runs.{Plan, World}
 use Rattle.ledger.specs.Flows.{shut}
 use Rattle.ledger.specs.Record.{squareWords, recordSize, wordPlace, heldIn, lastedIn}
-use Rattle.moves.specs.Given.{Given}
+use Rattle.checks.specs.Given.{Given}
 use Rattle.flood.specs.Run.{Ended}
 
 module _ (p : Plan) where

@@ -11,12 +11,13 @@ use Rattle.ledger.specs.Runs.{Plan, World, world, seenOf}
 use Rattle.ledger.specs.After.{lateRefusals}
 use Rattle.ledger.specs.TakeBack.{backRefusals, backNumber, takenBack}
 use Rattle.ledger.specs.Record.{ringOf}
-use Rattle.moves.specs.Given.{Given}
+use Rattle.checks.specs.Given.{Given}
 use Rattle.moves.specs.Moves.{stepMoves}
-use Rattle.flood.specs.Refusals.{stepChecks, runChecks}
-use Rattle.flood.specs.Bounds.{boundsRefusals, boundsNumber}
+use Rattle.checks.specs.Refusals.{stepChecks, runChecks}
+use Rattle.checks.specs.Bounds.{boundsRefusals, boundsNumber}
 use Rattle.flood.specs.Step.{stepNumber, stepped}
-use Rattle.flood.specs.Run.{Ended, ended, runTo, freshRefusals, freshNumber, freshLasts, stepsOn}
+use Rattle.checks.specs.Fresh.{freshRefusals, freshNumber, freshLasts}
+use Rattle.flood.specs.Run.{Ended, ended, runTo, stepsOn}
 use Rattle.sight.specs.Arrows.{arrowRefusals, arrowNumber}
 use Rattle.sight.specs.WetRows.{WetRowed, wetRefusals, wetNumber}
 use Rattle.sight.specs.declared.wet_rows.Wet.{Wet}
@@ -34,6 +35,7 @@ pub record ExactlyWhen (p : Plan) : Type 0 where
   pub fresh : (r : Rules) (lasts records : List ℕ) → TableSays (freshRefusals p r lasts records) (freshNumber p r lasts records)
   -- a run before its first step, and `check`
   pub check : (g : Given) (end : ℕ) (w : World) → TableSays (runChecks p g end w) (refusal (runChecks p g end w))
+  pub check-step : (g : Given) (w : World) → TableSays (stepChecks p g (ringOf p w) (seenOf w)) (refusal (stepChecks p g (ringOf p w) (seenOf w)))
   -- what is told before a run
   pub step-bounds : (r : Rules) (clock end : ℕ) → TableSays (boundsRefusals r clock end) (boundsNumber r clock end)
   pub arrow : (D : ℕ) (w : World) (row column : ℕ) → TableSays (arrowRefusals p D w row column) (arrowNumber p D w row column)

@@ -21,15 +21,16 @@ use Rattle.ledger.specs.Record.{squareWords, recordSize, heldIn, lastedIn, word
 use Rattle.ledger.specs.TakeBack.{backNumber, takenBack}
 use Rattle.ledger.specs.Walls.{Walled, reaches, drains, intoWalls, Untouched}
 use Rattle.ledger.specs.declared.runs.Run.{Run}
-use Rattle.moves.specs.Given.{Given}
+use Rattle.checks.specs.Given.{Given}
 use Rattle.moves.specs.Drops.{dropsOf}
 use Rattle.moves.specs.Moves.{candidates, addedFor, stepMoves}
-use Rattle.flood.specs.Refusals.{runChecks}
+use Rattle.checks.specs.Refusals.{runChecks}
 use Rattle.flood.specs.Step.{stepNumber, stepped}
 use Rattle.sight.specs.Arrows.{view, seenAt}
 use Rattle.sight.specs.WetRows.{WetRowed}
 use Rattle.sight.specs.declared.wet_rows.Wet.{Wet}
-use Rattle.flood.specs.Run.{runTo, freshNumber, freshRun, freshLasts}
+use Rattle.checks.specs.Fresh.{freshNumber, freshRun, freshLasts}
+use Rattle.flood.specs.Run.{runTo}
 use Rattle.demands.specs.Loader.{LoaderWalls}
 use Rattle.demands.specs.Closed.{SameOpen, SameGiven, SameRecord, SameRoom, SameWorld, SameEnd}
 use Rattle.demands.specs.Exported.{ExportsNoneDepends}

@@ -18,9 +18,10 @@ use Rattle.ledger.specs.Record.{recordSize, roomSlots}
 use Rattle.ledger.specs.TakeBack.{backNumber, takenBack, earlyRefusals}
 use Rattle.ledger.specs.declared.runs.Run.{Run}
 use Rattle.ledger.specs.declared.runs.Answer.the-variants.{Done}
-use Rattle.moves.specs.Given.{Given}
+use Rattle.checks.specs.Given.{Given}
 use Rattle.flood.specs.Step.{stepNumber, stepped}
-use Rattle.flood.specs.Run.{runTo, Freshens}
+use Rattle.checks.specs.Fresh.{Freshens}
+use Rattle.flood.specs.Run.{runTo}
 
 -- "any series of steps and take-backs .. a run to a clock counts as the steps it made": each step and run with its own heights, tables and rules
 pub data Call : Type 0 where

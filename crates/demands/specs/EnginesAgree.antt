@@ -8,7 +8,7 @@ use Rattle.grid.specs.declared.walks.Walk.{Walk}
 use Rattle.grid.specs.declared.walks.Walk.the-variants.{All, Wet}
 use Rattle.ledger.specs.Runs.{Plan, World}
 use Rattle.ledger.specs.declared.runs.Answer.{Answer}
-use Rattle.moves.specs.Given.{Given}
+use Rattle.checks.specs.Given.{Given}
 use Rattle.flood.specs.Step.{Steps}
 use Rattle.flood.specs.Run.{RunsTo}
 use Rattle.flood.specs.declared.run.Ran.{Ran}
@@ -16,15 +16,13 @@ use Rattle.exports.specs.Steps.{ExportsStep, ExportsRun}
 
 -- ---- what each engine's contract allows: the answer, then each slice lent for writing
 
--- `step` and `step_wet`: depths, last leaving and record room
+-- `step`, by the walk that it is handed: depths, last leaving and record room
 unfoldable pub StepBy : Walk → Plan → Given → World → Answer × (List ℕ × (List ℕ × List ℕ)) → Type 0
-StepBy All p g w o = Steps p g w (o .0) (o .1 .0) (o .1 .1 .0) (o .1 .1 .1)
-StepBy Wet p g w o = Steps p g w (o .0) (o .1 .0) (o .1 .1 .0) (o .1 .1 .1)
+StepBy walk p g w o = Steps p g w (o .0) (o .1 .0) (o .1 .1 .0) (o .1 .1 .1)
 
--- `run_to` and `run_to_wet`: the same of a run to an end
+-- `run_to`: the same of a run to an end
 unfoldable pub RunBy : Walk → Plan → Given → ℕ → World → Ran × (List ℕ × (List ℕ × List ℕ)) → Type 0
-RunBy All p g end w o = RunsTo p g end w (o .0) (o .1 .0) (o .1 .1 .0) (o .1 .1 .1)
-RunBy Wet p g end w o = RunsTo p g end w (o .0) (o .1 .0) (o .1 .1 .0) (o .1 .1 .1)
+RunBy walk p g end w o = RunsTo p g end w (o .0) (o .1 .0) (o .1 .1 .0) (o .1 .1 .1)
 
 -- `flood_step` and `flood_step_wet`, for other languages: and the run
 unfoldable pub ExportedStepBy : Walk → Plan → Given → World → List ℕ → List ℕ → ℕ × (List ℕ × (List ℕ × (List ℕ × List ℕ))) → Type 0

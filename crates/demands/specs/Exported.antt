@@ -14,11 +14,12 @@ use Rattle.ledger.specs.Runs.{Plan, World, seenOf}
 use Rattle.ledger.specs.Record.{ringOf, newestRecord}
 use Rattle.ledger.specs.After.{lateRefusals}
 use Rattle.ledger.specs.TakeBack.{backRefusals}
-use Rattle.moves.specs.Given.{Given}
+use Rattle.checks.specs.Given.{Given}
 use Rattle.moves.specs.Moves.{stepMoves}
-use Rattle.flood.specs.Refusals.{stepChecks}
-use Rattle.flood.specs.Run.{runTo, freshRefusals}
-use Rattle.flood.specs.Bounds.{boundsRefusals}
+use Rattle.checks.specs.Refusals.{stepChecks}
+use Rattle.checks.specs.Fresh.{freshRefusals}
+use Rattle.flood.specs.Run.{runTo}
+use Rattle.checks.specs.Bounds.{boundsRefusals}
 use Rattle.sight.specs.Arrows.{view, arrowRefusals}
 use Rattle.sight.specs.WetRows.{wetRefusals}
 use Rattle.sheet.specs.Sheet.{Rooms}

@@ -10,12 +10,12 @@ use Rattle.reckon.specs.Tests.{Row, _unless_}
 use Rattle.grid.specs.Squares.{squares}
 use Rattle.grid.specs.Marks.{closed}
 use Rattle.grid.specs.declared.squares.Shape.{Shape}
-use Rattle.flood.specs.Refusals.{runChecks}
+use Rattle.checks.specs.Refusals.{runChecks}
 use Rattle.flood.specs.Run.{runTo}
 use Rattle.text.specs.Reading.{lineFrom}
 use Rattle.sheet.specs.Lines.{xLetter}
 use Rattle.sheet.specs.Sheet.{Cells, Rooms, Reads, lineOne, lineTwo, shapeOf, roomsFine, badLine, planIn, givenIn, startIn, said, sheetOf}
-use Rattle.answer.specs.Program.{mostText, programRooms, meadowText}
+use Rattle.programs.specs.Program.{mostText, programRooms, meadowText}
 use Rattle.answer.specs.Printed.{refusedText, madeText}
 use Rattle.sheet.specs.declared.reading.Heading.{Heading}
 use Rattle.sheet.specs.declared.reading.Sheet.the-variants.{Read, Refused}

@@ -12,9 +12,9 @@ use Rattle.ledger.specs.TakeBack.{TakesBack}
 use Rattle.ledger.specs.declared.runs.Run.{Run}
 use Rattle.ledger.specs.declared.runs.Answer.{Answer}
 use Rattle.ledger.specs.declared.runs.Answer.the-variants.{Done, Refused}
-use Rattle.moves.specs.Given.{Given}
+use Rattle.checks.specs.Given.{Given}
 use Rattle.flood.specs.Step.{stepNumber}
-use Rattle.flood.specs.Run.{Freshens}
+use Rattle.checks.specs.Fresh.{Freshens}
 use Rattle.flood.specs.declared.run.Ran.{Ran}
 use Rattle.demands.specs.EnginesAgree.{StepBy, RunBy}
 use Rattle.demands.specs.Demand2.{StepGives}

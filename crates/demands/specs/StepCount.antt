@@ -5,11 +5,11 @@ use Prim.Native.Nat.{ℕ, _-_, _*_, _/_, _%_, _≤_}
 use Rattle.rule.specs.Bounds.{stepsOver, mostSteps, leastSteps}
 use Rattle.rule.specs.declared.rules.Rules.{Rules}
 use Rattle.ledger.specs.Runs.{Plan, World}
-use Rattle.moves.specs.Given.{Given}
+use Rattle.checks.specs.Given.{Given}
 use Rattle.flood.specs.Run.{runTo}
-use Rattle.flood.specs.Bounds.{boundsOf}
-use Rattle.flood.specs.declared.bounds.StepBounds.{StepBounds}
-use Rattle.flood.specs.declared.bounds.Bounds.the-variants.{Bounded}
+use Rattle.checks.specs.Bounds.{boundsOf}
+use Rattle.checks.specs.declared.bounds.StepBounds.{StepBounds}
+use Rattle.checks.specs.declared.bounds.Bounds.the-variants.{Bounded}
 
 -- "For a run from a clock that is a multiple of U to an end E not before it"; an end that is no multiple of U is refused, with no step made
 pub record CountedSteps (p : Plan) (g : Given) (end : ℕ) (w : World) : Type 0 where

@@ -19,19 +19,19 @@ use Rattle.rule.specs.Drops.{dropOff}
 use Rattle.rule.specs.Length.{candidatesOf, freshLength, lengthAt, durationFor}
 use Rattle.ledger.specs.Runs.{Plan, World, plan, seenOf}
 use Rattle.ledger.specs.TakeBack.{backNumber, takenBack}
-use Rattle.moves.specs.Given.{Given}
+use Rattle.checks.specs.Given.{Given}
 use Rattle.moves.specs.Drops.{dropsOf}
 use Rattle.moves.specs.Moves.{stepMoves}
 use Rattle.flood.specs.Step.{stepNumber, stepped}
-use Rattle.flood.specs.Run.{freshRun}
-use Rattle.flood.specs.declared.bounds.Bounds.the-variants.{Bounded, NotBounded}
+use Rattle.checks.specs.Fresh.{freshRun}
+use Rattle.checks.specs.declared.bounds.Bounds.the-variants.{Bounded, NotBounded}
 use Rattle.sight.specs.Speeds.{zero64, quotientOf}
 use Rattle.sight.specs.Arrows.{view, seenAt}
 use Rattle.sight.specs.declared.arrows.Sight.the-variants.{Closed, Dry, Still, Moving}
 use Rattle.text.specs.Bytes.{bytesOf}
 use Rattle.sheet.specs.Sheet.{Rooms, cellsRooms, shapeOf, lineTwo, rainTable, inflowTable, said, planIn, givenIn, startIn}
 use Rattle.answer.specs.Printed.{madeText}
-use Rattle.answer.specs.Program.{meadowText}
+use Rattle.programs.specs.Program.{meadowText}
 use Rattle.exports.specs.Numbers.{shapeFrom, rulesFrom, runValueFrom, runNumbers, headingNumbers}
 use Rattle.exports.specs.Sights.{sightNumber, speedsIn}
 use Rattle.exports.specs.Bounds.{boundsTold, figuresIn}

@@ -6,10 +6,10 @@ use mathlib.Core.List.{List, [], _∷_}
 use Prim.Native.Nat.{ℕ}
 use Rattle.reckon.proofs.TestLaws.{pick-true, pick-false}
 use Rattle.rule.specs.declared.rules.Rules.{Rules}
-use Rattle.flood.specs.Bounds.{BoundsSteps}
-use Rattle.flood.specs.declared.bounds.StepBounds.{StepBounds}
-use Rattle.flood.specs.declared.bounds.Bounds.{Bounds}
-use Rattle.flood.specs.declared.bounds.Bounds.the-variants.{Bounded, NotBounded, Refused}
+use Rattle.checks.specs.Bounds.{BoundsSteps}
+use Rattle.checks.specs.declared.bounds.StepBounds.{StepBounds}
+use Rattle.checks.specs.declared.bounds.Bounds.{Bounds}
+use Rattle.checks.specs.declared.bounds.Bounds.the-variants.{Bounded, NotBounded, Refused}
 use Rattle.exports.specs.Bounds.{boundsTold, figuresIn, boundsSized, ExportsBounds}
 use Rattle.exports.specs.Numbers.{rulesFrom}
 use Rattle.exports.proofs.AnswerLaws.{sized-number, unsized-number}

@@ -7,7 +7,7 @@ use Rattle.grid.specs.declared.squares.Shape.{Shape}
 use Rattle.rule.specs.declared.rules.Rules.{Rules}
 use Rattle.ledger.specs.declared.runs.Run.{Run}
 use Rattle.ledger.specs.Runs.{plan, world}
-use Rattle.moves.specs.Given.{ground, given}
+use Rattle.checks.specs.Given.{ground, given}
 use Rattle.exports.specs.Numbers.{rulesFrom, rulesNumbers, runNumbers, runValueFrom}
 
 -- ---- the array that came out of one call goes into the next

@@ -13,7 +13,7 @@ use Rattle.reckon.proofs.TestLaws.{pick-true, pick-false, each-every}
 use Rattle.text.specs.Writing.{Wrote}
 use Rattle.text.proofs.WritingLaws.{wrote-length}
 use Rattle.sheet.specs.Sheet.{Rooms, Reads, roomsAfter}
-use Rattle.answer.specs.Program.{Prints, meadowText, mostPrinted}
+use Rattle.programs.specs.Program.{Prints, meadowText, mostPrinted}
 use Rattle.sheet.specs.declared.reading.Heading.{Heading}
 use Rattle.sheet.specs.declared.reading.Sheet.{Sheet}
 use Rattle.sheet.specs.declared.reading.Sheet.the-variants.{Read, Refused}

@@ -19,10 +19,11 @@ use Rattle.ledger.specs.Record.{newestRecord}
 use Rattle.ledger.specs.After.{worldAfter}
 use Rattle.ledger.specs.TakeBack.{TakesBack, backNumber, takenBack, worldBefore}
 use Rattle.ledger.specs.declared.runs.Answer.{Answer}
-use Rattle.moves.specs.Given.{Given}
+use Rattle.checks.specs.Given.{Given}
 use Rattle.moves.specs.Moves.{stepMoves}
 use Rattle.flood.specs.Step.{Steps, stepNumber, stepped}
-use Rattle.flood.specs.Run.{Ended, RunsTo, Freshens, freshNumber, freshRun, freshLasts}
+use Rattle.checks.specs.Fresh.{Freshens, freshNumber, freshRun, freshLasts}
+use Rattle.flood.specs.Run.{Ended, RunsTo}
 use Rattle.flood.specs.declared.run.Ran.{Ran}
 use Rattle.exports.specs.Numbers.{runNumbers, runSize}
 use Rattle.exports.specs.Refusals.{unlessChecks, unlessRefused}

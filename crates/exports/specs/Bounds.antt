@@ -5,9 +5,9 @@ use mathlib.Core.Bool.{Bool}
 use mathlib.Core.List.{List, [], _∷_}
 use Prim.Native.Nat.{ℕ}
 use Rattle.reckon.specs.Tests.{every, pick}
-use Rattle.flood.specs.Bounds.{boundsOf}
-use Rattle.flood.specs.declared.bounds.Bounds.{Bounds}
-use Rattle.flood.specs.declared.bounds.Bounds.the-variants.{Bounded, NotBounded, Refused}
+use Rattle.checks.specs.Bounds.{boundsOf}
+use Rattle.checks.specs.declared.bounds.Bounds.{Bounds}
+use Rattle.checks.specs.declared.bounds.Bounds.the-variants.{Bounded, NotBounded, Refused}
 use Rattle.exports.specs.Numbers.{boundsSize, rulesFrom, rulesSize, sized}
 use Rattle.exports.specs.Refusals.{numberIf}
 

@@ -9,7 +9,7 @@ use lib.ListN.{length}
 use Rattle.reckon.specs.Tests.{every, pick}
 use Rattle.reckon.specs.Lists.{placed}
 use Rattle.sheet.specs.Sheet.{Rooms, sheetOf, roomsAfter}
-use Rattle.answer.specs.Program.{meadowText, mostPrinted}
+use Rattle.programs.specs.Program.{meadowText, mostPrinted}
 use Rattle.sheet.specs.declared.reading.Sheet.{Sheet}
 use Rattle.sheet.specs.declared.reading.Sheet.the-variants.{Read, Refused}
 use Rattle.exports.specs.Numbers.{headingNumbers, headingSize, lineSize, sized}

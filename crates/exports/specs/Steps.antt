@@ -11,9 +11,10 @@ use Rattle.ledger.specs.Record.{roomSlots}
 use Rattle.ledger.specs.TakeBack.{backNumber, takenBack}
 use Rattle.ledger.specs.declared.runs.Answer.{Answer}
 use Rattle.ledger.specs.declared.runs.Answer.the-variants.{Done, Refused}
-use Rattle.moves.specs.Given.{Given}
+use Rattle.checks.specs.Given.{Given}
 use Rattle.flood.specs.Step.{stepNumber, stepped}
-use Rattle.flood.specs.Run.{Ended, runTo, freshNumber, freshRun, freshLasts}
+use Rattle.checks.specs.Fresh.{freshNumber, freshRun, freshLasts}
+use Rattle.flood.specs.Run.{Ended, runTo}
 use Rattle.exports.specs.Numbers.{rulesSize, runNumbers, runSize, sized, stepsSize}
 use Rattle.exports.specs.Refusals.{numberIf, unlessChecks, unlessRefused}
 

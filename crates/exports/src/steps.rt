@@ -7,10 +7,10 @@ use crate::sizes::NOT_ITS_SIZE;
 use crate::sizes::RULES_NUMBERS;
 use crate::sizes::RUN_NUMBERS;
 use crate::sizes::STEPS_NUMBERS;
-use flood::fresh::fresh;
+use checks::fresh::fresh;
 use flood::run::Ran;
-use flood::run::run_to_by;
-use flood::step::step_by;
+use flood::run::run_to;
+use flood::step::step;
 use grid::walks::Walk;
 use ledger::runs::Answer;
 use ledger::take_back::take_back;
@@ -18,7 +18,7 @@ ghost use mathlib.Core.Path.{_≡_};
 ghost use mathlib.Core.List.{[], _∷_};
 ghost use lib.ListN.{length};
 ghost use Rattle.ledger.specs.Runs.{plan, world};
-ghost use Rattle.moves.specs.Given.{ground, given};
+ghost use Rattle.checks.specs.Given.{ground, given};
 ghost use Rattle.exports.specs.Numbers.{rulesFrom, runNumbers, runSize, runValueFrom, shapeFrom, stepsSize};
 ghost use Rattle.exports.specs.Refusals.{unlessChecks};
 ghost use Rattle.exports.specs.Steps.{answerNumber, ExportsBack, ExportsFresh, ExportsRun, ExportsStep};
@@ -112,7 +112,7 @@ fn step_told(
     if run.len() != RUN_NUMBERS {
         return NOT_ITS_SIZE;
     }
-    let answer = step_by(
+    let answer = step(
         walk,
         shape_from(rows, columns),
         rules_from(rules),
@@ -234,7 +234,7 @@ fn run_told(
     if steps.len() != STEPS_NUMBERS {
         return NOT_ITS_SIZE;
     }
-    let ran = run_to_by(
+    let ran = run_to(
         walk,
         shape_from(rows, columns),
         rules_from(rules),

@@ -8,12 +8,12 @@ use Rattle.ledger.specs.Record.{ringOf}
 use Rattle.ledger.specs.After.{worldAfter}
 use Rattle.ledger.specs.Account.{held}
 use Rattle.ledger.proofs.Account.{Balanced, step-balance}
-use Rattle.moves.specs.Given.{Given}
+use Rattle.checks.specs.Given.{Given}
 use Rattle.moves.specs.Moves.{stepMoves, stepDuration}
 use Rattle.moves.specs.Account.{tablesGive}
 use Rattle.moves.proofs.MoveLaws.{flood-walled, lost-covered}
 use Rattle.flood.specs.Step.{stepNumber, stepped}
-use Rattle.flood.proofs.CheckLaws.{ready}
+use Rattle.checks.proofs.CheckLaws.{ready}
 use Rattle.flood.proofs.RunToLaws.{made-is, checks-passed}
 
 module _ (p : Plan) (g : Given) (w : World) (made : stepNumber p g w ≡ 0) where

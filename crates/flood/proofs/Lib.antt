@@ -1,7 +1,5 @@
 pub mod AccountLaws
-pub mod BoundsLaws
-pub mod CheckLaws
-pub mod FreshLaws
+pub mod Determined
 pub mod RuleLaws
 pub mod RunToLaws
 pub mod StepCountLaws

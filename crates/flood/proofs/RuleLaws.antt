@@ -6,7 +6,7 @@ use Rattle.ledger.specs.inner.Engine.{Owed}
 use Rattle.moves.specs.Moves.{stepDuration}
 use Rattle.flood.specs.inner.Rule.{floodRule}
 use Rattle.moves.proofs.MoveLaws.{lost-covered, step-length-from, step-length-to, step-lasts-from, step-lasts-to}
-use Rattle.flood.proofs.CheckLaws.{ready, checks-look, checks-named}
+use Rattle.checks.proofs.CheckLaws.{ready, checks-look, checks-named}
 
 pub flood-owed : (p : Plan) → Owed p (floodRule p)
 flood-owed p =

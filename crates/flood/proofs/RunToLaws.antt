@@ -18,14 +18,14 @@ use Rattle.ledger.specs.Record.{recordSize, roomSlots, ringOf}
 use Rattle.ledger.specs.After.{lateRefusals, stepRecord, worldAfter}
 use Rattle.ledger.proofs.ReadBack.{step-long}
 use Rattle.ledger.proofs.EngineLaws.{look-seen, valid-after}
-use Rattle.moves.specs.Given.{Given}
+use Rattle.checks.specs.Given.{Given}
 use Rattle.moves.specs.Moves.{stepDuration, stepLength, stepMoves}
-use Rattle.flood.specs.Refusals.{stepChecks, runChecks}
+use Rattle.checks.specs.Refusals.{stepChecks, runChecks}
 use Rattle.flood.specs.Step.{stepNumber, stepped}
 use Rattle.flood.specs.inner.Rule.{floodRule}
 use Rattle.flood.specs.Run.{Ended, ended, goOn, runFrom, runTo}
 use Rattle.flood.specs.Step.{MakesStep}
-use Rattle.flood.proofs.CheckLaws.{ready, ring-is, checks-named, checks-after}
+use Rattle.checks.proofs.CheckLaws.{ready, ring-is, checks-named, checks-after}
 use Rattle.moves.proofs.MoveLaws.{step-lasts-from}
 use Rattle.flood.proofs.RuleLaws.{flood-owed}
 

@@ -11,12 +11,12 @@ use Rattle.rule.specs.declared.rules.Rules.{Rules}
 use Rattle.rule.proofs.SpanLaws.{Stands, Onward, mostLeft, leastLeft, over-none, stands-start, stands-end, step-on}
 use Rattle.ledger.specs.Runs.{Plan, World, seenOf}
 use Rattle.ledger.specs.Record.{ringOf}
-use Rattle.moves.specs.Given.{Given}
+use Rattle.checks.specs.Given.{Given}
 use Rattle.moves.specs.Moves.{candidates, stepDuration, stepLength}
-use Rattle.flood.specs.Refusals.{runChecks}
+use Rattle.checks.specs.Refusals.{runChecks}
 use Rattle.flood.specs.Step.{stepNumber, stepped}
 use Rattle.flood.specs.Run.{Ended, runTo}
-use Rattle.flood.proofs.CheckLaws.{ready, run-checks-step, run-checks-end, end-is}
+use Rattle.checks.proofs.CheckLaws.{ready, run-checks-step, run-checks-end, end-is}
 use Rattle.flood.proofs.RunToLaws.{Valid, still-valid, clock-after, length-after, clock-on, whole, run-ends, run-refused, run-steps, run-checked, run-passed}
 
 -- how many steps a run has made where it ends: the lower figure only where it is not refused

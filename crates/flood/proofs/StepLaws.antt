@@ -9,13 +9,14 @@ use native.Mathlib.Nat.{le-trans}
 use native.Mathlib.Omega.{arith}
 use lib.Dec.{eqb}
 use lib.ListN.{length, getD, take, drop, replicate, length-replicate, length-drop}
-use lib.Seq.{length-take-le}
+use lib.Seq.{length-take-le, take-at}
 use borrow.Author.Tests.{le-leb, lt-leb, leb-true, ne-eqb}
 use Rattle.reckon.specs.Tests.{pick, refusal}
 use Rattle.reckon.specs.Ranges.{mostDepth, lastClock}
 use Rattle.reckon.proofs.TestLaws.{not-both, no-more, pick-false, or-right, or-of, all-at, all-of, refusal-here, refusal-later, refusal-first, refusal-second}
 use Rattle.trials.proofs.RingLaws.{fine-ring, slot-within, after-below}
-use Rattle.grid.specs.Squares.{squares, mostAlong, ShapeInRange, SquaresOf}
+use Rattle.trials.proofs.RoomLaws.{put-back}
+use Rattle.grid.specs.Squares.{squares, mostAlong, mostSquares, ShapeInRange, SquaresOf}
 use Rattle.reckon.specs.Lists.{placed}
 use Rattle.trials.specs.Ring.{slotsIn, slotStart, slotAfter}
 use Rattle.trials.specs.Room.{recordIn, storedIn}
@@ -23,24 +24,27 @@ use Rattle.grid.specs.Walks.{bitOf}
 use Rattle.grid.specs.declared.walks.Walk.{Walk}
 use Rattle.ledger.specs.Runs.{Plan, World, world, answered, Seen, seenOf}
 use Rattle.ledger.specs.Flows.{Leaves, shut, gone}
-use Rattle.ledger.specs.Record.{leavesIn, addedIn, soakedIn, roomSlots, ringOf, headWords, squareWords, SizeOf, recordSize}
+use Rattle.ledger.specs.Record.{lastedIn, leavesIn, addedIn, soakedIn, roomSlots, ringOf, headWords, squareWords, SizeOf, recordSize}
 use Rattle.ledger.specs.After.{Moves, newDepth, depthsFit, lateRefusals, stepRecord, worldAfter, worldWith}
-use Rattle.ledger.specs.inner.Settle.{movesIn, settleNumber, settled, Settles, SettlesTo, IdleAt, sends, Told, RoomAdded, surelySettles, nextRecord}
+use Rattle.ledger.specs.inner.Walks.{sends}
+use Rattle.settling.specs.inner.Settle.{movesIn, settleNumber, settled, Settles, SettlesTo, IdleAt, Told, RoomAdded, surelySettles, nextRecord}
 use Rattle.grid.specs.declared.squares.Shape.{Shape}
-use Rattle.ledger.proofs.ReadBack.{step-long, step-lasted, step-gone, step-added, step-soaked, settled-is, late-settled}
+use Rattle.ledger.proofs.ReadBack.{lasted-read, gone-read, added-read, soaked-read, step-long, step-lasted, step-gone, step-added, step-soaked}
+use Rattle.settling.proofs.ByRecord.{settled-is, late-settled}
 use Rattle.ledger.proofs.RecordLaws.{slots-of}
-use Rattle.ledger.proofs.SureLaws.{surely-settled, next-read, stored-settles, stored-settled}
-use Rattle.moves.specs.Given.{Given}
+use Rattle.settling.proofs.SureLaws.{surely-settled, next-read, stored-settles, stored-number, stored-made, stored-left}
+use Rattle.checks.specs.Given.{Ground, Given}
 use Rattle.moves.specs.Moves.{leavesFor, soakedFor, addedFor, stepLength, stepDuration, stepMoves}
 use Rattle.moves.specs.inner.Added.{addedFits}
 use Rattle.moves.specs.inner.Fill.{isWorked, workedRows, senderRows, LeftKept}
-use Rattle.moves.specs.inner.Ready.{Ready}
+use Rattle.checks.specs.inner.Ready.{Ready}
 use Rattle.rule.specs.Rules.{rulesFine}
 use Rattle.ledger.specs.declared.runs.Answer.the-variants.{Done, Refused}
 use Rattle.ledger.proofs.RunLaws.{answered-done, answered-refused}
-use Rattle.flood.specs.Refusals.{checkRefusals, stepChecks}
+use Rattle.checks.specs.Refusals.{stepChecks}
 use Rattle.flood.specs.Step.{stepNumber, stepped, Steps, MakesStep, Passes}
-use Rattle.flood.proofs.CheckLaws.{ready, ring-is, checks-named}
+use Rattle.flood.specs.inner.Step.{RoomsLent, SlotSettled, filledRecord, nextStored}
+use Rattle.checks.proofs.CheckLaws.{ready, ring-is, checks-named}
 use Rattle.moves.proofs.WetLaws.{worked-bit-is, idle-at, idle-gone, idle-soaked, sender-bit-is}
 use Rattle.moves.proofs.MoveLaws.{lost-covered, step-length-to}
 
@@ -125,83 +129,6 @@ module _ (p : Plan) (g : Given) (w : World) (passed : refusal (stepChecks p g (r
           added-to = λ i h s. rw (step-added p m w i h s) (added-at t i h s);
         })
 
-    -- ---- what the walk tells of the record
-
-    module _ {rec : List ℕ} {ms : ℕ} (e : rec ≡ stepRecord p m w) (t : ms ≡ stepDuration p g v) where
-      abbrev out : Leaves
-      out = leavesFor p (g .lie) (w .depths) (w .lasts) ms
-
-      -- what left a square not closed, what soaked there, and what was added
-      module _ (i : ℕ) (h : i < squares (p .shape)) (c : shut p i ≡ false) where
-        gone-told : gone (leavesIn rec) i ≡ gone out i
-        gone-told =
-            ap (λ (k : List ℕ). gone (leavesIn k) i) e
-            ∙ (step-gone p m w i h c ∙ ap (λ (k : ℕ). gone (leavesFor p (g .lie) (w .depths) (w .lasts) k) i) (sym t))
-
-        soaked-told : soakedIn rec i ≡ soakedFor p (g .lie) (w .depths) (w .lasts) clock ms i
-        soaked-told =
-            ap (λ (k : List ℕ). soakedIn k i) e
-            ∙ (step-soaked p m w i h c ∙ ap (λ (k : ℕ). soakedFor p (g .lie) (w .depths) (w .lasts) clock k i) (sym t))
-
-        added-told : addedIn rec i ≡ addedFor p g clock (clock + ms) i
-        added-told =
-            ap (λ (k : List ℕ). addedIn k i) e ∙ (step-added p m w i h c ∙ ap (λ (k : ℕ). addedFor p g clock (clock + k) i) (sym t))
-
-      -- a square that sent nothing, by the record
-      silent-told : (i : ℕ) → i < squares (p .shape) → sends p out i ≡ false → sends p (leavesIn rec) i ≡ false
-      unfolding sends
-      silent-told i h c = go (shut p i) refl
-        where
-          go : (b : Bool) → shut p i ≡ b → sends p (leavesIn rec) i ≡ false
-          go true q = rw q
-          go false q = ap (λ (k : ℕ). not (shut p i) && not (eqb k 0)) (gone-told i h q) ∙ c
-
-      module _ (room : List ℕ) (long : length room ≡ squares (p .shape))
-          (stored : (i : ℕ) → i < squares (p .shape) → shut p i ≡ false → getD room i 0 ≡ addedFor p g clock (clock + ms) i) where
-        -- the working room
-        pub room-added : RoomAdded p rec room
-        room-added = record { long = long; added = λ i h c. stored i h c ∙ sym (added-told i h c) }
-
-        module _ (walk : Walk) {worked : List ℕ} (marked : worked ≡ workedRows walk p (w .depths) (w .lasts) room) where
-          works : (i : ℕ) → i < squares (p .shape) → bitOf (p .shape) worked i ≡ isWorked walk p (w .depths) (w .lasts) room i
-          works i h =
-              ap (λ (k : List ℕ). bitOf (p .shape) k i) marked ∙ worked-bit-is walk p (w .depths) (w .lasts) room (is-ready .waters .fine) h
-
-          -- a square that is not worked
-          idle-told : (i : ℕ) → i < squares (p .shape) → bitOf (p .shape) worked i ≡ false → shut p i ≡ false → IdleAt rec (w .depths) i
-          idle-told i h b c =
-              let z = sym (works i h) ∙ b in
-              let none = idle-at walk p (w .depths) (w .lasts) room i z c in
-              record {
-                dry = none .0;
-                quiet = gone-told i h c ∙ idle-gone walk p (w .depths) (w .lasts) room (g .lie) ms i z c;
-                firm = soaked-told i h c ∙ idle-soaked walk p (w .depths) (w .lasts) room (g .lie) clock ms i z c;
-                unadded = sym (room-added .added i h c) ∙ none .2;
-              }
-
-          still-told : (i : ℕ) → i < squares (p .shape) → bitOf (p .shape) worked i ≡ false → shut p i ≡ false → getD (w .lasts) i 0 ≡ 0
-          still-told i h b c = idle-at walk p (w .depths) (w .lasts) room i (sym (works i h) ∙ b) c .1
-
-          -- all that it tells
-          pub told :
-              {left senders : List ℕ} → length left ≡ squares (p .shape) → length worked ≡ p .shape .rows → length senders ≡ p .shape .rows →
-              senders ≡ senderRows p (g .lie) (w .depths) (w .lasts) ms → LeftKept walk p (g .lie) (w .depths) (w .lasts) room ms left →
-              Told p rec (w .depths) (w .lasts) left worked senders
-          told left-long worked-long senders-long sent kept =
-              record {
-                left-long = left-long;
-                worked-long = worked-long;
-                senders-long = senders-long;
-                idle = idle-told;
-                still = still-told;
-                left-is = λ i h b c. kept i h c (sym (works i h) ∙ b) ∙ sym (gone-told i h c);
-                sent =
-                    λ i h b.
-                    silent-told i h
-                    (sym (sender-bit-is p (g .lie) (w .depths) (w .lasts) ms (is-ready .waters .fine) h)
-                    ∙ (ap (λ (k : List ℕ). bitOf (p .shape) k i) (sym sent) ∙ b));
-              }
-
     pub step-settled :
         {rec : List ℕ} {held n : ℕ} {after : World} → rec ≡ stepRecord p m w → held ≡ stepLength p g v → SettlesTo p rec held w n after →
         MakesStep p g w n after
@@ -216,112 +143,221 @@ module _ (p : Plan) (g : Given) (w : World) (passed : refusal (stepChecks p g (r
           world-is = t .world-is ∙ (ap (λ (k : ℕ). pick (eqb k 0) (worldWith p (movesIn rec held) w rec) w) number-is ∙ ap (λ (x : World). pick (eqb (stepNumber p g w) 0) x w) written-is);
         }
 
-    -- ---- where its record stands in its slot before it is settled
-
-    module _ {rec records : List ℕ} {held : ℕ} (e : rec ≡ stepRecord p m w) (l : held ≡ stepLength p g v)
-        (t : addedFits p g clock (clock + stepDuration p g v) ≡ true)
-        (q : records ≡ storedIn (recordSize p) (w .records) (slotAfter (roomSlots p (w .records)) (w .run .newest)) rec) where
-      abbrev stored : World
-      stored = world (w .depths) (w .lasts) records (w .run)
-
-      stored-is : nextRecord p stored ≡ rec
-      stored-is = next-read (settles e l t) q
-
-      pub stored-asks : Settles p (nextRecord p stored) held stored
-      stored-asks = stored-settles (settles e l t) q
-
-      pub stored-told :
-          {left worked senders : List ℕ} → Told p rec (w .depths) (w .lasts) left worked senders →
-          Told p (nextRecord p stored) (w .depths) (w .lasts) left worked senders
-      stored-told {left} {worked} {senders} = subst (λ (r : List ℕ). Told p r (w .depths) (w .lasts) left worked senders) (sym stored-is)
-
-      pub stored-added : {room : List ℕ} → RoomAdded p rec room → RoomAdded p (nextRecord p stored) room
-      stored-added {room} = subst (λ (r : List ℕ). RoomAdded p r room) (sym stored-is)
-
-      pub stored-none : {room : List ℕ} → RoomAdded p rec room → surelySettles (w .run) (w .depths) room ≡ true → settleNumber p (nextRecord p stored) held stored ≡ 0
-      stored-none a sure = surely-settled stored-asks (stored-added a) sure
-
-      pub step-stored : {after : World} → SettlesTo p (nextRecord p stored) held stored 0 after → MakesStep p g w 0 after
-      step-stored u = step-settled e l (stored-settled (settles e l t) q u)
-
 -- ---- the slot that a record is filled in
 
 module _ (p : Plan) (w : World) where
+  next-within : w .run .newest < roomSlots p (w .records) → slotAfter (roomSlots p (w .records)) (w .run .newest) < slotsIn (recordSize p) (length (w .records))
+  unfolding roomSlots
+  next-within h = after-below (roomSlots p (w .records)) (w .run .newest) (omega (arith, h))
+
   pub next-long : w .run .newest < roomSlots p (w .records) → length (nextRecord p w) ≡ recordSize p
-  unfolding recordIn roomSlots
+  unfolding recordIn
   next-long h =
-      let K : ℕ = roomSlots p (w .records) in
-      let slot : ℕ = slotAfter K (w .run .newest) in
-      let fits : slotStart (recordSize p) slot + recordSize p ≤ length (w .records)
-      = slot-within (recordSize p) (omega arith) (after-below K (w .run .newest) (omega (arith, h))) in
+      let slot : ℕ = slotAfter (roomSlots p (w .records)) (w .run .newest) in
+      let fits : slotStart (recordSize p) slot + recordSize p ≤ length (w .records) = slot-within (recordSize p) (omega arith) (next-within h) in
       length-take-le (recordSize p) (drop (slotStart (recordSize p) slot) (w .records))
       (omega (arith, fits, length-drop (slotStart (recordSize p) slot) (w .records)))
 
-  -- what is written there, as the code finds the slot
-  module _ {size slots slot at : ℕ} (e : size ≡ recordSize p) (s : slots ≡ slotsIn size (length (w .records)))
-      (q : slot ≡ slotAfter slots (w .run .newest)) (a : at ≡ slotStart size slot) {new rec : List ℕ} (n : new ≡ rec) where
-    slot-placed : placed (w .records) at new ≡ storedIn (recordSize p) (w .records) (slotAfter (roomSlots p (w .records)) (w .run .newest)) rec
-    slot-placed = rw (n, a, q, slots-of p (w .records) e s, e)
+  abbrev nextPlace : ℕ
+  nextPlace = slotStart (recordSize p) (slotAfter (roomSlots p (w .records)) (w .run .newest))
+
+  -- as the code finds it
+  pub newest-in : w .run .newest < roomSlots p (w .records) → w .run .newest < slotsIn (recordSize p) (length (w .records))
+  unfolding roomSlots
+  newest-in h = h
+
+  pub place-is : {at : ℕ} → at ≡ slotStart (recordSize p) (slotAfter (slotsIn (recordSize p) (length (w .records))) (w .run .newest)) → at ≡ nextPlace
+  unfolding roomSlots
+  place-is e = e
+
+  module _ {size at : ℕ} (e : size ≡ recordSize p) (a : at ≡ nextPlace) where
+    pub next-part : take (at + size - at) (drop at (w .records)) ≡ nextRecord p w
+    unfolding recordIn
+    next-part =
+        let c : at + size - at ≡ size = omega arith in
+        rw (c, a, e)
+
+    pub part-ends : w .run .newest < roomSlots p (w .records) → at + size ≤ length (w .records)
+    part-ends h =
+        omega (arith, a, e, slot-within (recordSize p) (omega arith) (next-within h))
 
     pub slot-written :
-        length rec ≡ recordSize p →
-        take at (w .records) ++ (new ++ drop (at + size - at) (drop at (w .records)))
-        ≡ storedIn (recordSize p) (w .records) (slotAfter (roomSlots p (w .records)) (w .run .newest)) rec
+        {new rec : List ℕ} → new ≡ rec → length rec ≡ recordSize p →
+        take at (w .records) ++ (new ++ drop (at + size - at) (drop at (w .records))) ≡ nextStored p w rec
     unfolding placed
-    slot-written long =
+    slot-written {new} {rec} n long =
         let c : at + size - at ≡ length new = omega (arith, e, long, ap length n) in
-        ap (λ (k : ℕ). take at (w .records) ++ (new ++ drop k (drop at (w .records)))) c ∙ slot-placed
+        let there : placed (w .records) at new ≡ nextStored p w rec = ap₂ (placed (w .records)) a n in
+        ap (λ (k : ℕ). take at (w .records) ++ (new ++ drop k (drop at (w .records)))) c ∙ there
 
--- ---- the parts of the working rooms that a grid needs, in rooms for grids of so many squares
+-- ---- what the walk tells of the record
+
+module _ (p : Plan) (o : Ground) (w : World) (room : List ℕ) (ms : ℕ) where
+  abbrev rec : List ℕ
+  rec = filledRecord p o w room ms
+
+  abbrev out : Leaves
+  out = leavesFor p o (w .depths) (w .lasts) ms
+
+  abbrev soaks : ℕ → ℕ
+  soaks = soakedFor p o (w .depths) (w .lasts) (w .run .clock) ms
+
+  pub lasted-told : lastedIn rec ≡ ms
+  lasted-told = lasted-read p (w .run .length) ms out (λ k. getD (w .lasts) k 0) (λ k. getD room k 0) soaks
+
+  -- what left a square not closed, what soaked there, and what was added
+  module _ (i : ℕ) (h : i < squares (p .shape)) (c : shut p i ≡ false) where
+    gone-told : gone (leavesIn rec) i ≡ gone out i
+    gone-told = gone-read p (w .run .length) ms out (λ k. getD (w .lasts) k 0) (λ k. getD room k 0) soaks i h c
+
+    soaked-told : soakedIn rec i ≡ soaks i
+    soaked-told = soaked-read p (w .run .length) ms out (λ k. getD (w .lasts) k 0) (λ k. getD room k 0) soaks i h c
+
+    added-told : addedIn rec i ≡ getD room i 0
+    added-told = added-read p (w .run .length) ms out (λ k. getD (w .lasts) k 0) (λ k. getD room k 0) soaks i h c
+
+  -- a square that sent nothing, by the record
+  silent-told : (i : ℕ) → i < squares (p .shape) → sends p out i ≡ false → sends p (leavesIn rec) i ≡ false
+  unfolding sends
+  silent-told i h c = go (shut p i) refl
+    where
+      go : (b : Bool) → shut p i ≡ b → sends p (leavesIn rec) i ≡ false
+      go true q = rw q
+      go false q = ap (λ (k : ℕ). not (shut p i) && not (eqb k 0)) (gone-told i h q) ∙ c
+
+  -- the working room
+  pub room-added : length room ≡ squares (p .shape) → RoomAdded p rec room
+  room-added long = record { long = long; added = λ i h c. sym (added-told i h c) }
+
+  module _ (fine : ShapeInRange (p .shape)) (walk : Walk) {worked : List ℕ} (marked : worked ≡ workedRows walk p (w .depths) (w .lasts) room) where
+    works : (i : ℕ) → i < squares (p .shape) → bitOf (p .shape) worked i ≡ isWorked walk p (w .depths) (w .lasts) room i
+    works i h = ap (λ (k : List ℕ). bitOf (p .shape) k i) marked ∙ worked-bit-is walk p (w .depths) (w .lasts) room fine h
+
+    -- a square that is not worked
+    idle-told : (i : ℕ) → i < squares (p .shape) → bitOf (p .shape) worked i ≡ false → shut p i ≡ false → IdleAt rec (w .depths) i
+    idle-told i h b c =
+        let z = sym (works i h) ∙ b in
+        let none = idle-at walk p (w .depths) (w .lasts) room i z c in
+        record {
+          dry = none .0;
+          quiet = gone-told i h c ∙ idle-gone walk p (w .depths) (w .lasts) room o ms i z c;
+          firm = soaked-told i h c ∙ idle-soaked walk p (w .depths) (w .lasts) room o (w .run .clock) ms i z c;
+          unadded = added-told i h c ∙ none .2;
+        }
+
+    still-told : (i : ℕ) → i < squares (p .shape) → bitOf (p .shape) worked i ≡ false → shut p i ≡ false → getD (w .lasts) i 0 ≡ 0
+    still-told i h b c = idle-at walk p (w .depths) (w .lasts) room i (sym (works i h) ∙ b) c .1
+
+    -- all that it tells
+    pub told :
+        {left senders : List ℕ} → length left ≡ squares (p .shape) → length worked ≡ p .shape .rows → length senders ≡ p .shape .rows →
+        senders ≡ senderRows p o (w .depths) (w .lasts) ms → LeftKept walk p o (w .depths) (w .lasts) room ms left →
+        Told p rec (w .depths) (w .lasts) left worked senders
+    told left-long worked-long senders-long sent kept =
+        record {
+          left-long = left-long;
+          worked-long = worked-long;
+          senders-long = senders-long;
+          idle = idle-told;
+          still = still-told;
+          left-is = λ i h b c. kept i h c (sym (works i h) ∙ b) ∙ sym (gone-told i h c);
+          sent =
+              λ i h b.
+              silent-told i h
+              (sym (sender-bit-is p o (w .depths) (w .lasts) ms fine h) ∙ (ap (λ (k : List ℕ). bitOf (p .shape) k i) (sym sent) ∙ b));
+        }
+
+-- ---- a step settled with its record in its slot
+
+module _ {p : Plan} {w : World} {rec records : List ℕ} {held : ℕ} (s : Settles p rec held w) (q : records ≡ nextStored p w rec) where
+  abbrev stored : World
+  stored = world (w .depths) (w .lasts) records (w .run)
+
+  stored-is : nextRecord p stored ≡ rec
+  stored-is = next-read s q
+
+  -- what is asked there
+  pub stored-asks :
+      {left worked senders room : List ℕ} {sure : Bool} → Told p rec (w .depths) (w .lasts) left worked senders → RoomAdded p rec room →
+      (sure ≡ true → surelySettles (w .run) (w .depths) room ≡ true) →
+      (Settles p (nextRecord p stored) held stored)
+      × ((Told p (nextRecord p stored) (w .depths) (w .lasts) left worked senders)
+      × ((RoomAdded p (nextRecord p stored) room) × (sure ≡ true → settleNumber p (nextRecord p stored) held stored ≡ 0)))
+  stored-asks {left} {worked} {senders} {room} t a sure =
+      let added : RoomAdded p (nextRecord p stored) room = subst (λ (r : List ℕ). RoomAdded p r room) (sym stored-is) a in (
+        stored-settles s q,
+        (
+          subst (λ (r : List ℕ). Told p r (w .depths) (w .lasts) left worked senders) (sym stored-is) t,
+          (added, λ y. surely-settled (stored-settles s q) added (sure y)),
+        ),
+      )
+
+  -- and what is given, with the record in its slot or with the words put back that stood there
+  module _ {n : ℕ} {after : World} (t : SettlesTo p (nextRecord p stored) held stored n after) where
+    pub slot-settled : SlotSettled p rec held w n after
+    slot-settled =
+        record {
+          number = stored-number s q t;
+          made = stored-made s q t;
+          not-made = λ d. stored-left s q t d ∙ ap (λ (r : List ℕ). world (w .depths) (w .lasts) r (w .run)) q;
+        }
+
+module _ {p : Plan} {rec : List ℕ} {held n : ℕ} {w after : World} (t : SlotSettled p rec held w n after) where
+  pub sure-settled : settleNumber p rec held w ≡ 0 → SettlesTo p rec held w n after
+  sure-settled z = record { number = t .number; world-is = t .made (t .number ∙ z) }
+
+  pub made-settled : n ≡ 0 → SettlesTo p rec held w n after
+  made-settled z = record { number = t .number; world-is = t .made z }
+
+  pub refused-settled : {records : List ℕ} → (n ≡ 0 → ⊥) → records ≡ w .records → SettlesTo p rec held w n (world (after .depths) (after .lasts) records (after .run))
+  unfolding settled
+  refused-settled d e =
+      let left = t .not-made d in
+      let depths = ap (λ (x : World). x .depths) left in
+      let lasts = ap (λ (x : World). x .lasts) left in
+      let run = ap (λ (x : World). x .run) left in
+      record { number = t .number; world-is = rw (depths, lasts, e, run) (sym (pick-false _ _ (ne-eqb (settleNumber p rec held w) 0 (λ z. d (t .number ∙ z))))) }
+
+-- the words that are saved and put back
+module _ (p : Plan) (w : World) (rec : List ℕ) {held : ℕ} (s : Settles p rec held w) where
+  pub words-back :
+      {size at : ℕ} (before : List ℕ) {saved : List ℕ} → size ≡ recordSize p → at ≡ nextPlace p w →
+      saved ≡ placed before 0 (take (at + size - at) (drop at (w .records))) → placed (nextStored p w rec) at (take size saved) ≡ w .records
+  unfolding placed
+  words-back {size} {at} before {saved} e a q =
+      let words : List ℕ = nextRecord p w in
+      let long : length words ≡ size = next-long p w (s .newest-in) ∙ sym e in
+      let kept : take size saved ≡ words
+      = ap (take size) (q ∙ ap (placed before 0) (next-part p w e a)) ∙ take-at words (drop (length words) (drop 0 before)) size long in
+      ap₂ (placed (nextStored p w rec)) a kept
+      ∙ put-back (recordSize p) (omega arith) (w .records) (slotAfter (roomSlots p (w .records)) (w .run .newest)) rec (s .record-long) (next-within p w (s .newest-in))
+
+-- ---- the parts of the working rooms that a grid needs
 
 -- the checks have passed, so that the shape is in range
 pub passed-fine : {p : Plan} {g : Given} {w : World} → Passes p g w → ShapeInRange (p .shape)
 passed-fine {p} {g} {w} passes = is-ready p g w (passes .checked) .waters .fine
 
-abbrev pub recordRoom : ℕ → ℕ
-recordRoom most = headWords + squareWords * most
-
--- a record, the squares and the rows are no longer than their rooms
-pub record Parts (s : Shape) (most size count : ℕ) : Type 0 where
-  pub record-in : size ≤ recordRoom most
-  pub squares-in : count ≤ most
-  pub rows-in : s .rows ≤ mostAlong
-
 pub part-long : {n : ℕ} (most : ℕ) → n ≤ most → length (take {A = ℕ} n (replicate most 0)) ≡ n
 part-long {n} most h = length-take-le n (replicate most 0) (omega (arith, h, length-replicate {A = ℕ} most 0))
 
-module _ (s : Shape) (most : ℕ) {size count : ℕ} (sized : SizeOf s size) (counted : SquaresOf s count) where
-  pub parts-in : ShapeInRange s → squares s ≤ most → Parts s most size count
-  parts-in f few = record { record-in = omega (arith, few, sized); squares-in = omega (arith, few, counted); rows-in = f .rows-high }
-
-  -- so each part has the length that a step asks of its room; and what else is asked
-  pub parts-long :
-      {A : Type 0} → Parts s most size count → A →
-      (length (take {A = ℕ} size (replicate (recordRoom most) 0)) ≡ headWords + squareWords * squares s)
-      × (length (take {A = ℕ} count (replicate most 0)) ≡ squares s)
-      × (length (take {A = ℕ} (s .rows) (replicate mostAlong 0)) ≡ s .rows)
-      × (length (take {A = ℕ} (s .rows) (replicate mostAlong 0)) ≡ s .rows)
-      × (length (take {A = ℕ} count (replicate most 0)) ≡ squares s)
-      × A
-  parts-long fits more = (
-    part-long (recordRoom most) (fits .record-in) ∙ sized,
-    part-long most (fits .squares-in) ∙ counted,
-    part-long mostAlong (fits .rows-in),
-    part-long mostAlong (fits .rows-in),
-    part-long most (fits .squares-in) ∙ counted,
-    more,
-  )
+pub parts-lent :
+    {s : Shape} {count : ℕ} → SquaresOf s count → ShapeInRange s →
+    RoomsLent s (take {A = ℕ} count (replicate mostSquares 0)) (take {A = ℕ} (s .rows) (replicate mostAlong 0)) (take {A = ℕ} (s .rows) (replicate mostAlong 0))
+    (take {A = ℕ} count (replicate mostSquares 0))
+parts-lent {s} {count} counted f =
+    let few : count ≤ mostSquares = omega (arith, counted, f .few) in
+    let part = part-long mostSquares few ∙ counted in
+    record { left-long = part; worked-long = part-long mostAlong (f .rows-high); senders-long = part-long mostAlong (f .rows-high); room-long = part }
 
 -- ---- the public step
 
 module _ (p : Plan) (g : Given) (w : World) where
   -- rows 1 to 6 refuse
   pub step-checked :
-      {five : Bool} {n : ℕ} → five ≡ rulesFine (g .lie .rules) → n ≡ refusal (checkRefusals p g five (ringOf p w) (seenOf w)) → (n ≡ 0 → ⊥) →
-      Steps p g w (Refused n) (w .depths) (w .lasts) (w .records)
+      {n : ℕ} → n ≡ refusal (stepChecks p g (ringOf p w) (seenOf w)) → (n ≡ 0 → ⊥) → Steps p g w (Refused n) (w .depths) (w .lasts) (w .records)
   unfolding stepNumber stepped
-  step-checked {five} {n} f e d =
-      let r : n ≡ refusal (stepChecks p g (ringOf p w) (seenOf w)) = e ∙ ap (λ (b : Bool). refusal (checkRefusals p g b (ringOf p w) (seenOf w))) f in
+  step-checked {n} r d =
       let number-is : n ≡ stepNumber p g w = r ∙ sym (first (λ z. d (r ∙ z))) in
       let stays : stepped p g w ≡ w = refused-stays (λ z. d (number-is ∙ z)) in
       record {
@@ -338,8 +374,8 @@ module _ (p : Plan) (g : Given) (w : World) where
       refused-stays z = pick-false _ _ (ne-eqb _ _ z)
 
   -- they pass: what the inner step gives
-  pub passes-checks : {five : Bool} {n : ℕ} → five ≡ rulesFine (g .lie .rules) → n ≡ refusal (checkRefusals p g five (ringOf p w) (seenOf w)) → n ≡ 0 → Passes p g w
-  passes-checks f e z = record { checked = sym (ap (λ (b : Bool). refusal (checkRefusals p g b (ringOf p w) (seenOf w))) f) ∙ (sym e ∙ z) }
+  pub passes-checks : {n : ℕ} → n ≡ refusal (stepChecks p g (ringOf p w) (seenOf w)) → n ≡ 0 → Passes p g w
+  passes-checks e z = record { checked = sym e ∙ z }
 
   module _ {n : ℕ} {after : World} (m : MakesStep p g w n after) where
     pub step-refused : (n ≡ 0 → ⊥) → Steps p g w (Refused n) (after .depths) (after .lasts) (after .records)

@@ -1,5 +1,3 @@
-pub mod Bounds
-pub mod Refusals
 pub mod Run
 pub mod Step
 pub mod inner

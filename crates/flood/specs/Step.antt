@@ -5,7 +5,7 @@ use Prim.Native.Nat.{ℕ, _+_}
 use Rattle.reckon.specs.Tests.{pick, refusal}
 use Rattle.ledger.specs.Runs.{Plan, World, answered, seenOf}
 use Rattle.ledger.specs.After.{lateRefusals, worldAfter}
-use Rattle.moves.specs.Given.{Given}
+use Rattle.checks.specs.Given.{Given}
 use mathlib.Core.Path.{_≡_}
 use mathlib.Core.List.{List, _++_}
 use Prim.Native.Nat.{ℕ}
@@ -13,7 +13,7 @@ use lib.Dec.{eqb}
 use Rattle.ledger.specs.Record.{ringOf}
 use Rattle.ledger.specs.declared.runs.Answer.{Answer}
 use Rattle.moves.specs.Moves.{stepMoves}
-use Rattle.flood.specs.Refusals.{stepChecks}
+use Rattle.checks.specs.Refusals.{stepChecks}
 
 module _ (p : Plan) (g : Given) where
   -- the first number of the table that applies, 0 for none

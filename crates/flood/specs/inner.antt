@@ -1,3 +1,4 @@
+pub mod Determined
 pub mod Rule
 pub mod Run
 pub mod Step

@@ -1,28 +1,25 @@
 // A run to an end: the checks once, then steps while the clock is below the end.
-use crate::checks::check;
-use crate::step::make_step;
+use crate::step::step_on;
+use checks::refusals::check;
 use grid::squares::MOST_ALONG;
 use grid::squares::MOST_SQUARES;
 use grid::squares::Shape;
 use grid::squares::squares_of;
 use grid::walks::Walk;
-use ledger::record::MOST_RECORD;
-use ledger::record::record_size;
 use ledger::runs::Run;
 use moves::added::rows_apart;
+use moves::way::Way;
 use rule::rules::Rules;
 ghost use mathlib.Core.Path.{_≡_};
 ghost use Prim.Native.Nat.{_≤_};
-ghost use lib.ListN.{length};
 ghost use Rattle.reckon.specs.Ranges.{lastClock};
-ghost use Rattle.grid.specs.Squares.{squares};
 ghost use Rattle.ledger.specs.Runs.{plan, world};
-ghost use Rattle.ledger.specs.Record.{recordSize};
-ghost use Rattle.moves.specs.Given.{given, ground};
+ghost use Rattle.checks.specs.Given.{given, ground};
 ghost use Rattle.moves.specs.inner.Added.{rowsApart};
 ghost use Rattle.flood.specs.Step.{Passes};
 ghost use Rattle.flood.specs.Run.{RunsTo};
 ghost use Rattle.flood.specs.inner.Run.{RunsOn};
+ghost use Rattle.flood.specs.inner.Step.{RoomsLent};
 
 // The refusal's number, 0 for none, the steps made, and the run that they leave.
 pub struct Ran {
@@ -31,12 +28,9 @@ pub struct Ran {
     pub run: Run,
 }
 
-// Steps by either walk while the clock is below the end, up to a step that is refused. `rec`, `left`, `worked`, `senders` and `room` are working
-// rooms; `apart` tells whether no two inflow rows are for the same square.
+// Steps while the clock is below the end, up to a step that is refused, in working rooms.
 fn run_on(
-    walk: Walk,
-    shape: Shape,
-    rules: Rules,
+    way: Way,
     run: Run,
     end: u64,
     marks: &[u8],
@@ -45,27 +39,23 @@ fn run_on(
     rates: &[u32],
     rain: &[u32],
     inflow: &[u32],
-    apart: bool,
     depths: &mut [u32],
     lasts: &mut [u32],
     records: &mut [u32],
-    rec: &mut [u32],
     left: &mut [u32],
     worked: &mut [u64],
     senders: &mut [u64],
     room: &mut [u32],
 ) -> Ran
-    requires { ⌜ Passes (plan shape (now marks)) (given (ground rules (now beds) (now roughness) (now rates)) (now rain) (now inflow)) (world (now depths) (now lasts) (now records) run) ⌝ }
-    requires { ⌜ (length (now rec) ≡ recordSize (plan shape (now marks))) × (length (now left) ≡ squares shape) × (length (now worked) ≡ shape .rows) × (length (now senders) ≡ shape .rows) × (length (now room) ≡ squares shape) × (apart ≡ rowsApart (now inflow)) × (end ≤ lastClock) ⌝ }
-    ensures { λ r. ⌜ RunsOn (plan shape (now (marks .entry))) (given (ground rules (now (beds .entry)) (now (roughness .entry)) (now (rates .entry))) (now (rain .entry)) (now (inflow .entry))) end (world (now (depths .entry)) (now (lasts .entry)) (now (records .entry)) run) r (now (depths .exit)) (now (lasts .exit)) (now (records .exit)) ⌝ }
+    requires { ⌜ Passes (plan (way .shape) (now marks)) (given (ground (way .rules) (now beds) (now roughness) (now rates)) (now rain) (now inflow)) (world (now depths) (now lasts) (now records) run) ⌝ }
+    requires { ⌜ (RoomsLent (way .shape) (now left) (now worked) (now senders) (now room)) × (way .apart ≡ rowsApart (now inflow)) × (end ≤ lastClock) ⌝ }
+    ensures { λ r. ⌜ RunsOn (plan (way .shape) (now (marks .entry))) (given (ground (way .rules) (now (beds .entry)) (now (roughness .entry)) (now (rates .entry))) (now (rain .entry)) (now (inflow .entry))) end (world (now (depths .entry)) (now (lasts .entry)) (now (records .entry)) run) r (now (depths .exit)) (now (lasts .exit)) (now (records .exit)) ⌝ }
 {
     let mut at = run;
     let mut steps: u64 = 0;
     while at.clock < end {
-        let made = make_step(
-            walk,
-            shape,
-            rules,
+        let made = step_on(
+            way,
             at,
             marks,
             beds,
@@ -73,11 +63,9 @@ fn run_on(
             rates,
             rain,
             inflow,
-            apart,
             depths,
             lasts,
             records,
-            rec,
             left,
             worked,
             senders,
@@ -103,7 +91,7 @@ fn run_on(
 }
 
 // A run to an end by either walk, or a refusal.
-pub fn run_to_by(
+pub fn run_to(
     walk: Walk,
     shape: Shape,
     rules: Rules,
@@ -134,7 +122,7 @@ pub fn run_to_by(
         inflow,
         depths,
         lasts,
-        records,
+        records.len(),
     );
     if number != 0 {
         return Ran {
@@ -143,19 +131,20 @@ pub fn run_to_by(
             run: run,
         };
     }
-    let size = record_size(shape);
     let squares = squares_of(shape);
     let rows = shape.rows;
-    let apart = rows_apart(inflow);
-    let mut rec = [0u32; MOST_RECORD];
+    let way = Way {
+        walk: walk,
+        shape: shape,
+        rules: rules,
+        apart: rows_apart(inflow),
+    };
     let mut left = [0u32; MOST_SQUARES];
     let mut worked = [0u64; MOST_ALONG];
     let mut senders = [0u64; MOST_ALONG];
     let mut room = [0u32; MOST_SQUARES];
     run_on(
-        walk,
-        shape,
-        rules,
+        way,
         run,
         end,
         marks,
@@ -164,86 +153,12 @@ pub fn run_to_by(
         rates,
         rain,
         inflow,
-        apart,
         depths,
         lasts,
         records,
-        &mut rec[..size],
         &mut left[..squares],
         &mut worked[..rows],
         &mut senders[..rows],
         &mut room[..squares],
-    )
-}
-
-// A run to an end, or a refusal: every square is worked at each step.
-pub fn run_to(
-    shape: Shape,
-    rules: Rules,
-    run: Run,
-    end: u64,
-    marks: &[u8],
-    beds: &[u32],
-    roughness: &[u32],
-    rates: &[u32],
-    rain: &[u32],
-    inflow: &[u32],
-    depths: &mut [u32],
-    lasts: &mut [u32],
-    records: &mut [u32],
-) -> Ran
-    ensures { λ r. ⌜ RunsTo (plan shape (now (marks .entry))) (given (ground rules (now (beds .entry)) (now (roughness .entry)) (now (rates .entry))) (now (rain .entry)) (now (inflow .entry))) end (world (now (depths .entry)) (now (lasts .entry)) (now (records .entry)) run) r (now (depths .exit)) (now (lasts .exit)) (now (records .exit)) ⌝ }
-{
-    run_to_by(
-        Walk::All,
-        shape,
-        rules,
-        run,
-        end,
-        marks,
-        beds,
-        roughness,
-        rates,
-        rain,
-        inflow,
-        depths,
-        lasts,
-        records,
-    )
-}
-
-// The same by the wet walk: at each step only the sides of squares with water are worked.
-pub fn run_to_wet(
-    shape: Shape,
-    rules: Rules,
-    run: Run,
-    end: u64,
-    marks: &[u8],
-    beds: &[u32],
-    roughness: &[u32],
-    rates: &[u32],
-    rain: &[u32],
-    inflow: &[u32],
-    depths: &mut [u32],
-    lasts: &mut [u32],
-    records: &mut [u32],
-) -> Ran
-    ensures { λ r. ⌜ RunsTo (plan shape (now (marks .entry))) (given (ground rules (now (beds .entry)) (now (roughness .entry)) (now (rates .entry))) (now (rain .entry)) (now (inflow .entry))) end (world (now (depths .entry)) (now (lasts .entry)) (now (records .entry)) run) r (now (depths .exit)) (now (lasts .exit)) (now (records .exit)) ⌝ }
-{
-    run_to_by(
-        Walk::Wet,
-        shape,
-        rules,
-        run,
-        end,
-        marks,
-        beds,
-        roughness,
-        rates,
-        rain,
-        inflow,
-        depths,
-        lasts,
-        records,
     )
 }

@@ -1,57 +1,66 @@
-// One step: its length, the added water, its record worked from the water before the step, then settled by the ledger. Where it is sure that the
-// ledger does not refuse it, the record is worked in its slot.
-use crate::checks::checked;
+// One step: the checks, the length, the water added, the record filled in its slot, and the step settled. Where a refusal may still follow, the
+// words of the slot are saved first and put back.
+use checks::refusals::check_step;
 use grid::squares::MOST_ALONG;
 use grid::squares::MOST_SQUARES;
 use grid::squares::Shape;
 use grid::squares::squares_of;
 use grid::walks::Walk;
-use ledger::record::HEAD_WORDS;
 use ledger::record::MOST_RECORD;
-use ledger::record::SQUARE_WORDS;
 use ledger::record::record_size;
 use ledger::runs::Answer;
 use ledger::runs::Run;
-use ledger::settle::Settled;
-use ledger::settle::settle;
-use ledger::settle::settle_stored;
-use ledger::settle::surely_settles;
 use moves::added::add_water;
 use moves::added::rows_apart;
 use moves::fill::fill;
 use moves::length::step_length;
+use moves::way::Span;
+use moves::way::Way;
+use reckon::copying::copy_into;
 use reckon::ranges::LAST_CLOCK;
 use rule::length::duration_for;
 use rule::rules::Rules;
-use rule::rules::rules_fine;
+use settling::settle::Settled;
+use settling::settle::settle;
+use settling::settle::surely_settles;
 ghost use mathlib.Core.Path.{_≡_};
+ghost use mathlib.Core.List.{[]};
 ghost use Prim.Native.Nat.{_<_, _≤_};
-ghost use lib.ListN.{length};
 ghost use Rattle.reckon.specs.Ranges.{mostLength};
-ghost use Rattle.grid.specs.Squares.{squares};
+ghost use Rattle.trials.specs.Ring.{slotAfter, slotStart, slotsIn};
+ghost use Rattle.grid.specs.Squares.{ShapeInRange};
 ghost use Rattle.ledger.specs.Runs.{plan, world};
 ghost use Rattle.ledger.specs.Record.{recordSize, roomSlots};
-ghost use Rattle.ledger.specs.inner.Settle.{nextRecord};
-ghost use Rattle.moves.specs.Given.{given, ground};
+ghost use Rattle.settling.specs.inner.Settle.{SettlesTo, nextRecord};
+ghost use Rattle.checks.specs.Given.{given, ground};
 ghost use Rattle.moves.specs.inner.Added.{rowsApart};
 ghost use Rattle.moves.specs.inner.Fill.{Fills};
 ghost use Rattle.flood.specs.Step.{MakesStep, Passes, Steps};
-ghost use Rattle.flood.specs.inner.Step.{fewSquares, SlotFilled};
+ghost use Rattle.flood.specs.inner.Step.{Decides, RoomsLent, SlotFilled, SlotSettled, filledRecord};
 
-// Rooms are cleared when they are made, and those for the largest grid are some 148,000 bytes: on a small grid that costs more than its
-// step. So a step of at most this many squares makes smaller rooms. Such a grid may have all the rows, so a room of a number a row is
-// the same for both.
-const FEW_SQUARES: usize = 256;
+// What is decided before the squares are worked: the length that the run will hold, how long the step lasts, and whether it is sure that
+// nothing refuses it any more.
+pub(crate) struct Decided {
+    pub length: u64,
+    pub duration: u64,
+    pub sure: bool,
+}
 
-// The words of their largest record.
-const FEW_WORDS: usize = HEAD_WORDS + SQUARE_WORDS * FEW_SQUARES;
+// Where the slot after the newest begins, in a record room of so many numbers.
+fn next_place(shape: Shape, newest: usize, numbers: usize) -> usize
+    requires { ⌜ (ShapeInRange shape) × (newest < slotsIn (recordSize (plan shape [])) numbers) ⌝ }
+    ensures { λ r. ⌜ r ≡ slotStart (recordSize (plan shape [])) (slotAfter (slotsIn (recordSize (plan shape [])) numbers) newest) ⌝ }
+{
+    let size = record_size(shape);
+    let slots = trials::slots_in(size, numbers);
+    trials::slot_start(size, trials::slot_after(slots, newest))
+}
 
-// Fills a step's record in the slot after the newest, so that it need not be copied there; tells what the walk worked.
+// Fills a step's record in the slot after the newest; tells what the walk worked.
 fn fill_slot(
-    walk: Walk,
-    shape: Shape,
-    rules: Rules,
+    way: Way,
     run: Run,
+    duration: u64,
     marks: &[u8],
     beds: &[u32],
     roughness: &[u32],
@@ -59,25 +68,26 @@ fn fill_slot(
     depths: &[u32],
     lasts: &[u32],
     added: &[u32],
-    duration: u64,
     records: &mut [u32],
     left: &mut [u32],
     worked: &mut [u64],
     senders: &mut [u64],
 )
-    requires { ⌜ Fills (plan shape (now marks)) (ground rules (now beds) (now roughness) (now rates)) (now depths) (now lasts) (now added) (run .clock) duration (nextRecord (plan shape (now marks)) (world (now depths) (now lasts) (now records) run)) ⌝ }
-    requires { ⌜ (run .newest < roomSlots (plan shape (now marks)) (now records)) × (run .length ≤ mostLength) × (length (now left) ≡ squares shape) × (length (now worked) ≡ shape .rows) × (length (now senders) ≡ shape .rows) ⌝ }
-    ensures { λ _. ⌜ SlotFilled walk (plan shape (now (marks .entry))) (ground rules (now (beds .entry)) (now (roughness .entry)) (now (rates .entry))) (world (now (depths .entry)) (now (lasts .entry)) (now (records .entry)) run) (now (added .entry)) duration (now (records .exit)) (now (left .exit)) (now (worked .exit)) (now (senders .exit)) ⌝ }
+    requires { ⌜ Fills (plan (way .shape) (now marks)) (ground (way .rules) (now beds) (now roughness) (now rates)) (now depths) (now lasts) (now added) (run .clock) duration (nextRecord (plan (way .shape) (now marks)) (world (now depths) (now lasts) (now records) run)) ⌝ }
+    requires { ⌜ (run .newest < roomSlots (plan (way .shape) (now marks)) (now records)) × (run .length ≤ mostLength) × (RoomsLent (way .shape) (now left) (now worked) (now senders) (now added)) ⌝ }
+    ensures { λ _. ⌜ SlotFilled (way .walk) (plan (way .shape) (now (marks .entry))) (ground (way .rules) (now (beds .entry)) (now (roughness .entry)) (now (rates .entry))) (world (now (depths .entry)) (now (lasts .entry)) (now (records .entry)) run) (now (added .entry)) duration (now (records .exit)) (now (left .exit)) (now (worked .exit)) (now (senders .exit)) ⌝ }
 {
-    let size = record_size(shape);
-    let slots = trials::slots_in(size, records.len());
-    let slot = trials::slot_after(slots, run.newest);
-    let at = trials::slot_start(size, slot);
-    let stop = at + size;
+    let shape = way.shape;
+    let at = next_place(shape, run.newest, records.len());
+    let stop = at + record_size(shape);
+    let span = Span {
+        held: run.length,
+        start: run.clock,
+        duration: duration,
+    };
     fill(
-        walk,
-        shape,
-        rules,
+        way,
+        span,
         marks,
         beds,
         roughness,
@@ -85,9 +95,6 @@ fn fill_slot(
         depths,
         lasts,
         added,
-        run.length,
-        run.clock,
-        duration,
         &mut records[at..stop],
         left,
         worked,
@@ -95,12 +102,113 @@ fn fill_slot(
     );
 }
 
-// One step of a call whose checks have passed, by either walk. `rec`, `left`, `worked`, `senders` and `room` are working rooms; `apart` tells
-// whether no two inflow rows are for the same square.
-pub(crate) fn make_step(
-    walk: Walk,
-    shape: Shape,
-    rules: Rules,
+// Fills the record in its slot and settles the step by it. A refused step leaves its record in the slot, and all else as it was.
+fn settle_in_slot(
+    way: Way,
+    decided: Decided,
+    run: Run,
+    marks: &[u8],
+    beds: &[u32],
+    roughness: &[u32],
+    rates: &[u32],
+    depths: &mut [u32],
+    lasts: &mut [u32],
+    records: &mut [u32],
+    left: &mut [u32],
+    worked: &mut [u64],
+    senders: &mut [u64],
+    room: &mut [u32],
+) -> Settled
+    requires { ⌜ (Decides (plan (way .shape) (now marks)) (ground (way .rules) (now beds) (now roughness) (now rates)) (world (now depths) (now lasts) (now records) run) (now room) decided) × (RoomsLent (way .shape) (now left) (now worked) (now senders) (now room)) ⌝ }
+    ensures { λ r. ⌜ SlotSettled (plan (way .shape) (now (marks .entry))) (filledRecord (plan (way .shape) (now (marks .entry))) (ground (way .rules) (now (beds .entry)) (now (roughness .entry)) (now (rates .entry))) (world (now (depths .entry)) (now (lasts .entry)) (now (records .entry)) run) (now (room .entry)) (decided .duration)) (decided .length) (world (now (depths .entry)) (now (lasts .entry)) (now (records .entry)) run) (r .refused) (world (now (depths .exit)) (now (lasts .exit)) (now (records .exit)) (r .run)) ⌝ }
+{
+    fill_slot(
+        way,
+        run,
+        decided.duration,
+        marks,
+        beds,
+        roughness,
+        rates,
+        depths,
+        lasts,
+        room,
+        records,
+        left,
+        worked,
+        senders,
+    );
+    settle(
+        way.shape,
+        decided.sure,
+        marks,
+        left,
+        worked,
+        senders,
+        decided.length,
+        run,
+        depths,
+        lasts,
+        records,
+        room,
+    )
+}
+
+// The same with the record room as it was after a refusal: the words of the slot are saved, and put back. Their room is large, so that it is
+// made only where a refusal may follow.
+fn settle_or_put_back(
+    way: Way,
+    decided: Decided,
+    run: Run,
+    marks: &[u8],
+    beds: &[u32],
+    roughness: &[u32],
+    rates: &[u32],
+    depths: &mut [u32],
+    lasts: &mut [u32],
+    records: &mut [u32],
+    left: &mut [u32],
+    worked: &mut [u64],
+    senders: &mut [u64],
+    room: &mut [u32],
+) -> Settled
+    requires { ⌜ (Decides (plan (way .shape) (now marks)) (ground (way .rules) (now beds) (now roughness) (now rates)) (world (now depths) (now lasts) (now records) run) (now room) decided) × (RoomsLent (way .shape) (now left) (now worked) (now senders) (now room)) ⌝ }
+    ensures { λ r. ⌜ SettlesTo (plan (way .shape) (now (marks .entry))) (filledRecord (plan (way .shape) (now (marks .entry))) (ground (way .rules) (now (beds .entry)) (now (roughness .entry)) (now (rates .entry))) (world (now (depths .entry)) (now (lasts .entry)) (now (records .entry)) run) (now (room .entry)) (decided .duration)) (decided .length) (world (now (depths .entry)) (now (lasts .entry)) (now (records .entry)) run) (r .refused) (world (now (depths .exit)) (now (lasts .exit)) (now (records .exit)) (r .run)) ⌝ }
+{
+    let shape = way.shape;
+    let at = next_place(shape, run.newest, records.len());
+    let size = record_size(shape);
+    let stop = at + size;
+    let mut saved = [0u32; MOST_RECORD];
+    copy_into(&records[at..stop], &mut saved, 0);
+    let settled = settle_in_slot(
+        way,
+        decided,
+        run,
+        marks,
+        beds,
+        roughness,
+        rates,
+        depths,
+        lasts,
+        records,
+        left,
+        worked,
+        senders,
+        room,
+    );
+    let refused = settled.refused;
+    if refused == 0 {
+        return settled;
+    }
+    copy_into(&saved[..size], records, at);
+    settled
+}
+
+// The inner step, for calls that have made the checks and lend their working rooms (`left`, `worked`, `senders`, `room`), once for all their
+// steps: refused by 7, 8, 9 or 15, or made.
+pub fn step_on(
+    way: Way,
     run: Run,
     marks: &[u8],
     beds: &[u32],
@@ -108,33 +216,21 @@ pub(crate) fn make_step(
     rates: &[u32],
     rain: &[u32],
     inflow: &[u32],
-    apart: bool,
     depths: &mut [u32],
     lasts: &mut [u32],
     records: &mut [u32],
-    rec: &mut [u32],
     left: &mut [u32],
     worked: &mut [u64],
     senders: &mut [u64],
     room: &mut [u32],
 ) -> Settled
-    requires { ⌜ Passes (plan shape (now marks)) (given (ground rules (now beds) (now roughness) (now rates)) (now rain) (now inflow)) (world (now depths) (now lasts) (now records) run) ⌝ }
-    requires { ⌜ (length (now rec) ≡ recordSize (plan shape (now marks))) × (length (now left) ≡ squares shape) × (length (now worked) ≡ shape .rows) × (length (now senders) ≡ shape .rows) × (length (now room) ≡ squares shape) × (apart ≡ rowsApart (now inflow)) ⌝ }
-    ensures { λ r. ⌜ MakesStep (plan shape (now (marks .entry))) (given (ground rules (now (beds .entry)) (now (roughness .entry)) (now (rates .entry))) (now (rain .entry)) (now (inflow .entry))) (world (now (depths .entry)) (now (lasts .entry)) (now (records .entry)) run) (r .refused) (world (now (depths .exit)) (now (lasts .exit)) (now (records .exit)) (r .run)) ⌝ }
+    requires { ⌜ Passes (plan (way .shape) (now marks)) (given (ground (way .rules) (now beds) (now roughness) (now rates)) (now rain) (now inflow)) (world (now depths) (now lasts) (now records) run) ⌝ }
+    requires { ⌜ (RoomsLent (way .shape) (now left) (now worked) (now senders) (now room)) × (way .apart ≡ rowsApart (now inflow)) ⌝ }
+    ensures { λ r. ⌜ MakesStep (plan (way .shape) (now (marks .entry))) (given (ground (way .rules) (now (beds .entry)) (now (roughness .entry)) (now (rates .entry))) (now (rain .entry)) (now (inflow .entry))) (world (now (depths .entry)) (now (lasts .entry)) (now (records .entry)) run) (r .refused) (world (now (depths .exit)) (now (lasts .exit)) (now (records .exit)) (r .run)) ⌝ }
 {
-    let length = step_length(
-        walk,
-        shape,
-        rules,
-        marks,
-        beds,
-        roughness,
-        depths,
-        run.clock,
-        run.length,
-    );
-    let duration = duration_for(rules, run.clock, length);
     let clock = run.clock;
+    let length = step_length(way, marks, beds, roughness, depths, clock, run.length);
+    let duration = duration_for(way.rules, clock, length);
     let end = clock + duration;
     if LAST_CLOCK < end {
         return Settled {
@@ -142,17 +238,22 @@ pub(crate) fn make_step(
             run: run,
         };
     }
-    if !add_water(shape, rules, marks, rain, inflow, apart, clock, end, room) {
+    if !add_water(way, marks, rain, inflow, clock, end, room) {
         return Settled {
             refused: 8,
             run: run,
         };
     }
-    if surely_settles(run, depths, room) {
-        fill_slot(
-            walk,
-            shape,
-            rules,
+    let sure = surely_settles(run, depths, room);
+    let decided = Decided {
+        length: length,
+        duration: duration,
+        sure: sure,
+    };
+    if sure {
+        return settle_in_slot(
+            way,
+            decided,
             run,
             marks,
             beds,
@@ -160,225 +261,33 @@ pub(crate) fn make_step(
             rates,
             depths,
             lasts,
-            room,
-            duration,
             records,
             left,
             worked,
             senders,
-        );
-        let after = settle_stored(
-            shape,
-            marks,
-            left,
-            worked,
-            senders,
-            length,
-            run,
-            depths,
-            lasts,
-            records,
             room,
         );
-        return Settled {
-            refused: 0,
-            run: after,
-        };
     }
-    fill(
-        walk,
-        shape,
-        rules,
+    settle_or_put_back(
+        way,
+        decided,
+        run,
         marks,
         beds,
         roughness,
         rates,
         depths,
         lasts,
-        room,
-        run.length,
-        run.clock,
-        duration,
-        rec,
+        records,
         left,
         worked,
         senders,
-    );
-    settle(
-        shape,
-        marks,
-        rec,
-        left,
-        worked,
-        senders,
-        length,
-        run,
-        depths,
-        lasts,
-        records,
         room,
-    )
-}
-
-// The inner step of a small grid, in rooms for one.
-fn step_small(
-    walk: Walk,
-    shape: Shape,
-    rules: Rules,
-    run: Run,
-    marks: &[u8],
-    beds: &[u32],
-    roughness: &[u32],
-    rates: &[u32],
-    rain: &[u32],
-    inflow: &[u32],
-    depths: &mut [u32],
-    lasts: &mut [u32],
-    records: &mut [u32],
-) -> Settled
-    requires { ⌜ Passes (plan shape (now marks)) (given (ground rules (now beds) (now roughness) (now rates)) (now rain) (now inflow)) (world (now depths) (now lasts) (now records) run) ⌝ }
-    requires { ⌜ squares shape ≤ fewSquares ⌝ }
-    ensures { λ r. ⌜ MakesStep (plan shape (now (marks .entry))) (given (ground rules (now (beds .entry)) (now (roughness .entry)) (now (rates .entry))) (now (rain .entry)) (now (inflow .entry))) (world (now (depths .entry)) (now (lasts .entry)) (now (records .entry)) run) (r .refused) (world (now (depths .exit)) (now (lasts .exit)) (now (records .exit)) (r .run)) ⌝ }
-{
-    let size = record_size(shape);
-    let squares = squares_of(shape);
-    let rows = shape.rows;
-    let apart = rows_apart(inflow);
-    let mut rec = [0u32; FEW_WORDS];
-    let mut left = [0u32; FEW_SQUARES];
-    let mut worked = [0u64; MOST_ALONG];
-    let mut senders = [0u64; MOST_ALONG];
-    let mut room = [0u32; FEW_SQUARES];
-    make_step(
-        walk,
-        shape,
-        rules,
-        run,
-        marks,
-        beds,
-        roughness,
-        rates,
-        rain,
-        inflow,
-        apart,
-        depths,
-        lasts,
-        records,
-        &mut rec[..size],
-        &mut left[..squares],
-        &mut worked[..rows],
-        &mut senders[..rows],
-        &mut room[..squares],
-    )
-}
-
-// The same in rooms for any grid.
-fn step_large(
-    walk: Walk,
-    shape: Shape,
-    rules: Rules,
-    run: Run,
-    marks: &[u8],
-    beds: &[u32],
-    roughness: &[u32],
-    rates: &[u32],
-    rain: &[u32],
-    inflow: &[u32],
-    depths: &mut [u32],
-    lasts: &mut [u32],
-    records: &mut [u32],
-) -> Settled
-    requires { ⌜ Passes (plan shape (now marks)) (given (ground rules (now beds) (now roughness) (now rates)) (now rain) (now inflow)) (world (now depths) (now lasts) (now records) run) ⌝ }
-    ensures { λ r. ⌜ MakesStep (plan shape (now (marks .entry))) (given (ground rules (now (beds .entry)) (now (roughness .entry)) (now (rates .entry))) (now (rain .entry)) (now (inflow .entry))) (world (now (depths .entry)) (now (lasts .entry)) (now (records .entry)) run) (r .refused) (world (now (depths .exit)) (now (lasts .exit)) (now (records .exit)) (r .run)) ⌝ }
-{
-    let size = record_size(shape);
-    let squares = squares_of(shape);
-    let rows = shape.rows;
-    let apart = rows_apart(inflow);
-    let mut rec = [0u32; MOST_RECORD];
-    let mut left = [0u32; MOST_SQUARES];
-    let mut worked = [0u64; MOST_ALONG];
-    let mut senders = [0u64; MOST_ALONG];
-    let mut room = [0u32; MOST_SQUARES];
-    make_step(
-        walk,
-        shape,
-        rules,
-        run,
-        marks,
-        beds,
-        roughness,
-        rates,
-        rain,
-        inflow,
-        apart,
-        depths,
-        lasts,
-        records,
-        &mut rec[..size],
-        &mut left[..squares],
-        &mut worked[..rows],
-        &mut senders[..rows],
-        &mut room[..squares],
-    )
-}
-
-// The inner step, for calls that have made the checks: refused by 7, 8, 9 or 15, or made.
-pub fn step_on(
-    walk: Walk,
-    shape: Shape,
-    rules: Rules,
-    run: Run,
-    marks: &[u8],
-    beds: &[u32],
-    roughness: &[u32],
-    rates: &[u32],
-    rain: &[u32],
-    inflow: &[u32],
-    depths: &mut [u32],
-    lasts: &mut [u32],
-    records: &mut [u32],
-) -> Settled
-    requires { ⌜ Passes (plan shape (now marks)) (given (ground rules (now beds) (now roughness) (now rates)) (now rain) (now inflow)) (world (now depths) (now lasts) (now records) run) ⌝ }
-    ensures { λ r. ⌜ MakesStep (plan shape (now (marks .entry))) (given (ground rules (now (beds .entry)) (now (roughness .entry)) (now (rates .entry))) (now (rain .entry)) (now (inflow .entry))) (world (now (depths .entry)) (now (lasts .entry)) (now (records .entry)) run) (r .refused) (world (now (depths .exit)) (now (lasts .exit)) (now (records .exit)) (r .run)) ⌝ }
-{
-    let squares = squares_of(shape);
-    if squares <= FEW_SQUARES {
-        return step_small(
-            walk,
-            shape,
-            rules,
-            run,
-            marks,
-            beds,
-            roughness,
-            rates,
-            rain,
-            inflow,
-            depths,
-            lasts,
-            records,
-        );
-    }
-    step_large(
-        walk,
-        shape,
-        rules,
-        run,
-        marks,
-        beds,
-        roughness,
-        rates,
-        rain,
-        inflow,
-        depths,
-        lasts,
-        records,
     )
 }
 
 // One step by either walk, or a refusal with everything as it was.
-pub fn step_by(
+pub fn step(
     walk: Walk,
     shape: Shape,
     rules: Rules,
@@ -395,11 +304,10 @@ pub fn step_by(
 ) -> Answer
     ensures { λ r. ⌜ Steps (plan shape (now (marks .entry))) (given (ground rules (now (beds .entry)) (now (roughness .entry)) (now (rates .entry))) (now (rain .entry)) (now (inflow .entry))) (world (now (depths .entry)) (now (lasts .entry)) (now (records .entry)) run) r (now (depths .exit)) (now (lasts .exit)) (now (records .exit)) ⌝ }
 {
-    let number = checked(
+    let number = check_step(
         shape,
         rules,
         run,
-        rules_fine(rules),
         marks,
         beds,
         roughness,
@@ -408,15 +316,25 @@ pub fn step_by(
         inflow,
         depths,
         lasts,
-        records,
+        records.len(),
     );
     if number != 0 {
         return Answer::Refused(number);
     }
+    let squares = squares_of(shape);
+    let rows = shape.rows;
+    let way = Way {
+        walk: walk,
+        shape: shape,
+        rules: rules,
+        apart: rows_apart(inflow),
+    };
+    let mut left = [0u32; MOST_SQUARES];
+    let mut worked = [0u64; MOST_ALONG];
+    let mut senders = [0u64; MOST_ALONG];
+    let mut room = [0u32; MOST_SQUARES];
     let made = step_on(
-        walk,
-        shape,
-        rules,
+        way,
         run,
         marks,
         beds,
@@ -427,6 +345,10 @@ pub fn step_by(
         depths,
         lasts,
         records,
+        &mut left[..squares],
+        &mut worked[..rows],
+        &mut senders[..rows],
+        &mut room[..squares],
     );
     let refused = made.refused;
     let after = made.run;
@@ -434,72 +356,4 @@ pub fn step_by(
         return Answer::Refused(refused);
     }
     Answer::Done(after)
-}
-
-// One step, or a refusal with everything as it was: every square is worked.
-pub fn step(
-    shape: Shape,
-    rules: Rules,
-    run: Run,
-    marks: &[u8],
-    beds: &[u32],
-    roughness: &[u32],
-    rates: &[u32],
-    rain: &[u32],
-    inflow: &[u32],
-    depths: &mut [u32],
-    lasts: &mut [u32],
-    records: &mut [u32],
-) -> Answer
-    ensures { λ r. ⌜ Steps (plan shape (now (marks .entry))) (given (ground rules (now (beds .entry)) (now (roughness .entry)) (now (rates .entry))) (now (rain .entry)) (now (inflow .entry))) (world (now (depths .entry)) (now (lasts .entry)) (now (records .entry)) run) r (now (depths .exit)) (now (lasts .exit)) (now (records .exit)) ⌝ }
-{
-    step_by(
-        Walk::All,
-        shape,
-        rules,
-        run,
-        marks,
-        beds,
-        roughness,
-        rates,
-        rain,
-        inflow,
-        depths,
-        lasts,
-        records,
-    )
-}
-
-// The same by the wet walk: only the sides of squares with water are worked.
-pub fn step_wet(
-    shape: Shape,
-    rules: Rules,
-    run: Run,
-    marks: &[u8],
-    beds: &[u32],
-    roughness: &[u32],
-    rates: &[u32],
-    rain: &[u32],
-    inflow: &[u32],
-    depths: &mut [u32],
-    lasts: &mut [u32],
-    records: &mut [u32],
-) -> Answer
-    ensures { λ r. ⌜ Steps (plan shape (now (marks .entry))) (given (ground rules (now (beds .entry)) (now (roughness .entry)) (now (rates .entry))) (now (rain .entry)) (now (inflow .entry))) (world (now (depths .entry)) (now (lasts .entry)) (now (records .entry)) run) r (now (depths .exit)) (now (lasts .exit)) (now (records .exit)) ⌝ }
-{
-    step_by(
-        Walk::Wet,
-        shape,
-        rules,
-        run,
-        marks,
-        beds,
-        roughness,
-        rates,
-        rain,
-        inflow,
-        depths,
-        lasts,
-        records,
-    )
 }

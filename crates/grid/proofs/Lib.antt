@@ -1,4 +1,5 @@
 pub mod BesideLaws
+pub mod Determined
 pub mod MarkLaws
 pub mod MaskLaws
 pub mod SquareLaws

@@ -6,7 +6,7 @@ use mathlib.Core.Bool.{Bool, true, false, _&&_}
 use mathlib.Core.List.{List}
 use Prim.Native.Nat.{ℕ, zero, suc, _+_, _-_, _*_, _/_, _%_, _^_, _≤_, _<_}
 use native.Mathlib.Nat.{le-refl, le-trans, pow-suc, add-comm, add-suc, add-zero, zero-add, add-assoc, suc-mul, zero-mul, mul-assoc, zero-div, div-one, div-div-eq-div-mul}
-use native.Mathlib.Decide.{decLt, ℕ-discrete}
+use native.Mathlib.Decide.{decLt}
 use native.Mathlib.Numerals.{add-one}
 use native.Mathlib.Omega.{arith}
 use lib.Dec.{leb, ltb, eqb, lit<}
@@ -111,16 +111,9 @@ module _ (says : ℕ → Bool) where
   unfolding digit pick
   no-digit x k = ap (λ (y : ℕ). x + y) (zero-mul (2 ^ k)) ∙ add-zero x
 
-  pub mask-idle : (i n m : ℕ) → n ≤ m → ((c : ℕ) → n ≤ c → c < m → says (i + c) ≡ false) → maskFrom says i m ≡ maskFrom says i n
-  mask-idle i n zero h idle = ap (maskFrom says i) (let e : 0 ≡ n = omega arith in e)
-  mask-idle i n (suc m) h idle = go (ℕ-discrete n (suc m)) (λ g. mask-idle i n m g (λ c k l. idle c k (omega arith)))
-    where
-      go : Dec (n ≡ suc m) → (n ≤ m → maskFrom says i m ≡ maskFrom says i n) → maskFrom says i (suc m) ≡ maskFrom says i n
-      go (yes e) ih = ap (maskFrom says i) (sym e)
-      go (no e) ih =
-          last-digit i m
-          ∙ (ap (λ (b : Bool). maskFrom says i m + digit b * 2 ^ m) (idle m (omega arith) (omega arith))
-          ∙ (no-digit (maskFrom says i m) m ∙ ih (omega arith)))
+  -- one more that says no changes nothing
+  pub mask-idle : (i n : ℕ) → says (i + n) ≡ false → maskFrom says i (n + 1) ≡ maskFrom says i n
+  mask-idle i n e = mask-more i n ∙ (ap (λ (b : Bool). maskFrom says i n + digit b * 2 ^ n) e ∙ no-digit (maskFrom says i n) n)
 
 -- ---- the ones of masks
 
@@ -237,40 +230,37 @@ module _ (says : ℕ → Bool) (columns : ℕ) (old : List ℕ) where
   abbrev maskOf : ℕ → ℕ
   maskOf row = maskFrom says (row * columns) columns
 
-  abbrev pub Rowed : List ℕ → ℕ → ℕ → Type 0
-  Rowed rows row first = (first ≡ row * columns) × (rows ≡ filled row none maskOf old)
+  abbrev pub Rowed : List ℕ → ℕ → Type 0
+  Rowed rows row = rows ≡ filled row none maskOf old
 
-  pub rowed-none : Rowed old 0 0
-  rowed-none = (sym (zero-mul columns), filled-none none maskOf old)
+  pub rowed-none : Rowed old 0
+  rowed-none = filled-none none maskOf old
 
-  module _ (row : ℕ) {rows : List ℕ} {first : ℕ} (r : Rowed rows row first) where
+  module _ (row : ℕ) {rows : List ℕ} (r : Rowed rows row) where
     pub rowed-long : length rows ≡ length old
-    rowed-long = ap length (r .1) ∙ length-filled row none maskOf old
+    rowed-long = ap length r ∙ length-filled row none maskOf old
 
-    pub rowed-more : {mask : ℕ} → row < length old → mask ≡ maskFrom says first columns → Rowed (set rows row mask) (row + 1) (first + columns)
-    rowed-more {mask} h e = (
-      ap (λ (k : ℕ). k + columns) (r .0) ∙ (sym (suc-mul row columns) ∙ ap (λ (k : ℕ). k * columns) (sym (add-one row))),
-      ap (λ (l : List ℕ). set l row mask) (r .1)
-          ∙ filled-store none maskOf old row h refl (e ∙ ap (λ (k : ℕ). maskFrom says k columns) (r .0)),
-    )
+    pub rowed-more : {first mask : ℕ} → first ≡ row * columns → row < length old → mask ≡ maskFrom says first columns → Rowed (set rows row mask) (row + 1)
+    rowed-more {mask = mask} b h e =
+        ap (λ (l : List ℕ). set l row mask) r ∙ filled-store none maskOf old row h refl (e ∙ ap (λ (k : ℕ). maskFrom says k columns) b)
 
     rowed-whole : length old ≤ row → rows ≡ tabulate (length old) maskOf
     rowed-whole h =
-        r .1
+        r
         ∙ is-tabulate (length old) maskOf (filled row none maskOf old) (length-filled row none maskOf old)
         (λ i l. filled-in row none maskOf old i l (omega arith) refl)
 
 -- all rows
 pub rows-whole :
-    (s : Shape) (says : ℕ → Bool) (old : List ℕ) (row : ℕ) {rows : List ℕ} {first : ℕ} → length old ≡ s .rows → s .rows ≤ row →
-    Rowed says (s .columns) old rows row first → rows ≡ tabulate (s .rows) (rowMask s says)
+    (s : Shape) (says : ℕ → Bool) (old : List ℕ) (row : ℕ) {rows : List ℕ} → length old ≡ s .rows → s .rows ≤ row →
+    Rowed says (s .columns) old rows row → rows ≡ tabulate (s .rows) (rowMask s says)
 rows-whole s says old row long h r =
     rowed-whole says (s .columns) old row r (omega arith) ∙ ap (λ (n : ℕ). tabulate n (rowMask s says)) long
 
 module _ (s : Shape) (marks depths : List ℕ) (least : ℕ) where
   pub masks-whole :
-      (old : List ℕ) (row : ℕ) {rows : List ℕ} {first : ℕ} → length old ≡ s .rows → s .rows ≤ row →
-      Rowed (isWet marks depths least) (s .columns) old rows row first → rows ≡ wetMasks s marks depths least
+      (old : List ℕ) (row : ℕ) {rows : List ℕ} → length old ≡ s .rows → s .rows ≤ row →
+      Rowed (isWet marks depths least) (s .columns) old rows row → rows ≡ wetMasks s marks depths least
   unfolding wetMasks
   masks-whole old row long h r = rows-whole s (isWet marks depths least) old row long h r
 

@@ -3,14 +3,14 @@
 use mathlib.Core.Path.{_≡_, refl, sym, ap, _∙_}
 use mathlib.Core.Bool.{true, false}
 use Prim.Native.Nat.{ℕ, zero, suc, _+_, _-_, _*_, _/_, _%_, _≤_, _<_}
-use native.Mathlib.Nat.{mul-le-mul, mul-le-mul-right, suc-mul, zero-mod, mod-lt, mod-self, mod-eq-of-lt, mod-add-mod, mul-mod-left, div-add-mod', mul-add-mod-self-right, mul-add-div-right, div-eq-of-lt, add-zero}
+use native.Mathlib.Nat.{mul-le-mul, mul-le-mul-right, suc-mul, zero-mod, mod-lt, mod-self, mod-eq-of-lt, mod-add-mod, mul-mod-left, div-add-mod', mul-add-mod-self-right, mul-add-div-right, div-eq-of-lt, add-zero, zero-mul}
 use native.Mathlib.Decide.{decLe, decLt, ℕ-discrete}
 use native.Mathlib.Omega.{arith}
 use lib.Dec.{ltb}
 use borrow.Author.Tests.{not-false, ltb-true, leb-true, le-leb, lt-leb, lt-ltb, le-ltb, eq-eqb, ne-eqb}
 use Rattle.reckon.proofs.TestLaws.{pick-true, pick-false, every-each, each-every, all-at, all-of, all-fails}
 use Rattle.grid.specs.declared.squares.Shape.{Shape}
-use Rattle.grid.specs.inner.Rows.{InRow}
+use Rattle.grid.specs.inner.Rows.{InRow, AtRow}
 use Rattle.grid.specs.Squares.{mostAlong, mostSquares, north, east, south, west, sides, squares, squareAt, beside, opposite, onRim, shapeFine, ShapeInRange, OnSquare, NextColumn}
 
 -- ---- the shape
@@ -275,10 +275,20 @@ module _ (s : Shape) (fine : ShapeInRange s) {first : ℕ} (r : InRow s first) w
         column-is = sym (ap (λ (k : ℕ). (k + column) % s .columns) at ∙ column-of s (first / s .columns) h);
       }
 
--- a row that a walk has come to
-pub row-begins : (s : Shape) {row first : ℕ} → row < s .rows → first ≡ row * s .columns → InRow s first
-row-begins s {row} {first} h e =
-    record { begins = ap (λ (k : ℕ). k % s .columns) e ∙ mul-mod-left row (s .columns); fits = omega (arith, row-fits s h, e) }
+-- a walk over the rows: it begins, goes on, comes to a row, and ends
+pub rows-begin : (rows columns : ℕ) → AtRow rows columns 0 0
+rows-begin rows columns = record { within = omega arith; begins = sym (zero-mul columns) }
 
-pub next-row : (s : Shape) (row : ℕ) {first : ℕ} → first ≡ row * s .columns → first + s .columns ≡ (row + 1) * s .columns
-next-row s row e = ap (λ (k : ℕ). k + s .columns) e ∙ (sym (suc-mul row (s .columns)) ∙ ap (λ (k : ℕ). k * s .columns) (let q : suc row ≡ row + 1 = omega arith in q))
+pub row-next : {rows columns row first : ℕ} → AtRow rows columns row first → row < rows → AtRow rows columns (row + 1) (first + columns)
+row-next {columns = columns} {row} at h =
+    record {
+      within = omega arith;
+      begins = ap (λ (k : ℕ). k + columns) (at .begins) ∙ (sym (suc-mul row columns) ∙ ap (λ (k : ℕ). k * columns) (let e : suc row ≡ row + 1 = omega arith in e));
+    }
+
+module _ (s : Shape) {row first : ℕ} (at : AtRow (s .rows) (s .columns) row first) where
+  pub row-here : row < s .rows → InRow s first
+  row-here h = record { begins = ap (λ (k : ℕ). k % s .columns) (at .begins) ∙ mul-mod-left row (s .columns); fits = omega (arith, row-fits s h, at .begins) }
+
+  pub rows-end : s .rows ≤ row → first ≡ squares s
+  rows-end h = at .begins ∙ ap (λ (k : ℕ). k * s .columns) (let e : row ≡ s .rows = omega (arith, at .within) in e)

@@ -1,22 +1,24 @@
--- Laws of the walk over a mask: from set column to set column it does what going over all columns does.
+-- Laws of the walk over a mask: from one set column to the next, where those passed keep what holds.
 -- Assumes nothing.
-use mathlib.Core.Path.{_≡_, refl, sym, ap, _∙_, subst}
+use mathlib.Core.Path.{_≡_, refl, sym, ap, ap₂, _∙_, subst}
 use mathlib.Core.Bool.{Bool, true, false, not}
-use Prim.Native.Nat.{ℕ, zero, suc, _+_, _-_, _/_, _%_, _^_, _≤_, _<_, min}
-use native.Mathlib.Decide.{decLt, ℕ-discrete}
+use Prim.Native.Nat.{ℕ, zero, suc, _+_, _-_, _*_, _/_, _%_, _^_, _≤_, _<_, min}
+use native.Mathlib.Decide.{decLt}
 use native.Mathlib.Nat.{div-div-eq-div-mul}
-use native.Mathlib.Numerals.{add-one}
 use native.Mathlib.Omega.{arith}
 use lib.Dec.{eqb}
 use lib.Count.{trailingZeros, under}
 use lib.Pow.{pow-add}
-use borrow.Author.Tests.{lt-ltb, le-ltb, not-false, not-true}
+use borrow.Author.Tests.{not-false, not-true}
 use Rattle.reckon.specs.Tests.{pick, firstFailing}
 use Rattle.reckon.proofs.TestLaws.{pick-true, pick-false, failing-le, failing-at, failing-none, failing-before, failing-fails}
-use Rattle.grid.specs.Masks.{bits, maskFrom, bitAt, nextSet}
-use Rattle.grid.specs.inner.Visits.{foldBelow, onSet, walkFrom, walk}
+use Rattle.grid.specs.declared.squares.Shape.{Shape}
+use Rattle.grid.specs.Squares.{squares}
+use Rattle.grid.specs.Masks.{bits, bitAt, nextSet}
+use Rattle.grid.specs.inner.Visits.{Passes, Visits}
 use Rattle.grid.specs.Walks.{nextWithin}
-use Rattle.grid.proofs.MaskLaws.{bit-low, bit-high, bit-shifted, mask-in, mask-past}
+use Rattle.grid.proofs.MaskLaws.{bit-low, bit-high, bit-shifted}
+use Rattle.grid.proofs.SquareLaws.{row-fits, row-of, column-of}
 
 -- ---- the next set column
 
@@ -72,10 +74,6 @@ module _ (mask c : ℕ) where
   unfolding nextSet
   next-from = omega arith
 
-  pub next-le : c ≤ bits → nextSet mask c ≤ bits
-  unfolding nextSet
-  next-le h = omega (arith, failing-le (bits - c) ahead)
-
   -- it is set, and those that it passes are not
   pub next-set : nextSet mask c < bits → bitAt mask (nextSet mask c) ≡ true
   unfolding nextSet
@@ -109,92 +107,48 @@ module _ (mask c columns : ℕ) where
 
 -- ---- the walk
 
-module _ {A : Type 0} where
-  pub fold-none : (f : ℕ → A → A) (a : A) → foldBelow 0 f a ≡ a
-  unfolding foldBelow
-  fold-none f a = refl
+passes-on :
+    (mask columns : ℕ) {holds : ℕ → Type 0} → Passes mask columns holds → (c d : ℕ) → c + d ≤ nextWithin mask c columns → holds c → holds (c + d)
+passes-on mask columns {holds} passes c zero l h = subst holds (let e : c ≡ c + 0 = omega arith in e) h
+passes-on mask columns {holds} passes c (suc d) l h =
+    subst holds (let e : c + d + 1 ≡ c + suc d = omega arith in e)
+    (passes (c + d) (omega (arith, l)) (within-passes mask c columns (c + d) (omega arith) (omega (arith, l)))
+    (passes-on mask columns passes c d (omega arith) h))
 
-  pub fold-more : (n : ℕ) (f : ℕ → A → A) (a : A) → foldBelow (n + 1) f a ≡ f n (foldBelow n f a)
-  unfolding foldBelow
-  fold-more n f a = rw add-one
+-- what holds of the columns before one, and is kept by each that is passed, holds where the walk comes to next
+pub walk-visits :
+    {mask columns next : ℕ} {holds : ℕ → Type 0} → Passes mask columns holds → columns ≤ bits → (c : ℕ) → c ≤ columns → next ≡ nextWithin mask c columns →
+    holds c → Visits mask columns holds next
+walk-visits {mask} {columns} {next} {holds} passes high c l e h =
+    let from : c ≤ next = omega (arith, e, within-from mask c columns l) in
+    record {
+      within = omega (arith, e);
+      visited = λ k. ap (bitAt mask) e ∙ within-set mask c columns high (omega (arith, e, k));
+      held = subst holds (let z : c + (next - c) ≡ next = omega arith in z) (passes-on mask columns passes c (next - c) (omega (arith, e, from)) h);
+    }
 
-  pub fold-ext :
-      (n : ℕ) (f g : ℕ → A → A) (a : A) → ((c : ℕ) (x : A) → c < n → f c x ≡ g c x) → foldBelow n f a ≡ foldBelow n g a
-  unfolding foldBelow
-  fold-ext zero f g a h = refl
-  fold-ext (suc n) f g a h = ap (f n) (fold-ext n f g a (λ c x l. h c x (omega arith))) ∙ h n (foldBelow n g a) (omega arith)
+-- at the end it holds of all columns
+pub walk-ends : {mask columns c : ℕ} {holds : ℕ → Type 0} → Visits mask columns holds c → columns ≤ c → holds columns
+walk-ends {columns = columns} {c} {holds} v h = subst holds (let e : c ≡ columns = omega (arith, v .within) in e) (v .held)
 
-  -- columns that change nothing
-  pub fold-idle :
-      (m n : ℕ) (f : ℕ → A → A) (a : A) → m ≤ n → ((c : ℕ) (x : A) → m ≤ c → c < n → f c x ≡ x) →
-      foldBelow n f a ≡ foldBelow m f a
-  unfolding foldBelow
-  fold-idle m zero f a h idle = ap (λ (k : ℕ). foldBelow k f a) (let e : 0 ≡ m = omega arith in e)
-  fold-idle m (suc n) f a h idle = go (ℕ-discrete m (suc n)) (λ g. fold-idle m n f a g (λ c x k l. idle c x k (omega arith)))
-    where
-      go : Dec (m ≡ suc n) → (m ≤ n → foldBelow n f a ≡ foldBelow m f a) → f n (foldBelow n f a) ≡ foldBelow m f a
-      go (yes e) ih = rw e
-      go (no e) ih = idle n (foldBelow n f a) (omega arith) (omega arith) ∙ ih (omega arith)
+-- and after each column the end is nearer
+pub walk-nearer : (mask : ℕ) {columns c next : ℕ} → c < columns → next ≡ nextWithin mask (c + 1) columns → columns - next < columns - c
+walk-nearer mask {columns} {c} h e = omega (arith, e, h, within-from mask (c + 1) columns (omega arith))
 
--- g changes nothing at a column that is not set
-abbrev pub Idle : {A : Type 0} → ℕ → (ℕ → A → A) → Type 0
-Idle {A} mask g = (c : ℕ) (x : A) → bitAt mask c ≡ false → g c x ≡ x
+-- ---- a row among all rows
 
--- so nothing happens up to the next set column
-pub fold-to-next :
-    {A : Type 0} (mask : ℕ) {g : ℕ → A → A} → Idle mask g → (a : A) (c : ℕ) → foldBelow (nextSet mask c) g a ≡ foldBelow c g a
-fold-to-next mask {g} idle a c =
-    fold-idle c (nextSet mask c) g a (next-from mask c) (λ k x h l. idle k x (next-passes mask c k h l))
+-- a square's bit in the masks of all rows is its column's in its own row's
+module _ (s : Shape) (row : ℕ) {first : ℕ} (e : first ≡ row * s .columns) (masks : ℕ → ℕ) where
+  pub bit-in-row :
+      {column : ℕ} → column < s .columns → bitAt (masks ((first + column) / s .columns)) ((first + column) % s .columns) ≡ bitAt (masks row) column
+  bit-in-row {column} l =
+      ap (λ (k : ℕ). bitAt (masks ((k + column) / s .columns)) ((k + column) % s .columns)) e
+      ∙ ap₂ (λ (r c : ℕ). bitAt (masks r) c) (row-of s row l) (column-of s row l)
 
--- where f does at the set columns what g does, walking by f is going over all columns by g
-module _ {A : Type 0} (mask : ℕ) (f g : ℕ → A → A) (idle : Idle mask g)
-    (same : (c : ℕ) (x : A) → bitAt mask c ≡ true → f c x ≡ g c x) (a : A) where
-  walk-on : (n c : ℕ) → c ≤ bits → bits ≤ n + c → walkFrom mask n f c (foldBelow c g a) ≡ foldBelow bits g a
-  unfolding walkFrom
-  walk-on zero c h l = ap (λ (k : ℕ). foldBelow k g a) (let e : c ≡ bits = omega arith in e)
-  walk-on (suc n) c h l = go (decLt next bits) (walk-on n (next + 1))
-    where
-      next : ℕ
-      next = nextSet mask c
-
-      here : next < bits → f next (foldBelow c g a) ≡ foldBelow (next + 1) g a
-      here m =
-          same next (foldBelow c g a) (next-set mask c m)
-          ∙ (ap (g next) (sym (fold-to-next mask idle a c)) ∙ sym (fold-more next g a))
-
-      go :
-          Dec (next < bits) →
-          (next + 1 ≤ bits → bits ≤ n + (next + 1) → walkFrom mask n f (next + 1) (foldBelow (next + 1) g a) ≡ foldBelow bits g a) →
-          walkFrom mask (suc n) f c (foldBelow c g a) ≡ foldBelow bits g a
-      go (yes m) ih =
-          pick-true _ _ (lt-ltb next bits m)
-          ∙ (ap (walkFrom mask n f (next + 1)) (here m) ∙ ih (omega arith) (omega (arith, next-from mask c)))
-      go (no m) ih =
-          pick-false _ _ (le-ltb next bits (omega arith))
-          ∙ (sym (fold-to-next mask idle a c)
-          ∙ ap (λ (k : ℕ). foldBelow k g a) (let e : next ≡ bits = omega (arith, next-le mask c h) in e))
-
-  pub walk-as : walk mask f a ≡ foldBelow bits g a
-  walk-as = ap (walkFrom mask bits f 0) (sym (fold-none g a)) ∙ walk-on bits 0 (omega arith) (omega arith)
-
-module _ {A : Type 0} (f : ℕ → A → A) (a : A) where
-  -- the walk visits the set columns, each once and in rising order, and no other
-  pub walk-visits : (mask : ℕ) → walk mask f a ≡ foldBelow bits (onSet mask f) a
-  walk-visits mask =
-      walk-as mask f (onSet mask f) (λ c x e. pick-false (f c x) x e) (λ c x e. sym (pick-true (f c x) x e)) a
-
-  -- over the columns of a row whose mask it is, where the others change nothing: what going over all of them does
-  pub walk-row :
-      (says : ℕ → Bool) (first n : ℕ) → n ≤ bits → ((c : ℕ) (x : A) → c < n → says (first + c) ≡ false → f c x ≡ x) →
-      walk (maskFrom says first n) f a ≡ foldBelow n f a
-  walk-row says first n h idle =
-      walk-visits m
-      ∙ (fold-idle n bits (onSet m f) a h (λ c x g l. pick-false (f c x) x (mask-past says first g))
-      ∙ fold-ext n (onSet m f) f a (λ c x l. at c x l (says (first + c)) refl))
-    where
-      m : ℕ
-      m = maskFrom says first n
-
-      at : (c : ℕ) (x : A) → c < n → (b : Bool) → says (first + c) ≡ b → onSet m f c x ≡ f c x
-      at c x l true e = pick-true (f c x) x (mask-in says first l ∙ e)
-      at c x l false e = pick-false (f c x) x (mask-in says first l ∙ e) ∙ sym (idle c x l e)
+  -- so what holds of all squares with one bit holds of such columns of a row
+  pub by-row :
+      (holds : ℕ → Type 0) {mask : ℕ} {b : Bool} → row < s .rows → mask ≡ masks row →
+      ((i : ℕ) → i < squares s → bitAt (masks (i / s .columns)) (i % s .columns) ≡ b → holds i) →
+      (column : ℕ) → column < s .columns → bitAt mask column ≡ b → holds (first + column)
+  by-row holds h m f column l c =
+      f (first + column) (omega (arith, row-fits s h, e, l)) (bit-in-row l ∙ (ap (λ (x : ℕ). bitAt x column) (sym m) ∙ c))

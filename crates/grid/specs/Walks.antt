@@ -7,7 +7,6 @@ use Prim.Native.Nat.{ℕ, zero, suc, _+_, _*_, _/_, _%_, _^_, min}
 use lib.ListN.{getD}
 use lib.Bits.{bitOr}
 use Rattle.grid.specs.declared.squares.Shape.{Shape}
-use Rattle.grid.specs.Squares.{squares}
 use Rattle.grid.specs.Masks.{bits, bitAt, nextSet}
 
 -- the next set column of a row with so many columns, or their number where there is none

@@ -1,26 +1,23 @@
--- A written record is read back, for each square has its own seven places; so a step settled by its record is the step.
+-- A written record is read back, for each square has its own seven places.
 -- Assumes nothing.
 use mathlib.Core.Path.{_≡_, refl, ap, _∙_}
-use mathlib.Core.Bool.{Bool, true, false, _||_}
+use mathlib.Core.Bool.{true, false}
 use mathlib.Core.List.{List, [], _∷_}
 use Prim.Native.Nat.{ℕ, zero, suc, _+_, _*_, _<_}
 use native.Mathlib.Omega.{arith}
-use lib.Dec.{leb}
 use lib.ListN.{length, getD, getD-replicate}
 use lib.Seq.{getD-append-add}
-use Rattle.reckon.specs.Tests.{Row, _unless_, refusal}
+use Rattle.reckon.specs.Tests.{_unless_}
 use Rattle.reckon.specs.Lists.{joined}
-use Rattle.reckon.specs.Ranges.{mostDepth, lastClock, mostOutflow, mostSoaked}
-use Rattle.reckon.proofs.TestLaws.{pick-true, pick-false, pick-both, all-ext, refusal-later}
-use Rattle.reckon.proofs.ListLaws.{filled-ext, length-joined, getD-joined, sum-ext}
+use Rattle.reckon.proofs.TestLaws.{pick-true, pick-false, pick-both}
+use Rattle.reckon.proofs.ListLaws.{length-joined, getD-joined, sum-ext}
 use Rattle.grid.specs.Squares.{north, east, south, west, sides, squares, beside, opposite}
 use Rattle.grid.proofs.SquareLaws.{opposite-small}
 use Rattle.grid.proofs.MarkLaws.{marked, unless-closed}
 use Rattle.ledger.specs.Runs.{Plan, World}
 use Rattle.ledger.specs.Flows.{Leaves, fourSides, shut, gone, sent, came, offSide, offSquare, offGrid, soakedSquare, soakedGrid}
 use Rattle.ledger.specs.Record.{squareWords, lastWord, addedWord, soakedWord, recordSize, heldIn, lastedIn, wordPlace, leavesIn, lastIn, addedIn, soakedIn, squareRecord, recordOf}
-use Rattle.ledger.specs.After.{Moves, remains, newDepth, depthsFit, newOutflow, newSoaked, lateRefusals, stepRecord, worldAfter, worldWith}
-use Rattle.ledger.specs.inner.Settle.{movesIn, settleRefusals, settleNumber}
+use Rattle.ledger.specs.After.{Moves, stepRecord}
 
 -- what is the same of each side is the same of the four
 four-same : {f g : ℕ → ℕ} → ((side : ℕ) → side < sides → f side ≡ g side) → fourSides f ≡ fourSides g
@@ -179,48 +176,3 @@ module _ (p : Plan) (m : Moves) (w : World) where
     pub step-soaked : soakedIn (stepRecord p m w) i ≡ m .soaked i
     unfolding stepRecord
     step-soaked = soaked-read p (w .run .length) (m .duration) (m .leaves) lastBefore (m .added) (m .soaked) i inside not-closed
-
--- ---- a step settled by its record
-
-module _ (p : Plan) (m : Moves) (w : World) (marks-long : length (p .marks) ≡ squares (p .shape)) where
-  abbrev moved : Moves
-  moved = movesIn (stepRecord p m w) (m .length)
-
-  depth-read : (i : ℕ) → i < squares (p .shape) → shut p i ≡ false → newDepth p moved w i ≡ newDepth p m w i
-  unfolding newDepth remains
-  depth-read i inside e = rw (step-gone p m w i inside e, step-soaked p m w i inside e, step-came p m w marks-long i, step-added p m w i inside e)
-
-  outflow-read : newOutflow p moved w ≡ newOutflow p m w
-  unfolding newOutflow
-  outflow-read = rw (step-off p m w)
-
-  soaked-total-read : newSoaked p moved w ≡ newSoaked p m w
-  unfolding newSoaked
-  soaked-total-read = rw (step-soaked-grid p m w)
-
-  fit-read : depthsFit p moved w ≡ depthsFit p m w
-  unfolding depthsFit
-  fit-read = all-ext (squares (p .shape)) _ _ (λ i inside. at i inside (shut p i) refl)
-    where
-      at : (i : ℕ) → i < squares (p .shape) → (b : Bool) → shut p i ≡ b →
-          (shut p i || leb (newDepth p moved w i) mostDepth) ≡ (shut p i || leb (newDepth p m w i) mostDepth)
-      at i inside true e = rw e
-      at i inside false e = rw (depth-read i inside e)
-
-  -- the world that its record writes is the world after the step
-  pub settled-is : worldWith p moved w (stepRecord p m w) ≡ worldAfter p m w
-  unfolding worldAfter
-  settled-is =
-      let depths = filled-ext (squares (p .shape)) (shut p) (newDepth p moved w) (newDepth p m w) (w .depths) depth-read in
-      let lasts = filled-ext (squares (p .shape)) (shut p) (gone (moved .leaves)) (gone (m .leaves)) (w .lasts) (step-gone p m w) in
-      rw (depths, lasts, outflow-read, soaked-total-read, step-lasted p m w)
-
-  abbrev rows : List Row
-  rows = 8 unless depthsFit p m w ∷ 9 unless leb (newOutflow p m w) mostOutflow ∷ 15 unless leb (newSoaked p m w) mostSoaked ∷ []
-
-  -- what is refused where 7 is not: 8, 9 or 15, by the record
-  pub late-settled : leb (w .run .clock + m .duration) lastClock ≡ true → refusal (lateRefusals p m w) ≡ settleNumber p (stepRecord p m w) (m .length) w
-  unfolding lateRefusals settleNumber settleRefusals
-  late-settled e =
-      let same : refusal rows ≡ settleNumber p (stepRecord p m w) (m .length) w = rw (fit-read, outflow-read, soaked-total-read) in
-      refusal-later 7 rows e ∙ same

@@ -16,7 +16,7 @@ use Rattle.grid.specs.Squares.{north, east, south, west, sides, squares}
 use Rattle.ledger.specs.Runs.{Plan}
 use Rattle.ledger.specs.Flows.{Leaves, shut}
 use Rattle.ledger.specs.Record.{headWords, squareWords, recordSize, wordPlace, squareRecord, recordOf, roomSlots, HeadPut, SquarePut}
-use Rattle.ledger.specs.inner.Walks.{Begun}
+use Rattle.ledger.specs.inner.Walks.{RecordedTo}
 
 -- ---- words placed
 
@@ -40,8 +40,8 @@ take-placed l a v h =
 
 module _ {p : Plan} {held lasted : ℕ} {out : Leaves} {last added soaked : ℕ → ℕ} where
   -- the head is put
-  pub begun-none : (old : List ℕ) {rec : List ℕ} → length old ≡ recordSize p → HeadPut old held lasted rec → Begun p held lasted out last added soaked 0 rec
-  begun-none old l e =
+  pub recorded-none : (old : List ℕ) {rec : List ℕ} → length old ≡ recordSize p → HeadPut old held lasted rec → RecordedTo p held lasted out last added soaked 0 rec
+  recorded-none old l e =
       let fits : 0 + length (held ∷ lasted ∷ []) ≤ length old = omega arith in
       record {
         long = ap length e ∙ (length-placed old 0 (held ∷ lasted ∷ []) fits ∙ l);
@@ -52,10 +52,10 @@ module _ {p : Plan} {held lasted : ℕ} {out : Leaves} {last added soaked : ℕ 
       }
 
   -- the next square's seven words are put
-  begun-next :
+  recorded-next :
       {i : ℕ} {old new : List ℕ} (seven : List ℕ) → i < squares (p .shape) → length seven ≡ squareWords → seven ≡ squareRecord p out last added soaked i →
-      new ≡ placed old (wordPlace i north) seven → Begun p held lasted out last added soaked i old → Begun p held lasted out last added soaked (i + 1) new
-  begun-next {i} {old} seven h l s e b =
+      new ≡ placed old (wordPlace i north) seven → RecordedTo p held lasted out last added soaked i old → RecordedTo p held lasted out last added soaked (i + 1) new
+  recorded-next {i} {old} seven h l s e b =
       let fits : wordPlace i north + length seven ≤ length old = omega (arith, b .long) in
       let next : wordPlace (i + 1) north ≡ wordPlace i north + length seven = omega arith in
       record {
@@ -66,24 +66,24 @@ module _ {p : Plan} {held lasted : ℕ} {out : Leaves} {last added soaked : ℕ 
             ∙ ap (λ (r : List ℕ). held ∷ lasted ∷ r) (ap (λ (r : List ℕ). joined i (squareRecord p out last added soaked) ++ r) s ∙ sym (joined-more i (squareRecord p out last added soaked))));
       }
 
-  module _ {i : ℕ} (h : i < squares (p .shape)) {old new : List ℕ} (b : Begun p held lasted out last added soaked i old) where
-    pub begun-open :
+  module _ {i : ℕ} (h : i < squares (p .shape)) {old new : List ℕ} (b : RecordedTo p held lasted out last added soaked i old) where
+    pub recorded-open :
         shut p i ≡ false → (leaves : List ℕ) {l a k : ℕ} → ((side : ℕ) → side < sides → getD leaves side 0 ≡ out i side) → l ≡ last i → a ≡ added i → k ≡ soaked i →
-        SquarePut old i leaves l a k new → Begun p held lasted out last added soaked (i + 1) new
+        SquarePut old i leaves l a k new → RecordedTo p held lasted out last added soaked (i + 1) new
     unfolding squareRecord
-    begun-open c leaves f q r t e =
-        begun-next _ h refl
+    recorded-open c leaves f q r t e =
+        recorded-next _ h refl
         (rw (f north (omega arith), f east (omega arith), f south (omega arith), f west (omega arith), q, r, t) (sym (pick-false _ _ c)))
         e b
 
-    pub begun-closed : shut p i ≡ true → new ≡ placed old (wordPlace i north) (replicate squareWords 0) → Begun p held lasted out last added soaked (i + 1) new
+    pub recorded-closed : shut p i ≡ true → new ≡ placed old (wordPlace i north) (replicate squareWords 0) → RecordedTo p held lasted out last added soaked (i + 1) new
     unfolding squareRecord
-    begun-closed c e = begun-next _ h refl (sym (pick-true _ _ c)) e b
+    recorded-closed c e = recorded-next _ h refl (sym (pick-true _ _ c)) e b
 
   -- all squares are put
-  pub begun-whole : {i : ℕ} {rec : List ℕ} → i ≡ squares (p .shape) → Begun p held lasted out last added soaked i rec → rec ≡ recordOf p held lasted out last added soaked
+  pub recorded-whole : {i : ℕ} {rec : List ℕ} → i ≡ squares (p .shape) → RecordedTo p held lasted out last added soaked i rec → rec ≡ recordOf p held lasted out last added soaked
   unfolding recordOf
-  begun-whole {i} {rec} e b =
+  recorded-whole {i} {rec} e b =
       sym (take-all (wordPlace i north) rec (omega (arith, b .long)))
       ∙ (b .so-far ∙ ap (λ (k : ℕ). held ∷ lasted ∷ joined k (squareRecord p out last added soaked)) e)
 

@@ -1,5 +1,5 @@
+pub mod Determined
 pub mod Engine
-pub mod Settle
 pub mod TakeBack
 pub mod Walks
 pub mod Worlds

@@ -1,10 +1,7 @@
 // Reads a sheet from standard input, runs it to its end, and writes the water that it leaves, or its refusal.
-use answer::program::MOST_TEXT;
-use answer::program::OUT_ROOM;
-use answer::program::meadow_of;
-
-// One byte more than are taken, so that a text that is too long is seen to be.
-const TEXT_ROOM: usize = MOST_TEXT + 1;
+use programs::limits::OUT_ROOM;
+use programs::limits::TEXT_ROOM;
+use programs::meadow::meadow_of;
 
 fn main() {
     let mut text = [0u8; TEXT_ROOM];

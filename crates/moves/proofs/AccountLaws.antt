@@ -6,7 +6,7 @@ use native.Mathlib.Omega.{arith}
 use Rattle.reckon.proofs.TableLaws.{rain-mono, inflow-mono, rain-start, inflow-start}
 use Rattle.ledger.specs.Runs.{Plan}
 use Rattle.ledger.proofs.Account.{open-add, open-ext, open-zero}
-use Rattle.moves.specs.Given.{Given}
+use Rattle.checks.specs.Given.{Given}
 use Rattle.moves.specs.Moves.{addedFor}
 use Rattle.moves.specs.Account.{tablesGive, tablesBy, SameTables}
 

@@ -28,8 +28,8 @@ use Rattle.grid.proofs.SquareLaws.{square-in, square-within, row-of, column-of}
 use Rattle.rule.specs.declared.rules.Rules.{Rules}
 use Rattle.ledger.specs.Runs.{Plan}
 use Rattle.ledger.specs.Flows.{shut}
-use Rattle.moves.specs.inner.Added.{amountAt, unreached, rowSquare, rowAlone, rowsApart, tables, addedFits, RainedAll, PouredRow, PouredAll, Pours, Between, WaterAdded}
-use Rattle.moves.specs.Given.{Given}
+use Rattle.moves.specs.inner.Added.{amountAt, unpoured, rowSquare, rowAlone, rowsApart, tables, addedFits, RainedAll, PouredRow, PouredAll, Pours, Between, WaterAdded}
+use Rattle.checks.specs.Given.{Given}
 use Rattle.moves.specs.Moves.{addedFor}
 
 -- ---- rain
@@ -214,27 +214,27 @@ module _ (s : Shape) (inflow : List ℕ) (j : ℕ) where
 
 module _ (s : Shape) (r : Rules) (inflow : List ℕ) (start end rain : ℕ) where
   abbrev left : ℕ → ℕ → Bool
-  left = unreached s r inflow start end rain
+  left = unpoured s r inflow start end rain
 
   abbrev amount : ℕ → ℕ
   amount = amountAt s r inflow start end rain
 
   left-none : (i : ℕ) → left 0 i ≡ true
-  unfolding unreached
+  unfolding unpoured
   left-none i = all-none _
 
   left-at : (n i : ℕ) → left n i ≡ true → (k : ℕ) → k < n → onSquare inflow (i / s .columns) (i % s .columns) k ≡ false
-  unfolding unreached
+  unfolding unpoured
   left-at n i e k h = not-true _ (all-at n _ e k h)
 
   -- row j is for this square
   left-here : (j i : ℕ) → onSquare inflow (i / s .columns) (i % s .columns) j ≡ true → left (j + 1) i ≡ false
-  unfolding unreached
+  unfolding unpoured
   left-here j i e = all-fails (j + 1) _ j (omega arith) (ap not e)
 
   -- row j is for another
   left-other : (j i : ℕ) → onSquare inflow (i / s .columns) (i % s .columns) j ≡ false → left (j + 1) i ≡ left j i
-  unfolding unreached
+  unfolding unpoured
   left-other j i e = all-beside j (λ k. not (onSquare inflow (i / s .columns) (i % s .columns) k)) (ap not e)
 
   -- nothing is worked yet
@@ -382,8 +382,8 @@ module _ (p : Plan) (r : Rules) (rain inflow : List ℕ) (start end : ℕ) (b : 
 
     -- a square is reached by a row, or by none
     reached-by :
-        (i : ℕ) → unreached s r inflow start end fell rows i ≡ false → (j : ℕ) × ((j < rows) × (squareAt s (inflowRow inflow j) (inflowColumn inflow j) ≡ i))
-    unfolding unreached
+        (i : ℕ) → unpoured s r inflow start end fell rows i ≡ false → (j : ℕ) × ((j < rows) × (squareAt s (inflowRow inflow j) (inflowColumn inflow j) ≡ i))
+    unfolding unpoured
     reached-by i c =
         let f : ℕ → Bool = λ k. not (onSquare inflow (i / s .columns) (i % s .columns) k) in
         let h = all-some rows f c in
@@ -395,9 +395,9 @@ module _ (p : Plan) (r : Rules) (rain inflow : List ℕ) (start end : ℕ) (b : 
         subst (λ (x : ℕ). x ≤ mostDepth) (amount-is (rowSquare s r inflow start end fell j)) k
 
     all-ok : done ≡ true → (i : ℕ) → i < squares s → shut p i ≡ false → added i ≤ mostDepth
-    all-ok t i h c = go (unreached s r inflow start end fell rows i) refl
+    all-ok t i h c = go (unpoured s r inflow start end fell rows i) refl
       where
-        go : (u : Bool) → unreached s r inflow start end fell rows i ≡ u → added i ≤ mostDepth
+        go : (u : Bool) → unpoured s r inflow start end fell rows i ≡ u → added i ≤ mostDepth
         go true u = subst (λ (x : ℕ). x ≤ mostDepth) (sym (dry-of-rows s r inflow start end fell i u) ∙ amount-is i) (rain-ok i h c)
         go false u =
             let w = reached-by i u in
@@ -418,19 +418,19 @@ module _ (p : Plan) (r : Rules) (rain inflow : List ℕ) (start end : ℕ) (b : 
         (sym (q .fits-is) ∙ t)))
 
     stands : done ≡ true → (i : ℕ) → i < squares s → shut p i ≡ false → getD new i 0 ≡ added i
-    stands t i h c = ap (λ (l : List ℕ). getD l i 0) (q .stored t) ∙ (go (unreached s r inflow start end fell rows i) refl ∙ amount-is i)
+    stands t i h c = ap (λ (l : List ℕ). getD l i 0) (q .stored t) ∙ (go (unpoured s r inflow start end fell rows i) refl ∙ amount-is i)
       where
         inside : i < length mid
         inside = omega (arith, a .long)
 
         go :
-            (u : Bool) → unreached s r inflow start end fell rows i ≡ u →
-            getD (filled (squares s) (unreached s r inflow start end fell rows) (amountAt s r inflow start end fell) mid) i 0
+            (u : Bool) → unpoured s r inflow start end fell rows i ≡ u →
+            getD (filled (squares s) (unpoured s r inflow start end fell rows) (amountAt s r inflow start end fell) mid) i 0
             ≡ amountAt s r inflow start end fell i
         go true u =
-            filled-skipped (squares s) (unreached s r inflow start end fell rows) (amountAt s r inflow start end fell) mid i inside u
+            filled-skipped (squares s) (unpoured s r inflow start end fell rows) (amountAt s r inflow start end fell) mid i inside u
             ∙ (a .stored all-fit i (omega (arith, b .waters .marks-long)) c ∙ sym (dry-of-rows s r inflow start end fell i u))
-        go false u = filled-in (squares s) (unreached s r inflow start end fell rows) (amountAt s r inflow start end fell) mid i inside h u
+        go false u = filled-in (squares s) (unpoured s r inflow start end fell rows) (amountAt s r inflow start end fell) mid i inside h u
 
     pub wetted : WaterAdded p g start end old done new
     wetted = record { fits-is = fits-both done refl; stored = stands; long = q .long ∙ a .long }

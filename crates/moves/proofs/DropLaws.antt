@@ -12,15 +12,15 @@ use Rattle.reckon.proofs.TestLaws.{pick-true, pick-false, pick-both}
 use Rattle.grid.specs.Squares.{squares, within, beside}
 use Rattle.grid.specs.Marks.{exit}
 use Rattle.rule.specs.Drops.{dropTo, dropOff}
-use Rattle.rule.specs.inner.InRange.{GroundInRange, EdgeInRange, mostDrop, DropsInRange, SquareInRange, Weighable, Candidacy}
+use Rattle.rule.specs.inner.InRange.{GroundInRange, mostDrop, DropsInRange, SquareInRange, Weighable, Candidacy}
 use Rattle.rule.specs.declared.rules.Rules.{Rules}
 use Rattle.rule.proofs.DropLaws.{off-le}
 use Rattle.reckon.specs.Ranges.{mostDepth, mostLength}
 use Rattle.ledger.specs.Runs.{Plan}
 use Rattle.ledger.specs.Flows.{shut}
-use Rattle.moves.specs.Given.{Ground}
+use Rattle.checks.specs.Given.{Ground}
 use Rattle.moves.specs.Drops.{levelAt, sideDrop, dropsOf}
-use Rattle.moves.specs.inner.Ready.{MeadowInRange}
+use Rattle.checks.specs.inner.Ready.{MeadowInRange}
 
 -- what stands on a side, as the code finds it
 module _ (p : Plan) (r : Rules) (beds depths : List ℕ) (i side : ℕ) {other : ℕ} (q : other ≡ beside (p .shape) i side) where
@@ -95,10 +95,6 @@ module _ (p : Plan) (o : Ground) (depths : List ℕ) (l : MeadowInRange p o dept
         roughness-from = g .roughness-from;
         roughness-to = g .roughness-to;
       }
-
-  -- what the drop off the grid asks
-  pub edge-in-range : EdgeInRange (o .rules)
-  edge-in-range = record { side-to = l .rules .side-to; edge-to = l .rules .edge-to }
 
   drops-fit : DropsInRange (dropsOf p (o .rules) (o .beds) depths i)
   drops-fit = drops-in-range p (o .rules) (o .beds) depths i (l .grounds i h e) (l .depths-to i h e)

@@ -5,8 +5,7 @@ use mathlib.Core.Path.{_≡_, refl, sym, ap, _∙_, subst}
 use mathlib.Core.Bool.{Bool, true, false, not}
 use mathlib.Core.List.{List, [], _∷_}
 use Prim.Native.Nat.{ℕ, zero, suc, _+_, _-_, _^_, _≤_, _<_, min}
-use native.Mathlib.Decide.{decLt, ℕ-discrete}
-use native.Mathlib.Numerals.{add-one}
+use native.Mathlib.Decide.{decLt}
 use native.Mathlib.Omega.{arith}
 use lib.Dec.{eqb}
 use lib.ListN.{length, getD, set, replicate, getD-replicate}
@@ -28,15 +27,14 @@ use Rattle.ledger.specs.Runs.{Plan, World, seenOf}
 use Rattle.ledger.specs.Flows.{Leaves, fourSides, shut, gone}
 use Rattle.ledger.specs.Record.{squareWords, wordPlace, recordSize, squareRecord, recordOf, HeadPut, SquarePut}
 use Rattle.ledger.specs.After.{stepRecord}
-use Rattle.ledger.specs.inner.Settle.{sends}
-use Rattle.ledger.specs.inner.Walks.{Begun}
-use Rattle.ledger.proofs.RecordLaws.{begun-none, begun-open, begun-closed, begun-whole}
-use Rattle.moves.specs.Given.{Ground, Given}
+use Rattle.ledger.specs.inner.Walks.{RecordedTo, sends}
+use Rattle.ledger.proofs.RecordLaws.{recorded-none, recorded-open, recorded-closed, recorded-whole}
+use Rattle.checks.specs.Given.{Ground, Given}
 use Rattle.moves.specs.Drops.{dropsOf}
 use Rattle.moves.specs.Moves.{squareCandidates, candidates, leavesFor, soakedFor, addedFor, stepLength, stepDuration, stepMoves}
 use Rattle.moves.specs.inner.Added.{tables, addedFits, WaterAdded}
-use Rattle.moves.specs.inner.Fill.{firm, LengthWorked, Cleared, FilledOne, FilledTo, FilledOn, RecordFilled, IdleAt}
-use Rattle.moves.specs.inner.Ready.{MeadowInRange}
+use Rattle.moves.specs.inner.Fill.{firm, LengthWorked, Fills, Cleared, FilledOne, FilledTo, FilledOn, RecordFilled, UnstirredAt}
+use Rattle.checks.specs.inner.Ready.{MeadowInRange}
 use Rattle.moves.proofs.MoveLaws.{weights, leaves-open, covered, soaked-open}
 
 -- a record goes by what is added to squares not closed alone
@@ -165,36 +163,43 @@ words-past old i leaves last added soaked h put k l = ap (λ (r : List ℕ). get
 
 -- ---- a record filled square by square
 
-module _ (p : Plan) (o : Ground) (depths lasts added : List ℕ) (held start ms : ℕ) where
+-- of a record's room only its length is asked
+pub fills-still :
+    {p : Plan} {o : Ground} {depths lasts added : List ℕ} {start ms : ℕ} {old rec : List ℕ} → length rec ≡ length old →
+    Fills p o depths lasts added start ms old → Fills p o depths lasts added start ms rec
+fills-still e f =
+    record { flows = f .flows; added-long = f .added-long; duration-for = f .duration-for; end-to = f .end-to; record-long = e ∙ f .record-long }
+
+module _ {p : Plan} {o : Ground} {depths lasts added : List ℕ} {held start ms : ℕ} where
   -- the head, in a room that was cleared
   pub filled-head :
       (old : List ℕ) {rec : List ℕ} → length old ≡ recordSize p → Cleared old → HeadPut old held ms rec →
       FilledTo p o depths lasts added held start ms 0 rec
   filled-head old l none put =
       record {
-        begun = begun-none old l put;
+        recorded = recorded-none old l put;
         clean = λ k g. ap (λ (r : List ℕ). getD r k 0) put ∙ (placed-after old 0 (held ∷ ms ∷ []) (omega (arith, l)) k (omega arith) ∙ none k);
       }
 
   pub filled-whole : {i : ℕ} {rec : List ℕ} → i ≡ squares (p .shape) → FilledTo p o depths lasts added held start ms i rec → RecordFilled p o depths lasts added held start ms rec
-  filled-whole e f = begun-whole e (f .begun)
+  filled-whole e f = recorded-whole e (f .recorded)
 
-  module _ (i : ℕ) (h : i < squares (p .shape)) where
+  module _ {i : ℕ} (h : i < squares (p .shape)) where
     -- a square of which there is nothing to write has its zeros already
     idle-turn :
-        {rec : List ℕ} → IdleAt p depths lasts added i → FilledTo p o depths lasts added held start ms i rec → FilledTo p o depths lasts added held start ms (i + 1) rec
-    idle-turn {rec} idle f = record { begun = go (shut p i) refl; clean = λ k l. f .clean k (omega arith) }
+        {rec : List ℕ} → UnstirredAt p depths lasts added i → FilledTo p o depths lasts added held start ms i rec → FilledTo p o depths lasts added held start ms (i + 1) rec
+    idle-turn {rec} idle f = record { recorded = go (shut p i) refl; clean = λ k l. f .clean k (omega arith) }
       where
         same : rec ≡ placed rec (wordPlace i north) (replicate squareWords 0)
-        same = zeros-over rec (wordPlace i north) (omega (arith, f .begun .long, h)) (f .clean)
+        same = zeros-over rec (wordPlace i north) (omega (arith, f .recorded .long, h)) (f .clean)
 
         go :
             (c : Bool) → shut p i ≡ c →
-            Begun p held ms (leavesFor p o depths lasts ms) (λ k. getD lasts k 0) (λ k. getD added k 0) (soakedFor p o depths lasts start ms) (i + 1) rec
-        go true c = begun-closed h (f .begun) c same
+            RecordedTo p held ms (leavesFor p o depths lasts ms) (λ k. getD lasts k 0) (λ k. getD added k 0) (soakedFor p o depths lasts start ms) (i + 1) rec
+        go true c = recorded-closed h (f .recorded) c same
         go false c =
             let none = idle c in
-            begun-open h (f .begun) c (0 ∷ 0 ∷ 0 ∷ 0 ∷ []) (λ side l. none-at side ∙ sym (dry-leaves p o depths lasts ms i side c (none .0))) (sym (none .1)) (sym (none .2))
+            recorded-open h (f .recorded) c (0 ∷ 0 ∷ 0 ∷ 0 ∷ []) (λ side l. none-at side ∙ sym (dry-leaves p o depths lasts ms i side c (none .0))) (sym (none .1)) (sym (none .2))
             (soaked-dry p o depths lasts start ms i c (none .0)) same
 
     -- a square that is worked
@@ -211,36 +216,26 @@ module _ (p : Plan) (o : Ground) (depths lasts added : List ℕ) (held start ms 
             subst (λ (rec : List ℕ). FilledTo p o depths lasts added held start ms (i + 1) rec) (sym (one .closed-kept c)) (idle-turn (λ e. not-both c e) f)
         go false c =
             record {
-              begun = begun-open h (f .begun) c weighing (λ side l. sym (leaves-open p o depths lasts ms i side c)) refl refl refl (one .open-put c);
+              recorded = recorded-open h (f .recorded) c weighing (λ side l. sym (leaves-open p o depths lasts ms i side c)) refl refl refl (one .open-put c);
               clean =
                   λ k l. words-past old i weighing (getD lasts i 0) (getD added i 0) (soakedFor p o depths lasts start ms i)
-                  (omega (arith, f .begun .long, h)) (one .open-put c) k l
+                  (omega (arith, f .recorded .long, h)) (one .open-put c) k l
                   ∙ f .clean k (omega arith);
             }
 
 -- squares done from one on
-module _ (p : Plan) (o : Ground) (depths lasts added : List ℕ) (start ms from : ℕ) where
+module _ {p : Plan} {o : Ground} {depths lasts added : List ℕ} {start ms from : ℕ} where
   -- one more
   pub filled-more :
-      (i : ℕ) {old mid new before after : List ℕ} {sent : Bool} → i < squares (p .shape) → FilledOn p o depths lasts added start ms from i old mid →
+      {i : ℕ} {old mid new before after : List ℕ} {sent : Bool} → i < squares (p .shape) → FilledOn p o depths lasts added start ms from i old mid →
       FilledOne p o depths lasts added start ms i mid new before after sent → FilledOn p o depths lasts added start ms from (i + 1) old new
-  filled-more i h b f held s = fill-turn p o depths lasts added held start ms i h (b held s) f
+  filled-more h b f held s = fill-turn h (b held s) f
 
-  -- some that are passed over
+  -- one that is passed over
   pub filled-idle :
-      (n m : ℕ) {old new : List ℕ} → n ≤ m → m ≤ squares (p .shape) → ((i : ℕ) → n ≤ i → i < m → IdleAt p depths lasts added i) →
-      FilledOn p o depths lasts added start ms from n old new → FilledOn p o depths lasts added start ms from m old new
-  filled-idle n zero {old} {new} h l idle b =
-      subst (λ (k : ℕ). FilledOn p o depths lasts added start ms from k old new) (let e : n ≡ 0 = omega arith in e) b
-  filled-idle n (suc m) {old} {new} h l idle b =
-      go (ℕ-discrete n (suc m)) (λ g. filled-idle n m {old = old} {new = new} g (omega arith) (λ i k j. idle i k (omega arith)) b)
-    where
-      go :
-          Dec (n ≡ suc m) → (n ≤ m → FilledOn p o depths lasts added start ms from m old new) → FilledOn p o depths lasts added start ms from (suc m) old new
-      go (yes e) ih = subst (λ (k : ℕ). FilledOn p o depths lasts added start ms from k old new) e b
-      go (no e) ih =
-          subst (λ (k : ℕ). FilledOn p o depths lasts added start ms from k old new) (add-one m)
-          (λ held s. idle-turn p o depths lasts added held start ms m l (idle m (omega arith) (omega arith)) (ih (omega arith) held s))
+      {i : ℕ} {old new : List ℕ} → i < squares (p .shape) → UnstirredAt p depths lasts added i →
+      FilledOn p o depths lasts added start ms from i old new → FilledOn p o depths lasts added start ms from (i + 1) old new
+  filled-idle h idle b held s = idle-turn h idle (b held s)
 
   -- more of them
   pub filled-then :
@@ -260,7 +255,7 @@ pub left-set :
     (p : Plan) (before : List ℕ) (i : ℕ) {four amount : ℕ} → shut p i ≡ false → four ≡ amount → set before i four ≡ pick (shut p i) before (set before i amount)
 left-set p before i c e = ap (set before i) e ∙ sym (pick-false _ _ c)
 
-module _ (p : Plan) (o : Ground) (depths lasts added : List ℕ) (start ms i : ℕ) {old new before after : List ℕ} {sent : Bool}
+module _ {p : Plan} {o : Ground} {depths lasts added : List ℕ} {start ms i : ℕ} {old new before after : List ℕ} {sent : Bool}
     (one : FilledOne p o depths lasts added start ms i old new before after sent) where
   pub left-here : i < length before → shut p i ≡ false → getD after i 0 ≡ gone (leavesFor p o depths lasts ms) i
   left-here h c =

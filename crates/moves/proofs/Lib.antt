@@ -1,5 +1,6 @@
 pub mod AccountLaws
 pub mod AddedLaws
+pub mod Determined
 pub mod DropLaws
 pub mod FillLaws
 pub mod LengthLaws

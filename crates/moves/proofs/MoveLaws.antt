@@ -23,10 +23,10 @@ use Rattle.rule.proofs.LengthLaws.{length-from, length-to, lasts-from, lasts-to
 use Rattle.ledger.specs.Runs.{Plan, Seen}
 use Rattle.ledger.specs.Flows.{Leaves, shut, gone, offSide, offSquare, offGrid}
 use Rattle.ledger.specs.Walls.{Walled}
-use Rattle.moves.specs.Given.{Ground, Given}
+use Rattle.checks.specs.Given.{Ground, Given}
 use Rattle.moves.specs.Drops.{sideDrop, dropsOf}
 use Rattle.moves.specs.Moves.{candidates, leavesFor, soakedFor, stepLength, stepDuration}
-use Rattle.moves.specs.inner.Ready.{Ready}
+use Rattle.checks.specs.inner.Ready.{Ready}
 use Rattle.moves.proofs.DropLaws.{drop-closed, drop-exit, drop-rim}
 
 -- ---- what leaves a square

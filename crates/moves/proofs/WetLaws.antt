@@ -4,10 +4,9 @@
 use mathlib.Core.Path.{_≡_, refl, sym, ap, ap₂, _∙_, subst}
 use mathlib.Core.Bool.{Bool, true, false, _&&_, not}
 use mathlib.Core.List.{List}
-use Prim.Native.Nat.{ℕ, zero, suc, _+_, _-_, _*_, _/_, _%_, _^_, _≤_, _<_}
+use Prim.Native.Nat.{ℕ, _+_, _-_, _*_, _/_, _%_, _^_, _≤_, _<_}
 use native.Mathlib.Nat.{div-lt-iff-lt-mul}
 use native.Mathlib.Decide.{decLt, ℕ-discrete}
-use native.Mathlib.Numerals.{add-one}
 use native.Mathlib.Omega.{arith}
 use lib.Bits.{bitOr, and-le-l, and-le-r, or-add-and}
 use lib.Dec.{eqb}
@@ -24,18 +23,18 @@ use Rattle.grid.specs.declared.walks.Walk.the-variants.{All, Wet}
 use Rattle.grid.specs.Squares.{squares, ShapeInRange}
 use Rattle.grid.specs.Marks.{closed}
 use Rattle.grid.specs.Masks.{bits, isWet, digit, maskFrom, rowMask, bitAt}
-use Rattle.grid.specs.Walks.{nextWithin, bitOf}
+use Rattle.grid.specs.Walks.{bitOf}
 use Rattle.grid.specs.inner.Rows.{leastWet}
-use Rattle.grid.proofs.SquareLaws.{square-in, column-within, row-of, column-of, row-fits}
+use Rattle.grid.proofs.SquareLaws.{square-in, column-within}
 use Rattle.grid.proofs.MaskLaws.{Rowed, rows-whole, mask-in, mask-more, mask-idle, mask-small, wet-open}
-use Rattle.grid.proofs.WalkLaws.{within-from, within-passes}
+use Rattle.grid.proofs.WalkLaws.{bit-in-row}
 use Rattle.rule.specs.Length.{leastFrom}
 use Rattle.ledger.specs.Runs.{Plan}
-use Rattle.ledger.specs.Flows.{Leaves, shut, gone}
-use Rattle.ledger.specs.inner.Settle.{sends}
-use Rattle.moves.specs.Given.{Ground}
+use Rattle.ledger.specs.Flows.{shut, gone}
+use Rattle.ledger.specs.inner.Walks.{sends}
+use Rattle.checks.specs.Given.{Ground}
 use Rattle.moves.specs.Moves.{squareCandidates, candidates, leavesFor, soakedFor}
-use Rattle.moves.specs.inner.Fill.{leastBelow, DryTo, FilledOne, FilledColumns, stirs, worksOn, isWorked, workedRows, IdleAt, IdleRow, IdleBy, LeftTo, LeftKept, senderRows}
+use Rattle.moves.specs.inner.Fill.{leastBelow, FilledOne, FilledColumns, stirs, worksOn, isWorked, workedRows, UnstirredAt, UnstirredBy, LeftTo, LeftKept, senderRows}
 use Rattle.moves.proofs.FillLaws.{soaked-dry, dry-gone, dry-silent, filled-more, filled-idle, filled-on, left-here, left-elsewhere}
 use Rattle.moves.proofs.LengthLaws.{least-closed, least-dry, least-begin, least-more, least-all}
 
@@ -46,26 +45,12 @@ module _ (p : Plan) (depths : List ℕ) where
   not-wet : (i : ℕ) → isWet (p .marks) depths leastWet i ≡ false → shut p i ≡ false → getD depths i 0 ≡ 0
   not-wet i w c = let l = leb-false leastWet (getD depths i 0) (sym (wet-open (p .marks) depths leastWet i c) ∙ w) in omega (arith, l)
 
-  module _ (first : ℕ) {wet : ℕ} (m : wet ≡ maskFrom (isWet (p .marks) depths leastWet) first (p .shape .columns)) where
-    wet-bit : {c : ℕ} {b : Bool} → c < p .shape .columns → bitAt wet c ≡ b → isWet (p .marks) depths leastWet (first + c) ≡ b
-    wet-bit {c} l e = sym (ap (λ (x : ℕ). bitAt x c) m ∙ mask-in (isWet (p .marks) depths leastWet) first l) ∙ e
-
-    -- from a column up to the next set one
-    pub next-dry :
-        {column next : ℕ} → column ≤ p .shape .columns → next ≡ nextWithin wet column (p .shape .columns) → DryTo p depths first column next
-    next-dry {column} {next} l e =
-        let upTo : next ≤ p .shape .columns = omega (arith, e) in
-        record {
-          ordered = omega (arith, e, within-from wet column (p .shape .columns) l);
-          within = upTo;
-          dry = λ c g h. not-wet (first + c) (wet-bit (omega (arith, upTo)) (within-passes wet column (p .shape .columns) c g (omega (arith, e))));
-        }
-
-  -- the same by squares
-  pub dry-at : {first column next : ℕ} → DryTo p depths first column next → (i : ℕ) → first + column ≤ i → i < first + next → shut p i ≡ false → getD depths i 0 ≡ 0
-  dry-at {first} d i g h c =
-      let e : first + (i - first) ≡ i = omega arith in
-      ap (λ (k : ℕ). getD depths k 0) (sym e) ∙ d .dry (i - first) (omega arith) (omega arith) (ap (shut p) e ∙ c)
+  -- a column that the mask of a row's wet squares does not have
+  pub dry-clear :
+      (first : ℕ) {wet : ℕ} → wet ≡ maskFrom (isWet (p .marks) depths leastWet) first (p .shape .columns) → (column : ℕ) → column < p .shape .columns →
+      bitAt wet column ≡ false → shut p (first + column) ≡ false → getD depths (first + column) 0 ≡ 0
+  dry-clear first m column l b =
+      not-wet (first + column) (sym (ap (λ (x : ℕ). bitAt x column) m ∙ mask-in (isWet (p .marks) depths leastWet) first l) ∙ b)
 
 -- ---- the rows of squares that say yes
 
@@ -76,13 +61,6 @@ unfolding bitOf
 bit-by-rows s says {i} fine h =
     ap (λ (mask : ℕ). bitAt mask (i % s .columns)) (getD-tabulate (s .rows) (rowMask s says) (i / s .columns) (div-lt-iff-lt-mul (fine .columns-low) .1 h))
     ∙ (mask-in says (i / s .columns * s .columns) (column-within s i (fine .columns-low) refl) ∙ ap says (square-in s i))
-
--- and in its row's mask
-bit-in-row : (s : Shape) (rows : List ℕ) (row : ℕ) {first column : ℕ} → first ≡ row * s .columns → column < s .columns → bitOf s rows (first + column) ≡ bitAt (getD rows row 0) column
-unfolding bitOf
-bit-in-row s rows row {first} {column} e l =
-    ap (λ (k : ℕ). bitAt (getD rows ((k + column) / s .columns) 0) ((k + column) % s .columns)) e
-    ∙ ap₂ (λ (r c : ℕ). bitAt (getD rows r 0) c) (row-of s row l) (column-of s row l)
 
 -- ---- which squares a walk works
 
@@ -139,8 +117,8 @@ module _ (marks depths lasts added : List ℕ) (i : ℕ) where
 module _ (walk : Walk) (p : Plan) (depths lasts added : List ℕ) where
   -- all rows marked
   pub rows-marked :
-      (old : List ℕ) (row : ℕ) {rows : List ℕ} {first : ℕ} → length old ≡ p .shape .rows → p .shape .rows ≤ row →
-      Rowed (worksOn walk (p .marks) depths lasts added) (p .shape .columns) old rows row first → rows ≡ workedRows walk p depths lasts added
+      (old : List ℕ) (row : ℕ) {rows : List ℕ} → length old ≡ p .shape .rows → p .shape .rows ≤ row →
+      Rowed (worksOn walk (p .marks) depths lasts added) (p .shape .columns) old rows row → rows ≡ workedRows walk p depths lasts added
   unfolding workedRows
   rows-marked old row l h r = rows-whole (p .shape) (worksOn walk (p .marks) depths lasts added) old row l h r
 
@@ -151,10 +129,10 @@ module _ (walk : Walk) (p : Plan) (depths lasts added : List ℕ) where
   worked-bit-is fine h = bit-by-rows (p .shape) (isWorked walk p depths lasts added) fine h
 
   -- a square that a walk does not work is closed, or has nothing to work or to write
-  pub idle-at : (i : ℕ) → isWorked walk p depths lasts added i ≡ false → IdleAt p depths lasts added i
+  pub idle-at : (i : ℕ) → isWorked walk p depths lasts added i ≡ false → UnstirredAt p depths lasts added i
   idle-at i w c = idle-works (p .marks) depths lasts added i walk w c
 
-  pub idle-by : {rows : List ℕ} → ShapeInRange (p .shape) → rows ≡ workedRows walk p depths lasts added → IdleBy p depths lasts added rows
+  pub idle-by : {rows : List ℕ} → ShapeInRange (p .shape) → rows ≡ workedRows walk p depths lasts added → UnstirredBy p depths lasts added rows
   idle-by fine e i h b = idle-at i (sym (worked-bit-is fine h) ∙ (ap (λ (r : List ℕ). bitOf (p .shape) r i) (sym e) ∙ b))
 
   pub left-kept :
@@ -171,58 +149,38 @@ module _ (walk : Walk) (p : Plan) (depths lasts added : List ℕ) where
 
 -- ---- a row's columns done
 
-module _ (p : Plan) (o : Ground) (depths lasts added : List ℕ) (start ms first mask : ℕ) (old before : List ℕ) where
-  abbrev out : Leaves
-  out = leavesFor p o depths lasts ms
-
+module _ {p : Plan} {o : Ground} {depths lasts added : List ℕ} {start ms first mask : ℕ} {old before : List ℕ} where
   -- none yet
-  senders-none : 0 ≡ maskFrom (sends p out) first 0
-  unfolding maskFrom
-  senders-none = refl
-
   pub columns-none : FilledColumns p o depths lasts added start ms first mask 0 old old before before 0
+  unfolding maskFrom
   columns-none =
       record {
-        filled = filled-on p o depths lasts added start ms first (let e : first ≡ first + 0 = omega arith in e) (λ held f. f);
+        filled = filled-on (let e : first ≡ first + 0 = omega arith in e) (λ held f. f);
         left-at = λ column l. absurd (omega arith);
         left-before = λ i l. refl;
-        senders-are = senders-none;
+        senders-are = refl;
       }
 
   module _ {c : ℕ} {new after : List ℕ} {senders : ℕ} (f : FilledColumns p o depths lasts added start ms first mask c old new before after senders)
       (fits : first + p .shape .columns ≤ squares (p .shape)) where
-    -- some that are passed over, up to the next set one
+    -- one that is passed over
     pub columns-idle :
-        (next : ℕ) → c ≤ p .shape .columns → IdleRow p depths lasts added first mask → next ≡ nextWithin mask c (p .shape .columns) →
-        FilledColumns p o depths lasts added start ms first mask next old new before after senders
-    columns-idle next l idle e =
+        c < p .shape .columns → bitAt mask c ≡ false → UnstirredAt p depths lasts added (first + c) →
+        FilledColumns p o depths lasts added start ms first mask (c + 1) old new before after senders
+    columns-idle l clear idle =
         record {
-          filled = filled-idle p o depths lasts added start ms first (first + c) (first + next) (omega (arith, ordered)) (omega (arith, upTo, fits)) at-squares (f .filled);
-          left-at = λ column g b. at-left column g b (decLt column c);
+          filled =
+              filled-on (let e : first + c + 1 ≡ first + (c + 1) = omega arith in e) (filled-idle (omega (arith, l, fits)) idle (f .filled));
+          left-at = λ column g b. at column g b (ℕ-discrete column c);
           left-before = f .left-before;
-          senders-are = f .senders-are ∙ sym (mask-idle (sends p out) first c next ordered (λ k g h. dry-silent p o depths lasts ms (first + k) (λ z. at k g h z .0)));
+          senders-are = f .senders-are ∙ sym (mask-idle (sends p (leavesFor p o depths lasts ms)) first c (dry-silent p o depths lasts ms (first + c) (λ z. idle z .0)));
         }
       where
-        ordered : c ≤ next
-        ordered = omega (arith, e, within-from mask c (p .shape .columns) l)
-
-        upTo : next ≤ p .shape .columns
-        upTo = omega (arith, e)
-
-        clear-at : (k : ℕ) → c ≤ k → k < next → bitAt mask k ≡ false
-        clear-at k g h = within-passes mask c (p .shape .columns) k g (omega (arith, e, h))
-
-        at : (k : ℕ) → c ≤ k → k < next → IdleAt p depths lasts added (first + k)
-        at k g h = idle k (omega (arith, upTo, h)) (clear-at k g h)
-
-        at-squares : (i : ℕ) → first + c ≤ i → i < first + next → IdleAt p depths lasts added i
-        at-squares i g h = subst (IdleAt p depths lasts added) (let z : first + (i - first) ≡ i = omega arith in z) (at (i - first) (omega arith) (omega arith))
-
-        at-left :
-            (column : ℕ) → column < next → bitAt mask column ≡ true → Dec (column < c) → shut p (first + column) ≡ false →
-            getD after (first + column) 0 ≡ gone out (first + column)
-        at-left column g b (yes z) = f .left-at column z b
-        at-left column g b (no z) = not-both b (clear-at column (omega arith) g)
+        at :
+            (column : ℕ) → column < c + 1 → bitAt mask column ≡ true → Dec (column ≡ c) → shut p (first + column) ≡ false →
+            getD after (first + column) 0 ≡ gone (leavesFor p o depths lasts ms) (first + column)
+        at column g b (yes e) = not-both (ap (bitAt mask) (sym e) ∙ b) clear
+        at column g b (no e) = f .left-at column (omega arith) b
 
     -- one more
     pub columns-more :
@@ -232,38 +190,29 @@ module _ (p : Plan) (o : Ground) (depths lasts added : List ℕ) (start ms first
     columns-more {newer} {later} {sent} l long one q =
         record {
           filled =
-              filled-on p o depths lasts added start ms first (let e : first + c + 1 ≡ first + (c + 1) = omega arith in e)
-              (filled-more p o depths lasts added start ms first (first + c) (omega (arith, l, fits)) (f .filled) one);
+              filled-on (let e : first + c + 1 ≡ first + (c + 1) = omega arith in e) (filled-more (omega (arith, l, fits)) (f .filled) one);
           left-at = λ column g b z. at column g b z (ℕ-discrete column c);
-          left-before = λ i g. left-elsewhere p o depths lasts added start ms (first + c) one i (λ z. omega (arith, g, z)) ∙ f .left-before i g;
+          left-before = λ i g. left-elsewhere one i (λ z. omega (arith, g, z)) ∙ f .left-before i g;
           senders-are =
-              ap₂ (λ (x y : ℕ). x + y) (f .senders-are) (q ∙ ap (λ (b : Bool). digit b * 2 ^ c) (one .sent-is)) ∙ sym (mask-more (sends p out) first c);
+              ap₂ (λ (x y : ℕ). x + y) (f .senders-are) (q ∙ ap (λ (b : Bool). digit b * 2 ^ c) (one .sent-is)) ∙ sym (mask-more (sends p (leavesFor p o depths lasts ms)) first c);
         }
       where
         at :
             (column : ℕ) → column < c + 1 → bitAt mask column ≡ true → shut p (first + column) ≡ false → Dec (column ≡ c) →
-            getD later (first + column) 0 ≡ gone out (first + column)
+            getD later (first + column) 0 ≡ gone (leavesFor p o depths lasts ms) (first + column)
         at column g b z (yes e) =
-            subst (λ (k : ℕ). getD later (first + k) 0 ≡ gone out (first + k)) (sym e)
-            (left-here p o depths lasts added start ms (first + c) one (omega (arith, l, fits, long)) (ap (λ (k : ℕ). shut p (first + k)) (sym e) ∙ z))
+            subst (λ (k : ℕ). getD later (first + k) 0 ≡ gone (leavesFor p o depths lasts ms) (first + k)) (sym e)
+            (left-here one (omega (arith, l, fits, long)) (ap (λ (k : ℕ). shut p (first + k)) (sym e) ∙ z))
         at column g b z (no e) =
-            left-elsewhere p o depths lasts added start ms (first + c) one (first + column) (λ q. e (omega (arith, q))) ∙ f .left-at column (omega arith) b z
+            left-elsewhere one (first + column) (λ q. e (omega (arith, q))) ∙ f .left-at column (omega arith) b z
 
     -- the mask of the senders has room in 64 bits
     pub senders-fit : c ≤ bits → senders < 2 ^ bits
-    senders-fit h = omega (arith, f .senders-are, mask-small (sends p out) first c, pow-mono {i = c} {j = bits} h)
+    senders-fit h = omega (arith, f .senders-are, mask-small (sends p (leavesFor p o depths lasts ms)) first c, pow-mono {i = c} {j = bits} h)
 
 -- ---- all rows done
 
 module _ (p : Plan) (o : Ground) (depths lasts added : List ℕ) (start ms : ℕ) (rows : List ℕ) where
-  -- a row's mask, where the masks of all rows are known
-  pub idle-row :
-      (row : ℕ) {first mask : ℕ} → row < p .shape .rows → first ≡ row * p .shape .columns → mask ≡ getD rows row 0 →
-      IdleBy p depths lasts added rows → IdleRow p depths lasts added first mask
-  idle-row row {first} {mask} h e m idle column l b =
-      idle (first + column) (omega (arith, row-fits (p .shape) h, e, l))
-      (bit-in-row (p .shape) rows row e l ∙ (ap (λ (x : ℕ). bitAt x column) (sym m) ∙ b))
-
   pub left-none : (left : List ℕ) → LeftTo p o depths lasts ms rows 0 left
   left-none left i l = absurd (omega arith)
 
@@ -272,6 +221,7 @@ module _ (p : Plan) (o : Ground) (depths lasts added : List ℕ) (start ms : ℕ
       LeftTo p o depths lasts ms rows first before →
       FilledColumns p o depths lasts added start ms first mask (p .shape .columns) old new before after senders →
       LeftTo p o depths lasts ms rows (first + p .shape .columns) after
+  unfolding bitOf
   left-row row {first} {mask} {after = after} e m l f i h c b = go (decLt i first)
     where
       go : Dec (i < first) → getD after i 0 ≡ gone (leavesFor p o depths lasts ms) i
@@ -281,14 +231,14 @@ module _ (p : Plan) (o : Ground) (depths lasts added : List ℕ) (start ms : ℕ
           let j : i - first < p .shape .columns = omega arith in
           subst (λ (k : ℕ). getD after k 0 ≡ gone (leavesFor p o depths lasts ms) k) q
           (f .left-at (i - first) j
-          (ap (λ (x : ℕ). bitAt x (i - first)) m ∙ (sym (bit-in-row (p .shape) rows row e j) ∙ (ap (bitOf (p .shape) rows) q ∙ b)))
+          (ap (λ (x : ℕ). bitAt x (i - first)) m ∙ (sym (bit-in-row (p .shape) row e (λ r. getD rows r 0) j) ∙ (ap (bitOf (p .shape) rows) q ∙ b)))
           (ap (shut p) q ∙ c))
 
 module _ (p : Plan) (o : Ground) (depths lasts : List ℕ) (ms : ℕ) where
   -- all rows told
   pub rows-told :
-      (old : List ℕ) (row : ℕ) {rows : List ℕ} {first : ℕ} → length old ≡ p .shape .rows → p .shape .rows ≤ row →
-      Rowed (sends p (leavesFor p o depths lasts ms)) (p .shape .columns) old rows row first → rows ≡ senderRows p o depths lasts ms
+      (old : List ℕ) (row : ℕ) {rows : List ℕ} → length old ≡ p .shape .rows → p .shape .rows ≤ row →
+      Rowed (sends p (leavesFor p o depths lasts ms)) (p .shape .columns) old rows row → rows ≡ senderRows p o depths lasts ms
   unfolding senderRows
   rows-told old row l h r = rows-whole (p .shape) (sends p (leavesFor p o depths lasts ms)) old row l h r
 
@@ -321,13 +271,5 @@ module _ (p : Plan) (o : Ground) (depths : List ℕ) where
       go true c = least-closed p o depths best i c
       go false c = least-dry p o depths best i c (d c)
 
-  pub below-idle :
-      (n m : ℕ) → n ≤ m → ((i : ℕ) → n ≤ i → i < m → shut p i ≡ false → getD depths i 0 ≡ 0) → leastBelow p o depths m ≡ leastBelow p o depths n
-  below-idle n zero h d = ap (leastBelow p o depths) (let e : 0 ≡ n = omega arith in e)
-  below-idle n (suc m) h d = go (ℕ-discrete n (suc m)) (λ g. below-idle n m g (λ i k l. d i k (omega arith)))
-    where
-      go : Dec (n ≡ suc m) → (n ≤ m → leastBelow p o depths m ≡ leastBelow p o depths n) → leastBelow p o depths (suc m) ≡ leastBelow p o depths n
-      go (yes e) ih = ap (leastBelow p o depths) (sym e)
-      go (no e) ih =
-          ap (leastBelow p o depths) (sym (add-one m))
-          ∙ (sym (below-more m refl (sym (idle-square m (leastBelow p o depths m) (d m (omega arith) (omega arith))))) ∙ ih (omega arith))
+  pub below-idle : (i : ℕ) → (shut p i ≡ false → getD depths i 0 ≡ 0) → leastBelow p o depths i ≡ leastBelow p o depths (i + 1)
+  below-idle i d = below-more i refl (sym (idle-square i (leastBelow p o depths i) d))

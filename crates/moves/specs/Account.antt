@@ -5,7 +5,7 @@ use Prim.Native.Nat.{ℕ, _+_, _/_, _%_}
 use Rattle.reckon.specs.Tables.{rainBy, inflowBy}
 use Rattle.ledger.specs.Runs.{Plan}
 use Rattle.ledger.specs.Account.{overOpen}
-use Rattle.moves.specs.Given.{Given}
+use Rattle.checks.specs.Given.{Given}
 use Rattle.moves.specs.Moves.{addedFor}
 
 module _ (p : Plan) (g : Given) where

@@ -13,7 +13,7 @@ use Rattle.rule.specs.Length.{candidatesOf, lengthAt, durationFor}
 use Rattle.ledger.specs.Runs.{Plan, Seen}
 use Rattle.ledger.specs.Flows.{Leaves, shut, gone}
 use Rattle.ledger.specs.After.{Moves}
-use Rattle.moves.specs.Given.{Ground, Given}
+use Rattle.checks.specs.Given.{Ground, Given}
 use Rattle.moves.specs.Drops.{dropsOf}
 
 -- ---- amounts, by how long the step lasts

@@ -1,3 +1,3 @@
 pub mod Added
+pub mod Determined
 pub mod Fill
-pub mod Ready

@@ -1,13 +1,13 @@
 // What a step adds to each square: rain, worked once a step, and inflow, worked once for each of its rows.
+use crate::way::Way;
 use grid::marks::is_closed;
-use grid::squares::Shape;
 use grid::squares::square_at;
 use reckon::numbers::number;
 use reckon::ranges::MOST_DEPTH;
 use reckon::tables::INFLOW_WIDTH;
 use reckon::tables::inflow_added;
 use reckon::tables::rain_added;
-use rule::rules::Rules;
+use reckon::tables::row_on;
 ghost use mathlib.Core.Path.{_≡_};
 ghost use mathlib.Core.Bool.{true};
 ghost use Prim.Native.Nat.{_/_, _≤_, _<_};
@@ -62,17 +62,6 @@ fn rain_all(marks: &[u8], rain: u64, room: &mut [u32]) -> bool
     true
 }
 
-// Whether inflow row k is for the square at a row and a column.
-fn row_is_for(inflow: &[u32], k: usize, row: u64, column: u64) -> bool
-    requires { ⌜ k < length (now inflow) / inflowWords ⌝ }
-    ensures { λ r. ⌜ r ≡ onSquare (now (inflow .entry)) row column k ⌝ }
-{
-    if number(inflow, INFLOW_WIDTH * k) != row {
-        return false;
-    }
-    number(inflow, INFLOW_WIDTH * k + 1) == column
-}
-
 // Whether no row before inflow row j is for the square of row j.
 fn row_alone(inflow: &[u32], j: usize) -> bool
     requires { ⌜ j < length (now inflow) / inflowWords ⌝ }
@@ -82,7 +71,7 @@ fn row_alone(inflow: &[u32], j: usize) -> bool
     let column = number(inflow, INFLOW_WIDTH * j + 1);
     let mut k = 0;
     while k < j {
-        if row_is_for(inflow, k, row, column) {
+        if row_on(inflow, k, row, column) {
             return false;
         }
         k += 1;
@@ -131,48 +120,47 @@ fn poured(
 
 // Stores what is added to the square of inflow row j, unless that could not hold it.
 fn pour_row(
-    shape: Shape,
-    rules: Rules,
+    way: Way,
     inflow: &[u32],
-    apart: bool,
     start: u64,
     end: u64,
     rain: u64,
     j: usize,
     room: &mut [u32],
 ) -> bool
-    requires { ⌜ (Pours shape rules (now inflow) start end rain) × (length (now room) ≡ squares shape) × (j < length (now inflow) / inflowWords) × (apart ≡ rowsApart (now inflow)) ⌝ }
-    ensures { λ r. ⌜ PouredRow shape rules (now (inflow .entry)) start end rain j (now (room .entry)) r (now (room .exit)) ⌝ }
+    requires { ⌜ (Pours (way .shape) (way .rules) (now inflow) start end rain) × (length (now room) ≡ squares (way .shape)) × (j < length (now inflow) / inflowWords) × (way .apart ≡ rowsApart (now inflow)) ⌝ }
+    ensures { λ r. ⌜ PouredRow (way .shape) (way .rules) (now (inflow .entry)) start end rain j (now (room .entry)) r (now (room .exit)) ⌝ }
 {
     let row = number(inflow, INFLOW_WIDTH * j);
     let column = number(inflow, INFLOW_WIDTH * j + 1);
-    let amount = rain + poured(inflow, apart, j, row, column, rules.square_side, start, end);
+    let amount = rain
+        + poured(
+            inflow,
+            way.apart,
+            j,
+            row,
+            column,
+            way.rules.square_side,
+            start,
+            end,
+        );
     if (MOST_DEPTH as u64) < amount {
         return false;
     }
-    let square = square_at(shape, row as usize, column as usize);
+    let square = square_at(way.shape, row as usize, column as usize);
     room[square] = amount as u32;
     true
 }
 
 // Stores what is added to the squares of all inflow rows.
-fn pour_all(
-    shape: Shape,
-    rules: Rules,
-    inflow: &[u32],
-    apart: bool,
-    start: u64,
-    end: u64,
-    rain: u64,
-    room: &mut [u32],
-) -> bool
-    requires { ⌜ (Pours shape rules (now inflow) start end rain) × (length (now room) ≡ squares shape) × (apart ≡ rowsApart (now inflow)) ⌝ }
-    ensures { λ r. ⌜ PouredAll shape rules (now (inflow .entry)) start end rain (now (room .entry)) r (now (room .exit)) ⌝ }
+fn pour_all(way: Way, inflow: &[u32], start: u64, end: u64, rain: u64, room: &mut [u32]) -> bool
+    requires { ⌜ (Pours (way .shape) (way .rules) (now inflow) start end rain) × (length (now room) ≡ squares (way .shape)) × (way .apart ≡ rowsApart (now inflow)) ⌝ }
+    ensures { λ r. ⌜ PouredAll (way .shape) (way .rules) (now (inflow .entry)) start end rain (now (room .entry)) r (now (room .exit)) ⌝ }
 {
     let rows = inflow.len() / INFLOW_WIDTH;
     let mut j = 0;
     while j < rows {
-        if !pour_row(shape, rules, inflow, apart, start, end, rain, j, room) {
+        if !pour_row(way, inflow, start, end, rain, j, room) {
             return false;
         }
         j += 1;
@@ -183,24 +171,22 @@ fn pour_all(
 // Stores what a step from start to end adds to each square not closed; false where a square could not hold it. The caller knows whether the rows
 // stand apart: tables do not change while a run goes on.
 pub fn add_water(
-    shape: Shape,
-    rules: Rules,
+    way: Way,
     marks: &[u8],
     rain: &[u32],
     inflow: &[u32],
-    apart: bool,
     start: u64,
     end: u64,
     room: &mut [u32],
 ) -> bool
-    requires { ⌜ Between (plan shape (now marks)) (tables rules (now rain) (now inflow)) start end ⌝ }
-    requires { ⌜ length (now room) ≡ squares shape ⌝ }
-    requires { ⌜ apart ≡ rowsApart (now inflow) ⌝ }
-    ensures { λ r. ⌜ WaterAdded (plan shape (now (marks .entry))) (tables rules (now (rain .entry)) (now (inflow .entry))) start end (now (room .entry)) r (now (room .exit)) ⌝ }
+    requires { ⌜ Between (plan (way .shape) (now marks)) (tables (way .rules) (now rain) (now inflow)) start end ⌝ }
+    requires { ⌜ length (now room) ≡ squares (way .shape) ⌝ }
+    requires { ⌜ way .apart ≡ rowsApart (now inflow) ⌝ }
+    ensures { λ r. ⌜ WaterAdded (plan (way .shape) (now (marks .entry))) (tables (way .rules) (now (rain .entry)) (now (inflow .entry))) start end (now (room .entry)) r (now (room .exit)) ⌝ }
 {
     let fallen = rain_added(rain, start, end);
     if !rain_all(marks, fallen, room) {
         return false;
     }
-    pour_all(shape, rules, inflow, apart, start, end, fallen, room)
+    pour_all(way, inflow, start, end, fallen, room)
 }

@@ -1,4 +1,6 @@
 // The drops of a square.
+use crate::way::Place;
+use crate::way::Way;
 use grid::marks::is_closed;
 use grid::marks::is_exit;
 use grid::squares::EAST;
@@ -12,7 +14,6 @@ use grid::squares::squares_of;
 use reckon::numbers::number;
 use rule::drops::drop_off;
 use rule::drops::drop_to;
-use rule::rules::Rules;
 ghost use mathlib.Core.Path.{_≡_};
 ghost use mathlib.Core.Bool.{false};
 ghost use Prim.Native.Nat.{_+_, _<_};
@@ -25,7 +26,7 @@ ghost use Rattle.rule.specs.inner.InRange.{EdgeInRange};
 ghost use Rattle.rule.specs.declared.rules.Rules as Declared;
 ghost use Rattle.ledger.specs.Runs.{plan};
 ghost use Rattle.moves.specs.Drops.{dropsOf, sideDrop};
-ghost use Rattle.moves.specs.inner.Ready.{GroundLent};
+ghost use Rattle.checks.specs.inner.Ready.{GroundLent};
 
 // The level of a square's water.
 fn level_of(beds: &[u32], depths: &[u32], square: usize) -> u64
@@ -68,88 +69,56 @@ fn drops_within(
 
 // The drop through one side of a square whose level is known.
 fn side_drop(
-    shape: Shape,
-    rules: Rules,
+    way: Way,
+    at: Place,
     marks: &[u8],
     beds: &[u32],
     depths: &[u32],
-    square: usize,
-    column: usize,
     side: usize,
     own: u64,
 ) -> u64
-    requires { ⌜ (GroundLent (plan shape (now marks)) (now beds) (now depths)) × (OnSquare shape square column) × (side < sides) × (EdgeInRange rules) ⌝ }
-    requires { ⌜ own ≡ getD (now beds) square 0 + getD (now depths) square 0 ⌝ }
-    ensures { λ r. ⌜ r ≡ sideDrop (plan shape (now (marks .entry))) rules (now (beds .entry)) (now (depths .entry)) square side ⌝ }
+    requires { ⌜ (GroundLent (plan (way .shape) (now marks)) (now beds) (now depths)) × (OnSquare (way .shape) (at .square) (at .column)) × (side < sides) × (EdgeInRange (way .rules)) ⌝ }
+    requires { ⌜ own ≡ getD (now beds) (at .square) 0 + getD (now depths) (at .square) 0 ⌝ }
+    ensures { λ r. ⌜ r ≡ sideDrop (plan (way .shape) (now (marks .entry))) (way .rules) (now (beds .entry)) (now (depths .entry)) (at .square) side ⌝ }
 {
-    let other = beside_on(shape, square, column, side);
-    if other < squares_of(shape) {
+    let other = beside_on(way.shape, at.square, at.column, side);
+    if other < squares_of(way.shape) {
         return drop_beside(marks, beds, depths, other, own);
     }
-    if is_exit(marks, square) {
-        return drop_off(rules, number(depths, square));
+    if is_exit(marks, at.square) {
+        return drop_off(way.rules, number(depths, at.square));
     }
     0
 }
 
 // The four drops of a square, north, east, south, west, each side tested.
 pub(crate) fn drops_by_sides(
-    shape: Shape,
-    rules: Rules,
+    way: Way,
+    at: Place,
     marks: &[u8],
     beds: &[u32],
     depths: &[u32],
-    square: usize,
-    column: usize,
 ) -> [u64; 4]
-    requires { ⌜ (GroundLent (plan shape (now marks)) (now beds) (now depths)) × (OnSquare shape square column) × (EdgeInRange rules) ⌝ }
-    ensures { λ r. ⌜ r ≡ dropsOf (plan shape (now (marks .entry))) rules (now (beds .entry)) (now (depths .entry)) square ⌝ }
+    requires { ⌜ (GroundLent (plan (way .shape) (now marks)) (now beds) (now depths)) × (OnSquare (way .shape) (at .square) (at .column)) × (EdgeInRange (way .rules)) ⌝ }
+    ensures { λ r. ⌜ r ≡ dropsOf (plan (way .shape) (now (marks .entry))) (way .rules) (now (beds .entry)) (now (depths .entry)) (at .square) ⌝ }
 {
-    let own = level_of(beds, depths, square);
+    let own = level_of(beds, depths, at.square);
     [
-        side_drop(
-            shape,
-            rules,
-            marks,
-            beds,
-            depths,
-            square,
-            column,
-            NORTH,
-            own,
-        ),
-        side_drop(shape, rules, marks, beds, depths, square, column, EAST, own),
-        side_drop(
-            shape,
-            rules,
-            marks,
-            beds,
-            depths,
-            square,
-            column,
-            SOUTH,
-            own,
-        ),
-        side_drop(shape, rules, marks, beds, depths, square, column, WEST, own),
+        side_drop(way, at, marks, beds, depths, NORTH, own),
+        side_drop(way, at, marks, beds, depths, EAST, own),
+        side_drop(way, at, marks, beds, depths, SOUTH, own),
+        side_drop(way, at, marks, beds, depths, WEST, own),
     ]
 }
 
 // The four drops of a square, where it can be without a test of each side. One caller: so the compiler works it there, with no call.
-pub(crate) fn drops_of(
-    shape: Shape,
-    rules: Rules,
-    marks: &[u8],
-    beds: &[u32],
-    depths: &[u32],
-    square: usize,
-    column: usize,
-) -> [u64; 4]
-    requires { ⌜ (GroundLent (plan shape (now marks)) (now beds) (now depths)) × (OnSquare shape square column) × (EdgeInRange rules) ⌝ }
-    ensures { λ r. ⌜ r ≡ dropsOf (plan shape (now (marks .entry))) rules (now (beds .entry)) (now (depths .entry)) square ⌝ }
+pub(crate) fn drops_of(way: Way, at: Place, marks: &[u8], beds: &[u32], depths: &[u32]) -> [u64; 4]
+    requires { ⌜ (GroundLent (plan (way .shape) (now marks)) (now beds) (now depths)) × (OnSquare (way .shape) (at .square) (at .column)) × (EdgeInRange (way .rules)) ⌝ }
+    ensures { λ r. ⌜ r ≡ dropsOf (plan (way .shape) (now (marks .entry))) (way .rules) (now (beds .entry)) (now (depths .entry)) (at .square) ⌝ }
 {
-    if on_rim(shape, square, column) {
-        return drops_by_sides(shape, rules, marks, beds, depths, square, column);
+    if on_rim(way.shape, at.square, at.column) {
+        return drops_by_sides(way, at, marks, beds, depths);
     }
-    let own = level_of(beds, depths, square);
-    drops_within(shape, marks, beds, depths, square, own)
+    let own = level_of(beds, depths, at.square);
+    drops_within(way.shape, marks, beds, depths, at.square, own)
 }

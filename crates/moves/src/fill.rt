@@ -1,6 +1,10 @@
 // The record of a step, worked from the water before it: one walk over the squares that have something to work or to write, all others
 // standing in a record that is cleared first.
 use crate::drops::drops_of;
+use crate::way::Place;
+use crate::way::Row;
+use crate::way::Span;
+use crate::way::Way;
 use grid::marks::is_closed;
 use grid::squares::Shape;
 use grid::walks::Walk;
@@ -11,7 +15,6 @@ use ledger::record::put_square;
 use reckon::numbers::lesser;
 use reckon::numbers::number;
 use reckon::soaking::soak_due;
-use rule::rules::Rules;
 use rule::weighing::weigh;
 ghost use mathlib.Core.Path.{_≡_};
 ghost use mathlib.Core.Bool.{false};
@@ -25,8 +28,8 @@ ghost use Rattle.grid.specs.Masks.{bits, digit, maskFrom};
 ghost use Rattle.grid.specs.inner.Rows.{InRow};
 ghost use Rattle.ledger.specs.Runs.{plan};
 ghost use Rattle.ledger.specs.Flows.{fourSides};
-ghost use Rattle.moves.specs.Given.{ground};
-ghost use Rattle.moves.specs.inner.Fill.{Cleared, FilledColumns, FilledOn, FilledOne, Fills, HasRow, HasRows, HasSquare, IdleBy, IdleRow, LeftKept, LeftTo, RecordFilled, senderRows, stirs, workedRows, worksOn};
+ghost use Rattle.checks.specs.Given.{ground};
+ghost use Rattle.moves.specs.inner.Fill.{Cleared, FilledColumns, FilledOn, FilledOne, Fills, HasRow, HasRows, HasSquare, UnstirredBy, UnstirredRow, LeftKept, LeftTo, RecordFilled, senderRows, stirs, workedRows, worksOn};
 
 // What leaves through the four sides together.
 fn four_leaving(leaves: [u64; 4]) -> u64
@@ -37,17 +40,18 @@ fn four_leaving(leaves: [u64; 4]) -> u64
 }
 
 // What soaks into a square in a step from a clock on: the smaller of what is due and what the four sides leave of its depth.
-fn soaks(rate: u64, start: u64, duration: u64, left: u64) -> u64
+fn soaks(rate: u64, start: u64, duration: u64, remaining: u64) -> u64
     requires { ⌜ Soaks rate start (start + duration) ⌝ }
-    ensures { λ r. ⌜ r ≡ min (soakDue rate start (start + duration)) left ⌝ }
+    ensures { λ r. ⌜ r ≡ min (soakDue rate start (start + duration)) remaining ⌝ }
 {
-    lesser(soak_due(rate, start, start + duration), left)
+    lesser(soak_due(rate, start, start + duration), remaining)
 }
 
 // Works the words of a square that is not closed, and keeps what left it; the answer tells whether anything did.
 fn work_square(
-    shape: Shape,
-    rules: Rules,
+    way: Way,
+    span: Span,
+    at: Place,
     marks: &[u8],
     beds: &[u32],
     roughness: &[u32],
@@ -55,29 +59,31 @@ fn work_square(
     depths: &[u32],
     lasts: &[u32],
     added: &[u32],
-    start: u64,
-    duration: u64,
-    square: usize,
-    column: usize,
     rec: &mut [u32],
     left: &mut [u32],
 ) -> bool
-    requires { ⌜ Fills (plan shape (now marks)) (ground rules (now beds) (now roughness) (now rates)) (now depths) (now lasts) (now added) start duration (now rec) ⌝ }
-    requires { ⌜ (OnSquare shape square column) × (closed (now marks) square ≡ false) × (length (now left) ≡ squares shape) ⌝ }
-    ensures { λ r. ⌜ FilledOne (plan shape (now (marks .entry))) (ground rules (now (beds .entry)) (now (roughness .entry)) (now (rates .entry))) (now (depths .entry)) (now (lasts .entry)) (now (added .entry)) start duration square (now (rec .entry)) (now (rec .exit)) (now (left .entry)) (now (left .exit)) r ⌝ }
+    requires { ⌜ Fills (plan (way .shape) (now marks)) (ground (way .rules) (now beds) (now roughness) (now rates)) (now depths) (now lasts) (now added) (span .start) (span .duration) (now rec) ⌝ }
+    requires { ⌜ (OnSquare (way .shape) (at .square) (at .column)) × (closed (now marks) (at .square) ≡ false) × (length (now left) ≡ squares (way .shape)) ⌝ }
+    ensures { λ r. ⌜ FilledOne (plan (way .shape) (now (marks .entry))) (ground (way .rules) (now (beds .entry)) (now (roughness .entry)) (now (rates .entry))) (now (depths .entry)) (now (lasts .entry)) (now (added .entry)) (span .start) (span .duration) (at .square) (now (rec .entry)) (now (rec .exit)) (now (left .entry)) (now (left .exit)) r ⌝ }
 {
+    let square = at.square;
     let depth = number(depths, square);
-    let drops = drops_of(shape, rules, marks, beds, depths, square, column);
+    let drops = drops_of(way, at, marks, beds, depths);
     let leaves = weigh(
-        rules,
+        way.rules,
         depth,
         number(lasts, square),
         number(roughness, square),
-        duration,
+        span.duration,
         drops,
     );
     let gone = four_leaving(leaves);
-    let soaked = soaks(number(rates, square), start, duration, depth - gone);
+    let soaked = soaks(
+        number(rates, square),
+        span.start,
+        span.duration,
+        depth - gone,
+    );
     put_square(rec, square, leaves, lasts[square], added[square], soaked);
     left[square] = gone as u32;
     gone != 0
@@ -85,8 +91,9 @@ fn work_square(
 
 // Works one square: a closed one has its zeros already, a dry one sends and soaks nothing.
 fn fill_square(
-    shape: Shape,
-    rules: Rules,
+    way: Way,
+    span: Span,
+    at: Place,
     marks: &[u8],
     beds: &[u32],
     roughness: &[u32],
@@ -94,17 +101,14 @@ fn fill_square(
     depths: &[u32],
     lasts: &[u32],
     added: &[u32],
-    start: u64,
-    duration: u64,
-    square: usize,
-    column: usize,
     rec: &mut [u32],
     left: &mut [u32],
 ) -> bool
-    requires { ⌜ Fills (plan shape (now marks)) (ground rules (now beds) (now roughness) (now rates)) (now depths) (now lasts) (now added) start duration (now rec) ⌝ }
-    requires { ⌜ (OnSquare shape square column) × (length (now left) ≡ squares shape) ⌝ }
-    ensures { λ r. ⌜ FilledOne (plan shape (now (marks .entry))) (ground rules (now (beds .entry)) (now (roughness .entry)) (now (rates .entry))) (now (depths .entry)) (now (lasts .entry)) (now (added .entry)) start duration square (now (rec .entry)) (now (rec .exit)) (now (left .entry)) (now (left .exit)) r ⌝ }
+    requires { ⌜ Fills (plan (way .shape) (now marks)) (ground (way .rules) (now beds) (now roughness) (now rates)) (now depths) (now lasts) (now added) (span .start) (span .duration) (now rec) ⌝ }
+    requires { ⌜ (OnSquare (way .shape) (at .square) (at .column)) × (length (now left) ≡ squares (way .shape)) ⌝ }
+    ensures { λ r. ⌜ FilledOne (plan (way .shape) (now (marks .entry))) (ground (way .rules) (now (beds .entry)) (now (roughness .entry)) (now (rates .entry))) (now (depths .entry)) (now (lasts .entry)) (now (added .entry)) (span .start) (span .duration) (at .square) (now (rec .entry)) (now (rec .exit)) (now (left .entry)) (now (left .exit)) r ⌝ }
 {
+    let square = at.square;
     if is_closed(marks, square) {
         return false;
     }
@@ -114,8 +118,9 @@ fn fill_square(
         return false;
     }
     work_square(
-        shape,
-        rules,
+        way,
+        span,
+        at,
         marks,
         beds,
         roughness,
@@ -123,10 +128,6 @@ fn fill_square(
         depths,
         lasts,
         added,
-        start,
-        duration,
-        square,
-        column,
         rec,
         left,
     )
@@ -229,8 +230,9 @@ fn sender_bit(sent: bool, column: usize) -> u64
 
 // A row, by its columns that are worked; the answer is the mask of those that send.
 fn fill_row(
-    shape: Shape,
-    rules: Rules,
+    way: Way,
+    span: Span,
+    row: Row,
     marks: &[u8],
     beds: &[u32],
     roughness: &[u32],
@@ -238,24 +240,23 @@ fn fill_row(
     depths: &[u32],
     lasts: &[u32],
     added: &[u32],
-    start: u64,
-    duration: u64,
-    first: usize,
-    worked: u64,
     rec: &mut [u32],
     left: &mut [u32],
 ) -> u64
-    requires { ⌜ Fills (plan shape (now marks)) (ground rules (now beds) (now roughness) (now rates)) (now depths) (now lasts) (now added) start duration (now rec) ⌝ }
-    requires { ⌜ (InRow shape first) × (IdleRow (plan shape (now marks)) (now depths) (now lasts) (now added) first worked) × (length (now left) ≡ squares shape) ⌝ }
-    ensures { λ r. ⌜ FilledColumns (plan shape (now (marks .entry))) (ground rules (now (beds .entry)) (now (roughness .entry)) (now (rates .entry))) (now (depths .entry)) (now (lasts .entry)) (now (added .entry)) start duration first worked (shape .columns) (now (rec .entry)) (now (rec .exit)) (now (left .entry)) (now (left .exit)) r ⌝ }
+    requires { ⌜ Fills (plan (way .shape) (now marks)) (ground (way .rules) (now beds) (now roughness) (now rates)) (now depths) (now lasts) (now added) (span .start) (span .duration) (now rec) ⌝ }
+    requires { ⌜ (InRow (way .shape) (row .first)) × (UnstirredRow (plan (way .shape) (now marks)) (now depths) (now lasts) (now added) (row .first) (row .mask)) × (length (now left) ≡ squares (way .shape)) ⌝ }
+    ensures { λ r. ⌜ FilledColumns (plan (way .shape) (now (marks .entry))) (ground (way .rules) (now (beds .entry)) (now (roughness .entry)) (now (rates .entry))) (now (depths .entry)) (now (lasts .entry)) (now (added .entry)) (span .start) (span .duration) (row .first) (row .mask) (way .shape .columns) (now (rec .entry)) (now (rec .exit)) (now (left .entry)) (now (left .exit)) r ⌝ }
 {
-    let columns = shape.columns;
+    let columns = way.shape.columns;
     let mut senders: u64 = 0;
-    let mut column = next_within(worked, 0, columns);
+    let mut column = next_within(row.mask, 0, columns);
     while column < columns {
+        let square = row.first + column;
+        let at = Place { square, column };
         let sent = fill_square(
-            shape,
-            rules,
+            way,
+            span,
+            at,
             marks,
             beds,
             roughness,
@@ -263,23 +264,19 @@ fn fill_row(
             depths,
             lasts,
             added,
-            start,
-            duration,
-            first + column,
-            column,
             rec,
             left,
         );
         senders += sender_bit(sent, column);
-        column = next_after(worked, column, columns);
+        column = next_after(row.mask, column, columns);
     }
     senders
 }
 
 // All rows, each by its columns that are worked; tells the rows of the squares that send.
 fn fill_rows(
-    shape: Shape,
-    rules: Rules,
+    way: Way,
+    span: Span,
     marks: &[u8],
     beds: &[u32],
     roughness: &[u32],
@@ -287,25 +284,26 @@ fn fill_rows(
     depths: &[u32],
     lasts: &[u32],
     added: &[u32],
-    start: u64,
-    duration: u64,
     worked: &[u64],
     rec: &mut [u32],
     left: &mut [u32],
     senders: &mut [u64],
 )
-    requires { ⌜ Fills (plan shape (now marks)) (ground rules (now beds) (now roughness) (now rates)) (now depths) (now lasts) (now added) start duration (now rec) ⌝ }
-    requires { ⌜ (IdleBy (plan shape (now marks)) (now depths) (now lasts) (now added) (now worked)) × (length (now worked) ≡ shape .rows) × (length (now left) ≡ squares shape) × (length (now senders) ≡ shape .rows) ⌝ }
-    ensures { λ _. ⌜ (FilledOn (plan shape (now (marks .entry))) (ground rules (now (beds .entry)) (now (roughness .entry)) (now (rates .entry))) (now (depths .entry)) (now (lasts .entry)) (now (added .entry)) start duration 0 (squares shape) (now (rec .entry)) (now (rec .exit))) × (LeftTo (plan shape (now (marks .entry))) (ground rules (now (beds .entry)) (now (roughness .entry)) (now (rates .entry))) (now (depths .entry)) (now (lasts .entry)) duration (now (worked .entry)) (squares shape) (now (left .exit))) × (now (senders .exit) ≡ senderRows (plan shape (now (marks .entry))) (ground rules (now (beds .entry)) (now (roughness .entry)) (now (rates .entry))) (now (depths .entry)) (now (lasts .entry)) duration) ⌝ }
+    requires { ⌜ Fills (plan (way .shape) (now marks)) (ground (way .rules) (now beds) (now roughness) (now rates)) (now depths) (now lasts) (now added) (span .start) (span .duration) (now rec) ⌝ }
+    requires { ⌜ (UnstirredBy (plan (way .shape) (now marks)) (now depths) (now lasts) (now added) (now worked)) × (length (now worked) ≡ way .shape .rows) × (length (now left) ≡ squares (way .shape)) × (length (now senders) ≡ way .shape .rows) ⌝ }
+    ensures { λ _. ⌜ (FilledOn (plan (way .shape) (now (marks .entry))) (ground (way .rules) (now (beds .entry)) (now (roughness .entry)) (now (rates .entry))) (now (depths .entry)) (now (lasts .entry)) (now (added .entry)) (span .start) (span .duration) 0 (squares (way .shape)) (now (rec .entry)) (now (rec .exit))) × (LeftTo (plan (way .shape) (now (marks .entry))) (ground (way .rules) (now (beds .entry)) (now (roughness .entry)) (now (rates .entry))) (now (depths .entry)) (now (lasts .entry)) (span .duration) (now (worked .entry)) (squares (way .shape)) (now (left .exit))) × (now (senders .exit) ≡ senderRows (plan (way .shape) (now (marks .entry))) (ground (way .rules) (now (beds .entry)) (now (roughness .entry)) (now (rates .entry))) (now (depths .entry)) (now (lasts .entry)) (span .duration)) ⌝ }
 {
-    let rows = shape.rows;
-    let columns = shape.columns;
+    let rows = way.shape.rows;
+    let columns = way.shape.columns;
     let mut row = 0;
     let mut first = 0;
     while row < rows {
+        let mask = worked[row];
+        let this = Row { first, mask };
         senders[row] = fill_row(
-            shape,
-            rules,
+            way,
+            span,
+            this,
             marks,
             beds,
             roughness,
@@ -313,10 +311,6 @@ fn fill_rows(
             depths,
             lasts,
             added,
-            start,
-            duration,
-            first,
-            worked[row],
             rec,
             left,
         );
@@ -342,9 +336,8 @@ fn clear(rec: &mut [u32])
 // Works the whole record, all squares from the water before the step, by either walk; tells the rows of the squares that were worked and of
 // those that send, and keeps what left each square that was worked.
 pub fn fill(
-    walk: Walk,
-    shape: Shape,
-    rules: Rules,
+    way: Way,
+    span: Span,
     marks: &[u8],
     beds: &[u32],
     roughness: &[u32],
@@ -352,24 +345,22 @@ pub fn fill(
     depths: &[u32],
     lasts: &[u32],
     added: &[u32],
-    held: u64,
-    start: u64,
-    duration: u64,
     rec: &mut [u32],
     left: &mut [u32],
     worked: &mut [u64],
     senders: &mut [u64],
 )
-    requires { ⌜ Fills (plan shape (now marks)) (ground rules (now beds) (now roughness) (now rates)) (now depths) (now lasts) (now added) start duration (now rec) ⌝ }
-    requires { ⌜ (held ≤ mostLength) × (length (now left) ≡ squares shape) × (length (now worked) ≡ shape .rows) × (length (now senders) ≡ shape .rows) ⌝ }
-    ensures { λ _. ⌜ (RecordFilled (plan shape (now (marks .entry))) (ground rules (now (beds .entry)) (now (roughness .entry)) (now (rates .entry))) (now (depths .entry)) (now (lasts .entry)) (now (added .entry)) held start duration (now (rec .exit))) × (now (worked .exit) ≡ workedRows walk (plan shape (now (marks .entry))) (now (depths .entry)) (now (lasts .entry)) (now (added .entry))) × (now (senders .exit) ≡ senderRows (plan shape (now (marks .entry))) (ground rules (now (beds .entry)) (now (roughness .entry)) (now (rates .entry))) (now (depths .entry)) (now (lasts .entry)) duration) × (LeftKept walk (plan shape (now (marks .entry))) (ground rules (now (beds .entry)) (now (roughness .entry)) (now (rates .entry))) (now (depths .entry)) (now (lasts .entry)) (now (added .entry)) duration (now (left .exit))) ⌝ }
+    requires { ⌜ Fills (plan (way .shape) (now marks)) (ground (way .rules) (now beds) (now roughness) (now rates)) (now depths) (now lasts) (now added) (span .start) (span .duration) (now rec) ⌝ }
+    requires { ⌜ (span .held ≤ mostLength) × (length (now left) ≡ squares (way .shape)) × (length (now worked) ≡ way .shape .rows) × (length (now senders) ≡ way .shape .rows) ⌝ }
+    ensures { λ _. ⌜ (RecordFilled (plan (way .shape) (now (marks .entry))) (ground (way .rules) (now (beds .entry)) (now (roughness .entry)) (now (rates .entry))) (now (depths .entry)) (now (lasts .entry)) (now (added .entry)) (span .held) (span .start) (span .duration) (now (rec .exit))) × (now (worked .exit) ≡ workedRows (way .walk) (plan (way .shape) (now (marks .entry))) (now (depths .entry)) (now (lasts .entry)) (now (added .entry))) × (now (senders .exit) ≡ senderRows (plan (way .shape) (now (marks .entry))) (ground (way .rules) (now (beds .entry)) (now (roughness .entry)) (now (rates .entry))) (now (depths .entry)) (now (lasts .entry)) (span .duration)) × (LeftKept (way .walk) (plan (way .shape) (now (marks .entry))) (ground (way .rules) (now (beds .entry)) (now (roughness .entry)) (now (rates .entry))) (now (depths .entry)) (now (lasts .entry)) (now (added .entry)) (span .duration) (now (left .exit))) ⌝ }
 {
     clear(rec);
-    put_head(rec, held, duration);
-    mark_worked(walk, shape, marks, depths, lasts, added, worked);
+    put_head(rec, span.held, span.duration);
+    let walk = way.walk;
+    mark_worked(walk, way.shape, marks, depths, lasts, added, worked);
     fill_rows(
-        shape,
-        rules,
+        way,
+        span,
         marks,
         beds,
         roughness,
@@ -377,8 +368,6 @@ pub fn fill(
         depths,
         lasts,
         added,
-        start,
-        duration,
         worked,
         rec,
         left,

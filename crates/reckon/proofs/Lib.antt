@@ -1,5 +1,7 @@
 pub mod CopyLaws
+pub mod Determined
 pub mod ListLaws
+pub mod OutcomeLaws
 pub mod PlaceLaws
 pub mod QuotientLaws
 pub mod RootLaws

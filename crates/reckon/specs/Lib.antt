@@ -1,6 +1,7 @@
 pub mod Copying
 pub mod Lists
 pub mod Numbers
+pub mod Outcomes
 pub mod Ranges
 pub mod Roots
 pub mod Soaking

@@ -84,6 +84,9 @@ RainJudged rows r = r ≡ tableFine rainKind rows
 abbrev pub InflowJudged : List ℕ → Bool → Type 0
 InflowJudged rows r = r ≡ tableFine inflowKind rows
 
+abbrev pub RowOn : List ℕ → ℕ → ℕ → ℕ → Bool → Type 0
+RowOn rows j r c x = x ≡ onSquare rows r c j
+
 abbrev pub RainBy : List ℕ → ℕ → ℕ → Type 0
 RainBy rows t r = r ≡ rainBy rows t
 

@@ -1,3 +1,4 @@
+pub mod Determined
 pub mod Fits
 pub mod RootSearch
 pub mod Rows

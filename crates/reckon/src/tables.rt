@@ -11,7 +11,7 @@ ghost use Prim.Native.Nat.{_+_, _*_, _/_, _≤_, _<_};
 ghost use lib.ListN.{length, getD};
 ghost use Rattle.reckon.specs.Tests.{pick};
 ghost use Rattle.reckon.specs.Ranges.{mostSide, lastClock, mostLitres, mostRain};
-ghost use Rattle.reckon.specs.Tables.{rainKind, inflowKind, ran, rowStart, rowGives, onSquare, rowFine, tableFine, RainJudged, InflowJudged, RainBy, InflowBy, RainAdded, InflowAdded};
+ghost use Rattle.reckon.specs.Tables.{rainKind, inflowKind, ran, rowStart, rowGives, onSquare, rowFine, tableFine, RainJudged, InflowJudged, RowOn, RainBy, InflowBy, RainAdded, InflowAdded};
 ghost use Rattle.reckon.specs.inner.Fits.{Fits};
 
 // A kind of table: how many numbers a row has, how many of them stand before its from, the most that its last may be.
@@ -90,9 +90,9 @@ pub fn rain_by(rows: &[u32], t: u64) -> u64
 }
 
 // Whether row j of an inflow table is for the square at row r, column c.
-fn row_on(rows: &[u32], j: usize, r: u64, c: u64) -> bool
+pub fn row_on(rows: &[u32], j: usize, r: u64, c: u64) -> bool
     requires { ⌜ j < length (now rows) / inflowKind .width ⌝ }
-    ensures { λ x. ⌜ x ≡ onSquare (now (rows .entry)) r c j ⌝ }
+    ensures { λ x. ⌜ RowOn (now (rows .entry)) j r c x ⌝ }
 {
     if number(rows, INFLOW_WIDTH * j) != r {
         return false;

@@ -1,3 +1,4 @@
+pub mod Determined
 pub mod DropLaws
 pub mod LengthLaws
 pub mod RuleLaws

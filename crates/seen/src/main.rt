@@ -1,9 +1,11 @@
 // Shows what is seen of a small meadow with closed squares, an exit, a dry and a still square: the arrow of each square, its speeds east
 // and north as bit patterns, and the wet rows; after a step, after another, and after a take-back, which must show the first step's
 // again. Then each refusal.
-use flood::fresh::fresh;
+use checks::fresh::fresh;
+use checks::fresh::fresh_run;
 use flood::step::step;
 use grid::squares::Shape;
+use grid::walks::Walk;
 use ledger::runs::Answer;
 use ledger::runs::Run;
 use ledger::take_back::take_back;
@@ -144,6 +146,7 @@ fn stepped(run: Run, depths: &mut [u32], lasts: &mut [u32], records: &mut [u32])
     let rates = RATES;
     let none: [u32; 0] = [];
     let answer = step(
+        Walk::All,
         SHAPE,
         RULES,
         run,
@@ -236,15 +239,10 @@ fn main() {
     let mut depths = DEPTHS;
     let mut lasts = [0u32; 9];
     let mut records = [0u32; ROOM];
-    let before = Run {
-        clock: 0,
-        length: 0,
-        outflow: 0,
-        kept: 0,
-        newest: 0,
-        soaked: 0,
-    };
-    let mut run = run_after(fresh(SHAPE, RULES, &marks, &mut lasts, &records), before);
+    let mut run = run_after(
+        fresh(SHAPE, RULES, &marks, &mut lasts, &records),
+        fresh_run(RULES, 1),
+    );
     tell_all(b"fresh\n", run, &depths, &records);
     run = stepped(run, &mut depths, &mut lasts, &mut records);
     tell_all(b"a step\n", run, &depths, &records);

@@ -23,8 +23,8 @@ use Rattle.rule.specs.declared.rules.Rules.{Rules}
 use Rattle.ledger.specs.Runs.{World, world}
 use Rattle.ledger.specs.Record.{recordSize, roomSlots}
 use Rattle.ledger.specs.declared.runs.Run.{Run}
-use Rattle.flood.specs.Refusals.{checkRefusals, runChecks}
-use Rattle.flood.specs.Run.{freshRun}
+use Rattle.checks.specs.Refusals.{checkRefusals, runChecks}
+use Rattle.checks.specs.Fresh.{freshRun}
 use Rattle.text.specs.Reading.{mostFields}
 use Rattle.sheet.specs.Lines.{rainWord, inflowWord}
 use Rattle.sheet.specs.Sheet.{Cells, Rooms, cellsRooms, planIn, givenIn, noLasts, noRecords, checksIn, rowsRead, tableRows, lineTwo, shapeOf, rainAt, rainRows, inflowAt, inflowRows, badLine, cellsFilled, allCells, noCells, said, checksOf}

@@ -17,8 +17,8 @@ use Rattle.rule.specs.Rules.{rulesFine}
 use Rattle.ledger.specs.Runs.{runValuesFine}
 use Rattle.ledger.specs.Record.{roomSlots}
 use Rattle.ledger.specs.Checks.{oneEach}
-use Rattle.flood.specs.Refusals.{checkRefusals}
-use Rattle.flood.specs.Run.{freshRun}
+use Rattle.checks.specs.Refusals.{checkRefusals}
+use Rattle.checks.specs.Fresh.{freshRun}
 use Rattle.sheet.specs.Lines.{runLine, asRun}
 use Rattle.sheet.specs.Sheet.{Rooms, roomsFine, lineOne, lineTwo, shapeOf, planIn, noRecords, cellsFilled, said, checksIn, checksOf}
 use Rattle.sheet.proofs.JudgeLaws.{one-slot}

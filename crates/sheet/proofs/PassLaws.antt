@@ -19,9 +19,9 @@ use Rattle.grid.specs.Marks.{closed}
 use Rattle.grid.proofs.MarkLaws.{closed-past}
 use Rattle.ledger.specs.Runs.{plan, world}
 use Rattle.ledger.specs.Record.{roomSlots}
-use Rattle.moves.specs.Given.{ground, given}
-use Rattle.flood.specs.Refusals.{runChecks}
-use Rattle.flood.specs.Run.{freshRun}
+use Rattle.checks.specs.Given.{ground, given}
+use Rattle.checks.specs.Refusals.{runChecks}
+use Rattle.checks.specs.Fresh.{freshRun}
 use Rattle.text.proofs.ReadingLaws.{by-lt}
 use Rattle.sheet.specs.Lines.{rainWord, inflowWord}
 use Rattle.sheet.specs.Sheet.{Rooms, lineOne, lineTwo, shapeOf, cellsAt, rainAt, rainRows, inflowAt, inflowRows, cellFrom, closedFrom, cellsFilled, said, roomsFilled}

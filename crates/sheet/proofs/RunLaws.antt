@@ -18,11 +18,11 @@ use Rattle.ledger.specs.Runs.{world, seenOf, runValuesFine}
 use Rattle.ledger.specs.Flows.{shut}
 use Rattle.ledger.specs.Record.{roomSlots, ringOf}
 use Rattle.ledger.specs.Checks.{oneEach, watersFine}
-use Rattle.moves.specs.inner.Ready.{Ready}
-use Rattle.moves.specs.Given.{ground, given}
-use Rattle.flood.specs.Refusals.{squareGroundFine, groundsFine, checkRefusals, runChecks, stepChecks}
-use Rattle.flood.specs.Run.{freshRun}
-use Rattle.flood.proofs.CheckLaws.{ready, run-checks-step}
+use Rattle.checks.specs.inner.Ready.{Ready}
+use Rattle.checks.specs.Given.{ground, given}
+use Rattle.checks.specs.Refusals.{squareGroundFine, groundsFine, checkRefusals, runChecks, stepChecks}
+use Rattle.checks.specs.Fresh.{freshRun}
+use Rattle.checks.proofs.CheckLaws.{ready, run-checks-step}
 use Rattle.sheet.specs.Sheet.{Rooms, planIn, givenIn, startIn, checksIn}
 
 module _ (shape : Shape) (r : Rules) (held : Rooms) (end : ℕ) (e : checksIn shape r held end ≡ 0) where

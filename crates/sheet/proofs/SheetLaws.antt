@@ -16,7 +16,7 @@ use Rattle.grid.specs.Squares.{ShapeInRange, squares}
 use Rattle.grid.specs.declared.squares.Shape.{Shape}
 use Rattle.grid.proofs.SquareLaws.{ranges-of-fine}
 use Rattle.rule.specs.declared.rules.Rules.{Rules}
-use Rattle.flood.proofs.CheckLaws.{ready, run-checks-step}
+use Rattle.checks.proofs.CheckLaws.{ready, run-checks-step}
 use Rattle.text.specs.Reading.{mostFields}
 use Rattle.text.proofs.ReadingLaws.{by-test}
 use Rattle.sheet.specs.Lines.{rainWord, inflowWord, gridLine}

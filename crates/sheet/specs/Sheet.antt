@@ -15,9 +15,9 @@ use Rattle.grid.specs.declared.squares.Shape.{Shape}
 use Rattle.rule.specs.declared.rules.Rules.{Rules}
 use Rattle.ledger.specs.Runs.{Plan, World, plan, world}
 use Rattle.ledger.specs.Record.{recordSize, roomSlots}
-use Rattle.moves.specs.Given.{Given, ground, given}
-use Rattle.flood.specs.Refusals.{runChecks}
-use Rattle.flood.specs.Run.{freshRun}
+use Rattle.checks.specs.Given.{Given, ground, given}
+use Rattle.checks.specs.Refusals.{runChecks}
+use Rattle.checks.specs.Fresh.{freshRun}
 use Rattle.text.specs.Reading.{lineOf, lineFrom}
 use Rattle.text.specs.declared.reading.Fields.{Fields}
 use Rattle.sheet.specs.Lines.{gridLine, runLine, cellLine, rainWord, inflowWord}

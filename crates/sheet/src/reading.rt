@@ -5,13 +5,12 @@ use crate::lines::run_line;
 use crate::rooms::count_rows;
 use crate::rooms::fill_cells;
 use crate::rooms::fill_rows;
-use flood::checks::check;
-use flood::fresh::fresh_run;
+use checks::fresh::fresh_run;
+use checks::refusals::check;
 use grid::squares::MOST_SQUARES;
 use grid::squares::Shape;
 use grid::squares::shape_fine;
 use grid::squares::squares_of;
-use ledger::record::MOST_RECORD;
 use ledger::record::record_size;
 use reckon::ranges::MOST_TABLE_ROWS;
 use reckon::ranges::side_fine;
@@ -200,9 +199,7 @@ fn judge(
     ensures { λ r. ⌜ r ≡ checksIn shape rules (rooms (now (marks .entry)) (now (beds .entry)) (now (roughness .entry)) (now (rates .entry)) (now (depths .entry)) (now (rain .entry)) (now (inflow .entry))) end ⌝ }
 {
     let lasts = [0u32; MOST_SQUARES];
-    let records = [0u32; MOST_RECORD];
     let squares = squares_of(shape);
-    let size = record_size(shape);
     let run = fresh_run(rules, 1);
     check(
         shape,
@@ -217,7 +214,7 @@ fn judge(
         inflow,
         depths,
         &lasts[..squares],
-        &records[..size],
+        record_size(shape),
     )
 }
 

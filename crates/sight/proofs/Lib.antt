@@ -1,5 +1,6 @@
 pub mod Alike
 pub mod ArrowLaws
+pub mod Determined
 pub mod RefusalLaws
 pub mod SpeedLaws
 pub mod WetLaws

@@ -22,7 +22,7 @@ use grid::squares::WEST;
 use grid::squares::beside_on;
 use grid::squares::square_at;
 use grid::squares::squares_of;
-use ledger::checks::times_fine;
+use ledger::lent::times_fine;
 use ledger::record::lasted;
 use ledger::record::leaving;
 use ledger::record::record_size;

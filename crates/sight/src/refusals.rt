@@ -9,8 +9,8 @@ ghost use Rattle.sight.specs.Refusals.{depthsFine, sharedRefusals};
 use grid::marks::marks_fine;
 use grid::squares::Shape;
 use grid::squares::shape_fine;
-use ledger::checks::one_each;
-use ledger::checks::waters_fine;
+use ledger::lent::one_each;
+use ledger::lent::waters_fine;
 
 // Refusal 1: the shape is in range, and marks and depths have one number a square.
 fn sizes_fine(shape: Shape, marks: &[u8], depths: &[u32]) -> bool

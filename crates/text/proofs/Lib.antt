@@ -1,4 +1,6 @@
 pub mod ApartLaws
+pub mod Determined
+pub mod EndLaws
 pub mod LineLaws
 pub mod ReadingLaws
 pub mod RoundTrip

@@ -1,4 +1,5 @@
 pub mod Bytes
+pub mod Lines
 pub mod Reading
 pub mod Worked
 pub mod Writing

@@ -1,5 +1,6 @@
 pub mod Along
 pub mod AloneLaws
+pub mod Determined
 pub mod Example
 pub mod RingLaws
 pub mod RoomLaws

@@ -8,9 +8,8 @@ use crate::meadow::show_run;
 use crate::printing::end_line;
 use crate::printing::field;
 use crate::printing::words;
-use flood::bounds::Bounds;
-use flood::bounds::step_bounds;
-use rule::rules::Rules;
+use checks::bounds::Bounds;
+use checks::bounds::step_bounds;
 
 // A line: both figures, that they do not hold, or the refusal's number.
 fn tell_bounds(answer: Bounds) {
@@ -32,16 +31,8 @@ fn tell_bounds(answer: Bounds) {
 // Neither length divides U: 4 steps of the shortest and 2 of the longest come to a span.
 fn uneven() -> Meadow {
     let mut m = sheet(ROOM);
-    let rules = Rules {
-        square_side: 1,
-        tolerance: 100,
-        shortest: 300,
-        longest: 700,
-        update: 1000,
-        edge: 10_000,
-        edition: 1,
-    };
-    m.rules = rules;
+    m.rules.shortest = 300;
+    m.rules.longest = 700;
     m
 }
 

@@ -1,36 +1,28 @@
 // A row of 64 columns is taken, and one of 65 refused with 1.
+use crate::meadow::ROOM;
 use crate::meadow::number_of;
 use crate::meadow::run_after;
+use crate::meadow::sheet;
 use crate::printing::end_line;
 use crate::printing::field;
 use crate::printing::run_fields;
+use checks::fresh::fresh_run;
 use flood::step::step;
 use grid::squares::Shape;
+use grid::walks::Walk;
 use ledger::runs::Answer;
 use ledger::runs::Run;
 use rule::rules::Rules;
 
 fn rules() -> Rules {
-    Rules {
-        square_side: 1,
-        tolerance: 0,
-        shortest: 1000,
-        longest: 1000,
-        update: 1000,
-        edge: 10_000,
-        edition: 1,
-    }
+    let m = sheet(ROOM);
+    let mut rules = m.rules;
+    rules.tolerance = 0;
+    rules
 }
 
 fn start() -> Run {
-    Run {
-        clock: 0,
-        length: 1000,
-        outflow: 0,
-        kept: 0,
-        newest: 0,
-        soaked: 0,
-    }
+    fresh_run(rules(), 1)
 }
 
 // The answer, and the first two depths.
@@ -58,6 +50,7 @@ fn columns_64() {
     let mut lasts = [0u32; 64];
     let mut records = [0u32; 450];
     let answer = step(
+        Walk::All,
         shape,
         rules(),
         start(),
@@ -90,6 +83,7 @@ fn columns_65() {
     let mut lasts = [0u32; 65];
     let mut records = [0u32; 457];
     let answer = step(
+        Walk::All,
         shape,
         rules(),
         start(),

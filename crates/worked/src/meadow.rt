@@ -4,11 +4,13 @@ use crate::printing::field;
 use crate::printing::fields;
 use crate::printing::run_fields;
 use crate::printing::words;
-use flood::fresh::fresh;
+use checks::fresh::fresh;
+use checks::fresh::fresh_run;
 use flood::run::Ran;
 use flood::run::run_to;
 use flood::step::step;
 use grid::squares::Shape;
+use grid::walks::Walk;
 use ledger::runs::Answer;
 use ledger::runs::Run;
 use ledger::take_back::take_back;
@@ -38,28 +40,22 @@ pub(crate) struct Meadow {
 
 // The sheet of document 01 with a closed row below it, and a room for `room` numbers, each 7.
 pub(crate) fn sheet(room: usize) -> Meadow {
+    let rules = Rules {
+        square_side: 1,
+        tolerance: 100,
+        shortest: 1000,
+        longest: 1000,
+        update: 1000,
+        edge: 10_000,
+        edition: 1,
+    };
     Meadow {
         shape: Shape {
             rows: 2,
             columns: 2,
         },
-        rules: Rules {
-            square_side: 1,
-            tolerance: 100,
-            shortest: 1000,
-            longest: 1000,
-            update: 1000,
-            edge: 10_000,
-            edition: 1,
-        },
-        run: Run {
-            clock: 0,
-            length: 1000,
-            outflow: 0,
-            kept: 0,
-            newest: 0,
-            soaked: 0,
-        },
+        rules: rules,
+        run: fresh_run(rules, 1),
         marks: [1, 1, 0, 0],
         beds: [0, 0, 0, 0],
         roughness: [100, 100, 0, 0],
@@ -123,6 +119,7 @@ fn step_in(
         return Answer::Refused(0);
     }
     step(
+        Walk::All,
         shape,
         rules,
         run,
@@ -162,6 +159,7 @@ fn run_in(
         };
     }
     run_to(
+        Walk::All,
         shape,
         rules,
         run,

@@ -10,7 +10,6 @@ use crate::meadow::stepped;
 use crate::meadow::taken_back;
 use crate::printing::words;
 use crate::same::same_state;
-use rule::rules::Rules;
 
 fn show_fresh(m: Meadow) -> Meadow {
     let new = freshened(m);
@@ -72,16 +71,11 @@ pub(crate) fn refused_midway() {
 // A closed square, an exit, rain and inflow.
 fn varied() -> Meadow {
     let mut m = sheet(ROOM);
-    let rules = Rules {
-        square_side: 2,
-        tolerance: 10,
-        shortest: 100,
-        longest: 2000,
-        update: 2500,
-        edge: 10_000,
-        edition: 1,
-    };
-    m.rules = rules;
+    m.rules.square_side = 2;
+    m.rules.tolerance = 10;
+    m.rules.shortest = 100;
+    m.rules.longest = 2000;
+    m.rules.update = 2500;
     let marks = [1, 1, 0, 2];
     m.marks = marks;
     let beds = [2000, 1500, 0, 0];
@@ -115,16 +109,11 @@ pub(crate) fn three_records() {
 // Other rules, beds and tables.
 fn second(m: Meadow) -> Meadow {
     let mut new = m;
-    let rules = Rules {
-        square_side: 5,
-        tolerance: 0,
-        shortest: 50,
-        longest: 400,
-        update: 300,
-        edge: 10_000,
-        edition: 1,
-    };
-    new.rules = rules;
+    new.rules.square_side = 5;
+    new.rules.tolerance = 0;
+    new.rules.shortest = 50;
+    new.rules.longest = 400;
+    new.rules.update = 300;
     let beds = [0, 40_000, 0, 60_000];
     new.beds = beds;
     let rain = [0, 9000, 0];
@@ -137,16 +126,11 @@ fn second(m: Meadow) -> Meadow {
 // And others again.
 fn third(m: Meadow) -> Meadow {
     let mut new = m;
-    let rules = Rules {
-        square_side: 1,
-        tolerance: 5000,
-        shortest: 1,
-        longest: 60_000,
-        update: 3_600_000,
-        edge: 10_000,
-        edition: 1,
-    };
-    new.rules = rules;
+    new.rules.square_side = 1;
+    new.rules.tolerance = 5000;
+    new.rules.shortest = 1;
+    new.rules.longest = 60_000;
+    new.rules.update = 3_600_000;
     let beds = [1_000_000, 0, 0, 5];
     new.beds = beds;
     let roughness = [1, 10_000, 0, 1];

@@ -2,9 +2,9 @@
 -- Assumes nothing.
 use Rattle.ledger.specs.Runs.{Plan}
 use Rattle.ledger.specs.inner.Engine.{StepRule}
-use Rattle.moves.specs.Given.{Given}
+use Rattle.checks.specs.Given.{Given}
 use Rattle.moves.specs.Moves.{stepMoves}
-use Rattle.flood.specs.Refusals.{stepChecks}
+use Rattle.checks.specs.Refusals.{stepChecks}
 
 -- the step as a rule of the ledger's engine
 abbrev pub floodRule : Plan → StepRule Given

@@ -4,7 +4,7 @@ use mathlib.Core.Path.{_≡_}
 use mathlib.Core.List.{List}
 use Prim.Native.Nat.{ℕ, _-_}
 use Rattle.ledger.specs.Runs.{Plan, World, world}
-use Rattle.moves.specs.Given.{Given}
+use Rattle.checks.specs.Given.{Given}
 use Rattle.flood.specs.Run.{ended, runFrom}
 use Rattle.flood.specs.declared.run.Ran.{Ran}
 

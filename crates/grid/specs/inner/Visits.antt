@@ -1,24 +1,16 @@
--- A walk over the set columns of a mask, for laws about loops.
+-- A walk over the columns of a row that a mask has, for laws about loops: nothing happens at those that it passes.
 -- Assumes nothing.
-use Prim.Native.Nat.{ℕ, zero, suc, _+_}
-use lib.Dec.{ltb}
-use Rattle.reckon.specs.Tests.{pick}
-use Rattle.grid.specs.Masks.{bits, bitAt, nextSet}
+use mathlib.Core.Path.{_≡_}
+use mathlib.Core.Bool.{true, false}
+use Prim.Native.Nat.{ℕ, _+_, _≤_, _<_}
+use Rattle.grid.specs.Masks.{bitAt}
 
--- f of each column below n in turn
-unfoldable pub foldBelow : {A : Type 0} → ℕ → (ℕ → A → A) → A → A
-foldBelow zero f a = a
-foldBelow (suc n) f a = f n (foldBelow n f a)
+-- what holds of the columns before one that the mask does not have holds of that one too
+abbrev pub Passes : ℕ → ℕ → (ℕ → Type 0) → Type 0
+Passes mask columns holds = (column : ℕ) → column < columns → bitAt mask column ≡ false → holds column → holds (column + 1)
 
--- f at a set column, nothing at any other
-abbrev pub onSet : {A : Type 0} → ℕ → (ℕ → A → A) → ℕ → A → A
-onSet mask f c a = pick (bitAt mask c) (f c a) a
-
--- f of each set column in turn, from column c on: the next set one, and then on from the column after it, at most n of them
-unfoldable pub walkFrom : {A : Type 0} → ℕ → ℕ → (ℕ → A → A) → ℕ → A → A
-walkFrom mask zero f c a = a
-walkFrom mask (suc n) f c a = pick (ltb (nextSet mask c) bits) (walkFrom mask n f (nextSet mask c + 1) (f (nextSet mask c) a)) a
-
--- "the wet walk": over the whole mask
-abbrev pub walk : {A : Type 0} → ℕ → (ℕ → A → A) → A → A
-walk mask f a = walkFrom mask bits f 0 a
+-- the walk at a column that the mask has, or at the row's end, and what holds of all columns before it
+pub record Visits (mask columns : ℕ) (holds : ℕ → Type 0) (column : ℕ) : Type 0 where
+  pub within : column ≤ columns
+  pub visited : column < columns → bitAt mask column ≡ true
+  pub held : holds column

@@ -17,8 +17,8 @@ use Rattle.grid.specs.declared.squares.Shape.{Shape}
 use Rattle.rule.specs.declared.rules.Rules.{Rules}
 use Rattle.ledger.specs.Runs.{Plan}
 use Rattle.ledger.specs.Flows.{shut}
-use Rattle.moves.specs.Given.{Given, given, ground}
-use Rattle.moves.specs.inner.Ready.{TablesInRange}
+use Rattle.checks.specs.Given.{Given, given, ground}
+use Rattle.checks.specs.inner.Ready.{TablesInRange}
 use Rattle.moves.specs.Moves.{addedFor}
 
 -- ---- rain
@@ -47,8 +47,8 @@ module _ (s : Shape) (r : Rules) (inflow : List ℕ) (start end rain : ℕ) wher
   amountAt i = rain + inflowAdded inflow (i / s .columns) (i % s .columns) (r .«square_side») start end
 
   -- none of the first j rows is for a square
-  unfoldable pub unreached : ℕ → ℕ → Bool
-  unreached j i = allBelow j (λ k. not (onSquare inflow (i / s .columns) (i % s .columns) k))
+  unfoldable pub unpoured : ℕ → ℕ → Bool
+  unpoured j i = allBelow j (λ k. not (onSquare inflow (i / s .columns) (i % s .columns) k))
 
   -- the square of row j
   abbrev pub rowSquare : ℕ → ℕ
@@ -72,7 +72,7 @@ module _ (s : Shape) (r : Rules) (inflow : List ℕ) (start end rain : ℕ) wher
 
   pub record PouredAll (old : List ℕ) (done : Bool) (new : List ℕ) : Type 0 where
     pub fits-is : done ≡ allBelow (length inflow / inflowWords) (λ j. leb (amountAt (rowSquare j)) mostDepth)
-    pub stored : done ≡ true → new ≡ filled (squares s) (unreached (length inflow / inflowWords)) amountAt old
+    pub stored : done ≡ true → new ≡ filled (squares s) (unpoured (length inflow / inflowWords)) amountAt old
     pub long : length new ≡ length old
 
 -- ---- both

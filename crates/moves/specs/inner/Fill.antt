@@ -21,12 +21,11 @@ use Rattle.rule.specs.declared.rules.Rules.{Rules}
 use Rattle.ledger.specs.Runs.{Plan}
 use Rattle.ledger.specs.Flows.{shut, gone}
 use Rattle.ledger.specs.Record.{recordOf, recordSize, wordPlace, SquarePut}
-use Rattle.ledger.specs.inner.Settle.{sends}
-use Rattle.ledger.specs.inner.Walks.{Begun}
-use Rattle.moves.specs.Given.{Ground, ground}
+use Rattle.ledger.specs.inner.Walks.{RecordedTo, sends}
+use Rattle.checks.specs.Given.{Ground, ground}
 use Rattle.moves.specs.Drops.{dropsOf}
 use Rattle.moves.specs.Moves.{squareCandidates, candidates, leavesFor, soakedFor}
-use Rattle.moves.specs.inner.Ready.{WaterInRange}
+use Rattle.checks.specs.inner.Ready.{WaterInRange}
 
 -- ---- the length
 
@@ -41,12 +40,6 @@ leastBelow p o depths n = leastFrom (o .rules .longest) (joined n (squareCandida
 -- the length that a step at this clock holds, the run having held another
 abbrev pub LengthWorked : Plan → Ground → List ℕ → ℕ → ℕ → ℕ → Type 0
 LengthWorked p o depths clock held r = r ≡ lengthAt (o .rules) clock held (candidates p o depths)
-
--- a row's columns up to the next one with water are closed or dry, and that one is not closed
-pub record DryTo (p : Plan) (depths : List ℕ) (first column next : ℕ) : Type 0 where
-  pub ordered : column ≤ next
-  pub within : next ≤ p .shape .columns
-  pub dry : (c : ℕ) → column ≤ c → c < next → shut p (first + c) ≡ false → getD depths (first + c) 0 ≡ 0
 
 -- ---- the record
 
@@ -75,7 +68,7 @@ pub record FilledOne (p : Plan) (o : Ground) (depths lasts added : List ℕ) (st
 
 -- the head and the first n squares stand, and each word after them is 0
 pub record FilledTo (p : Plan) (o : Ground) (depths lasts added : List ℕ) (held start ms n : ℕ) (rec : List ℕ) : Type 0 where
-  pub begun : Begun p held ms (leavesFor p o depths lasts ms) (λ i. getD lasts i 0) (λ i. getD added i 0) (soakedFor p o depths lasts start ms) n rec
+  pub recorded : RecordedTo p held ms (leavesFor p o depths lasts ms) (λ i. getD lasts i 0) (λ i. getD added i 0) (soakedFor p o depths lasts start ms) n rec
   pub clean : (k : ℕ) → wordPlace n north ≤ k → getD rec k 0 ≡ 0
 
 -- the squares from one up to another done: a record that stood up to the one stands up to the other, whatever length it holds
@@ -133,14 +126,14 @@ module _ (walk : Walk) (p : Plan) (depths lasts added : List ℕ) where
 
 -- nothing to work or to write of a square, if it is not closed; and so where a mask of a row, or those of all rows, have no bit
 module _ (p : Plan) (depths lasts added : List ℕ) where
-  abbrev pub IdleAt : ℕ → Type 0
-  IdleAt i = shut p i ≡ false → (getD depths i 0 ≡ 0) × (getD lasts i 0 ≡ 0) × (getD added i 0 ≡ 0)
+  abbrev pub UnstirredAt : ℕ → Type 0
+  UnstirredAt i = shut p i ≡ false → (getD depths i 0 ≡ 0) × (getD lasts i 0 ≡ 0) × (getD added i 0 ≡ 0)
 
-  abbrev pub IdleRow : ℕ → ℕ → Type 0
-  IdleRow first mask = (column : ℕ) → column < p .shape .columns → bitAt mask column ≡ false → IdleAt (first + column)
+  abbrev pub UnstirredRow : ℕ → ℕ → Type 0
+  UnstirredRow first mask = (column : ℕ) → column < p .shape .columns → bitAt mask column ≡ false → UnstirredAt (first + column)
 
-  abbrev pub IdleBy : List ℕ → Type 0
-  IdleBy rows = (i : ℕ) → i < squares (p .shape) → bitOf (p .shape) rows i ≡ false → IdleAt i
+  abbrev pub UnstirredBy : List ℕ → Type 0
+  UnstirredBy rows = (i : ℕ) → i < squares (p .shape) → bitOf (p .shape) rows i ≡ false → UnstirredAt i
 
 -- ---- what the walk tells
 

@@ -1,7 +1,6 @@
 -- `calls::library::after_run_to` meets its contract: what the call promises is what its caller has.
 -- Assumes nothing.
 use borrow.Author.Needs.{needs}
-use Rattle.grid.specs.declared.walks.Walk.the-variants.{All}
 use Rattle.calls.proofs.LibraryLaws.{after-run}
 use Rattle.calls.proofs.library.after_run_to.Statement.{statement}
 use Rattle.calls.proofs.library.after_run_to.Tie as tie
@@ -19,7 +18,7 @@ same-length-3 : tie.Need-same-length-3
 same-length-3 c = search needs
 
 returns : tie.Need-returns
-returns c = search (after-run All)
+returns c = after-run (c .before .before .before .before .before .before .before .before .before .before .before .before .before .before .before .before .before .before .before .args .walk) (c .before .before .before .before .before .before .run-to .ensures)
 
 pub after-run-to-spec : {M : Type 1} → statement M
 after-run-to-spec =

@@ -29,8 +29,8 @@ rules-from-requires c κs = search needs
 run-from-requires : tie.Need-run-from-requires
 run-from-requires c κs = search needs
 
-run-to-by-requires : tie.Need-run-to-by-requires
-run-to-by-requires c κs = search needs
+run-to-requires : tie.Need-run-to-requires
+run-to-requires c κs = search needs
 
 tell-ran-requires : tie.Need-tell-ran-requires
 tell-ran-requires c κs = search needs
@@ -61,7 +61,7 @@ returns-4 c =
     run-told _ _ _ _ _ _ _
     (each-every _ (eq-eqb _ _ (at-if2 .before .if1 .left), (eq-eqb _ _ (at-if2 .if2 .left), (eq-eqb _ _ (at-if3 .if3 .left), tt))))
     (plan-of (at-rules .before .shape-from .ensures)) (given-of (at-rules .rules-from .ensures)) (world-of (at-run .run-from .ensures))
-    (at-run-to .run-to-by .ensures) (at-tell-ran .tell-ran .ensures)
+    (at-run-to .run-to .ensures) (at-tell-ran .tell-ran .ensures)
 
 pub run-told-spec : {M : Type 1} → statement M
 run-told-spec =
@@ -73,7 +73,7 @@ run-told-spec =
     shape-from-requires
     rules-from-requires
     run-from-requires
-    run-to-by-requires
+    run-to-requires
     tell-ran-requires
     same-length
     same-length-2

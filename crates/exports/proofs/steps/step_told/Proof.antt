@@ -25,8 +25,8 @@ rules-from-requires c κs = search needs
 run-from-requires : tie.Need-run-from-requires
 run-from-requires c κs = search needs
 
-step-by-requires : tie.Need-step-by-requires
-step-by-requires c κs = search needs
+step-requires : tie.Need-step-requires
+step-requires c κs = search needs
 
 tell-answer-requires : tie.Need-tell-answer-requires
 tell-answer-requires c κs = search needs
@@ -53,7 +53,7 @@ returns-3 c =
     step-told _ _ _ _ _
     (each-every _ (eq-eqb _ _ (at-if2 .before .if1 .left), (eq-eqb _ _ (at-if2 .if2 .left), tt)))
     (plan-of (at-rules .before .shape-from .ensures)) (given-of (at-rules .rules-from .ensures)) (world-of (at-run .run-from .ensures))
-    (at-step .step-by .ensures) (at-tell-answer .tell-answer .ensures)
+    (at-step .step .ensures) (at-tell-answer .tell-answer .ensures)
 
 pub step-told-spec : {M : Type 1} → statement M
 step-told-spec =
@@ -64,7 +64,7 @@ step-told-spec =
     shape-from-requires
     rules-from-requires
     run-from-requires
-    step-by-requires
+    step-requires
     tell-answer-requires
     same-length
     same-length-2

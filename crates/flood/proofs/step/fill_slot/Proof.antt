@@ -1,79 +1,55 @@
 -- `flood::step::fill_slot` meets its contract: the slot after the newest lies in the room, and what is filled there is the record.
 -- Assumes nothing.
 use mathlib.Core.Path.{_≡_, ap, _∙_}
-use Prim.Native.Nat.{_+_, _*_, _≤_, _<_}
+use Prim.Native.Nat.{_+_, _≤_}
 use native.Mathlib.Omega.{arith}
 use lib.ListN.{length}
-use Rattle.trials.specs.Ring.{slotStart}
 use Rattle.ledger.specs.Runs.{Plan, World, plan, world}
-use Rattle.ledger.specs.Record.{roomSlots}
-use Rattle.ledger.proofs.RecordLaws.{slots-of}
 use Rattle.ledger.proofs.ReadBack.{record-long}
-use Rattle.ledger.proofs.SettleLaws.{next-fits}
-use Rattle.ledger.proofs.SureLaws.{next-is}
-use Rattle.flood.proofs.StepLaws.{slot-written}
+use Rattle.flood.proofs.StepLaws.{newest-in, place-is, next-part, part-ends, slot-written}
 use borrow.Author.Needs.{needs}
 use Rattle.flood.proofs.step.fill_slot.Statement.{statement}
 use Rattle.flood.proofs.step.fill_slot.Tie as tie
 
 -- ---- the places, each from the one after it
 
-abbrev place-at : tie.After-fill → tie.After-slot-start
-place-at c = c .before .before .before .before .before
+abbrev sized : tie.After-fill → tie.After-record-size
+sized c = c .before .before .before .before .before
 
-abbrev slot-at : tie.After-slot-start → tie.After-slot-after
-slot-at c = c .before
+abbrev found : tie.After-record-size → tie.After-next-place
+found c = c .before
 
-abbrev slots-at : tie.After-slot-after → tie.After-slots-in
-slots-at c = c .before
-
-abbrev size-at : tie.After-slots-in → tie.After-record-size
-size-at c = c .before
-
-abbrev start : tie.After-record-size → tie.Start
-start c = c .before .before .before .before .before .before .before .before .before .before .before .before
+abbrev start : tie.After-next-place → tie.Start
+start c = c .before .before .before .before .before .before .before .before .before .before .before .before .before
 
 -- ---- what is known there
 
-abbrev p : tie.After-record-size → Plan
-p c = plan (start c .args .shape) (start c .args .marks .now)
+abbrev p : tie.Start → Plan
+p s = plan (s .args .way .shape) (s .args .marks .now)
 
-abbrev w : tie.After-record-size → World
-w c = world (start c .args .depths .now) (start c .args .lasts .now) (start c .args .records .now) (start c .args .run)
+abbrev w : tie.Start → World
+w s = world (s .args .depths .now) (s .args .lasts .now) (s .args .records .now) (s .args .run)
 
-slots-are : (c : tie.After-slots-in) → c .slots-in .result ≡ roomSlots (p (size-at c)) (w (size-at c) .records)
-slots-are c = slots-of (p (size-at c)) (w (size-at c) .records) (size-at c .record-size .ensures) (c .slots-in .ensures)
-
-slot-fits :
-    (c : tie.After-slot-after) → let z = size-at (slots-at c) in
-    slotStart (z .record-size .result) (c .slot-after .result) + z .record-size .result ≤ length (w z .records)
-slot-fits c =
-    let z = size-at (slots-at c) in
-    next-fits (p z) (w z .records) (z .record-size .ensures) (slots-at c .slots-in .ensures) (start z .pre .1 .0) (c .slot-after .ensures)
-
--- a lent room is never so long
-room-fits : (s : tie.Start) → 4 * length (s .args .records .now) < 18446744073709551616
-room-fits s = omega (arith, s .good .1 .1 .1 .1 .1 .1 .1 .1 .1 .1 .1 .1)
+ends : (c : tie.After-record-size) → found c .next-place .result + c .record-size .result ≤ length (start (found c) .args .records .now)
+ends c =
+    let s = start (found c) in
+    part-ends (p s) (w s) (c .record-size .ensures) (place-is (p s) (w s) (found c .next-place .ensures)) (s .pre .1 .0)
 
 -- ---- the needs
 
+next-place-requires : tie.Need-next-place-requires
+next-place-requires c κs =
+    let s = c .before .before .before .before .before .before .before .before .before .before .before .before in
+    (s .pre .0 .flows .lies .sited .fine, newest-in (p s) (w s) (s .pre .1 .0))
+
 record-size-requires : tie.Need-record-size-requires
-record-size-requires c κs = search needs
-
-slots-in-requires : tie.Need-slots-in-requires
-slots-in-requires c κs = search needs
-
-slot-after-requires : tie.Need-slot-after-requires
-slot-after-requires c κs = omega (arith, slots-are c, start (size-at c) .pre .1 .0)
-
-slot-start-requires : tie.Need-slot-start-requires
-slot-start-requires c κs = omega (arith, slot-fits c, room-fits (start (size-at (slots-at c))))
+record-size-requires c κs = start c .pre .0 .flows .lies .sited .fine
 
 add-stop : tie.Need-add-stop
-add-stop c = omega (arith, slot-fits (slot-at c), c .slot-start .ensures, room-fits (start (size-at (slots-at (slot-at c)))))
+add-stop c = omega (arith, ends c, start (found c) .good .1 .1 .1 .1 .1 .1 .1 .1)
 
 mul-fill : tie.Need-mul-fill
-mul-fill c = omega (arith, slot-fits (slot-at c), c .slot-start .ensures, room-fits (start (size-at (slots-at (slot-at c)))))
+mul-fill c = omega (arith, ends c, start (found c) .good .1 .1 .1 .1 .1 .1 .1 .1)
 
 sub-fill : tie.Need-sub-fill
 sub-fill c = search needs
@@ -82,22 +58,22 @@ part-fill-start : tie.Need-part-fill-start
 part-fill-start c = search needs
 
 part-fill-end : tie.Need-part-fill-end
-part-fill-end c = omega (arith, slot-fits (slot-at c), c .slot-start .ensures, room-fits (start (size-at (slots-at (slot-at c)))))
+part-fill-end c = ends c
 
 fill-requires : tie.Need-fill-requires
 fill-requires c κs =
-    let place = c .before .before .before .before in
-    let size = size-at (slots-at (slot-at place)) in
-    let s = start size in
-    let part = next-is (p size) (w size) (size .record-size .ensures) (slots-at (slot-at place) .slots-in .ensures) (slot-at place .slot-after .ensures) (place .slot-start .ensures) in (
+    let at = c .before .before .before .before in
+    let s = start (found at) in
+    let rooms = s .pre .1 .2 in (
       record {
         flows = s .pre .0 .flows;
         added-long = s .pre .0 .added-long;
         duration-for = s .pre .0 .duration-for;
         end-to = s .pre .0 .end-to;
-        record-long = ap length part ∙ s .pre .0 .record-long;
+        record-long =
+            ap length (next-part (p s) (w s) (at .record-size .ensures) (place-is (p s) (w s) (found at .next-place .ensures))) ∙ s .pre .0 .record-long;
       },
-      (s .pre .1 .1, s .pre .1 .2, s .pre .1 .3, s .pre .1 .4),
+      (s .pre .1 .1, rooms .left-long, rooms .worked-long, rooms .senders-long),
     )
 
 same-length : tie.Need-same-length
@@ -115,11 +91,12 @@ same-length-4 c = search needs
 returns : tie.Need-returns
 returns c =
     let fill = c .before .before .before .before .before .before .before .before in
-    let place = place-at fill in
-    let slot = slot-at place in
-    let size = size-at (slots-at slot) in
+    let at = sized fill in
+    let s = start (found at) in
     record {
-      stored = slot-written (p size) (w size) (size .record-size .ensures) (slots-at slot .slots-in .ensures) (slot .slot-after .ensures) (place .slot-start .ensures) (fill .fill .ensures .0) (record-long (p size) _ _ _ _ _ _);
+      stored =
+          slot-written (p s) (w s) (at .record-size .ensures) (place-is (p s) (w s) (found at .next-place .ensures)) (fill .fill .ensures .0)
+          (record-long (p s) _ _ _ _ _ _);
       worked-are = fill .fill .ensures .1;
       senders-are = fill .fill .ensures .2;
       left-kept = fill .fill .ensures .3;
@@ -129,10 +106,8 @@ pub fill-slot-spec : {M : Type 1} → statement M
 fill-slot-spec =
     tie.close
     (tie.spec
+    next-place-requires
     record-size-requires
-    slots-in-requires
-    slot-after-requires
-    slot-start-requires
     add-stop
     mul-fill
     sub-fill

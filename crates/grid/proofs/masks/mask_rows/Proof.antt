@@ -1,29 +1,30 @@
 -- `grid::masks::mask_rows` meets its contract: row after row, what is filled so far is the masks of the rows passed.
 -- Assumes nothing.
-use Prim.Native.Nat.{_≤_, _-_, zero-le}
+use Prim.Native.Nat.{_-_}
 use native.Mathlib.Omega.{arith}
 use Rattle.grid.specs.Masks.{isWet}
-use Rattle.grid.proofs.SquareLaws.{row-fits}
+use Rattle.grid.specs.inner.Rows.{AtRow}
+use Rattle.grid.proofs.SquareLaws.{row-fits, rows-begin, row-next}
 use Rattle.grid.proofs.MaskLaws.{Rowed, rowed-none, rowed-long, rowed-more, masks-whole}
 use Rattle.grid.proofs.masks.mask_rows.Statement.{statement}
 use Rattle.grid.proofs.masks.mask_rows.Tie as tie
 
 abbrev Inv-loop : tie.InvT-loop
-Inv-loop marks depths least rows₀ count columns row₀ first₀ rows row first = (row ≤ count) × Rowed (isWet marks depths least) columns rows₀ rows row first
+Inv-loop marks depths least rows₀ count columns row₀ first₀ rows row first = AtRow count columns row first × Rowed (isWet marks depths least) columns rows₀ rows row
 
 abbrev μ-loop : tie.MeasureT-loop
 μ-loop marks depths least rows₀ count columns row₀ first₀ rows row first = count - row
 
 loop-holds : tie.Need-loop-holds Inv-loop μ-loop
-loop-holds c = (zero-le, rowed-none _ _ _)
+loop-holds c = (rows-begin _ _, rowed-none _ _ _)
 
 row-mask-requires : tie.Need-row-mask-requires Inv-loop μ-loop
 row-mask-requires c κs =
     let fits = row-fits (c .before .before .before .before .before .args .shape) (c .loop-test .taken) in
     record {
       columns-high = c .before .before .before .before .before .pre .fine .columns-high;
-      marks-long = omega (arith, c .before .before .before .before .before .pre .marks-long, c .before .loop .inv .1 .0);
-      depths-long = omega (arith, c .before .before .before .before .before .pre .depths-long, c .before .loop .inv .1 .0);
+      marks-long = omega (arith, c .before .before .before .before .before .pre .marks-long, c .before .loop .inv .0 .begins);
+      depths-long = omega (arith, c .before .before .before .before .before .pre .depths-long, c .before .loop .inv .0 .begins);
     }
 
 mul-rows : tie.Need-mul-rows Inv-loop μ-loop
@@ -42,7 +43,7 @@ add-first : tie.Need-add-first Inv-loop μ-loop
 add-first c =
     let at-loop = c .before .before in
     let start = at-loop .before .before .before .before in
-    omega (arith, row-fits (start .args .shape) (c .before .loop-test .taken), start .pre .fine .few, at-loop .loop .inv .1 .0)
+    omega (arith, row-fits (start .args .shape) (c .before .loop-test .taken), start .pre .fine .few, at-loop .loop .inv .0 .begins)
 
 loop-less : tie.Need-loop-less Inv-loop μ-loop
 loop-less c = omega (arith, c .before .loop-test .taken)
@@ -51,8 +52,8 @@ loop-again : tie.Need-loop-again Inv-loop μ-loop
 loop-again c =
     let at-loop = c .before .before in
     let start = at-loop .before .before .before .before in (
-      omega (arith, c .before .loop-test .taken),
-      rowed-more _ _ _ _ (at-loop .loop .inv .1)
+      row-next (at-loop .loop .inv .0) (c .before .loop-test .taken),
+      rowed-more _ _ _ _ (at-loop .loop .inv .1) (at-loop .loop .inv .0 .begins)
           (omega (arith, start .pre .rows-long, c .before .loop-test .taken)) (c .row-mask .ensures),
     )
 

@@ -22,7 +22,7 @@ poured c = c .before .before
 -- ---- what is known there
 
 abbrev p : tie.Start → Plan
-p s = plan (s .args .shape) (s .args .marks .now)
+p s = plan (s .args .way .shape) (s .args .marks .now)
 
 abbrev fallen : tie.After-rain-all → tie.After-rain-added
 fallen c = c .before .before
@@ -35,7 +35,7 @@ start c = begin (fallen c .before)
 rain-added-requires : tie.Need-rain-added-requires
 rain-added-requires c κs =
     let s = begin c in
-    rain-asked (p s) (s .args .rules) (s .args .rain .now) (s .args .inflow .now) (s .args .start) (s .args .end) (s .pre .0)
+    rain-asked (p s) (s .args .way .rules) (s .args .rain .now) (s .args .inflow .now) (s .args .start) (s .args .end) (s .pre .0)
 
 rain-all-requires : tie.Need-rain-all-requires
 rain-all-requires c κs = search needs
@@ -47,14 +47,14 @@ returns : tie.Need-returns
 returns c =
     let at-rain-all = rained (c .before) in
     let s = start at-rain-all in
-    rain-too-much (p s) (s .args .rules) (s .args .rain .now) (s .args .inflow .now) (s .args .start) (s .args .end) (s .pre .0) (fallen at-rain-all .rain-added .ensures)
+    rain-too-much (p s) (s .args .way .rules) (s .args .rain .now) (s .args .inflow .now) (s .args .start) (s .args .end) (s .pre .0) (fallen at-rain-all .rain-added .ensures)
     (not-true _ (c .if1 .taken)) (at-rain-all .rain-all .ensures)
 
 pour-all-requires : tie.Need-pour-all-requires
 pour-all-requires c κs =
     let at-rain-all = rained (c .before .before) in
     let s = start at-rain-all in (
-      pours (p s) (s .args .rules) (s .args .rain .now) (s .args .inflow .now) (s .args .start) (s .args .end) (s .pre .0) (fallen at-rain-all .rain-added .ensures),
+      pours (p s) (s .args .way .rules) (s .args .rain .now) (s .args .inflow .now) (s .args .start) (s .args .end) (s .pre .0) (fallen at-rain-all .rain-added .ensures),
       at-rain-all .rain-all .ensures .long ∙ s .pre .1 .0,
       s .pre .1 .1,
     )
@@ -67,7 +67,7 @@ returns-2 c =
     let at-if1 = poured c .before .before in
     let at-rain-all = rained (at-if1 .before) in
     let s = start at-rain-all in
-    wetted (p s) (s .args .rules) (s .args .rain .now) (s .args .inflow .now) (s .args .start) (s .args .end) (s .pre .0) (fallen at-rain-all .rain-added .ensures)
+    wetted (p s) (s .args .way .rules) (s .args .rain .now) (s .args .inflow .now) (s .args .start) (s .args .end) (s .pre .0) (fallen at-rain-all .rain-added .ensures)
     (s .pre .1 .0) (not-false _ (at-if1 .if1 .left)) (at-rain-all .rain-all .ensures) (poured c .pour-all .ensures)
 
 pub add-water-spec : {M : Type 1} → statement M

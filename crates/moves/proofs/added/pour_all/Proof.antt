@@ -13,25 +13,25 @@ use Rattle.reckon.specs.Ranges.{mostDepth}
 use Rattle.reckon.proofs.TestLaws.{not-both, all-none, all-more, all-fails, all-whole}
 use Rattle.grid.specs.Squares.{squares}
 use Rattle.grid.specs.Marks.{inflowWords}
-use Rattle.moves.specs.inner.Added.{amountAt, unreached, rowSquare}
+use Rattle.moves.specs.inner.Added.{amountAt, unpoured, rowSquare}
 use Rattle.moves.proofs.AddedLaws.{pour-none, poured-turn}
 use Rattle.moves.proofs.added.pour_all.Statement.{statement}
 use Rattle.moves.proofs.added.pour_all.Tie as tie
 
 abbrev Inv-loop : tie.InvT-loop
-Inv-loop shape rules inflow apart start end rain room₀ rows j₀ room j =
+Inv-loop way inflow start end rain room₀ rows j₀ room j =
     (j ≤ length inflow / inflowWords)
-    × (length room ≡ squares shape)
-    × (room ≡ filled (squares shape) (unreached shape rules inflow start end rain j) (amountAt shape rules inflow start end rain) room₀)
-    × (allBelow j (λ k. leb (amountAt shape rules inflow start end rain (rowSquare shape rules inflow start end rain k)) mostDepth) ≡ true)
+    × (length room ≡ squares (way .shape))
+    × (room ≡ filled (squares (way .shape)) (unpoured (way .shape) (way .rules) inflow start end rain j) (amountAt (way .shape) (way .rules) inflow start end rain) room₀)
+    × (allBelow j (λ k. leb (amountAt (way .shape) (way .rules) inflow start end rain (rowSquare (way .shape) (way .rules) inflow start end rain k)) mostDepth) ≡ true)
 
 abbrev μ-loop : tie.MeasureT-loop
-μ-loop shape rules inflow apart start end rain room₀ rows j₀ room j = length inflow / inflowWords - j
+μ-loop way inflow start end rain room₀ rows j₀ room j = length inflow / inflowWords - j
 
 loop-holds : tie.Need-loop-holds Inv-loop μ-loop
 loop-holds c =
     let start = c .before .before in
-    (omega arith, start .pre .1, pour-none (start .args .shape) (start .args .rules) (start .args .inflow .now) (start .args .start) (start .args .end) (start .args .rain) (start .args .room .now), all-none _)
+    (omega arith, start .pre .1, pour-none (start .args .way .shape) (start .args .way .rules) (start .args .inflow .now) (start .args .start) (start .args .end) (start .args .rain) (start .args .room .now), all-none _)
 
 pour-row-requires : tie.Need-pour-row-requires Inv-loop μ-loop
 pour-row-requires c κs =
@@ -71,7 +71,7 @@ loop-again c =
     let start = at-loop .before .before .before in
     let t = not-false _ (c .if1 .left) in
     let j = at-loop .loop .j in
-    (omega arith, at-pour-row .pour-row .ensures .long ∙ at-loop .loop .inv .1, poured-turn (start .args .shape) (start .args .rules) (start .args .inflow .now) (start .args .start) (start .args .end) (start .args .rain) (start .args .room .now) j (start .pre .1) (start .pre .0 .row-in j (omega arith)) (start .pre .0 .column-in j (omega arith)) (at-loop .loop .inv .2) (at-pour-row .pour-row .ensures) t, all-more _ j (at-loop .loop .inv .3) (sym (at-pour-row .pour-row .ensures .fits-is) ∙ t))
+    (omega arith, at-pour-row .pour-row .ensures .long ∙ at-loop .loop .inv .1, poured-turn (start .args .way .shape) (start .args .way .rules) (start .args .inflow .now) (start .args .start) (start .args .end) (start .args .rain) (start .args .room .now) j (start .pre .1) (start .pre .0 .row-in j (omega arith)) (start .pre .0 .column-in j (omega arith)) (at-loop .loop .inv .2) (at-pour-row .pour-row .ensures) t, all-more _ j (at-loop .loop .inv .3) (sym (at-pour-row .pour-row .ensures .fits-is) ∙ t))
 
 same-length-2 : tie.Need-same-length-2 Inv-loop μ-loop
 same-length-2 c = c .before .loop .inv .1 ∙ sym (c .before .before .before .before .pre .1)
@@ -83,7 +83,7 @@ returns-2 c =
       fits-is = sym
           (all-whole _ (c .before .loop .inv .3) e);
       stored = λ t. c .before .loop .inv .2 ∙ ap
-          (λ (n : ℕ). filled (squares (start .args .shape)) (unreached (start .args .shape) (start .args .rules) (start .args .inflow .now) (start .args .start) (start .args .end) (start .args .rain) n) (amountAt (start .args .shape) (start .args .rules) (start .args .inflow .now) (start .args .start) (start .args .end) (start .args .rain)) (start .args .room .now))
+          (λ (n : ℕ). filled (squares (start .args .way .shape)) (unpoured (start .args .way .shape) (start .args .way .rules) (start .args .inflow .now) (start .args .start) (start .args .end) (start .args .rain) n) (amountAt (start .args .way .shape) (start .args .way .rules) (start .args .inflow .now) (start .args .start) (start .args .end) (start .args .rain)) (start .args .room .now))
           e;
       long = c .before .loop .inv .1 ∙ sym (start .pre .1);
     }

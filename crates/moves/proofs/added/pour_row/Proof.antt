@@ -31,19 +31,19 @@ start c = begin (c .before .before)
 
 -- the square of the row, and what is added to it
 abbrev at : tie.Start → ℕ
-at s = rowSquare (s .args .shape) (s .args .rules) (s .args .inflow .now) (s .args .start) (s .args .end) (s .args .rain) (s .args .j)
+at s = rowSquare (s .args .way .shape) (s .args .way .rules) (s .args .inflow .now) (s .args .start) (s .args .end) (s .args .rain) (s .args .j)
 
 abbrev amount : tie.Start → ℕ
-amount s = amountAt (s .args .shape) (s .args .rules) (s .args .inflow .now) (s .args .start) (s .args .end) (s .args .rain) (at s)
+amount s = amountAt (s .args .way .shape) (s .args .way .rules) (s .args .inflow .now) (s .args .start) (s .args .end) (s .args .rain) (at s)
 
 amount-is : (c : tie.After-poured) → start c .args .rain + c .poured .result ≡ amount (start c)
 amount-is c =
     let s = start c in
-    amount-made (s .args .shape) (s .args .rules) (s .args .inflow .now) (s .args .start) (s .args .end) (s .args .rain) (s .args .j)
+    amount-made (s .args .way .shape) (s .args .way .rules) (s .args .inflow .now) (s .args .start) (s .args .end) (s .args .rain) (s .args .j)
     (s .pre .0 .column-in (s .args .j) (s .pre .2)) (c .before .before .number .ensures) (c .before .number2 .ensures)
     (c .poured .ensures)
 
-within : (c : tie.After-square-at) → c .square-at .result < squares (start (to-square c) .args .shape)
+within : (c : tie.After-square-at) → c .square-at .result < squares (start (to-square c) .args .way .shape)
 within c =
     let at-number2 = to-square c .before in
     let s = start (to-square c) in
@@ -51,7 +51,7 @@ within c =
     omega (
       arith,
       c .square-at .ensures,
-      square-within (s .args .shape) {row = at-number2 .before .number .result} {column = at-number2 .number2 .result}
+      square-within (s .args .way .shape) {row = at-number2 .before .number .result} {column = at-number2 .number2 .result}
           (omega (arith, a .row-in (s .args .j) (s .pre .2))) (omega (arith, a .column-in (s .args .j) (s .pre .2))),
     )
 
@@ -85,7 +85,7 @@ add-amount c =
     let s = start c in
     omega (
       arith,
-      inflow-le (s .args .inflow .now) (c .before .before .number .result) (c .before .number2 .result) (s .args .rules .«square_side»)
+      inflow-le (s .args .inflow .now) (c .before .before .number .result) (c .before .number2 .result) (s .args .way .rules .«square_side»)
           (s .pre .0 .table),
       c .poured .ensures,
     )
@@ -129,7 +129,7 @@ returns-2 c =
       fits-is = sym (le-leb (amount s) mostDepth (omega arith));
       stored =
           λ t. ap₂ (λ (i v : ℕ). set (s .args .room .now) i v)
-          (c .square-at .ensures ∙ ap₂ (squareAt (s .args .shape)) (at-number2 .before .number .ensures) (at-number2 .number2 .ensures)) e;
+          (c .square-at .ensures ∙ ap₂ (squareAt (s .args .way .shape)) (at-number2 .before .number .ensures) (at-number2 .number2 .ensures)) e;
       long = length-set (s .args .room .now) (c .square-at .result) _;
     }
 

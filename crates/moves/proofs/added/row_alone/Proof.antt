@@ -35,8 +35,8 @@ number-requires-2 c κs = omega arith
 loop-holds : tie.Need-loop-holds Inv-loop μ-loop
 loop-holds c = (omega arith, all-none _)
 
-row-is-for-requires : tie.Need-row-is-for-requires Inv-loop μ-loop
-row-is-for-requires c κs = omega arith
+row-on-requires : tie.Need-row-on-requires Inv-loop μ-loop
+row-on-requires c κs = omega arith
 
 returns : tie.Need-returns Inv-loop μ-loop
 returns c =
@@ -44,7 +44,7 @@ returns c =
     let s = passed .before .before .before .before in
     sym
     (alone-fails (s .args .inflow .now) (s .args .j) (passed .before .before .number .ensures) (passed .before .number2 .ensures)
-    (passed .loop .k) (c .before .before .loop-test .taken) (sym (c .before .row-is-for .ensures) ∙ c .if1 .taken))
+    (passed .loop .k) (c .before .before .loop-test .taken) (sym (c .before .row-on .ensures) ∙ c .if1 .taken))
 
 add-k : tie.Need-add-k Inv-loop μ-loop
 add-k c = omega arith
@@ -55,7 +55,7 @@ loop-less c = omega arith
 loop-again : tie.Need-loop-again Inv-loop μ-loop
 loop-again c =
     let passed = c .before .before .before in
-    (omega arith, all-more _ (passed .loop .k) (passed .loop .inv .1) (ap not (sym (c .before .row-is-for .ensures) ∙ c .if1 .left)))
+    (omega arith, all-more _ (passed .loop .k) (passed .loop .inv .1) (ap not (sym (c .before .row-on .ensures) ∙ c .if1 .left)))
 
 returns-2 : tie.Need-returns-2 Inv-loop μ-loop
 returns-2 c =
@@ -77,7 +77,7 @@ row-alone-spec =
     add-number
     number-requires-2
     loop-holds
-    row-is-for-requires
+    row-on-requires
     returns
     add-k
     loop-less

@@ -26,8 +26,8 @@ returns c =
     let at-side-drop2 = c .before .before in
     let at-side-drop = at-side-drop2 .before in
     let start = at-side-drop .before .before .before .before .before in
-    drops-made (plan (start .args .shape) (start .args .marks .now)) (start .args .rules) (start .args .beds .now)
-    (start .args .depths .now) (start .args .square) (at-side-drop .side-drop .ensures) (at-side-drop2 .side-drop2 .ensures)
+    drops-made (plan (start .args .way .shape) (start .args .marks .now)) (start .args .way .rules) (start .args .beds .now)
+    (start .args .depths .now) (start .args .at .square) (at-side-drop .side-drop .ensures) (at-side-drop2 .side-drop2 .ensures)
     (c .before .side-drop3 .ensures) (c .side-drop4 .ensures)
 
 pub drops-by-sides-spec : {M : Type 1} → statement M

@@ -24,7 +24,7 @@ drops-within-requires c κs =
     ((start .pre .0, start .pre .1 .inside, sym (at-on-rim .on-rim .ensures) ∙ c .before .if1 .left), c .level-of .ensures)
 
 returns-2 : tie.Need-returns-2
-returns-2 c = c .drops-within .ensures (c .before .before .before .before .before .before .before .args .rules)
+returns-2 c = c .drops-within .ensures (c .before .before .before .before .before .before .before .args .way .rules)
 
 pub drops-of-spec : {M : Type 1} → statement M
 drops-of-spec =

@@ -24,7 +24,7 @@ outside c = c .before .before .before
 -- ---- what is known there
 
 abbrev p : tie.Start → Plan
-p s = plan (s .args .shape) (s .args .marks .now)
+p s = plan (s .args .way .shape) (s .args .marks .now)
 
 -- ---- the answers
 
@@ -41,7 +41,7 @@ returns : tie.Need-returns
 returns c =
     let at-beside-on = inside c in
     let s = begin at-beside-on in
-    drop-there (p s) (s .args .rules) (s .args .beds .now) (s .args .depths .now) (s .args .square) (s .args .side) (at-beside-on .beside-on .ensures) (s .pre .1)
+    drop-there (p s) (s .args .way .rules) (s .args .beds .now) (s .args .depths .now) (s .args .at .square) (s .args .side) (at-beside-on .beside-on .ensures) (s .pre .1)
     (omega arith) (c .drop-beside .ensures)
 
 is-exit-requires : tie.Need-is-exit-requires
@@ -59,15 +59,15 @@ returns-2 c =
     let at-beside-on = outside (at-if2 .before) in
     let s = begin at-beside-on in
     c .drop-off .ensures
-    ∙ (ap (dropOff (s .args .rules)) (c .before .number .ensures)
-    ∙ sym (drop-exit (p s) (s .args .rules) (s .args .beds .now) (s .args .depths .now) (s .args .square) (s .args .side) (at-beside-on .beside-on .ensures) (omega arith)
+    ∙ (ap (dropOff (s .args .way .rules)) (c .before .number .ensures)
+    ∙ sym (drop-exit (p s) (s .args .way .rules) (s .args .beds .now) (s .args .depths .now) (s .args .at .square) (s .args .side) (at-beside-on .beside-on .ensures) (omega arith)
     (sym (at-if2 .before .is-exit .ensures) ∙ at-if2 .if2 .taken)))
 
 returns-3 : tie.Need-returns-3
 returns-3 c =
     let at-beside-on = outside (c .before) in
     let s = begin at-beside-on in
-    sym (drop-rim (p s) (s .args .rules) (s .args .beds .now) (s .args .depths .now) (s .args .square) (s .args .side) (at-beside-on .beside-on .ensures) (omega arith)
+    sym (drop-rim (p s) (s .args .way .rules) (s .args .beds .now) (s .args .depths .now) (s .args .at .square) (s .args .side) (at-beside-on .beside-on .ensures) (omega arith)
     (sym (c .before .is-exit .ensures) ∙ c .if2 .left))
 
 pub side-drop-spec : {M : Type 1} → statement M

@@ -4,9 +4,9 @@
 use mathlib.Core.Path.{refl, _∙_}
 use borrow.Author.Needs.{needs}
 use Rattle.ledger.specs.Runs.{Plan, plan}
-use Rattle.moves.specs.Given.{Ground, ground}
+use Rattle.checks.specs.Given.{Ground, ground}
 use Rattle.moves.specs.inner.Fill.{FilledTo}
-use Rattle.moves.proofs.FillLaws.{filled-head, filled-whole}
+use Rattle.moves.proofs.FillLaws.{fills-still, filled-head, filled-whole}
 use Rattle.moves.proofs.WetLaws.{idle-by, left-kept}
 use Rattle.moves.proofs.fill.fill.Statement.{statement}
 use Rattle.moves.proofs.fill.fill.Tie as tie
@@ -31,22 +31,21 @@ filled c = c .before .before .before .before .before .before
 -- ---- what is known there
 
 abbrev p : tie.Start → Plan
-p s = plan (s .args .shape) (s .args .marks .now)
+p s = plan (s .args .way .shape) (s .args .marks .now)
 
 abbrev o : tie.Start → Ground
-o s = ground (s .args .rules) (s .args .beds .now) (s .args .roughness .now) (s .args .rates .now)
+o s = ground (s .args .way .rules) (s .args .beds .now) (s .args .roughness .now) (s .args .rates .now)
 
 -- the record begins with its head, and is clear after it
 head-put :
     (c : tie.After-put-head) →
     let s = begin (cleared c) in
-    FilledTo (p s) (o s) (s .args .depths .now) (s .args .lasts .now) (s .args .added .now) (s .args .held) (s .args .start) (s .args .duration) 0
+    FilledTo (p s) (o s) (s .args .depths .now) (s .args .lasts .now) (s .args .added .now) (s .args .span .held) (s .args .span .start) (s .args .span .duration) 0
     (c .put-head .last .0)
 head-put c =
     let clear = cleared c in
     let s = begin clear in
-    filled-head (p s) (o s) (s .args .depths .now) (s .args .lasts .now) (s .args .added .now) (s .args .held) (s .args .start) (s .args .duration)
-    (clear .clear .last .0) (clear .clear .kept .0 ∙ s .pre .0 .record-long) (clear .clear .ensures) (c .put-head .ensures)
+    filled-head (clear .clear .last .0) (clear .clear .kept .0 ∙ s .pre .0 .record-long) (clear .clear .ensures) (c .put-head .ensures)
 
 -- ---- the answers
 
@@ -63,17 +62,10 @@ fill-rows-requires : tie.Need-fill-rows-requires
 fill-rows-requires c κs =
     let at = marked c in
     let head = headed at in
-    let s = begin (cleared head) in
-    let f = s .pre .0 in (
-      record {
-        flows = f .flows;
-        added-long = f .added-long;
-        duration-for = f .duration-for;
-        end-to = f .end-to;
-        record-long = head .put-head .kept .0 ∙ (cleared head .clear .kept .0 ∙ f .record-long);
-      },
+    let s = begin (cleared head) in (
+      fills-still (head .put-head .kept .0 ∙ cleared head .clear .kept .0) (s .pre .0),
       (
-        idle-by (s .args .walk) (p s) (s .args .depths .now) (s .args .lasts .now) (s .args .added .now) (f .flows .lies .sited .fine) (at .mark-worked .ensures),
+        idle-by (s .args .way .walk) (p s) (s .args .depths .now) (s .args .lasts .now) (s .args .added .now) (s .pre .0 .flows .lies .sited .fine) (at .mark-worked .ensures),
         at .mark-worked .kept .1 .1 .1 .1 .1 .1 .0 ∙ s .pre .1 .2,
         s .pre .1 .1,
         s .pre .1 .3,
@@ -97,12 +89,11 @@ returns c =
     let done = filled c in
     let at = marked (done .before) in
     let s = begin (cleared (headed at)) in (
-      filled-whole (p s) (o s) (s .args .depths .now) (s .args .lasts .now) (s .args .added .now) (s .args .held) (s .args .start) (s .args .duration) refl
-          (done .fill-rows .ensures .0 (s .args .held) (head-put (headed at))),
+      filled-whole refl (done .fill-rows .ensures .0 (s .args .span .held) (head-put (headed at))),
       at .mark-worked .ensures,
       done .fill-rows .ensures .2,
-      left-kept (s .args .walk) (p s) (s .args .depths .now) (s .args .lasts .now) (s .args .added .now) (o s) (s .args .duration)
-          (done .fill-rows .last .1 .1 .1 .1 .1 .1 .1 .1 .1 .1 .1 .1 .1 .0) (s .pre .0 .flows .lies .sited .fine) (at .mark-worked .ensures)
+      left-kept (s .args .way .walk) (p s) (s .args .depths .now) (s .args .lasts .now) (s .args .added .now) (o s) (s .args .span .duration)
+          (done .fill-rows .last .1 .1 .1 .1 .1 .1 .1 .1 .1 .1 .1 .0) (s .pre .0 .flows .lies .sited .fine) (at .mark-worked .ensures)
           (done .fill-rows .ensures .1),
     )
 

@@ -1,29 +1,34 @@
 -- `moves::fill::fill_row` meets its contract: of the columns passed the record, the room and the mask tell, and those between two that are
 -- worked stand already.
 -- Assumes nothing.
-use mathlib.Core.Path.{_≡_, refl, _∙_, subst}
+use mathlib.Core.Path.{_≡_, refl, _∙_}
+use mathlib.Core.List.{List}
 use Prim.Native.Nat.{ℕ, _+_, _-_, _≤_}
 use native.Mathlib.Omega.{arith}
 use lib.ListN.{length}
 use Rattle.grid.specs.Squares.{squares}
+use Rattle.grid.specs.Masks.{bits}
+use Rattle.grid.specs.inner.Visits.{Passes, Visits}
 use Rattle.grid.proofs.SquareLaws.{row-column}
-use Rattle.grid.proofs.WalkLaws.{within-from}
+use Rattle.grid.proofs.WalkLaws.{walk-visits, walk-ends, walk-nearer}
 use Rattle.ledger.specs.Runs.{Plan, plan}
-use Rattle.moves.specs.Given.{Ground, ground}
+use Rattle.checks.specs.Given.{Ground, ground}
 use Rattle.moves.specs.inner.Fill.{FilledColumns}
+use Rattle.moves.proofs.FillLaws.{fills-still}
 use Rattle.moves.proofs.WetLaws.{columns-none, columns-idle, columns-more, senders-fit}
 use Rattle.moves.proofs.fill.fill_row.Statement.{statement}
 use Rattle.moves.proofs.fill.fill_row.Tie as tie
 
 abbrev Inv-loop : tie.InvT-loop
-Inv-loop shape rules marks beds roughness rates depths lasts added start duration first worked rec₀ left₀ columns senders₀ column₀ rec left senders column =
-    (column ≤ columns)
-    × (length rec ≡ length rec₀)
+Inv-loop way span this marks beds roughness rates depths lasts added rec₀ left₀ columns senders₀ column₀ rec left senders column =
+    (length rec ≡ length rec₀)
     × (length left ≡ length left₀)
-    × FilledColumns (plan shape marks) (ground rules beds roughness rates) depths lasts added start duration first worked column rec₀ rec left₀ left senders
+    × Visits (this .mask) columns
+    (λ k. FilledColumns (plan (way .shape) marks) (ground (way .rules) beds roughness rates) depths lasts added (span .start) (span .duration) (this .first) (this .mask) k
+    rec₀ rec left₀ left senders) column
 
 abbrev μ-loop : tie.MeasureT-loop
-μ-loop shape rules marks beds roughness rates depths lasts added start duration first worked rec₀ left₀ columns senders₀ column₀ rec left senders column =
+μ-loop way span this marks beds roughness rates depths lasts added rec₀ left₀ columns senders₀ column₀ rec left senders column =
     columns - column
 
 -- ---- the places, each by the one before it
@@ -35,7 +40,7 @@ abbrev start : tie.At-loop Inv-loop μ-loop → tie.Start Inv-loop μ-loop
 start c = begin (c .before .before)
 
 abbrev turn : tie.After-fill-square-arg2 Inv-loop μ-loop → tie.In-loop Inv-loop μ-loop
-turn c = c .before .before
+turn c = c .before .before .before
 
 abbrev filled : tie.After-slice-known4 Inv-loop μ-loop → tie.After-fill-square Inv-loop μ-loop
 filled c = c .before .before .before .before
@@ -46,10 +51,24 @@ told c = filled (c .before)
 -- ---- what is known there
 
 abbrev p : tie.Start Inv-loop μ-loop → Plan
-p s = plan (s .args .shape) (s .args .marks .now)
+p s = plan (s .args .way .shape) (s .args .marks .now)
 
 abbrev o : tie.Start Inv-loop μ-loop → Ground
-o s = ground (s .args .rules) (s .args .beds .now) (s .args .roughness .now) (s .args .rates .now)
+o s = ground (s .args .way .rules) (s .args .beds .now) (s .args .roughness .now) (s .args .rates .now)
+
+-- the columns done so far; one that is not worked stands already
+abbrev Done : tie.Start Inv-loop μ-loop → ℕ → List ℕ → List ℕ → ℕ → Type 0
+Done s k rec left senders =
+    FilledColumns (p s) (o s) (s .args .depths .now) (s .args .lasts .now) (s .args .added .now) (s .args .span .start) (s .args .span .duration) (s .args .row .first)
+    (s .args .row .mask) k (s .args .rec .now) rec (s .args .left .now) left senders
+
+passes :
+    (s : tie.Start Inv-loop μ-loop) (rec left : List ℕ) (senders : ℕ) →
+    Passes (s .args .row .mask) (s .args .way .shape .columns) (λ k. Done s k rec left senders)
+passes s rec left senders k h b f = columns-idle f (s .pre .1 .0 .fits) h b (s .pre .1 .1 k h b)
+
+high : (s : tie.Start Inv-loop μ-loop) → s .args .way .shape .columns ≤ bits
+high s = s .pre .0 .flows .lies .sited .fine .columns-high
 
 -- in a turn
 module _ (c : tie.In-loop Inv-loop μ-loop) where
@@ -59,8 +78,8 @@ module _ (c : tie.In-loop Inv-loop μ-loop) where
   abbrev column : ℕ
   column = c .before .loop .column
 
-  room-long : length (c .before .loop .left) ≡ squares (s .args .shape)
-  room-long = c .before .loop .inv .2 ∙ s .pre .1 .2
+  room-long : length (c .before .loop .left) ≡ squares (s .args .way .shape)
+  room-long = c .before .loop .inv .1 ∙ s .pre .1 .2
 
 -- one column more, where the square is worked and its bit is told
 module _ (c : tie.After-sender-bit Inv-loop μ-loop) where
@@ -71,13 +90,11 @@ module _ (c : tie.After-sender-bit Inv-loop μ-loop) where
   z = s here
 
   one-more :
-      FilledColumns (p z) (o z) (z .args .depths .now) (z .args .lasts .now) (z .args .added .now) (z .args .start) (z .args .duration) (z .args .first) (z .args .worked)
-      (column here + 1) (z .args .rec .now) (told c .fill-square .last .1 .1 .1 .1 .1 .1 .1 .1 .1 .1 .1 .1 .1 .0) (z .args .left .now)
-      (told c .fill-square .last .1 .1 .1 .1 .1 .1 .1 .1 .1 .1 .1 .1 .1 .1 .0) (here .before .loop .senders + c .sender-bit .result)
+      Done z (column here + 1) (told c .fill-square .last .1 .1 .1 .1 .1 .1 .1 .1 .1 .1 .0) (told c .fill-square .last .1 .1 .1 .1 .1 .1 .1 .1 .1 .1 .1 .0)
+      (here .before .loop .senders + c .sender-bit .result)
   one-more =
-      columns-more (p z) (o z) (z .args .depths .now) (z .args .lasts .now) (z .args .added .now) (z .args .start) (z .args .duration) (z .args .first) (z .args .worked)
-      (z .args .rec .now) (z .args .left .now) (here .before .loop .inv .3) (z .pre .1 .0 .fits) (here .loop-test .taken) (room-long here)
-      (told c .fill-square .ensures) (c .sender-bit .ensures)
+      columns-more (here .before .loop .inv .2 .held) (z .pre .1 .0 .fits) (here .loop-test .taken) (room-long here) (told c .fill-square .ensures)
+      (c .sender-bit .ensures)
 
 -- ---- the answers
 
@@ -87,32 +104,20 @@ next-within-requires c κs = (omega arith, begin c .pre .0 .flows .lies .sited .
 loop-holds : tie.Need-loop-holds Inv-loop μ-loop
 loop-holds c =
     let y = begin (c .before) in (
-      omega (arith, c .next-within .ensures),
       refl,
       refl,
-      columns-idle (p y) (o y) (y .args .depths .now) (y .args .lasts .now) (y .args .added .now) (y .args .start) (y .args .duration) (y .args .first) (y .args .worked)
-          (y .args .rec .now) (y .args .left .now)
-          (columns-none (p y) (o y) (y .args .depths .now) (y .args .lasts .now) (y .args .added .now) (y .args .start) (y .args .duration) (y .args .first)
-          (y .args .worked) (y .args .rec .now) (y .args .left .now))
-          (y .pre .1 .0 .fits) (c .next-within .result) (omega arith) (y .pre .1 .1) (c .next-within .ensures),
+      walk-visits (passes y _ _ _) (high y) 0 (omega arith) (c .next-within .ensures) columns-none,
     )
 
-add-fill-square : tie.Need-add-fill-square Inv-loop μ-loop
-add-fill-square c = let y = s c in omega (arith, y .pre .1 .0 .fits, y .pre .0 .flows .lies .sited .fine .few, c .loop-test .taken)
+add-square : tie.Need-add-square Inv-loop μ-loop
+add-square c = let y = s (c .before) in omega (arith, y .pre .1 .0 .fits, y .pre .0 .flows .lies .sited .fine .few, c .before .loop-test .taken)
 
 fill-square-requires : tie.Need-fill-square-requires Inv-loop μ-loop
 fill-square-requires c κs =
     let at = turn c in
-    let y = s at in
-    let f = y .pre .0 in (
-      record {
-        flows = f .flows;
-        added-long = f .added-long;
-        duration-for = f .duration-for;
-        end-to = f .end-to;
-        record-long = at .before .loop .inv .1 ∙ f .record-long;
-      },
-      (row-column (y .args .shape) (f .flows .lies .sited .fine) (y .pre .1 .0) (at .loop-test .taken), room-long at),
+    let y = s at in (
+      fills-still (at .before .loop .inv .0) (y .pre .0),
+      (row-column (y .args .way .shape) (y .pre .0 .flows .lies .sited .fine) (y .pre .1 .0) (at .loop-test .taken), room-long at),
     )
 
 sender-bit-requires : tie.Need-sender-bit-requires Inv-loop μ-loop
@@ -123,54 +128,32 @@ sender-bit-requires c κs =
 add-senders : tie.Need-add-senders Inv-loop μ-loop
 add-senders c =
     let y = z c in
-    record {
-      fits =
-          senders-fit (p y) (o y) (y .args .depths .now) (y .args .lasts .now) (y .args .added .now) (y .args .start) (y .args .duration) (y .args .first) (y .args .worked)
-          (y .args .rec .now) (y .args .left .now) (one-more c) (y .pre .1 .0 .fits)
-          (omega (arith, here c .loop-test .taken, y .pre .0 .flows .lies .sited .fine .columns-high));
-    }
+    record { fits = senders-fit (one-more c) (y .pre .1 .0 .fits) (omega (arith, here c .loop-test .taken, high y)) }
 
 next-after-requires : tie.Need-next-after-requires Inv-loop μ-loop
 next-after-requires c κs = (here c .loop-test .taken, z c .pre .0 .flows .lies .sited .fine .columns-high)
 
 loop-less : tie.Need-loop-less Inv-loop μ-loop
-loop-less c =
-    let at = here (c .before) in
-    let y = s at in
-    omega (
-      arith,
-      c .next-after .ensures,
-      within-from (y .args .worked) (column at + 1) (y .args .shape .columns) (omega (arith, at .loop-test .taken)),
-      at .loop-test .taken,
-    )
+loop-less c = walk-nearer (z (c .before) .args .row .mask) (here (c .before) .loop-test .taken) (c .next-after .ensures)
 
 loop-again : tie.Need-loop-again Inv-loop μ-loop
 loop-again c =
     let turned = c .before in
     let at = here turned in
     let y = s at in (
-      omega (arith, c .next-after .ensures),
-      told turned .fill-square .kept .1 .1 .1 .1 .1 .1 .1 .1 .1 .1 .1 .1 .1 .0 ∙ at .before .loop .inv .1,
-      told turned .fill-square .kept .1 .1 .1 .1 .1 .1 .1 .1 .1 .1 .1 .1 .1 .1 .0 ∙ at .before .loop .inv .2,
-      columns-idle (p y) (o y) (y .args .depths .now) (y .args .lasts .now) (y .args .added .now) (y .args .start) (y .args .duration) (y .args .first) (y .args .worked)
-          (y .args .rec .now) (y .args .left .now) (one-more turned) (y .pre .1 .0 .fits) (c .next-after .result) (omega (arith, at .loop-test .taken))
-          (y .pre .1 .1) (c .next-after .ensures),
+      told turned .fill-square .kept .1 .1 .1 .1 .1 .1 .1 .1 .1 .1 .0 ∙ at .before .loop .inv .0,
+      told turned .fill-square .kept .1 .1 .1 .1 .1 .1 .1 .1 .1 .1 .1 .0 ∙ at .before .loop .inv .1,
+      walk-visits (passes y _ _ _) (high y) (column at + 1) (omega (arith, at .loop-test .taken)) (c .next-after .ensures) (one-more turned),
     )
 
 same-length : tie.Need-same-length Inv-loop μ-loop
-same-length c = c .before .loop .inv .1
+same-length c = c .before .loop .inv .0
 
 same-length-2 : tie.Need-same-length-2 Inv-loop μ-loop
-same-length-2 c = c .before .loop .inv .2
+same-length-2 c = c .before .loop .inv .1
 
 returns : tie.Need-returns Inv-loop μ-loop
-returns c =
-    let at = c .before in
-    let y = start at in
-    subst
-    (λ (k : ℕ). FilledColumns (p y) (o y) (y .args .depths .now) (y .args .lasts .now) (y .args .added .now) (y .args .start) (y .args .duration) (y .args .first)
-    (y .args .worked) k (y .args .rec .now) (at .loop .rec) (y .args .left .now) (at .loop .left) (at .loop .senders))
-    (let e : at .loop .column ≡ y .args .shape .columns = omega (arith, at .loop .inv .0, c .loop-test .left) in e) (at .loop .inv .3)
+returns c = walk-ends (c .before .loop .inv .2) (c .loop-test .left)
 
 pub fill-row-spec : {M : Type 1} → statement M
 fill-row-spec =
@@ -180,7 +163,7 @@ fill-row-spec =
     μ-loop
     next-within-requires
     loop-holds
-    add-fill-square
+    add-square
     fill-square-requires
     sender-bit-requires
     add-senders

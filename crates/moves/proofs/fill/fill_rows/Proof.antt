@@ -1,33 +1,36 @@
 -- `moves::fill::fill_rows` meets its contract: row after row, the squares passed are the record's, what left them is kept, and the rows passed
 -- are the senders'.
 -- Assumes nothing.
-use mathlib.Core.Path.{_≡_, refl, ap, _∙_, subst}
-use Prim.Native.Nat.{ℕ, _-_, _*_, _≤_}
+use mathlib.Core.Path.{_≡_, refl, _∙_, subst}
+use Prim.Native.Nat.{ℕ, _-_}
 use native.Mathlib.Omega.{arith}
-use lib.ListN.{length}
+use lib.ListN.{length, getD}
+use Rattle.grid.specs.Walks.{bitOf}
+use Rattle.grid.specs.inner.Rows.{AtRow}
 use Rattle.grid.proofs.MaskLaws.{Rowed, rowed-none, rowed-long, rowed-more}
-use Rattle.grid.proofs.SquareLaws.{row-fits, row-begins}
+use Rattle.grid.proofs.SquareLaws.{row-fits, rows-begin, row-here, row-next, rows-end}
+use Rattle.grid.proofs.WalkLaws.{by-row}
 use Rattle.ledger.specs.Runs.{Plan, plan}
-use Rattle.ledger.specs.inner.Settle.{sends}
-use Rattle.moves.specs.Given.{Ground, ground}
+use Rattle.ledger.specs.inner.Walks.{sends}
+use Rattle.checks.specs.Given.{Ground, ground}
 use Rattle.moves.specs.Moves.{leavesFor}
-use Rattle.moves.specs.inner.Fill.{FilledOn, LeftTo}
-use Rattle.moves.proofs.FillLaws.{filled-then, filled-on}
-use Rattle.moves.proofs.WetLaws.{idle-row, left-none, left-row, rows-told}
+use Rattle.moves.specs.inner.Fill.{FilledOn, UnstirredAt, LeftTo}
+use Rattle.moves.proofs.FillLaws.{fills-still, filled-then, filled-on}
+use Rattle.moves.proofs.WetLaws.{left-none, left-row, rows-told}
 use Rattle.moves.proofs.fill.fill_rows.Statement.{statement}
 use Rattle.moves.proofs.fill.fill_rows.Tie as tie
 
 abbrev Inv-loop : tie.InvT-loop
-Inv-loop shape rules marks beds roughness rates depths lasts added start duration worked rec₀ left₀ senders₀ rows columns row₀ first₀ rec left senders row first =
-    (row ≤ rows)
+Inv-loop way span marks beds roughness rates depths lasts added worked rec₀ left₀ senders₀ rows columns row₀ first₀ rec left senders row first =
+    AtRow rows columns row first
     × (length rec ≡ length rec₀)
     × (length left ≡ length left₀)
-    × FilledOn (plan shape marks) (ground rules beds roughness rates) depths lasts added start duration 0 first rec₀ rec
-    × LeftTo (plan shape marks) (ground rules beds roughness rates) depths lasts duration worked first left
-    × Rowed (sends (plan shape marks) (leavesFor (plan shape marks) (ground rules beds roughness rates) depths lasts duration)) columns senders₀ senders row first
+    × FilledOn (plan (way .shape) marks) (ground (way .rules) beds roughness rates) depths lasts added (span .start) (span .duration) 0 first rec₀ rec
+    × LeftTo (plan (way .shape) marks) (ground (way .rules) beds roughness rates) depths lasts (span .duration) worked first left
+    × Rowed (sends (plan (way .shape) marks) (leavesFor (plan (way .shape) marks) (ground (way .rules) beds roughness rates) depths lasts (span .duration))) columns senders₀ senders row
 
 abbrev μ-loop : tie.MeasureT-loop
-μ-loop shape rules marks beds roughness rates depths lasts added start duration worked rec₀ left₀ senders₀ rows columns row₀ first₀ rec left senders row first =
+μ-loop way span marks beds roughness rates depths lasts added worked rec₀ left₀ senders₀ rows columns row₀ first₀ rec left senders row first =
     rows - row
 
 -- ---- the places, each by the one before it
@@ -50,13 +53,13 @@ here c = turn (filled c .before)
 -- ---- what is known there
 
 abbrev p : tie.Start Inv-loop μ-loop → Plan
-p s = plan (s .args .shape) (s .args .marks .now)
+p s = plan (s .args .way .shape) (s .args .marks .now)
 
 abbrev o : tie.Start Inv-loop μ-loop → Ground
-o s = ground (s .args .rules) (s .args .beds .now) (s .args .roughness .now) (s .args .rates .now)
+o s = ground (s .args .way .rules) (s .args .beds .now) (s .args .roughness .now) (s .args .rates .now)
 
 -- the room of senders has a number for each row
-long : (c : tie.At-loop Inv-loop μ-loop) → length (c .loop .senders) ≡ start c .args .shape .rows
+long : (c : tie.At-loop Inv-loop μ-loop) → length (c .loop .senders) ≡ start c .args .way .shape .rows
 long c = rowed-long _ _ _ _ (c .loop .inv .5) ∙ start c .pre .1 .3
 
 -- ---- the answers
@@ -64,37 +67,31 @@ long c = rowed-long _ _ _ _ (c .loop .inv .5) ∙ start c .pre .1 .3
 loop-holds : tie.Need-loop-holds Inv-loop μ-loop
 loop-holds c =
     let s = begin c in (
-      omega arith,
+      rows-begin _ _,
       refl,
       refl,
       (λ held f. f),
-      left-none (p s) (o s) (s .args .depths .now) (s .args .lasts .now) (s .args .added .now) (s .args .start) (s .args .duration) (s .args .worked .now) (s .args .left .now),
+      left-none (p s) (o s) (s .args .depths .now) (s .args .lasts .now) (s .args .added .now) (s .args .span .start) (s .args .span .duration) (s .args .worked .now) (s .args .left .now),
       rowed-none _ _ _,
     )
 
-mul-fill-row : tie.Need-mul-fill-row Inv-loop μ-loop
-mul-fill-row c = record { fits = omega (arith, start (c .before) .pre .0 .flows .lies .sited .fine .rows-high, c .loop-test .taken) }
+mul-mask : tie.Need-mul-mask Inv-loop μ-loop
+mul-mask c = record { fits = omega (arith, start (c .before) .pre .0 .flows .lies .sited .fine .rows-high, c .loop-test .taken) }
 
-shared-slice-read-fill-row : tie.Need-shared-slice-read-fill-row Inv-loop μ-loop
-shared-slice-read-fill-row c = let at = c .before in omega (arith, start (at .before) .pre .1 .1, at .loop-test .taken)
+shared-slice-read-mask : tie.Need-shared-slice-read-mask Inv-loop μ-loop
+shared-slice-read-mask c = let at = c .before in omega (arith, start (at .before) .pre .1 .1, at .loop-test .taken)
 
 fill-row-requires : tie.Need-fill-row-requires Inv-loop μ-loop
+unfolding bitOf
 fill-row-requires c κs =
     let at = turn c in
     let at-loop = at .before in
-    let s = start at-loop in
-    let f = s .pre .0 in (
-      record {
-        flows = f .flows;
-        added-long = f .added-long;
-        duration-for = f .duration-for;
-        end-to = f .end-to;
-        record-long = at-loop .loop .inv .1 ∙ f .record-long;
-      },
+    let s = start at-loop in (
+      fills-still (at-loop .loop .inv .1) (s .pre .0),
       (
-        row-begins (s .args .shape) (at .loop-test .taken) (at-loop .loop .inv .5 .0),
-        idle-row (p s) (o s) (s .args .depths .now) (s .args .lasts .now) (s .args .added .now) (s .args .start) (s .args .duration) (s .args .worked .now)
-            (at-loop .loop .row) (at .loop-test .taken) (at-loop .loop .inv .5 .0) refl (s .pre .1 .0),
+        row-here (s .args .way .shape) (at-loop .loop .inv .0) (at .loop-test .taken),
+        by-row (s .args .way .shape) (at-loop .loop .row) (at-loop .loop .inv .0 .begins) (λ r. getD (s .args .worked .now) r 0)
+            (UnstirredAt (p s) (s .args .depths .now) (s .args .lasts .now) (s .args .added .now)) (at .loop-test .taken) refl (s .pre .1 .0),
         at-loop .loop .inv .2 ∙ s .pre .1 .2,
       ),
     )
@@ -111,7 +108,7 @@ add-row c = omega (arith, start (here c .before) .pre .0 .flows .lies .sited .fi
 add-first : tie.Need-add-first Inv-loop μ-loop
 add-first c =
     let s = start (here c .before) in
-    omega (arith, row-fits (s .args .shape) (here c .loop-test .taken), s .pre .0 .flows .lies .sited .fine .few, here c .before .loop .inv .5 .0)
+    omega (arith, row-fits (s .args .way .shape) (here c .loop-test .taken), s .pre .0 .flows .lies .sited .fine .few, here c .before .loop .inv .0 .begins)
 
 loop-less : tie.Need-loop-less Inv-loop μ-loop
 loop-less c = omega (arith, here c .loop-test .taken)
@@ -122,14 +119,13 @@ loop-again c =
     let at = here c in
     let inv = at .before .loop .inv in
     let s = start (at .before) in (
-      omega (arith, at .loop-test .taken),
-      done .fill-row .kept .1 .1 .1 .1 .1 .1 .1 .1 .1 .1 .1 .1 .1 .0 ∙ inv .1,
-      done .fill-row .kept .1 .1 .1 .1 .1 .1 .1 .1 .1 .1 .1 .1 .1 .1 .0 ∙ inv .2,
-      filled-then (p s) (o s) (s .args .depths .now) (s .args .lasts .now) (s .args .added .now) (s .args .start) (s .args .duration) 0 refl (inv .3)
-          (done .fill-row .ensures .filled),
-      left-row (p s) (o s) (s .args .depths .now) (s .args .lasts .now) (s .args .added .now) (s .args .start) (s .args .duration) (s .args .worked .now)
-          (at .before .loop .row) (inv .5 .0) refl (inv .4) (done .fill-row .ensures),
-      rowed-more _ _ _ _ (inv .5) (omega (arith, s .pre .1 .3, at .loop-test .taken)) (done .fill-row .ensures .senders-are),
+      row-next (inv .0) (at .loop-test .taken),
+      done .fill-row .kept .1 .1 .1 .1 .1 .1 .1 .1 .1 .1 .0 ∙ inv .1,
+      done .fill-row .kept .1 .1 .1 .1 .1 .1 .1 .1 .1 .1 .1 .0 ∙ inv .2,
+      filled-then refl (inv .3) (done .fill-row .ensures .filled),
+      left-row (p s) (o s) (s .args .depths .now) (s .args .lasts .now) (s .args .added .now) (s .args .span .start) (s .args .span .duration) (s .args .worked .now)
+          (at .before .loop .row) (inv .0 .begins) refl (inv .4) (done .fill-row .ensures),
+      rowed-more _ _ _ _ (inv .5) (inv .0 .begins) (omega (arith, s .pre .1 .3, at .loop-test .taken)) (done .fill-row .ensures .senders-are),
     )
 
 same-length : tie.Need-same-length Inv-loop μ-loop
@@ -146,11 +142,10 @@ returns c =
     let at-loop = c .before in
     let s = start at-loop in
     let inv = at-loop .loop .inv in
-    let all : at-loop .loop .row ≡ s .args .shape .rows = omega (arith, inv .0, c .loop-test .left) in
-    let whole = inv .5 .0 ∙ ap (λ (k : ℕ). k * s .args .shape .columns) all in (
-      filled-on (p s) (o s) (s .args .depths .now) (s .args .lasts .now) (s .args .added .now) (s .args .start) (s .args .duration) 0 whole (inv .3),
-      subst (λ (k : ℕ). LeftTo (p s) (o s) (s .args .depths .now) (s .args .lasts .now) (s .args .duration) (s .args .worked .now) k (at-loop .loop .left)) whole (inv .4),
-      rows-told (p s) (o s) (s .args .depths .now) (s .args .lasts .now) (s .args .duration) (s .args .senders .now) (at-loop .loop .row) (s .pre .1 .3)
+    let whole = rows-end (s .args .way .shape) (inv .0) (c .loop-test .left) in (
+      filled-on whole (inv .3),
+      subst (λ (k : ℕ). LeftTo (p s) (o s) (s .args .depths .now) (s .args .lasts .now) (s .args .span .duration) (s .args .worked .now) k (at-loop .loop .left)) whole (inv .4),
+      rows-told (p s) (o s) (s .args .depths .now) (s .args .lasts .now) (s .args .span .duration) (s .args .senders .now) (at-loop .loop .row) (s .pre .1 .3)
           (c .loop-test .left) (inv .5),
     )
 
@@ -161,8 +156,8 @@ fill-rows-spec =
     Inv-loop
     μ-loop
     loop-holds
-    mul-fill-row
-    shared-slice-read-fill-row
+    mul-mask
+    shared-slice-read-mask
     fill-row-requires
     mul-senders
     slice-write-senders

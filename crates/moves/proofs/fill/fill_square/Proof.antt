@@ -6,7 +6,7 @@ use borrow.Author.Needs.{needs}
 use Rattle.reckon.proofs.TestLaws.{not-both, pick-true}
 use Rattle.ledger.specs.Runs.{Plan, plan}
 use Rattle.ledger.specs.Flows.{shut}
-use Rattle.moves.specs.Given.{Ground, ground}
+use Rattle.checks.specs.Given.{Ground, ground}
 use Rattle.moves.proofs.FillLaws.{put-dry, soaked-dry, dry-gone, dry-silent, left-set}
 use Rattle.moves.proofs.fill.fill_square.Statement.{statement}
 use Rattle.moves.proofs.fill.fill_square.Tie as tie
@@ -28,15 +28,15 @@ judged c = c .before .before
 -- ---- what is known there
 
 abbrev p : tie.Start → Plan
-p s = plan (s .args .shape) (s .args .marks .now)
+p s = plan (s .args .way .shape) (s .args .marks .now)
 
 abbrev o : tie.Start → Ground
-o s = ground (s .args .rules) (s .args .beds .now) (s .args .roughness .now) (s .args .rates .now)
+o s = ground (s .args .way .rules) (s .args .beds .now) (s .args .roughness .now) (s .args .rates .now)
 
 abbrev start : tie.Else1 → tie.Start
 start c = begin (c .before)
 
-is-open : (c : tie.Else1) → shut (p (start c)) (start c .args .square) ≡ false
+is-open : (c : tie.Else1) → shut (p (start c)) (start c .args .at .square) ≡ false
 is-open c = sym (c .before .is-closed .ensures) ∙ c .if1 .left
 
 -- ---- the answers
@@ -52,7 +52,7 @@ returns c =
       closed-kept = λ z. refl;
       open-put = λ z. not-both e z;
       left-is = sym (pick-true _ _ e);
-      sent-is = sym (dry-silent (p s) (o s) (s .args .depths .now) (s .args .lasts .now) (s .args .duration) (s .args .square) (λ z. not-both e z));
+      sent-is = sym (dry-silent (p s) (o s) (s .args .depths .now) (s .args .lasts .now) (s .args .span .duration) (s .args .at .square) (λ z. not-both e z));
     }
 
 mul-if2 : tie.Need-mul-if2
@@ -97,13 +97,13 @@ returns-2 c =
     record {
       closed-kept = λ z. not-both z e;
       open-put =
-          λ z. put-dry (s .args .rules) _ _ (s .args .duration) _ (s .args .rec .now) (s .args .square) _ _
-          none (soaked-dry (p s) (o s) (s .args .depths .now) (s .args .lasts .now) (s .args .start) (s .args .duration) (s .args .square) z none)
+          λ z. put-dry (s .args .way .rules) _ _ (s .args .span .duration) _ (s .args .rec .now) (s .args .at .square) _ _
+          none (soaked-dry (p s) (o s) (s .args .depths .now) (s .args .lasts .now) (s .args .span .start) (s .args .span .duration) (s .args .at .square) z none)
           (dry c .put-square .ensures);
       left-is =
-          left-set (p s) (s .args .left .now) (s .args .square) e
-          (sym (dry-gone (p s) (o s) (s .args .depths .now) (s .args .lasts .now) (s .args .duration) (s .args .square) e none));
-      sent-is = sym (dry-silent (p s) (o s) (s .args .depths .now) (s .args .lasts .now) (s .args .duration) (s .args .square) (λ z. none));
+          left-set (p s) (s .args .left .now) (s .args .at .square) e
+          (sym (dry-gone (p s) (o s) (s .args .depths .now) (s .args .lasts .now) (s .args .span .duration) (s .args .at .square) e none));
+      sent-is = sym (dry-silent (p s) (o s) (s .args .depths .now) (s .args .lasts .now) (s .args .span .duration) (s .args .at .square) (λ z. none));
     }
 
 work-square-requires : tie.Need-work-square-requires

@@ -1,9 +1,10 @@
 -- `moves::fill::mark_worked` meets its contract: row after row, what is filled so far is the masks of the rows passed.
 -- Assumes nothing.
-use Prim.Native.Nat.{_≤_, _-_}
+use Prim.Native.Nat.{_-_}
 use native.Mathlib.Omega.{arith}
+use Rattle.grid.specs.inner.Rows.{AtRow}
 use Rattle.grid.proofs.MaskLaws.{Rowed, rowed-none, rowed-long, rowed-more}
-use Rattle.grid.proofs.SquareLaws.{row-fits}
+use Rattle.grid.proofs.SquareLaws.{row-fits, rows-begin, row-next}
 use Rattle.ledger.specs.Runs.{plan}
 use Rattle.moves.specs.inner.Fill.{worksOn}
 use Rattle.moves.proofs.WetLaws.{rows-marked}
@@ -12,7 +13,7 @@ use Rattle.moves.proofs.fill.mark_worked.Tie as tie
 
 abbrev Inv-loop : tie.InvT-loop
 Inv-loop walk marks depths lasts added worked₀ rows columns row₀ first₀ worked row first =
-    (row ≤ rows) × Rowed (worksOn walk marks depths lasts added) columns worked₀ worked row first
+    AtRow rows columns row first × Rowed (worksOn walk marks depths lasts added) columns worked₀ worked row
 
 abbrev μ-loop : tie.MeasureT-loop
 μ-loop walk marks depths lasts added worked₀ rows columns row₀ first₀ worked row first = rows - row
@@ -25,13 +26,13 @@ start c = c .before .before .before .before .before .before
 -- ---- the answers
 
 loop-holds : tie.Need-loop-holds Inv-loop μ-loop
-loop-holds c = (omega arith, rowed-none _ _ _)
+loop-holds c = (rows-begin _ _, rowed-none _ _ _)
 
 worked-row-requires : tie.Need-worked-row-requires Inv-loop μ-loop
 worked-row-requires c κs =
     let s = start (c .before) in
     let fits = row-fits (s .args .shape) (c .loop-test .taken) in
-    let first-is = c .before .loop .inv .1 .0 in
+    let first-is = c .before .loop .inv .0 .begins in
     record {
       columns-high = s .pre .fine .columns-high;
       marks-long = omega (arith, fits, s .pre .marks-long, first-is);
@@ -55,7 +56,7 @@ add-first : tie.Need-add-first Inv-loop μ-loop
 add-first c =
     let at-loop = c .before .before in
     let s = start at-loop in
-    omega (arith, row-fits (s .args .shape) (c .before .loop-test .taken), s .pre .fine .few, at-loop .loop .inv .1 .0)
+    omega (arith, row-fits (s .args .shape) (c .before .loop-test .taken), s .pre .fine .few, at-loop .loop .inv .0 .begins)
 
 loop-less : tie.Need-loop-less Inv-loop μ-loop
 loop-less c = omega (arith, c .before .loop-test .taken)
@@ -63,8 +64,8 @@ loop-less c = omega (arith, c .before .loop-test .taken)
 loop-again : tie.Need-loop-again Inv-loop μ-loop
 loop-again c =
     let at-loop = c .before .before in (
-      omega (arith, c .before .loop-test .taken),
-      rowed-more _ _ _ _ (at-loop .loop .inv .1) (omega (arith, start at-loop .pre .rows-long, c .before .loop-test .taken)) (c .worked-row .ensures),
+      row-next (at-loop .loop .inv .0) (c .before .loop-test .taken),
+      rowed-more _ _ _ _ (at-loop .loop .inv .1) (at-loop .loop .inv .0 .begins) (omega (arith, start at-loop .pre .rows-long, c .before .loop-test .taken)) (c .worked-row .ensures),
     )
 
 same-length : tie.Need-same-length Inv-loop μ-loop

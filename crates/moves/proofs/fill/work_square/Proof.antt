@@ -11,7 +11,7 @@ use Rattle.reckon.proofs.TestLaws.{not-both}
 use Rattle.grid.specs.Squares.{mostSquares}
 use Rattle.ledger.specs.Runs.{Plan, plan}
 use Rattle.ledger.specs.Flows.{gone}
-use Rattle.moves.specs.Given.{Ground, ground}
+use Rattle.checks.specs.Given.{Ground, ground}
 use Rattle.moves.specs.Drops.{dropsOf}
 use Rattle.moves.specs.Moves.{leavesFor}
 use Rattle.moves.proofs.DropLaws.{weighable}
@@ -46,10 +46,10 @@ finished c = c .before .before
 -- ---- what is known there
 
 abbrev p : tie.Start → Plan
-p s = plan (s .args .shape) (s .args .marks .now)
+p s = plan (s .args .way .shape) (s .args .marks .now)
 
 abbrev o : tie.Start → Ground
-o s = ground (s .args .rules) (s .args .beds .now) (s .args .roughness .now) (s .args .rates .now)
+o s = ground (s .args .way .rules) (s .args .beds .now) (s .args .roughness .now) (s .args .rates .now)
 
 -- where the amounts are weighed
 module _ (c : tie.After-weigh) where
@@ -57,15 +57,15 @@ module _ (c : tie.After-weigh) where
   s = begin (weighing c)
 
   abbrev i : ℕ
-  i = s .args .square
+  i = s .args .at .square
 
   abbrev d : List ℕ
   d = s .args .depths .now
 
-  weighed-is : c .weigh .result ≡ weights (p s) (o s) d (s .args .lasts .now) (s .args .duration) i
+  weighed-is : c .weigh .result ≡ weights (p s) (o s) d (s .args .lasts .now) (s .args .span .duration) i
   weighed-is =
-      weighed-made (s .args .rules) (getD (s .args .lasts .now) i 0) (getD (s .args .roughness .now) i 0)
-      (s .args .duration) (dropsOf (p s) (s .args .rules) (s .args .beds .now) d i) (weighing c .number .ensures)
+      weighed-made (s .args .way .rules) (getD (s .args .lasts .now) i 0) (getD (s .args .roughness .now) i 0)
+      (s .args .span .duration) (dropsOf (p s) (s .args .way .rules) (s .args .beds .now) d i) (weighing c .number .ensures)
       (c .before .before .number2 .ensures) (c .before .number3 .ensures) (dropped (c .before) .drops-of .ensures) (c .weigh .ensures)
 
   shallow : getD d i 0 ≤ mostDepth
@@ -76,28 +76,28 @@ module _ (c : tie.After-four-leaving) where
   abbrev z : tie.Start
   z = s (c .before)
 
-  gone-is : c .four-leaving .result ≡ gone (leavesFor (p z) (o z) (d (c .before)) (z .args .lasts .now) (z .args .duration)) (z .args .square)
+  gone-is : c .four-leaving .result ≡ gone (leavesFor (p z) (o z) (d (c .before)) (z .args .lasts .now) (z .args .span .duration)) (z .args .at .square)
   gone-is =
       c .four-leaving .ensures
-      ∙ gone-made (p z) (o z) (d (c .before)) (z .args .lasts .now) (z .args .start) (z .args .duration) (z .args .square) (z .pre .1 .1) (weighed-is (c .before))
+      ∙ gone-made (p z) (o z) (d (c .before)) (z .args .lasts .now) (z .args .span .start) (z .args .span .duration) (z .args .at .square) (z .pre .1 .1) (weighed-is (c .before))
 
   left : c .four-leaving .result ≤ weighing (c .before) .number .result
   left =
       omega (
         arith,
         gone-is,
-        gone-covered (p z) (o z) (d (c .before)) (z .args .lasts .now) (z .args .start) (z .args .duration) (z .args .square) (z .pre .1 .1),
+        gone-covered (p z) (o z) (d (c .before)) (z .args .lasts .now) (z .args .span .start) (z .args .span .duration) (z .args .at .square) (z .pre .1 .1),
         weighing (c .before) .number .ensures,
       )
 
 -- the square is one of each list
-inside-lasts : (c : tie.After-soaks) → let y = z (leaving (rated c)) in y .args .square < length (y .args .lasts .now)
+inside-lasts : (c : tie.After-soaks) → let y = z (leaving (rated c)) in y .args .at .square < length (y .args .lasts .now)
 inside-lasts c = let y = z (leaving (rated c)) in omega (arith, y .pre .1 .0 .inside, y .pre .0 .flows .lasts-long)
 
-inside-added : (c : tie.After-soaks) → let y = z (leaving (rated c)) in y .args .square < length (y .args .added .now)
+inside-added : (c : tie.After-soaks) → let y = z (leaving (rated c)) in y .args .at .square < length (y .args .added .now)
 inside-added c = let y = z (leaving (rated c)) in omega (arith, y .pre .1 .0 .inside, y .pre .0 .added-long)
 
-few : (c : tie.After-soaks) → z (leaving (rated c)) .args .square < mostSquares
+few : (c : tie.After-soaks) → z (leaving (rated c)) .args .at .square < mostSquares
 few c = let y = z (leaving (rated c)) in omega (arith, y .pre .1 .0 .inside, y .pre .1 .0 .fine .few)
 
 -- ---- the answers
@@ -120,8 +120,8 @@ weigh-requires c κs =
     let y = begin at-number in
     let f = y .pre .0 .flows in
     let inside = y .pre .1 .0 .inside in
-    weighable (p y) (o y) (y .args .depths .now) (f .lies) (y .args .square) inside (y .pre .1 .1) (y .args .lasts .now)
-    (f .lasts-to (y .args .square) inside (y .pre .1 .1)) (y .pre .0 .duration-for) (at-number .number .ensures) (c .before .number2 .ensures)
+    weighable (p y) (o y) (y .args .depths .now) (f .lies) (y .args .at .square) inside (y .pre .1 .1) (y .args .lasts .now)
+    (f .lasts-to (y .args .at .square) inside (y .pre .1 .1)) (y .pre .0 .duration-for) (at-number .number .ensures) (c .before .number2 .ensures)
     (c .number3 .ensures) (dropped c .drops-of .ensures)
 
 four-leaving-requires : tie.Need-four-leaving-requires
@@ -129,8 +129,8 @@ four-leaving-requires c κs =
     let y = s c in
     omega (
       arith,
-      gone-made (p y) (o y) (d c) (y .args .lasts .now) (y .args .start) (y .args .duration) (i c) (y .pre .1 .1) (weighed-is c),
-      gone-covered (p y) (o y) (d c) (y .args .lasts .now) (y .args .start) (y .args .duration) (i c) (y .pre .1 .1),
+      gone-made (p y) (o y) (d c) (y .args .lasts .now) (y .args .span .start) (y .args .span .duration) (i c) (y .pre .1 .1) (weighed-is c),
+      gone-covered (p y) (o y) (d c) (y .args .lasts .now) (y .args .span .start) (y .args .span .duration) (i c) (y .pre .1 .1),
       shallow c,
     )
 
@@ -144,7 +144,7 @@ soaks-requires : tie.Need-soaks-requires
 soaks-requires c κs =
     let y = z (leaving c) in
     record {
-      rate-to = omega (arith, c .number4 .ensures, y .pre .0 .flows .rates-to (y .args .square) (y .pre .1 .0 .inside) (y .pre .1 .1));
+      rate-to = omega (arith, c .number4 .ensures, y .pre .0 .flows .rates-to (y .args .at .square) (y .pre .1 .0 .inside) (y .pre .1 .1));
       ordered = omega arith;
       end-to = y .pre .0 .end-to;
     }
@@ -167,7 +167,7 @@ put-square-requires c κs =
     let w = leaving (rated soaked) .before in
     let y = s w in (
       omega (arith, y .pre .0 .record-long, y .pre .1 .0 .inside),
-      words-fit (y .args .rules) (w .before .before .number2 .result) (w .before .number3 .result) (y .args .duration)
+      words-fit (y .args .way .rules) (w .before .before .number2 .result) (w .before .number3 .result) (y .args .span .duration)
           (dropped (w .before) .drops-of .result) {d = weighing w .number .result} (omega (arith, shallow w, weighing w .number .ensures))
           (omega (arith, soaked .soaks .ensures)) (w .weigh .ensures),
     )
@@ -202,12 +202,12 @@ returns c =
     record {
       closed-kept = λ e. not-both e (y .pre .1 .1);
       open-put =
-          λ e. put-wet (y .args .rules) (getD lasts (i w) 0) (getD (y .args .roughness .now) (i w) 0) (y .args .duration)
-          (dropsOf (p y) (y .args .rules) (y .args .beds .now) (d w) (i w)) (getD (d w) (i w) 0) (y .args .rec .now) (i w) _ _ (weighed-is w)
-          (soaked-made (p y) (o y) (d w) lasts (y .args .start) (y .args .duration) (i w) e (rated soaked .number4 .ensures) (weighing w .number .ensures)
+          λ e. put-wet (y .args .way .rules) (getD lasts (i w) 0) (getD (y .args .roughness .now) (i w) 0) (y .args .span .duration)
+          (dropsOf (p y) (y .args .way .rules) (y .args .beds .now) (d w) (i w)) (getD (d w) (i w) 0) (y .args .rec .now) (i w) _ _ (weighed-is w)
+          (soaked-made (p y) (o y) (d w) lasts (y .args .span .start) (y .args .span .duration) (i w) e (rated soaked .number4 .ensures) (weighing w .number .ensures)
           (gone-is l) (soaked .soaks .ensures)) (finished c .put-square .ensures);
       left-is = left-set (p y) (y .args .left .now) (i w) (y .pre .1 .1) (gone-is l);
-      sent-is = sends-made (p y) (o y) (d w) lasts (y .args .start) (y .args .duration) (i w) (y .pre .1 .1) (gone-is l);
+      sent-is = sends-made (p y) (o y) (d w) lasts (y .args .span .start) (y .args .span .duration) (i w) (y .pre .1 .1) (gone-is l);
     }
 
 pub work-square-spec : {M : Type 1} → statement M

@@ -1,24 +1,24 @@
 -- `moves::length::least_in_row` meets its contract: the columns passed over have no candidate.
 -- Assumes nothing.
-use mathlib.Core.Path.{_≡_, sym, ap, _∙_}
-use Prim.Native.Nat.{ℕ, _+_, _-_, _≤_}
+use mathlib.Core.Path.{_≡_, ap, _∙_}
+use Prim.Native.Nat.{ℕ, _+_, _-_}
 use native.Mathlib.Omega.{arith}
-use Rattle.grid.specs.Walks.{nextWithin}
+use Rattle.grid.specs.inner.Visits.{Passes, Visits}
 use Rattle.grid.proofs.SquareLaws.{row-column}
-use Rattle.grid.proofs.WalkLaws.{within-from}
+use Rattle.grid.proofs.WalkLaws.{walk-visits, walk-ends, walk-nearer}
 use Rattle.ledger.specs.Runs.{Plan, plan}
-use Rattle.moves.specs.Given.{Ground}
+use Rattle.checks.specs.Given.{Ground}
 use Rattle.moves.specs.inner.Fill.{firm, leastBelow}
-use Rattle.moves.proofs.WetLaws.{next-dry, dry-at, below-more, below-idle}
+use Rattle.moves.proofs.WetLaws.{dry-clear, below-more, below-idle}
 use Rattle.moves.proofs.length.least_in_row.Statement.{statement}
 use Rattle.moves.proofs.length.least_in_row.Tie as tie
 
 abbrev Inv-loop : tie.InvT-loop
-Inv-loop shape rules marks beds roughness depths longer first wet columns best₀ column₀ best column =
-    (column ≤ columns) × (best ≡ leastBelow (plan shape marks) (firm rules beds roughness) depths (first + column))
+Inv-loop way marks beds roughness depths longer first wet columns best₀ column₀ best column =
+    Visits wet columns (λ k. best ≡ leastBelow (plan (way .shape) marks) (firm (way .rules) beds roughness) depths (first + k)) column
 
 abbrev μ-loop : tie.MeasureT-loop
-μ-loop shape rules marks beds roughness depths longer first wet columns best₀ column₀ best column = columns - column
+μ-loop way marks beds roughness depths longer first wet columns best₀ column₀ best column = columns - column
 
 -- ---- the places, each by the one before it
 
@@ -34,21 +34,19 @@ turn c = c .before .before
 -- ---- what is known there
 
 abbrev p : tie.Start Inv-loop μ-loop → Plan
-p s = plan (s .args .shape) (s .args .marks .now)
+p s = plan (s .args .way .shape) (s .args .marks .now)
 
 abbrev o : tie.Start Inv-loop μ-loop → Ground
-o s = firm (s .args .rules) (s .args .beds .now) (s .args .roughness .now)
+o s = firm (s .args .way .rules) (s .args .beds .now) (s .args .roughness .now)
 
--- on to the next column with water
-on-to :
-    (s : tie.Start Inv-loop μ-loop) {best : ℕ} (column next : ℕ) → column ≤ s .args .shape .columns → best ≡ leastBelow (p s) (o s) (s .args .depths .now) (s .args .first + column) →
-    next ≡ nextWithin (s .args .wet) column (s .args .shape .columns) →
-    (next ≤ s .args .shape .columns) × (best ≡ leastBelow (p s) (o s) (s .args .depths .now) (s .args .first + next))
-on-to s column next l e n =
-    let d = next-dry (p s) (s .args .depths .now) (s .args .first) (s .pre .1 .0 .1) l n in (
-      d .within,
-      e ∙ sym (below-idle (p s) (o s) (s .args .depths .now) (s .args .first + column) (s .args .first + next) (omega (arith, d .ordered)) (dry-at (p s) (s .args .depths .now) d)),
-    )
+-- a column without water has no candidate
+passes :
+    (s : tie.Start Inv-loop μ-loop) (best : ℕ) →
+    Passes (s .args .wet) (s .args .way .shape .columns) (λ k. best ≡ leastBelow (p s) (o s) (s .args .depths .now) (s .args .first + k))
+passes s best k h b e =
+    e
+    ∙ (below-idle (p s) (o s) (s .args .depths .now) (s .args .first + k) (dry-clear (p s) (s .args .depths .now) (s .args .first) (s .pre .1 .0 .1) k h b)
+    ∙ ap (leastBelow (p s) (o s) (s .args .depths .now)) (let z : s .args .first + k + 1 ≡ s .args .first + (k + 1) = omega arith in z))
 
 -- ---- the answers
 
@@ -58,45 +56,36 @@ next-within-requires c κs = (omega arith, begin c .pre .0 .sited .fine .columns
 loop-holds : tie.Need-loop-holds Inv-loop μ-loop
 loop-holds c =
     let s = begin (c .before) in
-    on-to s 0 (c .next-within .result) (omega arith)
-    (s .pre .1 .1 ∙ ap (leastBelow (p s) (o s) (s .args .depths .now)) (let e : s .args .first ≡ s .args .first + 0 = omega arith in e)) (c .next-within .ensures)
+    walk-visits (passes s _) (s .pre .0 .sited .fine .columns-high) 0 (omega arith) (c .next-within .ensures)
+    (s .pre .1 .1 ∙ ap (leastBelow (p s) (o s) (s .args .depths .now)) (let e : s .args .first ≡ s .args .first + 0 = omega arith in e))
 
-add-shorter-by : tie.Need-add-shorter-by Inv-loop μ-loop
-add-shorter-by c = let s = start (c .before) in omega (arith, s .pre .1 .0 .0 .fits, s .pre .0 .sited .fine .few, c .loop-test .taken)
+add-square : tie.Need-add-square Inv-loop μ-loop
+add-square c = let s = start (c .before) in omega (arith, s .pre .1 .0 .0 .fits, s .pre .0 .sited .fine .few, c .loop-test .taken)
 
 shorter-by-requires : tie.Need-shorter-by-requires Inv-loop μ-loop
 shorter-by-requires c κs =
     let s = start (c .before) in (
       s .pre .0,
-      row-column (s .args .shape) (s .pre .0 .sited .fine) (s .pre .1 .0 .0) (c .loop-test .taken),
+      row-column (s .args .way .shape) (s .pre .0 .sited .fine) (s .pre .1 .0 .0) (c .loop-test .taken),
     )
 
 next-after-requires : tie.Need-next-after-requires Inv-loop μ-loop
 next-after-requires c κs = (c .before .loop-test .taken, start (turn c) .pre .0 .sited .fine .columns-high)
 
 loop-less : tie.Need-loop-less Inv-loop μ-loop
-loop-less c =
-    let column = turn (c .before) .loop .column in
-    let s = start (turn (c .before)) in
-    omega (arith, c .next-after .ensures, within-from (s .args .wet) (column + 1) (s .args .shape .columns) (omega (arith, c .before .before .loop-test .taken)), c .before .before .loop-test .taken)
+loop-less c = walk-nearer (start (turn (c .before)) .args .wet) (c .before .before .loop-test .taken) (c .next-after .ensures)
 
 loop-again : tie.Need-loop-again Inv-loop μ-loop
 loop-again c =
     let at-loop = turn (c .before) in
     let s = start at-loop in
     let column = at-loop .loop .column in
-    on-to s (column + 1) (c .next-after .result) (omega (arith, c .before .before .loop-test .taken))
-    (below-more (p s) (o s) (s .args .depths .now) (s .args .first + column) (at-loop .loop .inv .1) (c .before .shorter-by .ensures)
+    walk-visits (passes s _) (s .pre .0 .sited .fine .columns-high) (column + 1) (omega (arith, c .before .before .loop-test .taken)) (c .next-after .ensures)
+    (below-more (p s) (o s) (s .args .depths .now) (s .args .first + column) (at-loop .loop .inv .held) (c .before .shorter-by .ensures)
     ∙ ap (leastBelow (p s) (o s) (s .args .depths .now)) (let e : s .args .first + column + 1 ≡ s .args .first + (column + 1) = omega arith in e))
-    (c .next-after .ensures)
 
 returns : tie.Need-returns Inv-loop μ-loop
-returns c =
-    let at-loop = c .before in
-    let s = start at-loop in
-    at-loop .loop .inv .1
-    ∙ ap (λ (k : ℕ). leastBelow (p s) (o s) (s .args .depths .now) (s .args .first + k))
-    (let e : at-loop .loop .column ≡ s .args .shape .columns = omega (arith, at-loop .loop .inv .0, c .loop-test .left) in e)
+returns c = walk-ends (c .before .loop .inv) (c .loop-test .left)
 
 pub least-in-row-spec : {M : Type 1} → statement M
 least-in-row-spec =
@@ -106,7 +95,7 @@ least-in-row-spec =
     μ-loop
     next-within-requires
     loop-holds
-    add-shorter-by
+    add-square
     shorter-by-requires
     next-after-requires
     loop-less

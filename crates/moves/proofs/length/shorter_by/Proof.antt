@@ -5,7 +5,7 @@ use mathlib.Core.Bool.{false}
 use borrow.Author.Needs.{needs}
 use Rattle.ledger.specs.Runs.{Plan, plan}
 use Rattle.ledger.specs.Flows.{shut}
-use Rattle.moves.specs.Given.{Ground}
+use Rattle.checks.specs.Given.{Ground}
 use Rattle.moves.specs.inner.Fill.{firm}
 use Rattle.moves.proofs.DropLaws.{candidacy}
 use Rattle.moves.proofs.LengthLaws.{least-closed, least-open, least-dry, shorter-made}
@@ -23,15 +23,15 @@ weighed c = c .before .before .before
 -- ---- what is known there
 
 abbrev p : tie.Start → Plan
-p s = plan (s .args .shape) (s .args .marks .now)
+p s = plan (s .args .way .shape) (s .args .marks .now)
 
 abbrev o : tie.Start → Ground
-o s = firm (s .args .rules) (s .args .beds .now) (s .args .roughness .now)
+o s = firm (s .args .way .rules) (s .args .beds .now) (s .args .roughness .now)
 
 abbrev start : tie.Else1 → tie.Start
 start c = begin (c .before)
 
-is-open : (c : tie.Else1) → shut (p (start c)) (start c .args .square) ≡ false
+is-open : (c : tie.Else1) → shut (p (start c)) (start c .args .at .square) ≡ false
 is-open c = sym (c .before .is-closed .ensures) ∙ c .if1 .left
 
 -- ---- the answers
@@ -43,7 +43,7 @@ returns : tie.Need-returns
 returns c =
     let s = begin (c .before) in
     sym
-    (least-closed (p s) (o s) (s .args .depths .now) (s .args .best) (s .args .square) (sym (c .before .is-closed .ensures) ∙ c .if1 .taken))
+    (least-closed (p s) (o s) (s .args .depths .now) (s .args .best) (s .args .at .square) (sym (c .before .is-closed .ensures) ∙ c .if1 .taken))
 
 number-requires : tie.Need-number-requires
 number-requires c κs = search needs
@@ -53,7 +53,7 @@ returns-2 c =
     let at-if1 = c .before .before in
     let s = start at-if1 in
     sym
-    (least-dry (p s) (o s) (s .args .depths .now) (s .args .best) (s .args .square) (is-open at-if1)
+    (least-dry (p s) (o s) (s .args .depths .now) (s .args .best) (s .args .at .square) (is-open at-if1)
     (sym (c .before .number .ensures) ∙ c .if2 .taken))
 
 drops-by-sides-requires : tie.Need-drops-by-sides-requires
@@ -66,7 +66,7 @@ shorter-requires : tie.Need-shorter-requires
 shorter-requires c κs =
     let at-number = weighed c in
     let s = start (at-number .before) in
-    candidacy (p s) (o s) (s .args .depths .now) (s .pre .0) (s .args .square) (s .pre .1 .inside) (is-open (at-number .before))
+    candidacy (p s) (o s) (s .args .depths .now) (s .pre .0) (s .args .at .square) (s .pre .1 .inside) (is-open (at-number .before))
     (at-number .number .ensures) (c .number2 .ensures) (c .before .drops-by-sides .ensures)
 
 returns-3 : tie.Need-returns-3
@@ -75,10 +75,10 @@ returns-3 c =
     let at-number = weighed at-number2 in
     let s = start (at-number .before) in
     sym
-    (least-open (p s) (o s) (s .args .depths .now) (s .args .best) (s .args .square) (is-open (at-number .before))
+    (least-open (p s) (o s) (s .args .depths .now) (s .args .best) (s .args .at .square) (is-open (at-number .before))
     ∙ sym
     (c .shorter .ensures
-    ∙ shorter-made (s .args .rules) (s .args .best) (at-number .number .ensures) (at-number2 .number2 .ensures)
+    ∙ shorter-made (s .args .way .rules) (s .args .best) (at-number .number .ensures) (at-number2 .number2 .ensures)
     (at-number2 .before .drops-by-sides .ensures)))
 
 pub shorter-by-spec : {M : Type 1} → statement M

@@ -23,13 +23,13 @@ returns c =
     let at-is-update = at-if1 .before in
     let start = at-is-update .before .before .before .before .before in
     c .held-length .ensures ∙
-    (ap (heldBetween (start .args .rules)) (c .before .least-candidate .ensures) ∙ (fresh-held (start .args .rules) _ (start .pre .rules .shortest-to) ∙ sym (length-afresh (start .args .rules) (start .args .clock) (start .args .held) _ (sym (at-is-update .is-update .ensures) ∙ at-if1 .if1 .taken))))
+    (ap (heldBetween (start .args .way .rules)) (c .before .least-candidate .ensures) ∙ (fresh-held (start .args .way .rules) _ (start .pre .rules .shortest-to) ∙ sym (length-afresh (start .args .way .rules) (start .args .clock) (start .args .held) _ (sym (at-is-update .is-update .ensures) ∙ at-if1 .if1 .taken))))
 
 returns-2 : tie.Need-returns-2
 returns-2 c =
     let start = c .before .before .before .before .before .before in
     sym
-    (length-kept (start .args .rules) (start .args .clock) (start .args .held) _ (sym (c .before .is-update .ensures) ∙ c .if1 .left))
+    (length-kept (start .args .way .rules) (start .args .clock) (start .args .held) _ (sym (c .before .is-update .ensures) ∙ c .if1 .left))
 
 pub step-length-spec : {M : Type 1} → statement M
 step-length-spec =

@@ -5,7 +5,7 @@ use mathlib.Core.Path.{_≡_}
 use native.Mathlib.Omega.{arith}
 use borrow.Author.Tests.{not-true, not-false}
 use borrow.Author.Needs.{needs}
-use Rattle.flood.proofs.CheckLaws.{fails-by, holds-by}
+use Rattle.checks.proofs.CheckLaws.{fails-by, holds-by}
 use Rattle.sheet.specs.Sheet.{Rooms, rooms, roomsFine, checksOf}
 use Rattle.sheet.specs.inner.Reading.{BodyIs}
 use Rattle.sheet.proofs.ReadLaws.{plain-rain, plain-inflow}

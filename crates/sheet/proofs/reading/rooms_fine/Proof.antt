@@ -10,7 +10,7 @@ use borrow.Author.Needs.{needs}
 use Rattle.reckon.proofs.TestLaws.{every-fails}
 use Rattle.grid.specs.Squares.{squares}
 use Rattle.grid.proofs.SquareLaws.{ranges-of-fine}
-use Rattle.flood.proofs.CheckLaws.{fails-by, holds-by, every-decided}
+use Rattle.checks.proofs.CheckLaws.{fails-by, holds-by, every-decided}
 use Rattle.sheet.proofs.reading.rooms_fine.Statement.{statement}
 use Rattle.sheet.proofs.reading.rooms_fine.Tie as tie
 

@@ -1,0 +1,4 @@
+pub mod BoundsLaws
+pub mod CheckLaws
+pub mod Determined
+pub mod FreshLaws

@@ -1,0 +1,78 @@
+-- Laws of reads into a room: bytes that were put leave what stands after them; read after read; a whole file.
+-- Assumes nothing.
+use mathlib.Core.Path.{_≡_, refl, sym, ap, _∙_}
+use mathlib.Core.Bool.{false, not}
+use mathlib.Core.List.{List, _++_}
+use Prim.Native.Nat.{ℕ, _+_, _-_, _≤_}
+use native.Mathlib.Omega.{arith}
+use lib.ListN.{length, take, drop}
+use lib.Seq.{drop-drop, drop-at, drop-append-seam, length-take-le}
+use Rattle.reckon.specs.Lists.{placed}
+use Rattle.reckon.proofs.TestLaws.{not-both}
+use Rattle.text.specs.Lines.{nthLine}
+use Rattle.text.specs.Writing.{Wrote}
+use Rattle.text.specs.declared.lines.Line.{Line}
+use Rattle.text.proofs.WritingLaws.{wrote-length}
+use Rattle.files.specs.Files.{InputCame, FileCame, NamedCame, notRead}
+use Rattle.files.specs.inner.Reading.{CameOn}
+use Rattle.files.specs.declared.Came.{Came}
+
+drop-placed :
+    (old : List ℕ) (at : ℕ) (t : List ℕ) → at + length t ≤ length old → drop (at + length t) (placed old at t) ≡ drop (at + length t) old
+unfolding placed
+drop-placed old at t h =
+    let rest = drop (length t) (drop at old) in
+    sym (drop-drop (length t) at (take at old ++ (t ++ rest)))
+    ∙ (ap (drop (length t)) (drop-at (take at old) (t ++ rest) at (length-take-le at old (omega arith)))
+    ∙ (drop-append-seam t rest ∙ drop-drop (length t) at old))
+
+pub put-came : {t old new : List ℕ} {at r : ℕ} → at + length t ≤ length old → Wrote t at old new r → CameOn at r old new
+put-came {t} {old} {new} {at} {r} h w =
+    record {
+      long = wrote-length h w;
+      on = omega (arith, w .next);
+      within = omega (arith, w .next);
+      rest = rw (w .room, w .next) (drop-placed old at t h);
+    }
+
+pub none-came : (old : List ℕ) (at : ℕ) → at ≤ length old → CameOn at at old old
+none-came old at h = record { long = refl; on = omega arith; within = h; rest = refl }
+
+pub more-came : {old mid new : List ℕ} {from at to : ℕ} → CameOn from at old mid → CameOn at to mid new → CameOn from to old new
+more-came {old} {mid} {new} {from} {at} {to} a b =
+    let on : at + (to - at) ≡ to = omega (arith, b .on) in
+    record {
+      long = b .long ∙ a .long;
+      on = omega (arith, a .on, b .on);
+      within = omega (arith, b .within, a .long);
+      rest =
+          b .rest
+          ∙ (sym (ap (λ (k : ℕ). drop k mid) on)
+          ∙ (sym (drop-drop (to - at) at mid)
+          ∙ (ap (drop (to - at)) (a .rest) ∙ (drop-drop (to - at) at old ∙ ap (λ (k : ℕ). drop k old) on))));
+    }
+
+-- what came from a room's start
+pub all-came : {old new : List ℕ} {n : ℕ} (r : Came) → CameOn 0 n old new → r .length ≡ n → InputCame old new r
+all-came {old} {new} {n} r a e =
+    let within : r .length ≤ length new = omega (arith, a .within, a .long) in
+    record {
+      long = a .long;
+      within = within;
+      counted = sym (length-take-le (r .length) new within);
+      rest = rw e (a .rest);
+    }
+
+pub nothing-came : (old : List ℕ) {r : Came} → r ≡ notRead → InputCame old old r
+nothing-came old {r} e = all-came r (none-came old 0 (omega arith)) (ap (λ (x : Came). x .length) e)
+
+-- a name that is a line with its newline
+pub named-came :
+    (names : List ℕ) (k : ℕ) {line : Line} {name old new : List ℕ} {r : Came} → line ≡ nthLine names k → not (line .ended) ≡ false →
+    length name ≡ line .to - line .from → FileCame name old new r → NamedCame names k old new r
+named-came names k e h l f =
+    record {
+      came = f .came;
+      too-long = λ g. f .too-long (omega (arith, l, ap (λ (x : Line). x .to) e, ap (λ (x : Line). x .from) e));
+      no-newline = λ g. not-both (ap not (ap (λ (x : Line). x .ended) e ∙ g)) h;
+    }

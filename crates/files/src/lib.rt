@@ -1,0 +1,127 @@
+// Files by name and the standard input, read into a lent room: what comes lies at the room's start, and the rest of the room stays.
+// Which bytes the system gives no contract can say.
+//
+//   read_input   the standard input
+//   read_file    the file of a name
+//   read_named   the file whose name is a line of a list of names
+use text::lines::nth_line;
+use text::writing::put_word;
+ghost use mathlib.Core.Path.{_≡_};
+ghost use Prim.Native.Nat.{_≤_};
+ghost use lib.ListN.{length};
+ghost use Rattle.files.specs.Files.{InputCame, FileCame, NamedCame, notRead};
+ghost use Rattle.files.specs.inner.Reading.{ReadOn};
+
+// What a read of a whole file came to: how many bytes came, and whether that is all of them, or all that the room holds. It is not where the
+// file cannot be opened, or where a read of it fails, as a directory's does: what came before that may read well, and is not the file.
+pub struct Came {
+    pub whole: bool,
+    pub length: usize,
+}
+
+// One read's answer: the position after what came, and whether the read failed.
+struct Next {
+    failed: bool,
+    at: usize,
+}
+
+// The most bytes of a name that the system takes.
+const MOST_NAME: usize = 4_095;
+
+fn not_read() -> Came
+    ensures { λ r. ⌜ r ≡ notRead ⌝ }
+{
+    Came {
+        whole: false,
+        length: 0,
+    }
+}
+
+fn least(a: usize, b: usize) -> usize
+    ensures { λ r. ⌜ (r ≤ a) × (r ≤ b) ⌝ }
+{
+    if a < b { a } else { b }
+}
+
+// One read of a file into a room at a position, as much of it as fits; by way of a room of its own, so that the rest of the lent one stays.
+fn read_on(file: i32, room: &mut [u8], at: usize) -> Next
+    requires { ⌜ at ≤ length (now room) ⌝ }
+    ensures { λ r. ⌜ ReadOn at (now (room .entry)) (now (room .exit)) r ⌝ }
+{
+    let mut chunk = io::buffer();
+    let moved = libc::read(file, &mut chunk);
+    if moved < 0 {
+        return Next {
+            failed: true,
+            at: at,
+        };
+    }
+    let got = least(io::count(moved, &chunk), room.len() - at);
+    let next = put_word(room, at, &chunk[..got]);
+    Next {
+        failed: false,
+        at: next,
+    }
+}
+
+// An open file from its start, until it ends, the room is full or a read fails.
+fn read_all(file: i32, room: &mut [u8]) -> Came
+    ensures { λ r. ⌜ InputCame (now (room .entry)) (now (room .exit)) r ⌝ }
+{
+    let mut at: usize = 0;
+    while at < room.len() {
+        let next = read_on(file, room, at);
+        let after = next.at;
+        if next.failed {
+            return Came {
+                whole: false,
+                length: after,
+            };
+        }
+        if after <= at {
+            return Came {
+                whole: true,
+                length: after,
+            };
+        }
+        at = after;
+    }
+    Came {
+        whole: true,
+        length: at,
+    }
+}
+
+pub fn read_input(room: &mut [u8]) -> Came
+    ensures { λ r. ⌜ InputCame (now (room .entry)) (now (room .exit)) r ⌝ }
+{
+    read_all(0, room)
+}
+
+pub fn read_file(name: &[u8], room: &mut [u8]) -> Came
+    ensures { λ r. ⌜ FileCame (now (name .entry)) (now (room .entry)) (now (room .exit)) r ⌝ }
+{
+    if MOST_NAME < name.len() {
+        return not_read();
+    }
+    let file = os::open_read(name);
+    if file < 0 {
+        return not_read();
+    }
+    let came = read_all(file, room);
+    libc::close(file);
+    came
+}
+
+// A last line without its newline names no file.
+pub fn read_named(names: &[u8], k: usize, room: &mut [u8]) -> Came
+    ensures { λ r. ⌜ NamedCame (now (names .entry)) k (now (room .entry)) (now (room .exit)) r ⌝ }
+{
+    let line = nth_line(names, k);
+    if !line.ended {
+        return not_read();
+    }
+    let from = line.from;
+    let to = line.to;
+    read_file(&names[from..to], room)
+}

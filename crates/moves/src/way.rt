@@ -1,0 +1,31 @@
+// What the functions of a step hand on to one another by value.
+use grid::squares::Shape;
+use grid::walks::Walk;
+use rule::rules::Rules;
+
+// How a step goes about its work: by which walk, on which grid, by which rules, and whether no two inflow rows are for one square.
+pub struct Way {
+    pub walk: Walk,
+    pub shape: Shape,
+    pub rules: Rules,
+    pub apart: bool,
+}
+
+// The length that the run holds, the clock at which a step starts, and how long it lasts.
+pub struct Span {
+    pub held: u64,
+    pub start: u64,
+    pub duration: u64,
+}
+
+// A square, and the column in which it stands.
+pub(crate) struct Place {
+    pub square: usize,
+    pub column: usize,
+}
+
+// A row by its first square, and the mask of its columns that are worked.
+pub(crate) struct Row {
+    pub first: usize,
+    pub mask: u64,
+}

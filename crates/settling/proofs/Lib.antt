@@ -1,0 +1,6 @@
+pub mod ByRecord
+pub mod Determined
+pub mod ReachLaws
+pub mod SettleLaws
+pub mod SpreadLaws
+pub mod SureLaws

@@ -1,0 +1,1 @@
+"""The map of a sheet and its answer, in SVG: drawing puts it together from shades, signs, contours and a legend."""

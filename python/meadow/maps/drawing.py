@@ -1,0 +1,166 @@
+"""A map of a sheet and of what `meadow` answered to it, as SVG, to be read in colour and in black and white.
+
+Water is blue by classes of depth, the deeper the darker; a film under 1 mm is a dot on its ground; dry ground is nearly white, with
+contours; closed squares are hatched; exits have an arrow. A hatch has its number, filled where it gives water up to the end's clock.
+Standing squares have a diamond, filled where the square falls by 1 mm or more on some side. Each square says its depth to a pointer that
+rests on it. No depth is computed: those that the answer has are drawn.
+"""
+from html import escape
+
+from ..sheets.lines import CLOSED
+from ..sheets.standing import STEEP, standing_squares
+from ..words.hatches import hatches_of
+from ..words.units import depth, height, square, time
+from .contours import contours, heights_of
+from .legend import LEGEND, legend
+from .shades import CLASSES, CONTOUR, CONTOUR_NAME, INK, LINES, PALE, WALL_PAPER, WALL_STROKE, class_of, ground
+from .signs import box, diamond, exit_sign, film_dot, hatch_sign, words
+
+# the size of a square on paper at the least and at the most, and that of a map that is to be filled by fewer squares
+LEAST_SQUARE, MOST_SQUARE, FILLED = 22, 60, 480
+LEFT, TOP, FOOT, GAP = 34, 56, 40, 24
+# in small squares only every so many rows and columns have room for their numbers
+EVERY = 5
+DEFINITIONS = (
+    '<defs><pattern id="wall" width="6" height="6" patternUnits="userSpaceOnUse" patternTransform="rotate(45)">'
+    f'<rect width="6" height="6" fill="{WALL_PAPER}"/><rect width="1.6" height="6" fill="{WALL_STROKE}"/></pattern></defs>'
+)
+# signs that a pointer goes through, to the square below
+UNTOUCHED = '<g pointer-events="none">'
+# the lengths that a scale bar may have, in m
+BARS = [k * 10**power for power in range(4) for k in (1, 2, 5)]
+
+
+class Paper:
+    """A sheet on paper: how large a square is drawn, and where it lies. The fewer squares, the larger they are."""
+
+    def __init__(self, sheet):
+        self.sheet = sheet
+        self.size = max(LEAST_SQUARE, min(MOST_SQUARE, FILLED // max(sheet.rows, sheet.columns)))
+
+    def corner(self, place):
+        """Where a square's north-west corner lies."""
+        return LEFT + place[1] * self.size, TOP + place[0] * self.size
+
+    def middle(self, place):
+        """Where a square's middle lies."""
+        x, y = self.corner(place)
+        return x + self.size / 2, y + self.size / 2
+
+    def north(self, place):
+        """A square's north side as a path."""
+        x, y = self.corner(place)
+        return f"M{x} {y}h{self.size}"
+
+    def west(self, place):
+        """A square's west side as a path."""
+        x, y = self.corner(place)
+        return f"M{x} {y}v{self.size}"
+
+
+def told(place, values, deep):
+    """What a square says to a pointer that rests on it."""
+    if values["mark"] == CLOSED:
+        return f"{square(place)}: closed"
+    water = f"{depth(deep)} deep" if deep > 0 else "dry"
+    return f"{square(place)}: {water}, ground {height(values['bed'])} m"
+
+
+def square_at(paper, place, deep, ends):
+    """A square of the sheet with the answer's water; `ends` are the lowest and the highest bed."""
+    values = paper.sheet.squares[place]
+    if values["mark"] == CLOSED:
+        kind, fill = "wall", "url(#wall)"
+    elif class_of(deep) is not None:
+        kind, fill = "wet", CLASSES[class_of(deep)][1]
+    else:
+        kind, fill = "film" if deep > 0 else "dry", ground(values["bed"], *ends)
+    drawn = box(*paper.corner(place), paper.size, paper.size, fill, f' class="{kind}"', told(place, values, deep))
+    return drawn + film_dot(*paper.middle(place)) if kind == "film" else drawn
+
+
+def outline(paper):
+    """A line round every closed square where it meets one that is not, or the rim."""
+    path, squares = "", paper.sheet.squares
+    for row, column in sorted(squares.keys() - set(paper.sheet.ground())):
+        sides = {(row - 1, column): paper.north((row, column)), (row + 1, column): paper.north((row + 1, column))}
+        sides |= {(row, column - 1): paper.west((row, column)), (row, column + 1): paper.west((row, column + 1))}
+        path += "".join(side for near, side in sides.items() if squares.get(near, {}).get("mark") != CLOSED)
+    return f'<path d="{path}" fill="none" stroke="{INK}" stroke-width="1.6" class="outline"/>'
+
+
+def contour_lines(paper):
+    """The contours, each with its height once, at its west end."""
+    lines, names = "", []
+    for bed, sides in sorted(contours(paper.sheet).items()):
+        lines += "".join(paper.west(near) if near[0] == place[0] else paper.north(near) for place, near in sides)
+        x, y = paper.corner(min((near for _, near in sides), key=lambda near: (near[1], near[0])))
+        halo = f' font-size="10" fill="{CONTOUR_NAME}" stroke="#ffffff" stroke-width="3" paint-order="stroke" class="contour"'
+        names.append(words(x + 2, y + 3, height(bed), halo))
+    return [f'<path d="{lines}" fill="none" stroke="{CONTOUR}" stroke-width="1" class="contours"/>', *names]
+
+
+def numbers(paper):
+    """Rows and columns by their numbers in the sheet."""
+    every = EVERY if paper.size == LEAST_SQUARE else 1
+    across = f' font-size="10" fill="{PALE}" text-anchor="middle"'
+    drawn = [words(f"{paper.middle((0, column))[0]:g}", TOP - 6, column, across) for column in range(0, paper.sheet.columns, every)]
+    down = across.replace("middle", "end")
+    return drawn + [words(LEFT - 6, f"{paper.middle((row, 0))[1] + 4:g}", row, down) for row in range(0, paper.sheet.rows, every)]
+
+
+def scale_bar(paper):
+    """A bar of a round length, up to a third of the map's width."""
+    sheet = paper.sheet
+    length = max(bar for bar in BARS if bar <= max(1, sheet.columns * sheet.side / 3))
+    x, y = paper.corner((sheet.rows, 0))
+    wide = length / sheet.side * paper.size
+    bar = f'<path d="M{x} {y + 12}v6h{wide:g}v-6" fill="none" stroke="{INK}" class="scale"/>'
+    return [bar, words(f"{x + wide + 6:g}", y + 20, f"{length} m")]
+
+
+def way_out(sheet, place):
+    """Which way an exit lies open, in quarter turns from east; of several, the first of east, west, south and north."""
+    row, column = place
+    off = {0: column == sheet.columns - 1, 2: column == 0, 1: row == sheet.rows - 1, 3: row == 0}
+    return next(quarters for quarters, open_there in off.items() if open_there)
+
+
+def squares_signs(paper, standing):
+    """Exits and standing squares, over the water."""
+    sheet = paper.sheet
+    drawn = [exit_sign(*paper.middle(place), way_out(sheet, place), ' class="exit"') for place in sheet.exits()]
+    return drawn + [diamond(*paper.middle(found[:2]), found[4] >= STEEP, ' class="standing"') for found in standing]
+
+
+def hatch_signs(paper, pair):
+    """The hatches, each with its square's depth and its own openings for a pointer that rests on it."""
+    for hatch in hatches_of(pair.sheet):
+        below = told(hatch.place, pair.sheet.squares[hatch.place], pair.answer.depths[hatch.place])
+        said = f"hatch {hatch.number}: {hatch.openings()}; {below}"
+        yield hatch_sign(*paper.middle(hatch.place), hatch.number, hatch.runs_at(pair.end), said)
+
+
+def ground_and_water(paper, pair, standing):
+    """The map itself: squares, contours, walls, exits, standing squares and hatches."""
+    ends = heights_of(pair.sheet)
+    yield f'<g stroke="{LINES}" stroke-width="0.5">'
+    yield from (square_at(paper, place, pair.answer.depths.get(place, 0), ends) for place in sorted(pair.sheet.squares))
+    yield "</g>" + UNTOUCHED
+    yield from (*contour_lines(paper), outline(paper), *squares_signs(paper, standing))
+    yield "</g>"
+    yield from hatch_signs(paper, pair)
+
+
+def svg(pair, name):
+    """The map's text; `name` stands in its title."""
+    paper, standing = Paper(pair.sheet), standing_squares(pair.sheet, pair.answer)
+    right, bottom = paper.corner((pair.sheet.rows, pair.sheet.columns))
+    beside, needed = legend(right + GAP, TOP, pair, standing)
+    width, tall = right + GAP + LEGEND, max(bottom + FOOT, needed + FOOT // 2)
+    shape = f'width="{width}" height="{tall}" viewBox="0 0 {width} {tall}"'
+    drawn = [f'<svg xmlns="http://www.w3.org/2000/svg" {shape} font-family="sans-serif" font-size="12">', DEFINITIONS]
+    drawn.append(box(0, 0, width, tall, "#ffffff"))
+    drawn.append(words(LEFT, 22, f"{escape(name)}: water after {time(pair.end)}", ' font-size="16" font-weight="bold"'))
+    drawn += [*ground_and_water(paper, pair, standing), *numbers(paper), *scale_bar(paper), *beside, "</svg>"]
+    return "\n".join(drawn) + "\n"

@@ -1,0 +1,130 @@
+"""Grids of numbers as people have them: ESRI ASCII grids, and CSV as a spreadsheet writes it, in metres or whatever unit is meant.
+
+An ESRI grid has ncols, nrows, the south-west corner (or the centre of the south-west square), cellsize, NODATA_value, and then its rows
+from the north. A CSV has one line a row; its fields are parted by semicolons, tabs or commas, and by the first two a decimal comma may be
+written; an empty field, or -9999, is no number. Corners are kept digit by digit as they were written.
+"""
+import re
+from decimal import Decimal, InvalidOperation
+from pathlib import Path
+from typing import NamedTuple
+
+from ..sheets.lines import Unreadable
+
+NO_DATA = Decimal(-9999)
+CORNERS = {"xllcorner": "xllcenter", "yllcorner": "yllcenter"}
+HEADS = ("ncols", "nrows", "cellsize", "nodata_value", *CORNERS, *CORNERS.values())
+
+
+class Grid(NamedTuple):
+    """Rows of numbers from the north, None where there is none; and where it lies, None where the file does not say."""
+
+    rows: list
+    side: Decimal = None
+    corner: tuple = None
+
+    def shape(self):
+        """How many rows and columns it has."""
+        return len(self.rows), len(self.rows[0])
+
+    def at(self, place):
+        """The number at a square."""
+        return self.rows[place[0]][place[1]]
+
+
+def number(text, where):
+    """A number as it was written, exactly."""
+    try:
+        value = Decimal(text)
+    except InvalidOperation:
+        value = None
+    if value is None or not value.is_finite():
+        raise Unreadable(f"{where}: {text!r} is no number")
+    return value
+
+
+def head_of(lines, name):
+    """The heads of an ESRI grid by their names in small letters, and how many lines they take."""
+    heads = {}
+    for at, line in enumerate(lines):
+        words = line.split()
+        if not words or words[0].lower() not in HEADS:
+            return heads, at
+        if len(words) != 2 or words[0].lower() in heads:
+            raise Unreadable(f"{name}, line {at + 1}: {line.strip()!r} is no head of a grid")
+        heads[words[0].lower()] = number(words[1], f"{name}, line {at + 1}")
+    return heads, len(lines)
+
+
+def corner_of(heads, name):
+    """The south-west corner; where the centre of its square is said, half a side from it."""
+    found = []
+    for corner, centre in CORNERS.items():
+        if (corner in heads) == (centre in heads):
+            raise Unreadable(f"{name}: it says no {corner}, or says it twice")
+        found.append(heads[corner] if corner in heads else heads[centre] - heads["cellsize"] / 2)
+    return tuple(found)
+
+
+def esri(text, name):
+    """An ESRI ASCII grid."""
+    lines = text.splitlines()
+    heads, first = head_of(lines, name)
+    for head in ("ncols", "nrows", "cellsize"):
+        if head not in heads:
+            raise Unreadable(f"{name}: it has no {head}")
+    empty = heads.get("nodata_value", NO_DATA)
+    values = [number(word, f"{name}, line {at}") for at, line in enumerate(lines[first:], first + 1) for word in line.split()]
+    rows, columns = int(heads["nrows"]), int(heads["ncols"])
+    if rows < 1 or columns < 1 or len(values) != rows * columns:
+        raise Unreadable(f"{name}: {rows} rows of {columns} columns are {rows * columns} numbers, and it has {len(values)}")
+    values = [None if value == empty else value for value in values]
+    return Grid([values[at : at + columns] for at in range(0, len(values), columns)], heads["cellsize"], corner_of(heads, name))
+
+
+def csv(text, name):
+    """A grid as a spreadsheet writes it."""
+    lines = [line for line in text.splitlines() if line.strip()]
+    parted_by = next((mark for mark in ";\t" if mark in text), ",")
+    rows = []
+    for at, line in enumerate(lines, 1):
+        fields = [field.strip() for field in line.split(parted_by)]
+        if parted_by != ",":
+            fields = [field.replace(",", ".") for field in fields]
+        values = [None if field == "" else number(field, f"{name}, line {at}") for field in fields]
+        rows.append([None if value == NO_DATA else value for value in values])
+    hold_even(rows, name)
+    return Grid(rows)
+
+
+def hold_even(rows, name):
+    """Every row has as many squares as the first."""
+    if not rows:
+        raise Unreadable(f"{name}: it is empty")
+    for at, row in enumerate(rows, 1):
+        if len(row) != len(rows[0]):
+            raise Unreadable(f"{name}, row {at}: it has {len(row)} squares, and the first row {len(rows[0])}")
+
+
+def grid_in(path):
+    """The grid in a file, of either kind."""
+    name, text = Path(path).name, Path(path).read_text(encoding="utf-8-sig")
+    first = re.match(r"\s*(\w*)", text)[1].lower()
+    return (esri if first in HEADS else csv)(text, name)
+
+
+def plain(value):
+    """A number with all its digits, and no more."""
+    return f"{value:f}"
+
+
+def head_text(shape, side, corner):
+    """The head of an ESRI grid."""
+    heads = {"ncols": shape[1], "nrows": shape[0], **dict(zip(CORNERS, map(plain, corner))), "cellsize": side, "NODATA_value": NO_DATA}
+    return "".join(f"{name} {value}\n" for name, value in heads.items())
+
+
+def esri_text(rows, side, corner):
+    """An ESRI grid of rows of texts, None being NODATA."""
+    lines = [" ".join(str(NO_DATA) if text is None else text for text in row) for row in rows]
+    return head_text((len(rows), len(rows[0])), side, corner) + "".join(line + "\n" for line in lines)

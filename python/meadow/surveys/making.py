@@ -1,0 +1,129 @@
+"""A sheet made from what people have: beds in metres, a plan of letters, n, mm/h, l/s, and times as h:min.
+
+Heights are rounded to the micrometre, roughness to ten-thousandths, rates to µm an hour; a hatch is in whole litres a second and never
+rounded. A square is closed where the plan says x or, where there is no plan, where the bed has no number.
+"""
+import re
+from decimal import ROUND_FLOOR, ROUND_HALF_UP, Decimal, InvalidOperation
+from pathlib import Path
+
+from ..rule.ranges import RANGES, fine
+from ..sheets.lines import CLOSED, HOUR, MARKS, MINUTE, SECOND, Sheet, Unreadable
+from ..sheets.reading import MOST_SQUARES
+from ..words.units import square
+from .grids import Grid, grid_in, number
+
+# the sheet's units in a person's: µm in a metre, ten-thousandths, µm an hour in a mm an hour
+METRE, MANNING, MILLIMETRE_AN_HOUR = 1_000_000, 10_000, 1_000
+CLOCK = re.compile(r"(\d+):([0-5]\d)(?::([0-5]\d))?")
+
+
+def clock(text):
+    """A time as h:min or h:min:s, in ms."""
+    found = CLOCK.fullmatch(text)
+    if not found:
+        raise Unreadable(f"{text!r} is no time: write hours and minutes, as 0:10, or also seconds, as 0:01:30")
+    hours, minutes, seconds = (int(part or 0) for part in found.groups())
+    return hours * HOUR + minutes * MINUTE + seconds * SECOND
+
+
+def whole(value, times):
+    """A person's number in the sheet's unit, rounded to the nearest."""
+    return int((value * times).to_integral_value(ROUND_HALF_UP))
+
+
+def litres(text):
+    """Litres a second, which are whole."""
+    value = number(text, "a hatch's inflow")
+    if value != value.to_integral_value():
+        raise Unreadable(f"a hatch gives whole litres a second, and {text} is between {int(value)} and {int(value) + 1}")
+    return int(value)
+
+
+def index(text, what):
+    """A row or a column."""
+    if not re.fullmatch("0|[1-9][0-9]*", text):
+        raise Unreadable(f"{text!r} is no {what}: they are counted from 0")
+    return int(text)
+
+
+def plan_in(path, shape):
+    """The marks of a plan of letters, row by row; what parts the letters does not matter."""
+    name = Path(path).name
+    lines = [re.sub(r"[\s,;]", "", line) for line in Path(path).read_text(encoding="utf-8-sig").splitlines()]
+    rows = [line for line in lines if line]
+    for at, row in enumerate(rows, 1):
+        odd = next((letter for letter in row if letter not in MARKS), None)
+        if odd:
+            raise Unreadable(f"{name}, row {at}: {odd!r} is no mark: write x (closed), o (open) or e (exit)")
+        if len(row) != shape[1]:
+            raise Unreadable(f"{name}, row {at}: it has {len(row)} letters, and the beds have {shape[1]} columns")
+    if len(rows) != shape[0]:
+        raise Unreadable(f"{name}: it has {len(rows)} rows, and the beds have {shape[0]}")
+    return {(row, column): mark for row, marks in enumerate(rows) for column, mark in enumerate(marks)}
+
+
+def marks_of(beds, plan, exits):
+    """The mark of each square, by a plan or by the rule that a square without a bed is closed, with exits put by hand."""
+    places = [(row, column) for row in range(beds.shape()[0]) for column in range(beds.shape()[1])]
+    marks = plan or {place: CLOSED if beds.at(place) is None else "o" for place in places}
+    for place in exits:
+        if place not in marks:
+            raise Unreadable(f"the exit at {square(place)} is off the grid")
+        marks = {**marks, place: "e"}
+    for place in places:
+        if marks[place] != CLOSED and beds.at(place) is None:
+            raise Unreadable(f"{square(place)} is not closed, and its bed has no number")
+    return marks
+
+
+def spread(text, shape):
+    """A number for every square, or the grid of a file of that name."""
+    try:
+        value = Decimal(text)
+        return Grid([[value] * shape[1] for _ in range(shape[0])])
+    except InvalidOperation:
+        found = grid_in(text)
+    if found.shape() != shape:
+        raise Unreadable(f"{Path(text).name}: it has {found.shape()[0]} rows of {found.shape()[1]}, and the beds {shape[0]} of {shape[1]}")
+    return found
+
+
+def value_at(grid, place, times, what):
+    """A square's value in the sheet's unit; it must have one."""
+    if grid.at(place) is None:
+        raise Unreadable(f"{square(place)} is not closed, and its {what} has no number")
+    return whole(grid.at(place), times)
+
+
+def bed_at(beds, place, datum):
+    """A square's bed over the datum, in the range that a sheet has."""
+    bed = whole(beds.at(place) - datum, METRE)
+    if not fine("bed", bed):
+        highest = RANGES["bed"][1] // METRE
+        least = min(value for row in beds.rows for value in row if value is not None).to_integral_value(ROUND_FLOOR)
+        said = f"{square(place)}: a bed of {beds.at(place)} m is not 0 to {highest:,} m above {datum} m"
+        raise Unreadable(f"{said}: give --datum {least}, or a little less")
+    return bed
+
+
+def hold_shape(beds, side):
+    """The shape and the side are those that `meadow` takes."""
+    rows, columns = beds.shape()
+    if not (fine("rows", rows) and fine("columns", columns)) or rows * columns > MOST_SQUARES:
+        raise Unreadable(f"{rows} rows of {columns} are too many: 64 each and {MOST_SQUARES:,} squares at most; cut the grid, or take larger squares")
+    if side is None:
+        raise Unreadable("a CSV does not say how large its squares are: give --side")
+    if side != side.to_integral_value() or not fine("side", int(side)):
+        raise Unreadable(f"squares of {side} m: a side is 1 to 100 whole metres")
+
+
+def sheet_of(beds, side, marks, datum, roughness, depth, soak, run):
+    """The sheet of grids, without rain and hatches."""
+    sheet = Sheet(*beds.shape(), int(side), **run)
+    for place, mark in marks.items():
+        if mark != CLOSED:
+            index_of_n, deep = value_at(roughness, place, MANNING, "roughness"), value_at(depth, place, METRE, "depth")
+            rate = value_at(soak, place, MILLIMETRE_AN_HOUR, "soak rate")
+            sheet.put(place, bed_at(beds, place, datum), index_of_n, deep, mark, rate=rate)
+    return sheet

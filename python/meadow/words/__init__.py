@@ -1,0 +1,10 @@
+"""What people are told of sheets and answers:
+
+    units        amounts as people say them
+    sense        one line about an answer
+    hatches      the hatches of a sheet
+    telling      a sheet in a person's units
+    doubts       what in a sheet is likely a slip
+    enclosed     ground that is walled in
+    reasons      why a sheet is refused: faults (the places of 1 to 5), misplaced (the line of 12), slips (inside that line)
+"""

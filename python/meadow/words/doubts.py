@@ -1,0 +1,107 @@
+"""What is likely a slip in a sheet that `meadow` takes: numbers that are in range and still hardly meant.
+
+The bounds are those of docs/VALIDATION.md where it has them: water within about 60 m of an exit at the steepest edge slope is too shallow,
+and a fixed step is long from about 100 ms for each metre of a square's side.
+"""
+from math import hypot
+
+from ..rule.ranges import RANGES
+from ..rule.weighing import WEIGHTED
+from ..sheets.lines import INFLOW, RAIN
+from .enclosed import walled_in
+from .faults import RUN_LINE, rows_with_lines
+from .hatches import hatches_of
+from .units import area, height, rain_rate, roughness, square, time
+
+# rain in µm an hour, roughness in ten-thousandths, distance in m, ms for each metre
+HARDLY_RAIN, HARDLY_MORE = 100, 300_000
+SMOOTHEST, ROUGHEST = 100, 10_000
+NEAR_AN_EXIT = 60
+LONG_FOR_A_METRE = 100
+
+
+def rain_doubts(sheet, _end):
+    """Rain that is hardly rain, or more than falls."""
+    for line, values in rows_with_lines(sheet, RAIN):
+        if 0 < values["rate"] < HARDLY_RAIN or values["rate"] > HARDLY_MORE:
+            much = "hardly rain" if values["rate"] < HARDLY_RAIN else "more than falls"
+            yield f"line {line}: {rain_rate(values['rate'])} is {much}: the number is mm an hour times 1,000"
+
+
+def never_doubts(sheet, end):
+    """Rows of a table that give nothing before the end."""
+    for kind in (RAIN, INFLOW):
+        for line, values in rows_with_lines(sheet, kind):
+            if values["from"] >= min(values["to"], end):
+                yield f"line {line}: this {kind} gives nothing in a run to {time(end)}: times are in ms, minutes times 60,000"
+
+
+def roughness_doubts(sheet, _end):
+    """Ground that is smoother or rougher than ground is."""
+    odd = [place for place in sheet.ground() if not SMOOTHEST <= sheet.squares[place]["roughness"] <= ROUGHEST]
+    if odd:
+        more = f" and {len(odd) - 1} other squares" if len(odd) > 1 else ""
+        n = roughness(sheet.squares[odd[0]]["roughness"])
+        yield f"n is {n} at {square(odd[0])}{more}, outside 0.01 to 1: the number is n times 10,000"
+
+
+def flat_doubts(sheet, _end):
+    """Ground all at one height."""
+    beds = {sheet.bed(place) for place in sheet.ground()}
+    if len(beds) == 1 and len(sheet.ground()) > 1:
+        yield f"the ground is all flat, at {height(*beds)} m: beds are in µm, metres times 1,000,000"
+
+
+def end_doubts(sheet, end):
+    """A run that is over before a step is."""
+    if end < sheet.run["longest"]:
+        yield f"line {RUN_LINE}: the run to {time(end)} is shorter than its longest step, {time(sheet.run['longest'])}: the end is in ms"
+
+
+def step_doubts(sheet, _end):
+    """Steps that cannot be shorter than they are, and are long."""
+    shortest, longest = (min(sheet.run[name], sheet.run["update"]) for name in ("shortest", "longest"))
+    most = LONG_FOR_A_METRE * sheet.side
+    if shortest == longest > most:
+        said = f"line {RUN_LINE}: every step lasts {time(shortest)}, long for squares of {sheet.side} m"
+        yield f"{said}: let the shortest be {most} ms or less, and the longest more than it"
+
+
+def exit_doubts(sheet, _end):
+    """Hatches near an exit, where the water follows the edge slope more than the ground."""
+    edge = sheet.run["edge"]
+    if edge == 0 or not sheet.exits():
+        return
+    steepest = edge == RANGES["edge"][1]
+    why = "such an exit drains like a cliff, and the water near it is too shallow" if steepest else f"the edge slope {edge} decides the water there"
+    for hatch in hatches_of(sheet):
+        row, column = hatch.place
+        away, nearest = min((sheet.side * hypot(row - place[0], column - place[1]), place) for place in sheet.exits())
+        if away <= NEAR_AN_EXIT:
+            yield f"hatch {row},{column} is {away:.0f} m from the exit at {square(nearest)}: {why}"
+
+
+def rule_doubts(sheet, _end):
+    """A tolerance that keeps exits from asking for short steps, and an edition that is there to be compared."""
+    tolerance, edge, edition = (sheet.run[name] for name in ("tolerance", "edge", "edition"))
+    if 0 < edge <= tolerance and sheet.exits():
+        yield f"line {RUN_LINE}: the slope tolerance {tolerance} is not below the edge slope {edge}: exits then ask for no short steps"
+    if edition != WEIGHTED:
+        yield f"line {RUN_LINE}: edition {edition} is there to be compared with edition 1: its water does not come to rest"
+
+
+def wall_doubts(sheet, _end):
+    """Ground that is walled in on all sides, and what wets it."""
+    for piece in walled_in(sheet):
+        said = f"{square(piece[0])}" + (f" and {len(piece) - 1} more squares" if len(piece) > 1 else "")
+        rained = any(rate for _, _, rate in sheet.rain)
+        why = "rain wets a house that is walled only in outline" if rained else "no water comes or goes there over the ground"
+        yield f"walled in on all sides: {said}, {area(len(piece), sheet.side)}: {why}; close them if they are a house"
+
+
+DOUBTS = (rain_doubts, never_doubts, roughness_doubts, flat_doubts, end_doubts, step_doubts, exit_doubts, rule_doubts, wall_doubts)
+
+
+def doubts(sheet, end):
+    """Everything about a sheet that is likely a slip."""
+    return [doubt for find in DOUBTS for doubt in find(sheet, end)]

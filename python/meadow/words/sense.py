@@ -1,0 +1,31 @@
+"""One line of sense about an answer: how much water is where, the deepest place, the clock and the steps."""
+from ..sheets.account import account
+from .units import depth, square, steps, time, volume
+
+
+def deepest(answer):
+    """The place and the depth of the deepest square, the first of several; None where every square is closed."""
+    places = sorted(answer.depths)
+    return max(((place, answer.depths[place]) for place in places), key=lambda found: found[1], default=None)
+
+
+def deepest_words(answer):
+    """The deepest place in words."""
+    found = deepest(answer)
+    if found is None:
+        return "every square closed"
+    place, deep = found
+    return f"deepest {depth(deep)} at {square(place)}" if deep > 0 else "all dry"
+
+
+def volumes(told):
+    """On the meadow, gone by exits and soaked, of an account, each by its name in m³."""
+    amounts = (("on the meadow", told.ground), ("gone by exits", told.exits), ("soaked", told.soaked))
+    return {name: told.cubic_metres(amount) for name, amount in amounts}
+
+
+def sense(pair):
+    """The line; what soaked is left out where nothing did."""
+    told = volumes(account(*pair))
+    said = [f"{volume(amount)} {name}" for name, amount in told.items() if name != "soaked" or amount > 0]
+    return f"{', '.join([*said, deepest_words(pair.answer)])}, after {time(pair.end)}; {steps(pair.answer.steps)}"
