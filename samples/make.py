@@ -1,12 +1,25 @@
 #!/usr/bin/env python3
-"""make.py [FOLDER]: makes the sample sheets, and the answer to each by document 01 in Python, in samples/ or in another folder."""
+"""make.py [FOLDER]: makes the sample sheets and the sample log, and the answer to each by documents 01 and 02 in Python, in samples/ or in
+another folder."""
 import sys
 from pathlib import Path
 
 sys.path.insert(0, str(Path(__file__).resolve().parent.parent / "python"))
 
+from meadow.logs.answers import answered
+from meadow.logs.entries import written
 from meadow.programs import ended
-from meadow.sheets.grounds import HELD_MOUTH, MILLIMETRE, drowned_meadow, filling_pond, opened_pond, walled_meadow, worked
+from meadow.sheets.grounds import (
+    COARSE_LEAT,
+    HELD_MOUTH,
+    MILLIMETRE,
+    coarse_meadow,
+    drowned_meadow,
+    filling_pond,
+    opened_pond,
+    walled_meadow,
+    worked,
+)
 from meadow.sheets.lines import HOUR, MINUTE, SECOND, Sheet
 
 
@@ -49,13 +62,38 @@ def soaking_meadow():
     return sheet.text(70 * MINUTE)
 
 
+def evening():
+    """An evening at three hatches of the leat. At ten minutes the third is tried, first at 4 m³ a second and then at 1.5, each time for six
+    minutes, which are 36 steps; each time they are taken back; then it is drawn a little, and the evening goes on to half an hour."""
+    return written(
+        f"hatch 1 0 {COARSE_LEAT}",
+        f"hatch 2 2 {COARSE_LEAT}",
+        f"hatch 3 4 {COARSE_LEAT}",
+        "0 1 800",
+        f"{5 * MINUTE} 2 600",
+        f"{10 * MINUTE} 3 4000",
+        f"{16 * MINUTE} 3 4000",
+        "back 36",
+        f"{10 * MINUTE} 3 1500",
+        f"{16 * MINUTE} 3 1500",
+        "back 36",
+        f"{10 * MINUTE} 3 300",
+        f"{20 * MINUTE} 1 0",
+        f"{20 * MINUTE} 2 0",
+        f"{30 * MINUTE} 3 0",
+    )
+
+
 SAMPLES = {
     "document-01": document_01,
     "dry-weather": dry_weather,
     "held-pond": held_pond,
     "soaking-meadow": soaking_meadow,
+    "walled-evening": lambda: coarse_meadow(60 * MILLIMETRE, edge=50).text(30 * MINUTE),
     "walled-meadow": lambda: drowned_meadow().text(3 * MINUTE),
 }
+# each over the sheet of its name
+LOGS = {"walled-evening": evening}
 
 
 def main():
@@ -65,6 +103,11 @@ def main():
         (folder / f"{name}.sheet").write_text(text, encoding="ascii")
         (folder / f"{name}.out").write_text(worked(text).text, encoding="ascii")
         print(name)
+    for name, made in LOGS.items():
+        log, sheet = made(), folder / f"{name}.sheet"
+        (folder / f"{name}.log").write_text(log, encoding="ascii")
+        (folder / f"{name}.log.out").write_text(answered(sheet.read_bytes(), log.encode("ascii")), encoding="ascii")
+        print(f"{name}.log")
     return 0
 
 

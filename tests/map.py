@@ -1,6 +1,7 @@
 """The map of each sample has a wall for each closed square, an exit for each exit, water just where the answer has it, a sign for each
 hatch and standing square, and the answer's volumes; each square tells its depth; the shades are right in black and white; an answer that
-is not the sheet's, a part of one and a refusal have no map."""
+is not the sheet's, a part of one and a refusal have no map. The map of a log has the water at its end and the log's hatches, with the rates
+that stand; what was not printed of the log has none."""
 import subprocess
 import sys
 import tempfile
@@ -9,9 +10,11 @@ from itertools import pairwise
 from pathlib import Path
 
 from meadow.counted import Checks
+from meadow.logs.entries import written
+from meadow.logs.nights import blocks_of
 from meadow.maps.shades import CLASSES, HIGH_GROUND, LOW_GROUND, grey, ground
 from meadow.programs import TOP
-from meadow.sheets.lines import MINUTE, Answer, Sheet, answer_text, refused_text
+from meadow.sheets.lines import DEPTH, MINUTE, Answer, Sheet, answer_text, refused_text
 from meadow.sheets.reading import read
 
 TOOL = TOP / "tools" / "map.py"
@@ -48,6 +51,11 @@ def found(svg):
 def letters(svg):
     """All that the map says, line by line."""
     return [part.text for part in tree.fromstring(svg).iter() if part.tag.endswith("}text") or part.tag.endswith("}title")]
+
+
+def whole_words(svg):
+    """All that the map says, with the lines that were too long put together again."""
+    return " ".join(filter(None, letters(svg)))
 
 
 def hold_samples(checks):
@@ -200,9 +208,124 @@ def hold_refused(checks, room):
             checks.hold(made.returncode == 1 and made.stdout == "" and why in made.stderr, f"a sheet with {why} is drawn: {made.stderr!r}")
 
 
+def hold_evening(checks):
+    """The sample log: water, walls and hatches at its end; what was tried and taken back is not on the map."""
+    sheet, log, told = (SAMPLES / f"walled-evening.{kind}" for kind in ("sheet", "log", "log.out"))
+    made = drawn(sheet, "--log", log)
+    if not checks.hold(made.returncode == 0, f"the sample log is not drawn: {made.stderr}"):
+        return
+    depths = blocks_of(told.read_text())[0][-1].depths.values()
+    film = sum(0 < depth < 1_000 for depth in depths)
+    wet = sum(depth >= 1_000 for depth in depths)
+    wanted = dict(zip(KINDS, (2, 1, wet, film, len(depths) - wet - film, 0, 1, 2, 0)))
+    checks.hold(found(made.stdout) == wanted, f"the sample log is drawn with {found(made.stdout)}, not {wanted}")
+    checks.hold(drawn(sheet, told, "--log", log).stdout == made.stdout, "of what is stored the sample log has another map")
+    said = whole_words(made.stdout)
+    for words in (
+        "walled-evening: water after 30 min",
+        "clock 30 min, after 180 steps; 72 taken back",
+        "on the meadow: 2,586 m³",
+        "hatch 1 at 0,1: 800 l/s from 0 to 20 min",
+        "hatch 2 at 2,1: 600 l/s from 5 to 20 min",
+        "hatch 3 at 4,1: 300 l/s from 10 to 30 min",
+        "row 3, column 5: closed",
+    ):
+        checks.hold(words in said, f"the map of the sample log does not say: {words}")
+    checks.hold("4,000" not in said and "1,500" not in said, "the map of the sample log tells of what was taken back")
+
+
+def hold_log_hatches(checks, room):
+    """Rates that stand, hatches of one square, hatches never drawn, and the sheet's own beside them; a back into an opening cuts it off."""
+    sheet, log = Path(room) / "log.sheet", Path(room) / "log.log"
+    meadow = Sheet(1, 4, 10, shortest=10_000, longest=10_000)
+    for column in range(4):
+        meadow.put((0, column), 0, 300)
+    meadow.inflow = [(0, 3, 0, 5 * MINUTE, 7), (0, 2, 0, MINUTE, 9)]
+    sheet.write_text(meadow.text(MINUTE))
+    named = ["hatch 4 0 0", "hatch 2 0 1", "hatch 9 0 1"]
+    cases = [
+        # two lines at one clock; hatch 2 is drawn, changed and drawn on; hatch 9 never
+        (
+            ["0 4 10", "0 2 20", "60000 2 30", "120000 2 30", "180000 4 0"],
+            [
+                "hatch 2 at 0,1: 20 l/s from 0 to 1 min, 30 l/s from 1 to 3 min",
+                "hatch 4 at 0,0: 10 l/s from 0 to 3 min",
+                "hatch 9 at 0,1: shut all the time",
+                "hatch a at 0,2: 9 l/s from 0 to 1 min",
+                "hatch b at 0,3: 7 l/s from 0 to 5 min",
+            ],
+            (3, 1),
+        ),
+        # back by 8 steps of 10 s, from 3 min into the second minute, at the rate that stood there, and on
+        (
+            ["0 4 10", "60000 4 50", "120000 4 90", "180000 4 0", "back 8", "120000 4 5", "180000 4 0"],
+            [
+                "hatch 4 at 0,0: 10 l/s from 0 to 1 min, 50 l/s from 1 to 2 min, 5 l/s from 2 to 3 min",
+                "clock 3 min, after 18 steps; 8 taken back",
+            ],
+            (2, 2),
+        ),
+        (
+            ["0 4 10", "60000 4 50", "120000 4 90", "back 3"],
+            ["hatch 4 at 0,0: 10 l/s from 0 to 1 min, 50 l/s from 1 min to 1 min 30 s"],
+            (2, 2),
+        ),
+        (["0 4 10", "60000 4 50", "back 6"], ["hatch 4 at 0,0: shut all the time", "log: water after 0 min"], (0, 4)),
+        (["back 0"], ["hatch 2 at 0,1: shut all the time"], (0, 4)),
+    ]
+    for lines, wanted, signs in cases:
+        log.write_text(written(*named, *lines))
+        made = drawn(sheet, "--log", log)
+        if checks.hold(made.returncode == 0, f"{lines}: not drawn: {made.stderr}"):
+            said, counts = whole_words(made.stdout), found(made.stdout)
+            for words in wanted:
+                checks.hold(words in said, f"{lines}: the map does not say: {words}")
+            checks.hold((counts["drawn"], counts["shut"]) == signs, f"{lines}: {counts['drawn']} hatches drawn, {counts['shut']} shut")
+    checks.hold(">2+9<" in made.stdout, "two hatches of one square have not one sign")
+
+
+def hold_log_pairs(checks, room):
+    """What was not printed of this sheet and this log is refused in words, and so are a log that is refused and one that prints nothing."""
+    sheet, log, told = (SAMPLES / f"walled-evening.{kind}" for kind in ("sheet", "log", "log.out"))
+    text, lines = told.read_text(), log.read_text().splitlines(True)
+    blocks = [block.text for block in blocks_of(text)[0]]
+    wrong = {
+        "has the clock 300000, the answer 0": "".join([blocks[0], *blocks[:-1]]),
+        "takes 36 steps back, the answer another number": "".join([*blocks[:4], blocks[3], *blocks[5:]]),
+        "asks for another number": "".join(blocks[:-1]),
+        "it has 13 answers": text + blocks[-1],
+        "cut off": text[:-20],
+        "no depth for square 7 6": text.replace(f"{DEPTH}\t7\t6\t", f"{DEPTH}\t9\t6\t"),
+        "its water account is off by 1 µm": text[: text.rindex("out\t")] + text[text.rindex("out\t") :].replace("out\t25957", "out\t25958"),
+        "number 10, line 0": blocks[0] + refused_text(10, 0),
+        "number 12, line 0": refused_text(12, 0),
+    }
+    answer = Path(room) / "wrong.out"
+    for why, damaged in wrong.items():
+        answer.write_text(damaged)
+        made = drawn(sheet, answer, "--log", log)
+        refused = made.returncode == 1 and made.stdout == "" and why in made.stderr and made.stderr.count("\n") == 1
+        checks.hold(refused, f"what was printed with {why} is drawn: {made.stderr!r}")
+    other = Path(room) / "other.log"
+    cases = {
+        "number 10, line 0": lines[:4] + ["back\t1\n"],
+        "number 12, line 1": ["nothing\n"],
+        "nothing is printed of this log": lines[:3],
+    }
+    for why, damaged in cases.items():
+        other.write_text("".join(damaged))
+        made = drawn(sheet, "--log", other)
+        checks.hold(made.returncode == 1 and made.stdout == "" and why in made.stderr, f"a log with {why} is drawn: {made.stderr!r}")
+    # a rate changed since: the same clocks and steps, another amount of water
+    other.write_text(log.read_text().replace("0\t1\t800", "0\t1\t801"))
+    made = drawn(sheet, told, "--log", other)
+    checks.hold(made.returncode == 1 and "water account is off" in made.stderr, f"a log with a rate changed since is drawn: {made.stderr!r}")
+
+
 def main():
     checks = Checks("map")
     hold_samples(checks)
+    hold_evening(checks)
     hold_words(checks)
     hold_grey(checks)
     with tempfile.TemporaryDirectory() as room:
@@ -211,6 +334,8 @@ def main():
         hold_edition(checks, room)
         hold_pairs(checks, room)
         hold_refused(checks, room)
+        hold_log_hatches(checks, room)
+        hold_log_pairs(checks, room)
     checks.end()
 
 

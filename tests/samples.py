@@ -1,18 +1,38 @@
-"""The samples are what samples/make.py makes, byte for byte, and the built `meadow` prints of each sheet the answer beside it."""
+"""The samples are what samples/make.py makes, byte for byte; the built `meadow` prints of each sheet the answer beside it, and the built
+`hatchlog` of each log. The sample evening leaves no mark of what was tried and taken back."""
 import subprocess
 import sys
 import tempfile
 from pathlib import Path
 
 from meadow.counted import Checks
+from meadow.logs.answers import answered
 from meadow.programs import TOP, printed
 
 SAMPLES = TOP / "samples"
 
 
 def named(folder):
-    """The sheets and answers of a folder by name."""
-    return {path.name: path.read_bytes() for path in sorted(folder.iterdir()) if path.suffix in (".sheet", ".out")}
+    """The sheets, logs and answers of a folder by name."""
+    return {path.name: path.read_bytes() for path in sorted(folder.iterdir()) if path.suffix in (".sheet", ".log", ".out")}
+
+
+def hold_log(checks, name, stored):
+    """What the program prints of a log over the sheet of its name is stored."""
+    sheet = SAMPLES / f"{name.removesuffix('.log')}.sheet"
+    told = printed("hatchlog", f"{sheet}\n{SAMPLES / name}\n".encode())
+    checks.hold(told == stored.get(f"{name}.out"), f"hatchlog does not print samples/{name}.out")
+
+
+def hold_no_mark(checks, stored):
+    """The evening without its two trials, their steps and the lines that took them back: the same after its last lines, to the byte."""
+    sheet, lines = stored["walled-evening.sheet"], stored["walled-evening.log"].splitlines(True)
+    backs = [at for at, line in enumerate(lines) if line.startswith(b"back")]
+    checks.hold(len(backs) == 2 and all(b"\t0\n" not in lines[at] for at in backs), "the sample log does not take two trials back")
+    plain = answered(sheet, b"".join(lines[: backs[0] - 2] + lines[backs[1] + 1 :]))
+    evening = stored["walled-evening.log.out"].decode("ascii")
+    after = plain.split("clock\t600000\n")[-1]
+    checks.hold("clock\t1800000\n" in after and evening.endswith(after), "what was tried and taken back leaves a mark on the sample evening")
 
 
 def main():
@@ -28,6 +48,11 @@ def main():
         answer = name.removesuffix("sheet") + "out"
         checks.hold(printed("meadow", stored[name]) == stored.get(answer), f"meadow does not print samples/{answer}")
     checks.hold(sheets != [], "samples/ has no sheet")
+    logs = [name for name in stored if name.endswith(".log")]
+    for name in logs:
+        hold_log(checks, name, stored)
+    checks.hold(logs != [], "samples/ has no log")
+    hold_no_mark(checks, stored)
     checks.end()
 
 

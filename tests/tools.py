@@ -1,5 +1,6 @@
 """Every command of docs/TOOLS.md prints what stands below it there, and each tool has an example; README's first command prints the answer
-byte for byte and ends with one line of sense, and its next makes the map; bin/meadow says what is wrong where there is no answer."""
+byte for byte and ends with one line of sense, and its next makes the map; bin/meadow and bin/hatchlog say what is wrong where there is no
+answer."""
 import re
 import shutil
 import subprocess
@@ -8,13 +9,16 @@ from pathlib import Path
 
 from damaged import CASES, answer_of, sheet_of
 from meadow.counted import Checks
+from meadow.logs.evening import records_kept
 from meadow.programs import TOP
+from meadow.sheets.reading import MOST_SQUARES
 
 PAGE, README = TOP / "docs" / "TOOLS.md", TOP / "README.md"
 SAMPLES = TOP / "samples"
-# what tools begin with, those that look after the project itself, and the one that bin/meadow ends with; all others are for the warden and the keeper
+# what tools begin with, those that look after the project itself, and the one that bin/meadow and bin/hatchlog end with; all others are for the
+# warden and the keeper
 OWN = {"architecture", "begin", "believed", "dev", "edits", "header", "pictures", "places", "sense", "speed", "unused"}
-FOR_PEOPLE = ["bin/meadow", *(f"tools/{path.name}" for path in sorted((TOP / "tools").glob("*.py")) if path.stem not in OWN)]
+FOR_PEOPLE = ["bin/meadow", "bin/hatchlog", *(f"tools/{path.name}" for path in sorted((TOP / "tools").glob("*.py")) if path.stem not in OWN)]
 LEFT_OUT = "..."
 # what the commands of the pages need beside them
 FOLDERS = ("bin", "crates", "docs", "python", "samples", "target", "tools")
@@ -111,12 +115,50 @@ def hold_refusals(checks, room):
     checks.hold(status == 2 and "usage: bin/meadow SHEET" in sense, f"bin/meadow alone: status {status}, {sense!r}")
 
 
+def hold_logs(checks, room):
+    """bin/hatchlog: the sample's answer byte for byte and one line; a refusal, a file that is not there and no log are said, with the status."""
+    sample = "samples/walled-evening.sheet samples/walled-evening.log"
+    status, printed, sense = ran(f"bin/hatchlog {sample}", room)
+    stored = (SAMPLES / "walled-evening.log.out").read_text()
+    checks.hold(status == 0 and printed == stored, f"bin/hatchlog of the sample log: status {status}, or it prints something else")
+    checks.hold(re.fullmatch(r"[^\n]+; [\d,]+ steps stand, [\d,]+ taken back\n", sense), f"bin/hatchlog of the sample log ends with {sense!r}")
+    (room / "bad.log").write_text("hatch\t1\t0\t1\n0\t1\t5\n1\t1\t5\n")
+    (room / "hatches.log").write_text("hatch\t1\t0\t1\n")
+    (room / "an evening.log").write_text("back\t0\n")
+    sheet = "samples/walled-evening.sheet"
+    cases = [
+        (f"bin/hatchlog {sheet} bad.log", 1, "refused\t12\t3\n", "refused by 12, of the log bad.log: line 3: the clock, 1 ms, is no multiple"),
+        (f"bin/hatchlog {sheet} nosuch.log", 1, "refused\t12\t0\n", "refused by 12: the log nosuch.log cannot be opened"),
+        (f"bin/hatchlog nosuch.sheet {sheet}", 1, "refused\t12\t0\n", "refused by 12: the sheet nosuch.sheet cannot be opened"),
+        ("bin/hatchlog bad.log bad.log", 1, "refused\t12\t1\n", "refused by 12, of the sheet bad.log: line 1: "),
+        (f"bin/hatchlog {sheet} hatches.log", 0, "", "nothing is printed of this log"),
+        (f"bin/hatchlog {sheet} 'an evening.log'", 0, "clock\t0\n", "0 steps"),
+        (f"bin/hatchlog {sheet}", 2, "", "usage: bin/hatchlog SHEET LOG"),
+    ]
+    for command, wanted, ends, why in cases:
+        status, printed, sense = ran(command, room)
+        right = status == wanted and printed.endswith(ends) and bool(printed) == bool(ends) and why in sense and sense.count("\n") == 1
+        checks.hold(right, f"{command}: status {status}, {printed[-60:]!r}, {sense!r}")
+
+
+def hold_kept(checks):
+    """How many steps the page says can be taken back."""
+    (told,) = re.findall(r"^\*\*How many steps can be taken back\*\* depends on the squares: (.*?)\. ", PAGE.read_text(encoding="utf-8"), re.M)
+    figures = [tuple(map(int, re.findall(r"\d+", part))) for part in told.split(", ")]
+    checks.hold(len(figures) > 3, f"docs/TOOLS.md does not say how many steps can be taken back: {told}")
+    for kept, squares in figures:
+        checks.hold(records_kept(squares) == kept, f"docs/TOOLS.md says {kept} steps of {squares} squares, and they are {records_kept(squares)}")
+    (_, first), (last, fewest) = figures[0], figures[-1]
+    checks.hold(records_kept(first + 1) < figures[0][0] and records_kept(fewest - 1) > last == records_kept(MOST_SQUARES), f"wrong ends: {told}")
+
+
 def main():
     checks = Checks("tools")
     with tempfile.TemporaryDirectory() as folder:
         room = room_in(folder)
-        for part in (hold_page, hold_readme, hold_samples, hold_refusals):
+        for part in (hold_page, hold_readme, hold_samples, hold_refusals, hold_logs):
             part(checks, room)
+    hold_kept(checks)
     checks.end()
 
 

@@ -1,16 +1,21 @@
-"""tools/why.py over the table of damaged sheets, and over slips of its own: the number and the line are meadow's, and the words name the
-right place and what to write there."""
+"""tools/why.py over the tables of damaged sheets and damaged logs, and over slips of its own: the number and the line are the program's, and
+the words name the right file, the right place and what to write there."""
 import random
 import subprocess
 import sys
 import tempfile
 from pathlib import Path
 
+import hatchlog
 from damaged import A_HATCH, A_SHOWER, BASES, CASES, after, answer_of, before, field, on_line, sheet_of, spaces, word
 from meadow.counted import Checks
+from meadow.logs import answers
+from meadow.logs.entries import written
+from meadow.logs.nights import blocks_of
 from meadow.programs import TOP
 from meadow.sheets.lines import MINUTE, Sheet
 from meadow.sheets.reading import answered
+from meadow.words.log_reasons import both_reasons
 from meadow.words.reasons import IN_THE_RUN, NOT_FOUND, reasons, refusal
 
 TOOL = TOP / "tools" / "why.py"
@@ -234,11 +239,188 @@ def hold_random(checks):
             checks.hold(named and not any(NOT_FOUND in line for line in said), f"{text!r}, refused by {refused}: {said}")
 
 
+# ---- logs
+
+SHEET, LOG = "a.sheet", "a.log"
+NONE_KEPT = ["and 0 are kept", "no step can be taken back here"]
+NAMED_ALREADY = ["hatch 1 is named in line 1 already: give this one another number"]
+TOO_LATE_NAMED = ["line 3: hatches are named before the first clock and the first back: move it to the log's beginning"]
+IN_A_WALL = ["the hatch at row 0, column 1 stands on a closed square: move the hatch"]
+# of each refused log of the table, which file it is about and what the words say
+LOG_PLACES = {
+    "back-one-too-many": (LOG, ["line 3: it would take 3 steps back, and 2 are kept; 2 stand", "write back→2 or less"]),
+    "back-nothing-kept": (LOG, ["line 2: it would take 1 step back", *NONE_KEPT]),
+    "back-largest": (LOG, ["line 3: it would take 4,294,967,295 steps back, and 1 are kept", "write back→1 or less"]),
+    "back-taken-twice": (LOG, ["line 4: ", "0 stand", *NONE_KEPT]),
+    "back-ends-the-opening": (LOG, TOO_LATE_NAMED),
+    "back-clock-below": (LOG, ["line 4: the clock, 0 min, is below the run's, 0.8 s, also after the back of line 3: write 1000 (1 s) or later"]),
+    "kept-65": (LOG, ["line 3: it would take 65 steps back, and 64 are kept; 70 stand, and with 1 square at most 64 are kept: write back→64"]),
+    "kept-none-left": (LOG, ["line 4: ", "6 stand", *NONE_KEPT]),
+    "kept-again": (LOG, ["line 6: ", "6 stand", *NONE_KEPT]),
+    "kept-24": (LOG, ["line 3: it would take 24 steps back, and 23 are kept; 30 stand, and with 100 squares at most 23 are kept"]),
+    "kept-3": (LOG, ["line 3: it would take 3 steps back, and 2 are kept; 3 stand, and with 1,024 squares at most 2 are kept: write back→2"]),
+    "hatch-0": (LOG, ["line 1: the hatch's number is 0: number hatches 1 to 9", "line 1 may be hatch→number→row→column"]),
+    "hatch-10": (LOG, ["line 1: the hatch's number is 10: number hatches 1 to 9"]),
+    "hatch-largest": (LOG, ["line 1: the hatch's number is 4,294,967,295"]),
+    "hatch-twice": (LOG, ["line 2: ", *NAMED_ALREADY]),
+    "hatch-tenth": (LOG, ["line 10: ", *NAMED_ALREADY]),
+    "hatch-late": (LOG, TOO_LATE_NAMED),
+    "hatch-closed": (LOG, ["line 1: ", *IN_A_WALL]),
+    "hatch-row-missing": (LOG, ["line 1: the hatch at row 1, column 0 is off the grid", "row and column may be swapped"]),
+    "hatch-column-missing": (LOG, ["line 1: the hatch at row 0, column 3 is off the grid: rows go from 0 to 0, columns from 0 to 2"]),
+    "hatch-place-largest": (LOG, ["line 1: the hatch at row 4294967295, column 4294967295 is off the grid"]),
+    "hatch-second-closed": (LOG, ["line 2: ", *IN_A_WALL]),
+    "rows-65": (LOG, ["line 1: the sheet has 64 inflow lines of its own, and with this hatch there are 65: at most 64"]),
+    "rows-65-second": (LOG, ["line 2: the sheet has 63 inflow lines of its own, and with this hatch there are 65: at most 64"]),
+    "hatch-12-before-4": (LOG, ["line 2: ", *NAMED_ALREADY]),
+    "hatch-10-on-closed": (LOG, ["line 1: the hatch's number is 10"]),
+    "hatch-late-on-closed": (LOG, TOO_LATE_NAMED),
+    "hatch-twice-65-rows": (LOG, ["line 2: ", *NAMED_ALREADY]),
+    "rate-not-named": (LOG, ["line 2: hatch 2 is not named, and named are 1: say hatch→2→row→column at the log's beginning"]),
+    "rate-no-hatch": (LOG, ["line 1: hatch 1 is not named, and none is named: say hatch→1→row→column"]),
+    "rate-hatch-0": (LOG, ["line 2: the hatch's number is 0: hatches have the numbers 1 to 9"]),
+    "rate-hatch-10": (LOG, ["line 10: the hatch's number is 10: hatches have the numbers 1 to 9"]),
+    "clock-no-multiple": (LOG, ["line 2: the clock, 1,500 ms, is no multiple of the update time, 1,000 ms: write 1000 (1 s) or 2000 (2 s)"]),
+    "clock-too-late": (LOG, ["line 2: the clock, 604,801,000 ms, is after a week: write at most 604800000"]),
+    "clock-largest": (LOG, ["line 2: the clock, 4,294,967,295 ms, is after a week"]),
+    "clock-below": (LOG, ["line 3: the clock, 1 s, is below the run's, 2 s: write 2000 (2 s) or later"]),
+    "litres-100001": (LOG, ["line 2: hatch 1: the inflow is 100,001: write 0 to 100,000"]),
+    "litres-largest": (LOG, ["line 3: hatch 1: the inflow is 4,294,967,295"]),
+    "litres-and-not-named": (LOG, ["line 2: hatch 2 is not named"]),
+    "litres-and-no-multiple": (LOG, ["line 2: the clock, 1,500 ms, is no multiple"]),
+    "litres-and-too-late": (LOG, ["line 2: the clock, 604,801,000 ms, is after a week"]),
+    "litres-and-below": (LOG, ["line 3: the clock, 0 min, is below the run's, 1 s: write 1000 (1 s) or later"]),
+    "litres-before-8": (LOG, ["line 3: hatch 1: the inflow is 100,001"]),
+    "too-deep": (LOG, ["line 3: a square would be more than 100 m deep between 1 s and 2 s", "at 1 s the deepest is row 0, column 0, with 100.00 m"]),
+    "too-deep-later": (LOG, ["line 4: a square would be more than 100 m deep between 4 s and 5 s", "at 4 s the deepest is row 0, column 0"]),
+    "sheet-empty": (SHEET, ["line 1: the sheet ends before it"]),
+    "sheet-cut-line": (SHEET, OLD_SQUARE),
+    "sheet-1": (SHEET, ["line 1: the number of rows is 0: write 1 to 64"]),
+    "sheet-2": (SHEET, ["line 3: row 0, column 0: the roughness is 0"]),
+    "sheet-3": (SHEET, ["line 3: row 0, column 0: the depth is 100,000,001"]),
+    "sheet-4": (SHEET, ["line 4: rain: the rain's rate is 1,000,001"]),
+    "sheet-4-wall": (SHEET, ["line 6: the hatch at row 0, column 1 stands on a closed square"]),
+    "sheet-5": (SHEET, ["line 2: the end, 1,500 ms, is no multiple"]),
+    "sheet-bytes-65536": (SHEET, ["line 1: the last line has no newline"]),
+    "sheet-bytes-65537": ("", ["the sheet ", "a.sheet has 65,537 bytes, and at most 65,536 are read"]),
+    "log-bytes-65537": ("", ["the log ", "a.log has 65,537 bytes, and at most 65,536 are read"]),
+    "log-too-long-first": ("", ["the log ", "a.log has 65,537 bytes"]),
+}
+# of lines that cannot be read, what the words say
+LINE_SLIPS = {
+    "line: blank": "line 3: it is blank: delete it",
+    "line: a space for a tab": "line 3: it has a space for a tab",
+    "line: a tab more in the middle": "line 3: it has a tab too many",
+    "line: a field missing": "line 3: it has 2 fields and should have 3: clock→number→litres",
+    "line: a carriage return": "line 3: it has a carriage return, as Windows ends lines: sed -i 's/\\r$//' LOG",
+    "line: a needless zero": "line 3: the litres: 05 has a needless zero before it: write 5",
+    "line: a sign": "line 3: the litres: -5 has a sign, and no number is below 0",
+    "line: a plus": "line 3: the clock: +1000 has a sign: write it without",
+    "line: a decimal": "line 3: the litres: 0.5 is a decimal: write a whole number of litres a second",
+    "line: commas": "line 3: the clock: 1,000 has commas between its digits: write 1000",
+    "line: litres of 2^32": "line 3: the litres: 4294967296 is above 4,294,967,295",
+    "line: a clock of minutes and seconds": "line 3: the clock: 0:01 is in hours and minutes: write 60000, which is in ms",
+    "line: a word that there is not": "line 3: its word is shut: a line begins with hatch, with back or with a clock in ms",
+    "line: a remark": "line 3: a log has no room for remarks: delete it",
+    "line: back without its count": "line 3: it has 1 fields and should have 2: back→count",
+    "line: back in upper case": "line 3: the word Back is not in small letters: write back",
+    "line: back misspelt": "line 3: its word is bck: did you mean back?",
+    "line: a byte order mark": "line 3: it begins with a byte order mark",
+    "hatch: with a name": "line 1: the hatch's number: north is no number",
+    "hatch: without its column": "line 1: it has 3 fields and should have 4: hatch→number→row→column",
+    "the last line without its newline": "line 3: the last line has no newline at its end: press Enter",
+    "newlines as another system has them": "line 1: it has a carriage return",
+    "UTF-16": "line 1: the file is saved as UTF-16",
+}
+
+
+def told_of_log(files):
+    """What the tool says of a sheet and a log."""
+    return subprocess.run([sys.executable, TOOL, files.sheet, "--log", files.log], capture_output=True, text=True)
+
+
+def hold_logs(checks, files):
+    """Every refused log of the table is named by its file and its place; of the others that are taken, the last comes to its sense."""
+    refused = {name: answer[-1] for name, *_, answer in hatchlog.CASES if answer and not isinstance(answer[-1], str)}
+    for name in sorted(refused.keys() ^ LOG_PLACES.keys()):
+        checks.hold(False, f"{name} is a refused log of tests/hatchlog.py or has words here, and not both")
+    for name, sheet, words, lines, _ in hatchlog.CASES:
+        if name not in refused:
+            continue
+        files.put(hatchlog.SHEETS[sheet], written(*lines))
+        said, (number, line) = told_of_log(files), refused[name]
+        of, places = LOG_PLACES.get(name, ("", []))
+        kind = {SHEET: f", of the sheet {files.sheet}", LOG: f", of the log {files.log}"}.get(of, "")
+        head = f"refused by {number}" + (f", line {line}" if line else "") + kind
+        right = said.returncode == 1 and said.stderr == "" and said.stdout.splitlines()[0] == head
+        checks.hold(right, f"{name}, {words}: told as {said.stdout!r}{said.stderr!r}, not {head!r}")
+        for place in places:
+            checks.hold(place in said.stdout, f"{name}, {words}: not told: {place}: {said.stdout}")
+
+
+def log_words(files):
+    """What is said of a refusal, where it is not in the run, by document 02 in Python; None where the log is taken."""
+    texts = [path.read_bytes() for path in (files.sheet, files.log)]
+    told = answers.answered(*texts)
+    refused = blocks_of(told)[1]
+    if not refused or refused[0] in IN_THE_RUN:
+        return None
+    return refused, both_reasons((files.sheet, files.log), [text.decode("latin-1") for text in texts], told, refused)[1]
+
+
+def hold_lines(checks, files):
+    """Lines that cannot be read, each with its slip."""
+    for words, log, _ in hatchlog.unreadable():
+        files.put(hatchlog.SHEETS["puddle"], log)
+        (_, line), said = log_words(files)
+        checks.hold(said[0].startswith(f"line {line}: ") and NOT_FOUND not in " ".join(said), f"{words}: {said}")
+        if words in LINE_SLIPS:
+            checks.hold(any(LINE_SLIPS[words] in told for told in said), f"{words}: not told: {LINE_SLIPS[words]}: {said}")
+    names = {words for words, *_ in hatchlog.unreadable()}
+    checks.hold(LINE_SLIPS.keys() <= names, f"no such line: {LINE_SLIPS.keys() - names}")
+
+
+def hold_random_logs(checks, files):
+    """Random logs: a place is found for every refusal, and it is the refused line's."""
+    chance = random.Random(26)
+    for _ in range(300):
+        sheet, text = hatchlog.random_sheet(chance)
+        files.put(text, hatchlog.slipped(chance, hatchlog.random_log(chance, sheet)))
+        found = log_words(files)
+        if found:
+            (number, line), said = found
+            named = all(told.startswith(f"line {line}" if line else "line ") for told in said)
+            checks.hold(named and NOT_FOUND not in " ".join(said), f"{files.log.read_bytes()!r}, refused by {number}: {said}")
+
+
+def hold_files(checks, files):
+    """A file that is not there is named, and a log that is taken comes to its sense."""
+    files.put(hatchlog.SHEETS["puddle"], written("hatch 1 0 0", "0 1 2", "2000 1 0", "back 1"))
+    said = told_of_log(files)
+    sense = "taken: 0.003 m³ on the meadow, 0 m³ gone by exits, deepest 3.0 mm at row 0, column 0, after 1 s; 1 step stands, 1 taken back\n"
+    checks.hold((said.returncode, said.stdout) == (0, sense), f"a log that is taken: {said.stdout!r}{said.stderr!r}")
+    files.put(hatchlog.SHEETS["puddle"], written("hatch 1 0 0"))
+    said = told_of_log(files)
+    nothing = said.returncode == 0 and "nothing is printed of this log" in said.stdout
+    checks.hold(nothing, f"a log that prints nothing: {said.stdout!r}{said.stderr!r}")
+    for gone, kind in ((files.log, "log"), (files.sheet, "sheet")):
+        gone.unlink()
+        said = told_of_log(files)
+        head, *words = said.stdout.splitlines()
+        right = said.returncode == 1 and head == "refused by 12" and f"the {kind} {gone} cannot be opened: No such" in words[0]
+        checks.hold(right, f"no {kind}: {said.stdout!r}{said.stderr!r}")
+
+
 def main():
     checks = Checks("why")
     with tempfile.TemporaryDirectory() as room:
         hold_table(checks, room)
         hold_slips(checks, room)
+        files = hatchlog.Files(room)
+        hold_logs(checks, files)
+        hold_lines(checks, files)
+        hold_random_logs(checks, files)
+        hold_files(checks, files)
     hold_in_the_run(checks)
     hold_random(checks)
     checks.end()

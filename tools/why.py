@@ -1,33 +1,58 @@
 #!/usr/bin/env python3
 """why.py SHEET: runs `meadow` on a sheet and, where it refuses, says in words what is wrong, where, and what to write there.
+why.py SHEET --log LOG: runs `hatchlog` on a sheet and a log likewise, and says which of the two files it is about.
 
-The number and the line are meadow's own. Ends with status 1 where the sheet is refused; of one that is taken it says what came of it.
+The number and the line are the program's own. Ends with status 1 where it refuses; of what is taken it says what came of it.
 """
-import sys
+import argparse
 
 from begin import ended
+from meadow.logs.nights import Night, blocks_of, told_of
 from meadow.programs import printed
 from meadow.sheets.lines import Answer
 from meadow.sheets.pairs import bytes_as_text, pair_of
 from meadow.sheets.reading import read
+from meadow.words.log_reasons import both_reasons, unopened
 from meadow.words.reasons import reasons, refusal
-from meadow.words.sense import sense
+from meadow.words.sense import night_sense, sense
+
+
+def say(refused, of, why):
+    """A refusal in words."""
+    number, line = refused
+    print(f"refused by {number}" + (f", line {line}" if line else "") + of)
+    print(*why, sep="\n")
+    return 1
+
+
+def of_sheet(sheet_file):
+    """What `meadow` makes of a sheet."""
+    text = bytes_as_text(sheet_file)
+    answer = printed("meadow", text.encode("latin-1")).decode("ascii")
+    refused = refusal(answer)
+    if refused:
+        return say(refused, "", reasons(text, *refused))
+    print(f"taken: {sense(pair_of(*read(text), Answer(answer)))}")
+    return 0
+
+
+def of_log(*files):
+    """What `hatchlog` makes of a sheet and a log."""
+    told = told_of(*files)
+    texts = ["" if unopened(path) else bytes_as_text(path) for path in files]
+    refused = blocks_of(told)[1]
+    if refused:
+        return say(refused, *both_reasons(files, texts, told, refused))
+    print(f"taken: {night_sense(Night(read(texts[0])[0], texts[1], told))}")
+    return 0
 
 
 def main():
-    if len(sys.argv) != 2:
-        print("usage: why.py SHEET", file=sys.stderr)
-        return 2
-    text = bytes_as_text(sys.argv[1])
-    answer = printed("meadow", text.encode("latin-1")).decode("ascii")
-    refused = refusal(answer)
-    if refused is None:
-        print(f"taken: {sense(pair_of(*read(text), Answer(answer)))}")
-        return 0
-    number, line = refused
-    print(f"refused by {number}" + (f", line {line}" if line else ""))
-    print(*reasons(text, number, line), sep="\n")
-    return 1
+    words = argparse.ArgumentParser(prog="why.py", description="says in words why a sheet, or a sheet and a log, are refused")
+    words.add_argument("sheet", metavar="SHEET")
+    words.add_argument("--log", metavar="LOG", help="a hatch log over the sheet")
+    said = words.parse_args()
+    return of_log(said.sheet, said.log) if said.log else of_sheet(said.sheet)
 
 
 if __name__ == "__main__":

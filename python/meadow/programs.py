@@ -10,9 +10,9 @@ from .sheets.lines import Answer, Unreadable
 TOP = Path(__file__).resolve().parent.parent.parent
 
 
-def printed(name, given=b""):
-    """What a program prints of these bytes at its standard input."""
-    return subprocess.run([TOP / "bin" / "run", name], input=given, stdout=subprocess.PIPE, check=True).stdout
+def printed(name, given=b"", **how):
+    """What a program prints of these bytes at its standard input; `how` says how it is started, as another user say."""
+    return subprocess.run([TOP / "bin" / "run", name], input=given, stdout=subprocess.PIPE, check=True, **how).stdout
 
 
 def meadow(text):

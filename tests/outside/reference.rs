@@ -34,7 +34,7 @@ pub const ADDED: usize = 5;
 pub const SOAKED: usize = 6;
 
 /// "At most 65,536 bytes from standard input", and "1 above 1,024 squares".
-const MOST_TEXT: usize = 65_536;
+pub const MOST_TEXT: usize = 65_536;
 const MOST_MEADOW_SQUARES: usize = 1_024;
 
 /// "Rules there are q, step limits, U, roughness and D": roughness is lent with the meadow. #102: "Give the rules an edge slope e".
@@ -728,7 +728,7 @@ fn times_wrong(meadow: &Meadow, run: &Run) -> bool {
 // ---------------------------------------------------------------- The sheet and its program
 
 /// "Numbers decimal without sign or needless leading zeros, at most 4,294,967,295."
-fn number(field: &[u8]) -> Option<u32> {
+pub fn number(field: &[u8]) -> Option<u32> {
     let digits = !field.is_empty() && field.len() <= 10 && field.iter().all(u8::is_ascii_digit);
     if !digits || (field[0] == b'0' && field.len() > 1) {
         return None;
@@ -775,7 +775,7 @@ fn cell(line: &[u8], row: usize, column: usize) -> Option<Cell> {
 }
 
 /// The lines that are ended by a newline, and whether something is left that is not.
-fn lines(text: &[u8]) -> (Vec<&[u8]>, bool) {
+pub fn lines(text: &[u8]) -> (Vec<&[u8]>, bool) {
     let mut lines: Vec<&[u8]> = text.split(|byte| *byte == b'\n').collect();
     let rest = lines.pop().unwrap_or(b"");
     (lines, !rest.is_empty())
@@ -863,11 +863,16 @@ pub fn meadow(text: &[u8]) -> Vec<u8> {
 pub fn meadow_by(text: &[u8], run_to: impl Fn(&mut Meadow, &Rules, &Run, u64) -> Result<Made, u32>) -> Vec<u8> {
     match depths_at_end(text, run_to) {
         Ok((meadow, made)) => printed(&meadow, &made),
-        Err(refusal) => format!("refused\t{}\t{}\n", refusal.number, refusal.line).into_bytes(),
+        Err(refusal) => refused_line(&refusal),
     }
 }
 
-fn depths_at_end(text: &[u8], run_to: impl Fn(&mut Meadow, &Rules, &Run, u64) -> Result<Made, u32>) -> Result<(Meadow, Made), Refusal> {
+pub fn refused_line(refusal: &Refusal) -> Vec<u8> {
+    format!("refused\t{}\t{}\n", refusal.number, refusal.line).into_bytes()
+}
+
+/// A sheet read within `meadow`'s limits, with room for one record.
+pub fn within_limits(text: &[u8]) -> Result<(Meadow, Heading), Refusal> {
     // "reads at most 65,536 bytes from standard input (more: 12, line 0) and gives 1 above 1,024 squares"
     if text.len() > MOST_TEXT {
         return Err(Refusal { number: 12, line: 0 });
@@ -897,7 +902,11 @@ fn depths_at_end(text: &[u8], run_to: impl Fn(&mut Meadow, &Rules, &Run, u64) ->
     meadow.lasts = vec![0; squares];
     // "Its record room holds one record."
     meadow.records = vec![0; meadow.record_size()];
+    Ok((meadow, heading))
+}
 
+fn depths_at_end(text: &[u8], run_to: impl Fn(&mut Meadow, &Rules, &Run, u64) -> Result<Made, u32>) -> Result<(Meadow, Made), Refusal> {
+    let (mut meadow, heading) = within_limits(text)?;
     let refused = |number: u32| Refusal { number, line: 0 };
     let run = fresh(&mut meadow, &heading.rules).map_err(refused)?;
     let made = run_to(&mut meadow, &heading.rules, &run, heading.end).map_err(refused)?;
@@ -907,7 +916,7 @@ fn depths_at_end(text: &[u8], run_to: impl Fn(&mut Meadow, &Rules, &Run, u64) ->
 
 /// "Output, whole: each square not closed with its depth, then outflow, steps made, clock"; #106: "prints `soak` and the total on a line
 /// after `out`".
-fn printed(meadow: &Meadow, made: &Made) -> Vec<u8> {
+pub fn printed(meadow: &Meadow, made: &Made) -> Vec<u8> {
     let mut text = String::new();
     for square in 0..meadow.squares() {
         if !meadow.closed(square) {

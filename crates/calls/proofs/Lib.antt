@@ -1,2 +1,3 @@
+pub mod EveningLaws
 pub mod ExportedLaws
 pub mod LibraryLaws

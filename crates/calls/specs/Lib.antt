@@ -1,2 +1,3 @@
+pub mod Evenings
 pub mod Exported
 pub mod Library

@@ -1,8 +1,8 @@
 -- The contract of every entry point leaves one outcome: each is an equation for all that a call gives.
 -- Assumes nothing.
-use mathlib.Core.Path.{_≡_, sym, ap, _∙_}
-use mathlib.Core.List.{List}
-use lib.ListN.{length, replicate, length-replicate}
+use mathlib.Core.Path.{_≡_, sym, ap, ap₂, _∙_}
+use mathlib.Core.List.{List, _++_}
+use lib.ListN.{length, replicate, length-replicate, take-append-drop}
 use Prim.Native.Nat.{ℕ}
 use Rattle.reckon.specs.Outcomes.{One}
 use Rattle.reckon.proofs.OutcomeLaws.{exactly}
@@ -21,7 +21,14 @@ use Rattle.text.proofs.Determined.{written}
 use Rattle.sheet.specs.Sheet.{Rooms, Reads, roomsAfter}
 use Rattle.sheet.specs.declared.reading.Sheet.{Sheet}
 use Rattle.exports.specs.Steps.{ExportsStep, ExportsRun}
-use Rattle.demands.specs.Determined.{LedgerDetermined, ChecksDetermined, FloodDetermined, SightDetermined, SheetDetermined, ProgramsDetermined, ExportsDetermined, Determined}
+use Rattle.demands.specs.Determined.{LedgerDetermined, ChecksDetermined, FloodDetermined, SightDetermined, SheetDetermined, ProgramsDetermined, HatchesDetermined, ExportsDetermined, Determined}
+use Rattle.hatches.specs.Log.{Evening, evening, TakesEntry}
+use Rattle.hatches.specs.Told.{TakesLine}
+use Rattle.hatches.specs.Program.{Stores, Holds, Begins, GoesOn}
+use Rattle.hatches.specs.declared.lines.Entry.{Entry}
+use Rattle.hatches.specs.declared.taking.Came.{Came}
+use Rattle.hatches.specs.declared.telling.Told.{Told}
+use Rattle.hatches.specs.declared.program.Night.{Night}
 
 -- ---- one outcome
 
@@ -84,6 +91,62 @@ sheet-determined = record { read = λ text before. read-one }
 
 programs-determined : ProgramsDetermined
 programs-determined = record { meadow-of = λ text old a b x y. written a b (x .wrote) (y .wrote) }
+
+-- a room of which the first numbers and the rest are known
+held-one : {n : ℕ} {part old a b : List ℕ} → Holds n part old a → Holds n part old b → a ≡ b
+held-one {n} {a = a} {b} x y =
+    sym (take-append-drop n a) ∙ (ap₂ (λ (l m : List ℕ). l ++ m) (x .first ∙ sym (y .first)) (x .rest ∙ sym (y .rest)) ∙ take-append-drop n b)
+
+entry-one :
+    {p : Plan} {g : Given} {entry : Entry} {e : Evening} →
+    One {Out = Came × (List ℕ × (List ℕ × (List ℕ × List ℕ)))}
+    (λ o. TakesEntry p g entry e (o .0 .number) (evening (o .1 .0) (o .1 .1 .0) (o .1 .1 .1 .0) (o .1 .1 .1 .1) (o .0 .log)))
+entry-one a b x y =
+    let n = x .number-is ∙ sym (y .number-is) in
+    let v = x .evening-is ∙ sym (y .evening-is) in
+    λ j. (record { number = n j; log = v j .log }, (v j .depths, (v j .lasts, (v j .records, v j .began))))
+
+line-one :
+    {p : Plan} {g : Given} {s : List ℕ} {at line : ℕ} {e : Evening} {old : List ℕ} →
+    One {Out = Told × (List ℕ × (List ℕ × (List ℕ × (List ℕ × List ℕ))))}
+    (λ o. TakesLine p g s at line e (o .0) (evening (o .1 .0) (o .1 .1 .0) (o .1 .1 .1 .0) (o .1 .1 .1 .1 .0) (o .0 .log)) old (o .1 .1 .1 .1 .1))
+line-one a b x y =
+    let n = x .number-is ∙ sym (y .number-is) in
+    let k = x .next-is ∙ sym (y .next-is) in
+    let v = x .evening-is ∙ sym (y .evening-is) in
+    let t = written (a .0 .length, a .1 .1 .1 .1 .1) (b .0 .length, b .1 .1 .1 .1 .1) (x .prints .wrote) (y .prints .wrote) in
+    λ j. (
+      record { number = n j; next = k j; length = t j .0; log = v j .log },
+      (v j .depths, (v j .lasts, (v j .records, (v j .began, t j .1)))),
+    )
+
+begun-one : {sheet log old : List ℕ} → One {Out = Night × (Stores × List ℕ)} (λ o. Begins sheet log (o .0) (o .1 .0) old (o .1 .1))
+begun-one a b x y =
+    let t = written (a .0 .length, a .1 .1) (b .0 .length, b .1 .1) (x .prints .wrote) (y .prints .wrote) in
+    λ j. ((x .begun-is ∙ sym (y .begun-is)) j, ((x .stores-are ∙ sym (y .stores-are)) j, t j .1))
+
+going-one :
+    {s : List ℕ} {n : Night} {r : Stores} {old : List ℕ} →
+    One {Out = Night × (List ℕ × (List ℕ × (List ℕ × (List ℕ × List ℕ))))}
+    (λ o. GoesOn s n r (o .0) (o .1 .0) (o .1 .1 .0) (o .1 .1 .1 .0) (o .1 .1 .1 .1 .0) old (o .1 .1 .1 .1 .1))
+going-one a b x y =
+    let t = written (a .0 .length, a .1 .1 .1 .1 .1) (b .0 .length, b .1 .1 .1 .1 .1) (x .prints .wrote) (y .prints .wrote) in
+    λ j. (
+      (x .night-is ∙ sym (y .night-is)) j,
+      (
+        held-one (x .depths-are) (y .depths-are) j,
+        (held-one (x .lasts-are) (y .lasts-are) j, (held-one (x .records-are) (y .records-are) j, (held-one (x .began-are) (y .began-are) j, t j .1))),
+      ),
+    )
+
+hatches-determined : HatchesDetermined
+hatches-determined =
+    record {
+      take-entry = λ p g entry e. entry-one;
+      take-line = λ p g s at line e old. line-one;
+      begin-log = λ sheet log old. begun-one;
+      go-on = λ s n r old. going-one;
+    }
 
 exported-step-one :
     {p : Plan} {g : Given} {w : World} {rules old : List ℕ} →
@@ -154,5 +217,6 @@ determined =
       sight = sight-determined;
       sheet = sheet-determined;
       programs = programs-determined;
+      hatches = hatches-determined;
       exports = exports-determined;
     }

@@ -6,6 +6,10 @@ pub mod Determined
 pub mod EnginesAgree
 pub mod Exported
 pub mod Fields
+pub mod HatchLaws
+pub mod HatchRuns
+pub mod LineClock
+pub mod LinePlaces
 pub mod Loader
 pub mod Played
 pub mod RunStops

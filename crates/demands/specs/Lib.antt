@@ -7,6 +7,7 @@ pub mod Determined
 pub mod EnginesAgree
 pub mod Exported
 pub mod Fields
+pub mod HatchLog
 pub mod Loader
 pub mod Played
 pub mod StepCount

@@ -9,7 +9,7 @@ from html import escape
 
 from ..sheets.lines import CLOSED
 from ..sheets.standing import STEEP, standing_squares
-from ..words.hatches import hatches_of
+from ..words.hatches import hatches_in
 from ..words.units import depth, height, square, time
 from .contours import contours, heights_of
 from .legend import LEGEND, legend
@@ -134,11 +134,13 @@ def squares_signs(paper, standing):
 
 
 def hatch_signs(paper, pair):
-    """The hatches, each with its square's depth and its own openings for a pointer that rests on it."""
-    for hatch in hatches_of(pair.sheet):
-        below = told(hatch.place, pair.sheet.squares[hatch.place], pair.answer.depths[hatch.place])
-        said = f"hatch {hatch.number}: {hatch.openings()}; {below}"
-        yield hatch_sign(*paper.middle(hatch.place), hatch.number, hatch.runs_at(pair.end), said)
+    """The hatches, each with its square's depth and its own openings for a pointer that rests on it; those of one square have one sign."""
+    hatches = hatches_in(pair)
+    for place in sorted({hatch.place for hatch in hatches}):
+        here = [hatch for hatch in hatches if hatch.place == place]
+        below = told(place, pair.sheet.squares[place], pair.answer.depths[place])
+        said = "; ".join([*(f"hatch {hatch.number}: {hatch.openings()}" for hatch in here), below])
+        yield hatch_sign(*paper.middle(place), "+".join(str(hatch.number) for hatch in here), any(hatch.runs_at(pair.end) for hatch in here), said)
 
 
 def ground_and_water(paper, pair, standing):

@@ -1,10 +1,10 @@
 """The legend of a map: what its shades and signs mean, how large each class of depth is, and the answer in words."""
 from textwrap import wrap
 
+from ..logs.nights import Night
 from ..rule.weighing import WEIGHTED
-from ..sheets.account import account
 from ..sheets.standing import STEEP
-from ..words.hatches import hatches_of
+from ..words.hatches import hatches_in
 from ..words.sense import deepest_words, volumes
 from ..words.units import area, height, rain_rate, span, square, steps, time, volume
 from .contours import gap_of, heights_of
@@ -94,23 +94,25 @@ def say_totals(column, pair, standing):
     contours = f"contours every {gap_of(sheet) / 10_000:g} cm" if ends[0] != ends[1] else "all flat"
     column.say(f"ground {height(ends[0])} to {height(ends[1])} m, {contours}", gap=8)
     column.say(f"a square is {sheet.side} m by {sheet.side} m")
-    for name, amount in volumes(account(*pair)).items():
+    for name, amount in volumes(pair.account()).items():
         column.say(f"{name}: {volume(amount)}", ' class="volume"')
     column.say(deepest_words(answer))
-    column.say(f"clock {time(answer.clock)}, after {steps(answer.steps)}")
+    back = f"; {pair.taken_back:,} taken back" if pair.taken_back else ""
+    column.say(f"clock {time(answer.clock)}, after {steps(answer.steps)}{back}")
     if sheet.run["edition"] == WEIGHTED:
         column.say(standing_words(standing))
 
 
-def say_tables(column, sheet):
+def say_tables(column, pair):
     """What rain and hatches gave, line by line."""
     column.y += 6
-    lines = [f"rain {rain_rate(rate)} from {span(start, stop)}" for start, stop, rate in sheet.rain]
-    lines += [f"hatch {hatch.number} at {hatch.place[0]},{hatch.place[1]}: {hatch.openings()}" for hatch in hatches_of(sheet)]
+    lines = [f"rain {rain_rate(rate)} from {span(start, stop)}" for start, stop, rate in pair.sheet.rain]
+    lines += [f"hatch {hatch.number} at {hatch.place[0]},{hatch.place[1]}: {hatch.openings()}" for hatch in hatches_in(pair)]
     for line in lines[:MOST_LISTED]:
         column.say(line, f' fill="{HATCH}"' if line.startswith("hatch") else "", SMALL, gap=-2)
     if len(lines) > MOST_LISTED:
-        column.say(f"and {len(lines) - MOST_LISTED} more: tools/tell.py lists them", "", SMALL, gap=-2)
+        where = "the sheet and the log list them" if isinstance(pair, Night) else "tools/tell.py lists them"
+        column.say(f"and {len(lines) - MOST_LISTED} more: {where}", "", SMALL, gap=-2)
 
 
 def legend(x, y, pair, standing):
@@ -119,5 +121,5 @@ def legend(x, y, pair, standing):
     say_depths(column, pair)
     say_signs(column, standing, pair.sheet.run["edition"])
     say_totals(column, pair, standing)
-    say_tables(column, pair.sheet)
+    say_tables(column, pair)
     return [north_arrow(x + LEGEND - 20, y + 6), *column.drawn], column.y

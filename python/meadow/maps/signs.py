@@ -39,10 +39,18 @@ def hatch_circle(x, y, radius, runs):
     return f'<circle cx="{x:g}" cy="{y:g}" r="{radius}" fill="{HATCH if runs else "#ffffff"}" stroke="{HATCH}" stroke-width="2"/>'
 
 
+def hatch_box(x, y, wide, runs):
+    """Several hatches of one square: as a hatch's circle, but wider."""
+    shape = f'x="{x - wide / 2:g}" y="{y - 8.5:g}" width="{wide}" height="17" rx="8.5"'
+    return f'<rect {shape} fill="{HATCH if runs else "#ffffff"}" stroke="{HATCH}" stroke-width="2"/>'
+
+
 def hatch_sign(x, y, number, runs, told):
-    """A hatch with its number, and what it tells to a pointer."""
+    """A hatch with its number, and what it tells to a pointer; the numbers of several are too long for a circle."""
     letters = f' text-anchor="middle" font-size="11" font-weight="bold" fill="{"#ffffff" if runs else HATCH}"'
-    drawn = hatch_circle(x, y, 8.5, runs) + words(f"{x:g}", f"{y + 4:g}", number, letters)
+    long = len(str(number))
+    shape = hatch_circle(x, y, 8.5, runs) if long <= 2 else hatch_box(x, y, 8 * long + 8, runs)
+    drawn = shape + words(f"{x:g}", f"{y + 4:g}", number, letters)
     return f'<g class="{"drawn" if runs else "shut"}"><title>{told}</title>{drawn}</g>'
 
 

@@ -11,6 +11,9 @@ MOUTH = (DITCH, SIZE - 1)
 WHEEL_HOUSE = {(row, column) for row in range(12, 17) for column in range(18, 24)}
 MEADOW_ROUGHNESS, CHANNEL_ROUGHNESS = 350, 300
 NINE_HATCHES = [(2 + 2 * i, LEAT, 10 * i * SECOND, (90 + 10 * i) * SECOND, 400 + 40 * i) for i in range(9)]
+# the same meadow in squares of 40 m
+COARSE_ROWS, COARSE_COLUMNS, COARSE_LEAT, COARSE_DITCH = 8, 7, 1, 6
+COARSE_WHEEL_HOUSE = {(3, 5), (4, 5)}
 # the pond: 6 by 6 squares behind a closed bank
 POND, POND_SIDE, POND_ROUGHNESS, POND_MOUTH_BED = 6, 5, 300, 300 * MILLIMETRE
 # a mouth in its bank that lets nothing out
@@ -41,6 +44,20 @@ def drowned_meadow(**run):
     sheet = walled_meadow(120 * MILLIMETRE, **run)
     sheet.rain += [(0, 90 * SECOND, 200_000), (MINUTE, 2 * MINUTE, 80_000)]
     sheet.inflow += NINE_HATCHES
+    return sheet
+
+
+def coarse_meadow(leat_depth, **run):
+    """The same meadow in 8 by 7 squares of 40 m, few enough that forty steps can be taken back: the leat along column 1, the ditch along row
+    6 to the exit in the east, the wheel house two squares."""
+    sheet = Sheet(COARSE_ROWS, COARSE_COLUMNS, 40, **run)
+    for row, column in sheet.squares:
+        leat, ditch = column == COARSE_LEAT, row == COARSE_DITCH and column >= COARSE_LEAT
+        bed = 2_000 + 160 * (COARSE_ROWS - 1 - row) + 24 * abs(column - COARSE_COLUMNS // 2) - 250 * leat - 200 * ditch
+        mark = "e" if ditch and column == COARSE_COLUMNS - 1 else "o"
+        roughness = CHANNEL_ROUGHNESS if leat or ditch else MEADOW_ROUGHNESS
+        if (row, column) not in COARSE_WHEEL_HOUSE:
+            sheet.put((row, column), bed * MILLIMETRE, roughness, leat_depth * leat, mark)
     return sheet
 
 

@@ -20,16 +20,30 @@ class Pair(NamedTuple):
     end: int
     answer: Answer
 
+    def account(self):
+        """The water account."""
+        return account(*self)
 
-def pair_of(sheet, end, answer):
-    """The pair of a sheet that `meadow` would take and an answer of its squares and its clock."""
-    check(meadow_of(sheet), end)
+    @property
+    def taken_back(self):
+        """No step of a run to an end is taken back."""
+        return 0
+
+
+def hold_squares(sheet, answer):
+    """The answer's squares are exactly the sheet's squares that are not closed."""
     ground = set(sheet.ground())
     for row, column in sorted(ground - answer.depths.keys()):
         raise Unreadable(f"the answer is another sheet's: it has no depth for square {row} {column}, which is not closed")
     for row, column in sorted(answer.depths.keys() - ground):
         why = "closed" if (row, column) in sheet.squares else "off the grid"
         raise Unreadable(f"the answer is another sheet's: it has a depth for square {row} {column}, which is {why}")
+
+
+def pair_of(sheet, end, answer):
+    """The pair of a sheet that `meadow` would take and an answer of its squares and its clock."""
+    check(meadow_of(sheet), end)
+    hold_squares(sheet, answer)
     if answer.clock != end:
         raise Unreadable(f"the answer is another sheet's: its clock is {answer.clock}, the sheet's end {end}")
     return Pair(sheet, end, answer)
@@ -37,7 +51,7 @@ def pair_of(sheet, end, answer):
 
 def balanced(pair):
     """The pair, where its account balances."""
-    off = account(*pair).off()
+    off = pair.account().off()
     if off != 0:
         raise Unreadable(f"the answer is another sheet's, or was changed: its water account is off by {off:,} µm over one square")
     return pair

@@ -7,4 +7,5 @@
     doubts       what in a sheet is likely a slip
     enclosed     ground that is walled in
     reasons      why a sheet is refused: faults (the places of 1 to 5), misplaced (the line of 12), slips (inside that line)
+    log_reasons  why a hatch log is refused, and which of the two files it is about
 """

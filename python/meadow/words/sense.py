@@ -1,5 +1,4 @@
 """One line of sense about an answer: how much water is where, the deepest place, the clock and the steps."""
-from ..sheets.account import account
 from .units import depth, square, steps, time, volume
 
 
@@ -25,7 +24,13 @@ def volumes(told):
 
 
 def sense(pair):
-    """The line; what soaked is left out where nothing did."""
-    told = volumes(account(*pair))
+    """The line; what soaked is left out where nothing did, and so are steps taken back."""
+    told = volumes(pair.account())
     said = [f"{volume(amount)} {name}" for name, amount in told.items() if name != "soaked" or amount > 0]
-    return f"{', '.join([*said, deepest_words(pair.answer)])}, after {time(pair.end)}; {steps(pair.answer.steps)}"
+    back = f" stand{'s' if pair.answer.steps == 1 else ''}, {pair.taken_back:,} taken back" if pair.taken_back else ""
+    return f"{', '.join([*said, deepest_words(pair.answer)])}, after {time(pair.end)}; {steps(pair.answer.steps)}{back}"
+
+
+def night_sense(night):
+    """The line about an evening by the log; of one of which nothing was printed, that."""
+    return sense(night) if night.answer else "nothing is printed of this log: it has no line with a clock, and none that takes steps back"

@@ -1,0 +1,4 @@
+pub mod Backs
+pub mod Determined
+pub mod Rates
+pub mod Sizes

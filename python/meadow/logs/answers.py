@@ -1,0 +1,54 @@
+"""Document 02, #107: what the program `hatchlog` prints, of the texts of a sheet and a log and of the two names at its standard input."""
+from pathlib import Path
+
+from ..rule.refusals import Refused, check
+from ..sheets.lines import refused_text
+from ..sheets.reading import MOST_BYTES, meadow_of, read
+from .entries import entries_in
+from .evening import Evening
+
+# the most bytes of a name that the system opens
+MOST_NAME = 4_095
+
+
+def evening_of(sheet_text):
+    """The evening of a sheet's text before the log's first line; or a refusal, as `meadow` reads a sheet."""
+    sheet, end = read(sheet_text)
+    check(meadow_of(sheet), end)
+    return Evening(sheet)
+
+
+def answered(sheet_bytes, log_bytes):
+    """What is printed of the bytes of two files: what was printed before a refusal stands."""
+    told = []
+    try:
+        if len(sheet_bytes) > MOST_BYTES or len(log_bytes) > MOST_BYTES:
+            raise Refused(12, 0)
+        evening = evening_of(sheet_bytes.decode("latin-1"))
+        for line, entry in entries_in(log_bytes.decode("latin-1")):
+            told.append(evening.take(line, entry))
+    except Refused as refused:
+        told.append(refused_text(refused.number, refused.line))
+    return "".join(told)
+
+
+def names_in(given):
+    """The two names at the standard input, each ended by a newline; None where there are not exactly two."""
+    *names, rest = given.split(b"\n")
+    return names if len(names) == 2 and rest == b"" else None
+
+
+def opened(name):
+    """The bytes of the file of a name; None where it cannot be opened, or not be read."""
+    if len(name) > MOST_NAME or b"\0" in name:
+        return None
+    try:
+        return Path(name.decode("utf-8", "surrogateescape")).read_bytes() if name else None
+    except OSError:
+        return None
+
+
+def named(given):
+    """What is printed of the bytes at the standard input: both files are opened first."""
+    texts = [opened(name) for name in names_in(given) or [b""]]
+    return refused_text(12, 0) if None in texts else answered(*texts)
