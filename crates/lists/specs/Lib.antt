@@ -1,0 +1,5 @@
+pub mod Names
+pub mod Sheets
+pub mod Drowned
+pub mod Tally
+pub mod inner

@@ -1,0 +1,4 @@
+pub mod Most
+pub mod Peaks
+pub mod Highest
+pub mod inner
