@@ -1,11 +1,11 @@
 -- Document 02, #114: what is kept from sheet to sheet, one sheet more, and what is printed of it at the end.
 -- Assumes nothing.
 use mathlib.Core.Path.{_≡_}
-use mathlib.Core.Bool.{Bool, true, false, _||_}
+use mathlib.Core.Bool.{Bool, true, false}
 use mathlib.Core.List.{List, [], _∷_, _++_}
-use Prim.Native.Nat.{ℕ, zero, suc, _+_, _-_, _/_, _%_}
+use Prim.Native.Nat.{ℕ, _+_, _-_, _/_, _%_}
 use lib.Dec.{eqb, leb, ltb}
-use lib.ListN.{length, getD, take}
+use lib.ListN.{getD, take}
 use Rattle.reckon.specs.Tests.{pick, every}
 use Rattle.reckon.specs.Lists.{filled, joined, placed}
 use Rattle.grid.specs.Squares.{squares, shapeFine}

@@ -10,15 +10,6 @@ use reckon::tables::INFLOW_ROOM;
 use reckon::tables::RAIN_ROOM;
 use sheet::reading::Heading;
 use sheet::reading::Sheet;
-ghost use mathlib.Core.Path.{_≡_};
-ghost use Prim.Native.Nat.{_≤_};
-ghost use lib.ListN.{length};
-ghost use Rattle.ledger.specs.Runs.{plan};
-ghost use Rattle.sheet.specs.Sheet.{rooms};
-ghost use Rattle.programs.specs.Program.{programSquares};
-ghost use Rattle.programs.specs.inner.Held.{Holds, partsOf};
-ghost use Rattle.lists.specs.Sheets.{fileOf};
-ghost use Rattle.lists.specs.inner.Judged.{Judges};
 
 // The number that a sheet is refused with, 0 for none, and the shape of an accepted one.
 pub struct Judged {

@@ -4,7 +4,6 @@ use grid::marks::is_closed;
 use grid::squares::Shape;
 use grid::squares::squares_of;
 use reckon::numbers::number;
-ghost use mathlib.Core.Path.{_≡_};
 ghost use Prim.Native.Nat.{_≤_};
 ghost use lib.ListN.{length};
 ghost use Rattle.grid.specs.Squares.{ShapeInRange, squares};

@@ -1,22 +1,19 @@
 -- Laws of what is printed of the highest water: how long it can get, and one piece after another.
 -- Assumes nothing.
-use mathlib.Core.Path.{_≡_, sym, ap, ap₂, subst, _∙_}
+use mathlib.Core.Path.{_≡_, sym, ap₂, subst, _∙_}
 use mathlib.Core.Bool.{true, false}
 use mathlib.Core.List.{List, [], _∷_, _++_}
-use Prim.Native.Nat.{ℕ, zero, suc, _+_, _*_, _/_, _%_, _^_, _≤_, _<_}
-use native.Mathlib.Nat.{not-suc-le-zero, le-of-suc-le-suc, div-le-self, mod-le}
+use Prim.Native.Nat.{ℕ, suc, _+_, _*_, _/_, _%_, _^_, _≤_, _<_}
+use native.Mathlib.Nat.{div-le-self, mod-le}
 use native.Mathlib.Omega.{arith}
 use lib.ListN.{length, getD, length-append}
 use borrow.Author.Tests.{eq-eqb, ne-eqb}
-use Rattle.reckon.specs.Tests.{pick}
-use Rattle.reckon.specs.Lists.{joined, placed}
 use Rattle.reckon.proofs.TestLaws.{pick-true, pick-false, pick-both}
 use Rattle.grid.specs.Squares.{squares}
 use Rattle.ledger.specs.Runs.{Plan}
 use Rattle.ledger.specs.Flows.{shut}
-use Rattle.ledger.specs.declared.runs.Run.{Run}
 use Rattle.flood.specs.declared.run.Ran.{Ran}
-use Rattle.text.specs.Writing.{lineText, fieldsText, fieldText, decimal, Wrote}
+use Rattle.text.specs.Writing.{lineText, fieldsText, fieldText, Wrote}
 use Rattle.text.proofs.WritingLaws.{decimal-short, line-text-long, placed-none, wrote-both, wrote-length}
 use Rattle.sheet.specs.Lines.{cellWord}
 use Rattle.answer.specs.Printed.{refusedText, totalsText}
@@ -24,7 +21,7 @@ use Rattle.answer.proofs.PrintLaws.{joined-short, totals-short}
 use Rattle.programs.specs.Program.{programSquares, mostPrinted, Prints}
 use Rattle.programs.proofs.EndedLaws.{Words, prints, refused-printed}
 use Rattle.peaks.specs.Highest.{highText, highsText, highWorldText}
-use Rattle.peaks.specs.inner.Sheets.{highRanText, PutHighest}
+use Rattle.peaks.specs.inner.Sheets.{PutHighest}
 
 -- ---- how long a line can get
 

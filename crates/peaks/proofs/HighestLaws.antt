@@ -1,6 +1,6 @@
 -- Laws of the highest water of one sheet: what is printed goes by what the run's answer tells and by the peaks.
 -- Assumes nothing.
-use mathlib.Core.Path.{_≡_, refl, sym, ap, subst, _∙_}
+use mathlib.Core.Path.{_≡_, refl, ap, subst, _∙_}
 use mathlib.Core.List.{List}
 use Prim.Native.Nat.{ℕ, _≤_}
 use lib.Dec.{eqb}
@@ -16,10 +16,10 @@ use Rattle.sheet.specs.declared.reading.Sheet.{Sheet}
 use Rattle.sheet.specs.declared.reading.Sheet.the-variants.{Read, Refused}
 use Rattle.sheet.proofs.JudgeLaws.{zeros-are}
 use Rattle.answer.specs.Printed.{refusedText}
-use Rattle.programs.specs.Reading.{sheetWithin, ReadsWithin}
-use Rattle.programs.specs.Program.{mostText, programRooms, programSquares, sheetRun, Prints}
+use Rattle.programs.specs.Reading.{ReadsWithin}
+use Rattle.programs.specs.Program.{mostText, programRooms, programSquares, Prints}
 use Rattle.programs.specs.inner.Held.{partsOf}
-use Rattle.programs.proofs.HeldLaws.{parts-said, partsAt}
+use Rattle.programs.proofs.HeldLaws.{parts-said}
 use Rattle.peaks.specs.Peaks.{peaksOver, clocksOver}
 use Rattle.peaks.specs.Highest.{highWorldText, peaksIn, clocksIn, highRunText, highSheetText, highestText}
 use Rattle.peaks.specs.inner.Sheets.{SheetPeaks, highRanText, PutHighest}

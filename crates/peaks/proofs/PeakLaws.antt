@@ -1,19 +1,20 @@
 -- Laws of the peaks of a run: where a loop of steps has come to, the rooms hold the peaks of all states so far.
 -- Assumes nothing.
-use mathlib.Core.Path.{_≡_, refl, sym, ap, subst, _∙_}
+use mathlib.Core.Path.{_≡_, refl, sym, ap, _∙_}
 use mathlib.Core.Bool.{Bool, true, false}
 use mathlib.Core.List.{List}
-use Prim.Native.Nat.{ℕ, zero, suc, _+_, _≤_, _<_, _^_, max}
+use Prim.Native.Nat.{ℕ, suc, _+_, _<_, _^_, max}
 use native.Mathlib.Numerals.{add-one}
 use native.Mathlib.Decide.{decLt}
 use native.Mathlib.Omega.{arith}
 use lib.Dec.{ltb}
 use lib.ListN.{length, getD}
 use lib.Seq.{ext-getD}
-use borrow.Author.Tests.{lt-ltb, le-ltb, ltb-true, ltb-false}
-use Rattle.reckon.specs.Tests.{pick, refusal}
+use borrow.Author.Tests.{lt-ltb, le-ltb}
+use Rattle.reckon.specs.Tests.{pick}
 use Rattle.reckon.specs.Lists.{filled}
 use Rattle.reckon.proofs.TestLaws.{pick-true, pick-false}
+use Rattle.reckon.proofs.MostLaws.{pick-max}
 use Rattle.reckon.proofs.ListLaws.{length-filled, filled-in, filled-past, filled-skipped, filled-ext}
 use Rattle.grid.specs.Squares.{squares}
 use Rattle.grid.specs.Marks.{closed}
@@ -26,7 +27,7 @@ use Rattle.checks.proofs.CheckLaws.{ready}
 use Rattle.flood.specs.Step.{stepped}
 use Rattle.flood.specs.Run.{stepsOn}
 use Rattle.flood.proofs.RunToLaws.{Valid}
-use Rattle.peaks.specs.Most.{mostOver, firstMost}
+use Rattle.reckon.specs.Most.{mostOver, firstMost}
 use Rattle.peaks.specs.Peaks.{depthAfter, peakOf, peakClock, peaksOver, clocksOver}
 use Rattle.peaks.specs.inner.Raised.{risesAt, Raises, peaksRaised, clocksRaised}
 
@@ -52,14 +53,6 @@ filled-over n skipped f g h old same =
         ∙ (filled-skipped n skipped g old i l e ∙ sym (filled-skipped n skipped h old i l e))
     at i l (yes z) false e =
         filled-in n skipped f (filled n skipped g old) i (omega (arith, l, within)) z e ∙ (same i l z e ∙ sym (filled-in n skipped h old i l z e))
-
--- the greater of two by a test
-pick-max : (a b : ℕ) → pick (ltb a b) b a ≡ max a b
-pick-max a b = go (decLt a b)
-  where
-    go : Dec (a < b) → pick (ltb a b) b a ≡ max a b
-    go (yes l) = pick-true _ _ (lt-ltb a b l) ∙ omega arith
-    go (no l) = pick-false _ _ (le-ltb a b (omega arith)) ∙ omega arith
 
 -- an open square rises at the first state, and later by its depth
 rises-first : (marks depths peaks : List ℕ) (i : ℕ) → closed marks i ≡ false → risesAt true marks depths peaks i ≡ true

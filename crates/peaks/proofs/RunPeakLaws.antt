@@ -3,10 +3,10 @@
 use mathlib.Core.Path.{_≡_, refl, sym, ap, subst, _∙_}
 use mathlib.Core.Bool.{Bool, true, false}
 use mathlib.Core.List.{List, [], _∷_, _++_}
-use Prim.Native.Nat.{ℕ, _≤_}
+use Prim.Native.Nat.{ℕ}
 use native.Mathlib.Omega.{arith}
 use lib.Dec.{eqb}
-use lib.ListN.{length, take, drop, replicate}
+use lib.ListN.{length, take, drop}
 use lib.Seq.{length-take-le}
 use borrow.Author.Tests.{eq-eqb, ne-eqb}
 use Rattle.reckon.specs.Tests.{Row, pick, every, refusal, _unless_}
@@ -15,7 +15,6 @@ use Rattle.reckon.proofs.ListLaws.{length-filled}
 use Rattle.grid.specs.Squares.{ShapeInRange, squares, shapeFine}
 use Rattle.grid.proofs.SquareLaws.{fine-of-ranges}
 use Rattle.ledger.specs.Runs.{Plan, World, world}
-use Rattle.ledger.specs.Flows.{shut}
 use Rattle.ledger.specs.declared.runs.Run.{Run}
 use Rattle.checks.specs.Given.{Given}
 use Rattle.checks.specs.Refusals.{runChecks}

@@ -1,4 +1,3 @@
-pub mod Most
 pub mod Peaks
 pub mod Highest
 pub mod inner

@@ -1,7 +1,7 @@
 -- Document 02, #114, "Which squares drown most often": how deep each square was at its deepest, over all states of a run, and when first.
 -- Assumes nothing.
 use mathlib.Core.Path.{_≡_}
-use mathlib.Core.List.{List, [], _∷_}
+use mathlib.Core.List.{List, _∷_}
 use Prim.Native.Nat.{ℕ}
 use lib.Dec.{eqb}
 use lib.ListN.{length, getD}
@@ -14,7 +14,7 @@ use Rattle.checks.specs.Given.{Given}
 use Rattle.checks.specs.Refusals.{runChecks}
 use Rattle.flood.specs.Run.{Ended, ended, goOn, runTo, stepsOn}
 use Rattle.flood.specs.declared.run.Ran.{Ran}
-use Rattle.peaks.specs.Most.{mostOver, firstMost}
+use Rattle.reckon.specs.Most.{mostOver, firstMost}
 
 module _ (p : Plan) (g : Given) (w : World) where
   -- the depth of square i after k steps; the starting state is the one after none

@@ -16,7 +16,6 @@ use reckon::tables::RAIN_ROOM;
 use sheet::reading::Heading;
 use sheet::reading::Sheet;
 use text::writing::put_line;
-ghost use mathlib.Core.Path.{_≡_};
 ghost use Prim.Native.Nat.{_+_, _<_, _≤_};
 ghost use lib.ListN.{length};
 ghost use Rattle.grid.specs.Squares.{ShapeInRange, squares};

@@ -1,3 +1,5 @@
+-- `peaks::highest::highest_of` meets its contract: the reader's refusals, and then the run's.
+-- Assumes nothing.
 use native.Mathlib.Omega.{arith}
 use borrow.Author.Needs.{needs}
 use Rattle.programs.specs.Program.{mostText, programSquares, programRooms}

@@ -1,7 +1,8 @@
-use mathlib.Core.Path.{_≡_, refl, sym, _∙_}
+-- `peaks::highest::print_highest` meets its contract: the run of what the rooms hold, and what is printed of its peaks.
+-- Assumes nothing.
 use Prim.Native.Nat.{ℕ}
 use native.Mathlib.Omega.{arith}
-use lib.ListN.{length, take, replicate, length-replicate}
+use lib.ListN.{length-replicate}
 use borrow.Author.Needs.{needs}
 use Rattle.sheet.specs.Sheet.{Rooms, rooms}
 use Rattle.programs.specs.Program.{programSquares}

@@ -1,4 +1,5 @@
-use mathlib.Core.Path.{_≡_}
+-- `peaks::highest::put_highs` meets its contract: the lines so far stand at the place.
+-- Assumes nothing.
 use mathlib.Core.List.{List}
 use Prim.Native.Nat.{ℕ, _+_, _-_, _≤_}
 use native.Mathlib.Omega.{arith}
@@ -11,10 +12,6 @@ use Rattle.answer.proofs.PrintLaws.{none-written, lines-length, line-fits, line
 use Rattle.peaks.specs.Highest.{highText, highsText}
 use Rattle.peaks.proofs.highest.put_highs.Statement.{statement}
 use Rattle.peaks.proofs.highest.put_highs.Tie as tie
-use Rattle.peaks.proofs.highest.put_highs.Reads as reads
-use Rattle.peaks.proofs.highest.put_highs.Lts as lts
-use Rattle.grid.proofs.squares.squares_of.Reads as squares-of-reads
-use Rattle.peaks.proofs.highest.put_high.Reads as put-high-reads
 
 abbrev Inv-loop : tie.InvT-loop
 Inv-loop out₀ at shape marks peaks clocks squares next₀ square₀ out next square =
@@ -32,46 +29,38 @@ fits : (s : tie.Start Inv-loop μ-loop) → s .args .at + length (joined (square
 unfolding highsText
 fits s = s .pre .1
 
--- src/highest.rt:71:9
 squares-of-requires : tie.Need-squares-of-requires Inv-loop μ-loop
 squares-of-requires c κs =
     c .before .before .before .before .pre .0 .0
 
--- src/highest.rt:74:5
 loop-holds : tie.Need-loop-holds Inv-loop μ-loop
 loop-holds c =
     (omega arith, none-written _ _ _)
 
--- src/highest.rt:75:9
 put-high-requires : tie.Need-put-high-requires Inv-loop μ-loop
 put-high-requires c κs =
     let s = c .before .before .before .before .before .before .before .before in
     let n = c .before .before .before .squares-of .ensures in
     ((s .pre .0 .0, omega (arith, n, s .pre .0 .1), omega (arith, n, s .pre .0 .2), omega (arith, n, s .pre .0 .3)), line-fits (text-of s) (squares (s .args .shape)) (s .args .at) (s .args .out .now) (fits s) (c .before .before .loop .square) (c .before .before .loop .inv .1) (omega (arith, n)))
 
--- src/highest.rt:76:9
 add-square : tie.Need-add-square Inv-loop μ-loop
 add-square c =
     omega arith
 
--- src/highest.rt:74:5
 loop-less : tie.Need-loop-less Inv-loop μ-loop
 loop-less c =
     omega arith
 
--- src/highest.rt:74:5
 loop-again : tie.Need-loop-again Inv-loop μ-loop
 loop-again c =
     let s = (c .before .before .before .before .before .before .before .before .before .before .before) in
     (omega arith, line-written (text-of s) (squares (s .args .shape)) (s .args .at) (s .args .out .now) (fits s) (c .before .before .before .before .before .loop .square) (c .before .before .before .before .before .loop .inv .1) (omega (arith, c .before .before .before .before .before .before .squares-of .ensures)) (c .before .before .put-high .ensures))
 
--- src/highest.rt:59:1
 same-length : tie.Need-same-length Inv-loop μ-loop
 same-length c =
     let s = c .before .before .before .before .before .before .before in
     lines-length (text-of s) (squares (s .args .shape)) (s .args .at) (s .args .out .now) (fits s) (c .before .loop .square) (c .before .loop .inv .1) (omega (arith, c .before .before .squares-of .ensures))
 
--- src/highest.rt:59:1
 returns : tie.Need-returns Inv-loop μ-loop
 unfolding highsText
 returns c =

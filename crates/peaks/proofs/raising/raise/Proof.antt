@@ -1,6 +1,5 @@
 -- `peaks::raising::raise` meets its contract: the rooms are filled up to the square.
 -- Assumes nothing.
-use mathlib.Core.Path.{_≡_}
 use Prim.Native.Nat.{_-_, _≤_}
 use native.Mathlib.Omega.{arith}
 use lib.ListN.{length}

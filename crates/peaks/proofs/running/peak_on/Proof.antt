@@ -1,6 +1,6 @@
 -- `peaks::running::peak_on` meets its contract: where the loop has come to, the run from there is the whole run, and the rooms hold the peaks so far.
 -- Assumes nothing.
-use mathlib.Core.Path.{_≡_, refl, sym, ap, _∙_}
+use mathlib.Core.Path.{_≡_, refl, sym, _∙_}
 use mathlib.Core.List.{List}
 use Prim.Native.Nat.{ℕ, _-_}
 use native.Mathlib.Omega.{arith}
@@ -12,10 +12,6 @@ use Rattle.flood.proofs.RunToLaws.{Running, running-starts, running-on, running
 use Rattle.peaks.proofs.PeakLaws.{Peaked, peaked-long, peaked-starts, peaked-again, peaked-whole, peaked-on, clock-small, marks-even, depths-even}
 use Rattle.peaks.proofs.running.peak_on.Statement.{statement}
 use Rattle.peaks.proofs.running.peak_on.Tie as tie
-use Rattle.peaks.proofs.running.peak_on.Reads as reads
-use Rattle.peaks.proofs.running.peak_on.Lts as lts
-use Rattle.flood.proofs.step.step_on.Reads as step-on-reads
-use Rattle.peaks.proofs.raising.raise.Reads as raise-reads
 
 abbrev Inv-loop : tie.InvT-loop
 Inv-loop way end marks beds roughness rates rain inflow depths₀ lasts₀ records₀ peaks₀ clocks₀ left₀ worked₀ senders₀ room₀ at₀ steps₀ depths lasts records peaks clocks left worked senders room at steps =
@@ -84,24 +80,20 @@ even-entry c =
 
 -- ---- the answers
 
--- src/running.rt:69:17
 cast-raise : tie.Need-cast-raise Inv-loop μ-loop
 cast-raise c =
     record { fits = clock-small (p (c .before .before .before .before .before .before .before .before .before .before .before .before .before .before .before .before)) (g (c .before .before .before .before .before .before .before .before .before .before .before .before .before .before .before .before)) (w (c .before .before .before .before .before .before .before .before .before .before .before .before .before .before .before .before)) (c .before .before .before .before .before .before .before .before .before .before .before .before .before .before .before .before .pre .0 .checked) }
 
--- src/running.rt:69:5
 raise-requires : tie.Need-raise-requires Inv-loop μ-loop
 raise-requires c κs =
     even-rooms (c .before .before .before .before .before .before .before .before .before .before .before .before .before .before .before .before .before .before .before)
 
--- src/running.rt:72:5
 loop-holds : tie.Need-loop-holds Inv-loop μ-loop
 loop-holds c =
     let s = (c .before .before .before .before .before .before .before .before .before .before .before .before .before .before .before .before .before .before .before .before .before .before .before .before) in
     let f = starting (c .before .before .before .before) in
     (running-starts (p s) (g s) (s .args .end) (w s) (s .pre .0 .checked), peaked-again (p s) (g s) (w s) f, refl, refl, refl, refl, refl, refl, refl)
 
--- src/running.rt:73:13
 step-on-requires : tie.Need-step-on-requires Inv-loop μ-loop
 step-on-requires c κs =
     let inv = c .before .before .before .before .before .before .before .before .before .loop .inv in
@@ -119,52 +111,42 @@ step-on-requires c κs =
       ),
     )
 
--- src/running.rt:93:13
 same-length : tie.Need-same-length Inv-loop μ-loop
 same-length c =
     search needs
 
--- src/running.rt:93:13
 same-length-2 : tie.Need-same-length-2 Inv-loop μ-loop
 same-length-2 c =
     search needs
 
--- src/running.rt:93:13
 same-length-3 : tie.Need-same-length-3 Inv-loop μ-loop
 same-length-3 c =
     search needs
 
--- src/running.rt:93:13
 same-length-4 : tie.Need-same-length-4 Inv-loop μ-loop
 same-length-4 c =
     peaked-long _ _ _ _ _ (c .before .before .before .before .before .before .before .before .before .before .before .before .before .before .before .before .before .before .before .before .before .before .before .before .before .before .loop .inv .1) .0 ∙ long-peaks (c .before .before .before .before .before .before .before .before .before .before .before .before .before .before .before .before .before .before .before .before .before .before .before .before .before .before .before .before .before .before .before)
 
--- src/running.rt:93:13
 same-length-5 : tie.Need-same-length-5 Inv-loop μ-loop
 same-length-5 c =
     peaked-long _ _ _ _ _ (c .before .before .before .before .before .before .before .before .before .before .before .before .before .before .before .before .before .before .before .before .before .before .before .before .before .before .loop .inv .1) .1 ∙ long-clocks (c .before .before .before .before .before .before .before .before .before .before .before .before .before .before .before .before .before .before .before .before .before .before .before .before .before .before .before .before .before .before .before)
 
--- src/running.rt:93:13
 same-length-6 : tie.Need-same-length-6 Inv-loop μ-loop
 same-length-6 c =
     search needs
 
--- src/running.rt:93:13
 same-length-7 : tie.Need-same-length-7 Inv-loop μ-loop
 same-length-7 c =
     search needs
 
--- src/running.rt:93:13
 same-length-8 : tie.Need-same-length-8 Inv-loop μ-loop
 same-length-8 c =
     search needs
 
--- src/running.rt:93:13
 same-length-9 : tie.Need-same-length-9 Inv-loop μ-loop
 same-length-9 c =
     search needs
 
--- src/running.rt:93:13
 returns : tie.Need-returns Inv-loop μ-loop
 returns c =
     let s = (c .before .before .before .before .before .before .before .before .before .before .before .before .before .before .before .before .before .before .before .before .before .before .before .before .before .before .before .before .before .before .before .before .before .before .before .before .before .before .before .before .before .before .before .before .before .before .before .before .before .before .before) in
@@ -175,13 +157,11 @@ returns c =
       clocks-are = r .clocks-are;
     }
 
--- src/running.rt:99:22
 cast-raise-2 : tie.Need-cast-raise-2 Inv-loop μ-loop
 cast-raise-2 c =
     let s = (c .before .before .before .before .before .before .before .before .before .before .before .before .before .before .before .before .before .before .before .before .before .before .before .before .before .before .before .before .before .before .before .before .before .before .before .before .before .before .before .before .before .before .before .before .before .before .before .before .before .before .before .before) in
     record { fits = clock-small (p s) (g s) _ (running-on (p s) (g s) (s .args .end) (c .before .before .before .before .before .before .before .before .before .before .before .before .before .before .before .before .before .before .before .before .before .before .before .before .before .before .before .loop .inv .0) (c .before .before .before .before .before .before .before .before .before .before .before .before .before .before .before .before .before .before .before .before .before .before .before .before .before .if1 .taken) (c .before .before .before .before .before .before .before .before .before .before .before .before .before .before .before .before .before .step-on .ensures) (c .before .if2 .left) .valid) }
 
--- src/running.rt:99:9
 raise-requires-2 : tie.Need-raise-requires-2 Inv-loop μ-loop
 raise-requires-2 c κs =
     let s = (c .before .before .before .before .before .before .before .before .before .before .before .before .before .before .before .before .before .before .before .before .before .before .before .before .before .before .before .before .before .before .before .before .before .before .before .before .before .before .before .before .before .before .before .before .before .before .before .before .before .before .before .before .before .before .before) in
@@ -190,12 +170,10 @@ raise-requires-2 c κs =
     let now = running-on (p s) (g s) (s .args .end) (c .before .before .before .before .before .before .before .before .before .before .before .before .before .before .before .before .before .before .before .before .before .before .before .before .before .before .before .before .before .before .loop .inv .0) (c .before .before .before .before .before .before .before .before .before .before .before .before .before .before .before .before .before .before .before .before .before .before .before .before .before .before .before .before .if1 .taken) (c .before .before .before .before .before .before .before .before .before .before .before .before .before .before .before .before .before .before .before .before .step-on .ensures) (c .before .before .before .before .if2 .left) .valid in
     (depths-even (p s) (g s) _ now ∙ sym (marks-even (p s) (g s) _ now), long .0 ∙ (long-peaks (c .before .before .before .before .before .before .before .before .before .before .before .before .before .before .before .before .before .before .before .before .before .before .before .before .before .before .before .before .before .before .before .before .before .before .before) ∙ even .1), long .1 ∙ (long-clocks (c .before .before .before .before .before .before .before .before .before .before .before .before .before .before .before .before .before .before .before .before .before .before .before .before .before .before .before .before .before .before .before .before .before .before .before) ∙ even .2))
 
--- src/running.rt:101:9
 add-steps : tie.Need-add-steps Inv-loop μ-loop
 add-steps c =
     omega (arith, c .before .before .before .before .before .before .before .before .before .before .before .before .before .before .before .before .before .before .before .before .before .before .before .before .before .before .before .before .before .before .before .before .before .before .before .loop .inv .0 .few, c .before .before .before .before .before .before .before .before .before .before .before .before .before .before .before .before .before .before .before .before .before .before .before .before .before .before .before .before .before .before .before .before .before .before .before .before .before .before .before .before .before .before .before .before .before .before .before .before .before .before .before .before .before .before .before .before .before .before .before .before .pre .1 .0 .2, c .before .before .before .before .before .before .before .before .before .before .before .before .before .before .before .before .before .before .before .before .before .before .before .before .before .before .before .before .before .before .before .before .before .if1 .taken)
 
--- src/running.rt:72:5
 loop-less : tie.Need-loop-less Inv-loop μ-loop
 loop-less c =
     let s = (c .before .before .before .before .before .before .before .before .before .before .before .before .before .before .before .before .before .before .before .before .before .before .before .before .before .before .before .before .before .before .before .before .before .before .before .before .before .before .before .before .before .before .before .before .before .before .before .before .before .before .before .before .before .before .before .before .before .before .before .before) in
@@ -205,7 +183,6 @@ loop-less c =
       c .before .before .before .before .before .before .before .before .before .before .before .before .before .before .before .before .before .before .before .before .before .before .before .before .before .before .before .before .before .before .before .before .before .if1 .taken,
     )
 
--- src/running.rt:72:5
 loop-again : tie.Need-loop-again Inv-loop μ-loop
 loop-again c =
     let s = (c .before .before .before .before .before .before .before .before .before .before .before .before .before .before .before .before .before .before .before .before .before .before .before .before .before .before .before .before .before .before .before .before .before .before .before .before .before .before .before .before .before .before .before .before .before .before .before .before .before .before .before .before .before .before .before .before .before .before .before .before) in
@@ -222,52 +199,42 @@ loop-again c =
       kept .1 .1 .1 .1 .1 .1 .0 ∙ inv .8,
     )
 
--- src/running.rt:44:1
 same-length-10 : tie.Need-same-length-10 Inv-loop μ-loop
 same-length-10 c =
     c .before .before .loop .inv .2
 
--- src/running.rt:44:1
 same-length-11 : tie.Need-same-length-11 Inv-loop μ-loop
 same-length-11 c =
     c .before .before .loop .inv .3
 
--- src/running.rt:44:1
 same-length-12 : tie.Need-same-length-12 Inv-loop μ-loop
 same-length-12 c =
     c .before .before .loop .inv .4
 
--- src/running.rt:44:1
 same-length-13 : tie.Need-same-length-13 Inv-loop μ-loop
 same-length-13 c =
     peaked-long _ _ _ _ _ (c .before .before .loop .inv .1) .0 ∙ long-peaks (c .before .before .before .before .before .before .before)
 
--- src/running.rt:44:1
 same-length-14 : tie.Need-same-length-14 Inv-loop μ-loop
 same-length-14 c =
     peaked-long _ _ _ _ _ (c .before .before .loop .inv .1) .1 ∙ long-clocks (c .before .before .before .before .before .before .before)
 
--- src/running.rt:44:1
 same-length-15 : tie.Need-same-length-15 Inv-loop μ-loop
 same-length-15 c =
     c .before .before .loop .inv .5
 
--- src/running.rt:44:1
 same-length-16 : tie.Need-same-length-16 Inv-loop μ-loop
 same-length-16 c =
     c .before .before .loop .inv .6
 
--- src/running.rt:44:1
 same-length-17 : tie.Need-same-length-17 Inv-loop μ-loop
 same-length-17 c =
     c .before .before .loop .inv .7
 
--- src/running.rt:44:1
 same-length-18 : tie.Need-same-length-18 Inv-loop μ-loop
 same-length-18 c =
     c .before .before .loop .inv .8
 
--- src/running.rt:44:1
 returns-2 : tie.Need-returns-2 Inv-loop μ-loop
 returns-2 c =
     let s = (c .before .before .before .before .before .before .before .before .before .before .before .before .before .before .before .before .before .before .before .before .before .before .before .before .before .before .before) in

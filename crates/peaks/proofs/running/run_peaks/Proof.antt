@@ -1,3 +1,5 @@
+-- `peaks::running::run_peaks` meets its contract: the rooms, then rows 1 to 6, then the steps decide.
+-- Assumes nothing.
 use mathlib.Core.Path.{_≡_, refl, sym, _∙_}
 use mathlib.Core.Bool.{Bool, true}
 use mathlib.Core.List.{[], _∷_}

@@ -1,3 +1,5 @@
+-- `peaks::running::run_sheet_peaks` meets its contract: the parts that belong to the sheet lie in their rooms, and their run starts from nothing.
+-- Assumes nothing.
 use mathlib.Core.Path.{_≡_, refl, sym, _∙_}
 use mathlib.Core.List.{List}
 use Prim.Native.Nat.{ℕ, _+_, _*_}
