@@ -5,7 +5,7 @@ use mathlib.Core.Bool.{Bool, true, false}
 use mathlib.Core.List.{List, [], _∷_, _++_}
 use Prim.Native.Nat.{ℕ, _+_, _-_, _/_, _%_}
 use lib.Dec.{eqb, leb, ltb}
-use lib.ListN.{getD, take}
+use lib.ListN.{length, getD, take}
 use Rattle.reckon.specs.Tests.{pick, every}
 use Rattle.reckon.specs.Lists.{filled, joined, placed}
 use Rattle.grid.specs.Squares.{squares, shapeFine}
