@@ -1,8 +1,8 @@
 -- Document 02, #114, "Which squares drown most often": a whole list in the document's words, from what came of each name to what is printed.
 -- Assumes nothing.
-use mathlib.Core.Bool.{Bool, false, _||_}
+use mathlib.Core.Bool.{Bool, true, false, _||_}
 use mathlib.Core.List.{List, [], _∷_, _++_}
-use Prim.Native.Nat.{ℕ, suc, _/_, _%_, max}
+use Prim.Native.Nat.{ℕ, zero, suc, _/_, _%_, max}
 use lib.Dec.{eqb, leb}
 use lib.ListN.{length, getD}
 use Rattle.reckon.specs.Tests.{pick}

@@ -1,0 +1,5 @@
+pub mod JudgedLaws
+pub mod MergeLaws
+pub mod NameLaws
+pub mod PlanLaws
+pub mod TakenLaws
