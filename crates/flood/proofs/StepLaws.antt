@@ -4,7 +4,7 @@
 use mathlib.Core.Path.{_≡_, refl, sym, ap, ap₂, _∙_, subst}
 use mathlib.Core.Bool.{Bool, true, false, _&&_, not}
 use mathlib.Core.List.{List, _++_}
-use Prim.Native.Nat.{ℕ, _+_, _-_, _*_, _≤_, _<_}
+use Prim.Native.Nat.{ℕ, _+_, _-_, _≤_, _<_}
 use native.Mathlib.Nat.{le-trans}
 use native.Mathlib.Omega.{arith}
 use lib.Dec.{eqb}
@@ -19,26 +19,24 @@ use Rattle.trials.proofs.RoomLaws.{put-back}
 use Rattle.grid.specs.Squares.{squares, mostAlong, mostSquares, ShapeInRange, SquaresOf}
 use Rattle.reckon.specs.Lists.{placed}
 use Rattle.trials.specs.Ring.{slotsIn, slotStart, slotAfter}
-use Rattle.trials.specs.Room.{recordIn, storedIn}
+use Rattle.trials.specs.Room.{recordIn}
 use Rattle.grid.specs.Walks.{bitOf}
 use Rattle.grid.specs.declared.walks.Walk.{Walk}
 use Rattle.ledger.specs.Runs.{Plan, World, world, answered, Seen, seenOf}
 use Rattle.ledger.specs.Flows.{Leaves, shut, gone}
-use Rattle.ledger.specs.Record.{lastedIn, leavesIn, addedIn, soakedIn, roomSlots, ringOf, headWords, squareWords, SizeOf, recordSize}
+use Rattle.ledger.specs.Record.{lastedIn, leavesIn, addedIn, soakedIn, roomSlots, ringOf, recordSize}
 use Rattle.ledger.specs.After.{Moves, newDepth, depthsFit, lateRefusals, stepRecord, worldAfter, worldWith}
 use Rattle.ledger.specs.inner.Walks.{sends}
 use Rattle.settling.specs.inner.Settle.{movesIn, settleNumber, settled, Settles, SettlesTo, IdleAt, Told, RoomAdded, surelySettles, nextRecord}
 use Rattle.grid.specs.declared.squares.Shape.{Shape}
 use Rattle.ledger.proofs.ReadBack.{lasted-read, gone-read, added-read, soaked-read, step-long, step-lasted, step-gone, step-added, step-soaked}
 use Rattle.settling.proofs.ByRecord.{settled-is, late-settled}
-use Rattle.ledger.proofs.RecordLaws.{slots-of}
 use Rattle.settling.proofs.SureLaws.{surely-settled, next-read, stored-settles, stored-number, stored-made, stored-left}
 use Rattle.checks.specs.Given.{Ground, Given}
-use Rattle.moves.specs.Moves.{leavesFor, soakedFor, addedFor, stepLength, stepDuration, stepMoves}
+use Rattle.moves.specs.Moves.{leavesFor, soakedFor, stepLength, stepDuration, stepMoves}
 use Rattle.moves.specs.inner.Added.{addedFits}
 use Rattle.moves.specs.inner.Fill.{isWorked, workedRows, senderRows, LeftKept}
 use Rattle.checks.specs.inner.Ready.{Ready}
-use Rattle.rule.specs.Rules.{rulesFine}
 use Rattle.ledger.specs.declared.runs.Answer.the-variants.{Done, Refused}
 use Rattle.ledger.proofs.RunLaws.{answered-done, answered-refused}
 use Rattle.checks.specs.Refusals.{stepChecks}

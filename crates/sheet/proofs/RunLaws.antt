@@ -11,7 +11,7 @@ use Rattle.reckon.specs.Tests.{refusal}
 use Rattle.reckon.specs.Ranges.{mostDepth, lastClock, mostOutflow, mostSoaked, waterFine}
 use Rattle.reckon.proofs.TestLaws.{or-right, or-of, every-each, each-every, all-at, all-of, refusal-passed, passed-refusal}
 use Rattle.trials.specs.Ring.{ringFine}
-use Rattle.grid.specs.Squares.{ShapeInRange, squares}
+use Rattle.grid.specs.Squares.{squares}
 use Rattle.grid.specs.declared.squares.Shape.{Shape}
 use Rattle.rule.specs.declared.rules.Rules.{Rules}
 use Rattle.ledger.specs.Runs.{world, seenOf, runValuesFine}
@@ -35,15 +35,6 @@ module _ (shape : Shape) (r : Rules) (held : Rooms) (end : ℕ) (e : checksIn sh
 
   pub is-ready : Ready (planIn shape r held) (givenIn shape r held) (seenOf (startIn shape r held))
   is-ready = ready _ _ _ _ step-zero
-
-  pub run-shape : ShapeInRange shape
-  run-shape = is-ready .waters .fine
-
-  pub run-marks : length (held .cells .marks) ≡ squares shape
-  run-marks = is-ready .waters .marks-long
-
-  pub run-depths : length (held .cells .depths) ≡ squares shape
-  run-depths = is-ready .flows .lies .sited .depths-long
 
 -- rooms of one number a square that are alike where no square is closed
 pub record Handed (shape : Shape) (r : Rules) (held : Rooms) (beds roughness rates depths lasts records : List ℕ) : Type 0 where
