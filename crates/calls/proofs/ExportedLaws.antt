@@ -321,7 +321,7 @@ after-flood-meadow s old {long} {out} x =
       not-its-size = λ small.
           let short : leb mostPrinted (length old) ≡ false = lt-leb _ _ small in
           (x .long-is ∙ pick-false _ _ short, x .out-is ∙ pick-false _ _ short);
-      printed = λ roomy.
-          let fits : leb mostPrinted (length old) ≡ true = le-leb _ _ roomy in
+      printed = λ rooms-good.
+          let fits : leb mostPrinted (length old) ≡ true = le-leb _ _ rooms-good in
           after-meadow s (record { next = omega (arith, x .long-is ∙ pick-true _ _ fits); room = x .out-is ∙ pick-true _ _ fits });
     }

@@ -200,7 +200,7 @@ module _ (p : Plan) (g : Given) (f : World) (fresh : Fresh p f) where
                     some = o .some;
                     kept-fits = omega (arith, fresh .kept-none);
                     newest-below = omega (arith, fresh .newest-last, o .some);
-                    room = o .room;
+                    room = o .rates-suffice;
                     few = omega (arith, fresh .kept-none);
                     rates = λ j h. absurd (omega (arith, fresh .kept-none));
                   };

@@ -27,7 +27,7 @@ use Rattle.ledger.specs.Flows.{Leaves, shut, gone}
 use Rattle.ledger.specs.Record.{lastedIn, leavesIn, addedIn, soakedIn, roomSlots, ringOf, recordSize}
 use Rattle.ledger.specs.After.{Moves, newDepth, depthsFit, lateRefusals, stepRecord, worldAfter, worldWith}
 use Rattle.ledger.specs.inner.Walks.{sends}
-use Rattle.settling.specs.inner.Settle.{movesIn, settleNumber, settled, Settles, SettlesTo, IdleAt, Told, RoomAdded, surelySettles, nextRecord}
+use Rattle.settling.specs.inner.Settle.{movesIn, settleNumber, settled, Settles, SettlesTo, IdleAt, WalkTells, RoomAdded, surelySettles, nextRecord}
 use Rattle.grid.specs.declared.squares.Shape.{Shape}
 use Rattle.ledger.proofs.ReadBack.{lasted-read, gone-read, added-read, soaked-read, step-long, step-lasted, step-gone, step-added, step-soaked}
 use Rattle.settling.proofs.ByRecord.{settled-is, late-settled}
@@ -250,7 +250,7 @@ module _ (p : Plan) (o : Ground) (w : World) (room : List ℕ) (ms : ℕ) where
     pub told :
         {left senders : List ℕ} → length left ≡ squares (p .shape) → length worked ≡ p .shape .rows → length senders ≡ p .shape .rows →
         senders ≡ senderRows p o (w .depths) (w .lasts) ms → LeftKept walk p o (w .depths) (w .lasts) room ms left →
-        Told p rec (w .depths) (w .lasts) left worked senders
+        WalkTells p rec (w .depths) (w .lasts) left worked senders
     told left-long worked-long senders-long sent kept =
         record {
           left-long = left-long;
@@ -276,16 +276,16 @@ module _ {p : Plan} {w : World} {rec records : List ℕ} {held : ℕ} (s : Settl
 
   -- what is asked there
   pub stored-asks :
-      {left worked senders room : List ℕ} {sure : Bool} → Told p rec (w .depths) (w .lasts) left worked senders → RoomAdded p rec room →
+      {left worked senders room : List ℕ} {sure : Bool} → WalkTells p rec (w .depths) (w .lasts) left worked senders → RoomAdded p rec room →
       (sure ≡ true → surelySettles (w .run) (w .depths) room ≡ true) →
       (Settles p (nextRecord p stored) held stored)
-      × ((Told p (nextRecord p stored) (w .depths) (w .lasts) left worked senders)
+      × ((WalkTells p (nextRecord p stored) (w .depths) (w .lasts) left worked senders)
       × ((RoomAdded p (nextRecord p stored) room) × (sure ≡ true → settleNumber p (nextRecord p stored) held stored ≡ 0)))
   stored-asks {left} {worked} {senders} {room} t a sure =
       let added : RoomAdded p (nextRecord p stored) room = subst (λ (r : List ℕ). RoomAdded p r room) (sym stored-is) a in (
         stored-settles s q,
         (
-          subst (λ (r : List ℕ). Told p r (w .depths) (w .lasts) left worked senders) (sym stored-is) t,
+          subst (λ (r : List ℕ). WalkTells p r (w .depths) (w .lasts) left worked senders) (sym stored-is) t,
           (added, λ y. surely-settled (stored-settles s q) added (sure y)),
         ),
       )

@@ -48,7 +48,7 @@ pub record Handed (shape : Shape) (r : Rules) (held : Rooms) (beds roughness rat
   pub rates-alike : (i : ℕ) → shut (planIn shape r held) i ≡ false → getD rates i 0 ≡ getD (held .cells .rates) i 0
   pub depths-alike : (i : ℕ) → shut (planIn shape r held) i ≡ false → getD depths i 0 ≡ getD (held .cells .depths) i 0
   pub lasts-none : (i : ℕ) → shut (planIn shape r held) i ≡ false → getD lasts i 0 ≡ 0
-  pub room-one : 1 ≤ roomSlots (planIn shape r held) records
+  pub slot-one : 1 ≤ roomSlots (planIn shape r held) records
 
 pub ring-fresh : (K : ℕ) → 1 ≤ K → ringFine K 0 (K - 1) ≡ true
 unfolding ringFine
@@ -108,7 +108,7 @@ run-passes shape r held end e beds roughness rates depths lasts records g =
               rows .1 .1 .1 .1 .0,
               (
                 each-every _ (
-                  ring-fresh (roomSlots p records) (g .room-one),
+                  ring-fresh (roomSlots p records) (g .slot-one),
                   (le-leb 0 lastClock (omega arith), (every-each _ (rows .1 .1 .1 .1 .1 .0) .1 .1 .0, (every-each _ (rows .1 .1 .1 .1 .1 .0) .1 .1 .1 .0, (le-leb 0 mostOutflow (omega arith), (le-leb 0 mostSoaked (omega arith), tt))))),
                 ),
                 tt,
