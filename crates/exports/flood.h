@@ -148,7 +148,7 @@ uint32_t flood_read_sheet(const uint8_t *text, size_t text_numbers, uint8_t *mar
     uint32_t *inflow, size_t inflow_numbers, uint64_t *heading, size_t heading_numbers, uint64_t *line,
     size_t line_numbers);
 
-/* What `meadow` prints of a text, at the start of out, and its length; 0 and nothing where out has not the room that always suffices. */
+/* What `meadow` prints of a text, at the start of out, and its length; 0 and nothing where out is shorter than what always suffices. */
 size_t flood_meadow(const uint8_t *text, size_t text_numbers, uint8_t *out, size_t out_numbers);
 
 #ifdef __cplusplus

@@ -216,7 +216,7 @@ pub fn flood_read_sheet(text: &[u8], marks: &mut [u8], beds: &mut [u32], roughne
     }
 }
 
-/// What `meadow` prints of a text, at the start of out, and its length; 0 and nothing where out has not the room that always suffices.
+/// What `meadow` prints of a text, at the start of out, and its length; 0 and nothing where out is shorter than what always suffices.
 pub fn flood_meadow(text: &[u8], out: &mut [u8]) -> usize {
     unsafe {
         linked::flood_meadow(text.as_ptr(), text.len(), out.as_mut_ptr(), out.len())

@@ -1,10 +1,8 @@
 -- What each call of the hatch log promises gives what its caller has.
 -- Assumes nothing.
-use mathlib.Core.Path.{_≡_, sym, ap, _∙_, subst}
-use mathlib.Core.Bool.{true}
-use mathlib.Core.List.{List, [], _∷_, _++_}
+use mathlib.Core.Path.{sym, ap, _∙_, subst}
+use mathlib.Core.List.{List}
 use Prim.Native.Nat.{ℕ}
-use lib.ListN.{take}
 use borrow.Author.Tests.{eq-eqb, ne-eqb}
 use Rattle.reckon.specs.Tests.{refusal}
 use Rattle.reckon.proofs.TestLaws.{pick-true, pick-false}
@@ -19,7 +17,7 @@ use Rattle.hatches.specs.declared.telling.Told.{Told}
 use Rattle.hatches.specs.declared.program.Night.{Night}
 use Rattle.demands.specs.Table.{FirstFails, TableSays}
 use Rattle.demands.proofs.Table.{table-says}
-use Rattle.demands.specs.HatchLog.{pageAfter, Logged, on, storesWith}
+use Rattle.demands.specs.HatchLog.{pageAfter, on, storesWith}
 use Rattle.demands.proofs.HatchRuns.{hatch-log-runs}
 use Rattle.calls.specs.Evenings.{AfterEntry, AfterLine, AfterBegin, AfterGoingOn}
 

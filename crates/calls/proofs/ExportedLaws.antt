@@ -4,20 +4,18 @@
 use mathlib.Core.Path.{_≡_, refl, sym, ap, _∙_, subst}
 use mathlib.Core.Bool.{Bool, true, false, _&&_}
 use mathlib.Core.List.{List, [], _∷_}
-use Prim.Native.Nat.{ℕ, zero, suc, _%_, _≤_, _<_}
+use Prim.Native.Nat.{ℕ, zero, suc, _≤_}
 use native.Mathlib.Omega.{arith}
 use lib.Dec.{eqb, leb}
 use lib.ListN.{length, getD}
 use lib.Ieee.{Float}
 use borrow.Author.Tests.{eq-eqb, le-leb, lt-leb, leb-true}
 use Rattle.reckon.specs.Tests.{pick}
-use Rattle.reckon.specs.Lists.{placed}
-use Rattle.reckon.proofs.TestLaws.{and-left, and-right, and-both, no-more, pick-true, pick-false}
+use Rattle.reckon.proofs.TestLaws.{and-left, and-right, no-more, pick-true, pick-false}
 use Rattle.grid.specs.Masks.{wetMasks}
 use Rattle.grid.specs.declared.walks.Walk.{Walk}
 use Rattle.rule.specs.declared.rules.Rules.{Rules}
 use Rattle.ledger.specs.Runs.{Plan, World, plan, world}
-use Rattle.ledger.specs.Flows.{shut}
 use Rattle.ledger.specs.Record.{roomSlots}
 use Rattle.ledger.specs.TakeBack.{TakesBack, backNumber, takenBack}
 use Rattle.ledger.specs.Walls.{Untouched}
@@ -27,23 +25,22 @@ use Rattle.checks.specs.Given.{Given}
 use Rattle.flood.specs.Step.{Steps, stepNumber, stepped}
 use Rattle.checks.specs.Bounds.{figures, boundsOf, toldBounds}
 use Rattle.checks.specs.Fresh.{Freshens, freshNumber, freshRun, freshLasts}
-use Rattle.flood.specs.Run.{Ended, ended, RunsTo, runTo}
+use Rattle.flood.specs.Run.{Ended, ended, runTo}
 use Rattle.flood.specs.declared.run.Ran.{Ran}
 use Rattle.checks.specs.declared.bounds.StepBounds.{StepBounds}
 use Rattle.checks.specs.declared.bounds.Bounds.{Bounds}
 use Rattle.checks.specs.declared.bounds.Bounds.the-variants.{Bounded}
 use Rattle.sight.specs.WetRows.{onesOver}
-use Rattle.sheet.specs.Sheet.{Rooms, Reads, headingOf, sheetOf, roomsAfter}
-use Rattle.sheet.specs.declared.reading.Heading.{Heading}
+use Rattle.sheet.specs.Sheet.{Rooms, headingOf, sheetOf, roomsAfter}
 use Rattle.sheet.specs.declared.reading.Sheet.{Sheet}
 use Rattle.sheet.specs.declared.reading.Sheet.the-variants.{Read}
-use Rattle.programs.specs.Program.{meadowText, mostPrinted}
-use Rattle.exports.specs.Numbers.{rulesFrom, runValueFrom, runNumbers, runSize, headingNumbers}
+use Rattle.programs.specs.Program.{mostPrinted}
+use Rattle.exports.specs.Numbers.{rulesFrom, runValueFrom, runNumbers, runSize}
 use Rattle.exports.specs.Refusals.{numberIf, unlessRefused, unlessChecks, lastCheck}
 use Rattle.exports.specs.Steps.{answerNumber, ExportsFresh, ExportsStep, ExportsRun, ExportsBack, bothSized, ranSized}
 use Rattle.exports.specs.Bounds.{ExportsBounds, boundsTold, figuresIn, boundsSized}
 use Rattle.exports.specs.Sights.{ExportsArrow, ExportsWet}
-use Rattle.exports.specs.Sheets.{ExportsRead, ExportsMeadow, headingIn, sheetNumber, sheetLine, sheetSized}
+use Rattle.exports.specs.Sheets.{ExportsRead, ExportsMeadow, headingIn, sheetLine, sheetSized}
 use Rattle.demands.specs.Demand2.{StepGives}
 use Rattle.demands.specs.Demand3.{stepping, takingBack}
 use Rattle.demands.specs.Played.{Played, runAfter}
@@ -324,7 +321,7 @@ after-flood-meadow s old {long} {out} x =
       not-its-size = λ small.
           let short : leb mostPrinted (length old) ≡ false = lt-leb _ _ small in
           (x .long-is ∙ pick-false _ _ short, x .out-is ∙ pick-false _ _ short);
-      printed = λ roomy.
-          let fits : leb mostPrinted (length old) ≡ true = le-leb _ _ roomy in
+      printed = λ rooms-good.
+          let fits : leb mostPrinted (length old) ≡ true = le-leb _ _ rooms-good in
           after-meadow s (record { next = omega (arith, x .long-is ∙ pick-true _ _ fits); room = x .out-is ∙ pick-true _ _ fits });
     }

@@ -1,15 +1,14 @@
 -- A caller has what the demands say: each call's contract gives the worlds and numbers that they speak of.
 -- Assumes nothing.
-use mathlib.Core.Path.{_≡_, refl, sym, ap, ap₂, _∙_, subst}
+use mathlib.Core.Path.{_≡_, refl, sym, ap, _∙_, subst}
 use mathlib.Core.Bool.{Bool, true, false}
-use mathlib.Core.List.{List, [], _∷_, _++_}
+use mathlib.Core.List.{List, [], _++_}
 use Prim.Native.Nat.{ℕ, zero, suc, _%_, _<_, _≤_}
 use native.Mathlib.Omega.{arith}
-use lib.Dec.{eqb}
-use lib.ListN.{length, getD, take, drop}
-use lib.Seq.{take-at, drop-at, length-take-le}
+use lib.ListN.{length, getD, drop}
+use lib.Seq.{take-at, drop-at}
 use borrow.Author.Tests.{eq-eqb, le-leb}
-use Rattle.reckon.specs.Tests.{pick, Row, refusal}
+use Rattle.reckon.specs.Tests.{refusal}
 use Rattle.reckon.specs.Lists.{placed}
 use Rattle.reckon.proofs.TestLaws.{not-both, each-every, pick-true}
 use Rattle.reckon.proofs.ListLaws.{filled-in}
@@ -19,8 +18,7 @@ use Rattle.grid.specs.declared.walks.Walk.{Walk}
 use Rattle.rule.specs.Length.{isUpdate}
 use Rattle.rule.specs.declared.rules.Rules.{Rules}
 use Rattle.ledger.specs.Runs.{Plan, World, plan, world, answered, seenOf}
-use Rattle.ledger.specs.Flows.{shut}
-use Rattle.ledger.specs.Record.{roomSlots, ringOf}
+use Rattle.ledger.specs.Record.{ringOf}
 use Rattle.ledger.specs.TakeBack.{TakesBack, backNumber, takenBack}
 use Rattle.ledger.specs.Walls.{Untouched}
 use Rattle.ledger.specs.declared.runs.Run.{Run}
@@ -30,20 +28,19 @@ use Rattle.checks.specs.Given.{Given}
 use Rattle.checks.specs.Refusals.{Checks, ChecksStep, stepChecks, runChecks}
 use Rattle.checks.specs.Bounds.{BoundsSteps, boundsNumber, spansWhole, figures, toldBounds, boundsOf, boundsRefusals}
 use Rattle.flood.specs.Step.{Steps, stepNumber, stepped}
-use Rattle.checks.specs.Fresh.{Freshens, freshNumber, freshRun, freshLasts, freshRefusals}
-use Rattle.flood.specs.Run.{Ended, RunsTo, runTo}
+use Rattle.checks.specs.Fresh.{Freshens, freshNumber, freshLasts}
+use Rattle.flood.specs.Run.{Ended, RunsTo}
 use Rattle.checks.proofs.FreshLaws.{fresh-sizes, sizes-lent}
 use Rattle.flood.specs.declared.run.Ran.{Ran}
 use Rattle.checks.specs.declared.bounds.StepBounds.{StepBounds}
 use Rattle.checks.specs.declared.bounds.Bounds.{Bounds}
 use Rattle.checks.specs.declared.bounds.Bounds.the-variants.{Bounded}
-use Rattle.sight.specs.Arrows.{Sees, arrowRefusals, arrowNumber, seenAt, seenBy}
+use Rattle.sight.specs.Arrows.{Sees, arrowNumber, seenAt, seenBy}
 use Rattle.sight.specs.WetRows.{WetRowed, onesOver, wetNumber, counted}
 use Rattle.sight.specs.declared.arrows.Sight.{Sight}
 use Rattle.sight.specs.declared.wet_rows.Wet.{Wet}
 use Rattle.sight.specs.declared.wet_rows.Wet.the-variants.{Count}
-use Rattle.sheet.specs.Sheet.{Rooms, Reads, sheetOf, roomsAfter}
-use Rattle.sheet.specs.declared.reading.Heading.{Heading}
+use Rattle.sheet.specs.Sheet.{Rooms, Reads}
 use Rattle.sheet.specs.declared.reading.Sheet.{Sheet}
 use Rattle.sheet.specs.declared.reading.Sheet.the-variants.{Read, Refused}
 use Rattle.text.specs.Writing.{Wrote}
@@ -52,11 +49,10 @@ use Rattle.exports.specs.Bounds.{boundsTold}
 use Rattle.exports.specs.Steps.{answerNumber}
 use Rattle.exports.specs.Sights.{sightNumber, wetNumberOf}
 use Rattle.exports.proofs.AnswerLaws.{number-answered}
-use Rattle.exports.specs.Sheets.{sheetNumber, sheetLine}
+use Rattle.exports.specs.Sheets.{sheetNumber}
 use Rattle.demands.specs.Table.{FirstFails, TableSays}
 use Rattle.demands.specs.Demand1.{StopsBefore}
 use Rattle.demands.specs.Demand2.{StepGives}
-use Rattle.demands.specs.Loader.{SheetSays}
 use Rattle.demands.specs.Played.{runAfter}
 use Rattle.demands.specs.WetAre.{WetAre}
 use Rattle.calls.specs.Library.{AfterStep, AfterRun, AfterBack, AfterFresh, AfterBounds, AfterArrow, AfterWet, AfterRead, AfterMeadow}

@@ -17,7 +17,7 @@ use Rattle.hatches.specs.declared.lines.Entry.{Entry}
 use Rattle.hatches.specs.declared.telling.Told.{Told}
 use Rattle.hatches.specs.declared.program.Night.{Night}
 use Rattle.demands.specs.Table.{FirstFails}
-use Rattle.demands.specs.HatchLog.{Page, pageAfter, Logged, storesWith}
+use Rattle.demands.specs.HatchLog.{Page, pageAfter, Logged}
 
 -- what a line says, taken
 pub record AfterEntry (p : Plan) (g : Given) (entry : Entry) (e : Evening) (number : ℕ) (after : Evening) : Type 0 where

@@ -25,7 +25,7 @@ ghost use Rattle.ledger.specs.Checks.{oneEach};
 ghost use Rattle.checks.specs.Fresh.{Freshens, freshNumber, FreshRunMade};
 
 // Refusal 1: the shape and D are in range, and marks and last leaving have one number a square.
-fn sizes_fine(shape: Shape, rules: Rules, marks: &[u8], lasts: &[u32]) -> bool
+fn fresh_sizes_fine(shape: Shape, rules: Rules, marks: &[u8], lasts: &[u32]) -> bool
     ensures { λ r. ⌜ r ≡ every (shapeFine shape ∷ sideFine (rules .«square_side») ∷ oneEach (plan shape (now (marks .entry))) (now (marks .entry)) ∷ oneEach (plan shape (now (marks .entry))) (now (lasts .entry)) ∷ []) ⌝ }
 {
     if !shape_fine(shape) {
@@ -44,7 +44,7 @@ fn sizes_fine(shape: Shape, rules: Rules, marks: &[u8], lasts: &[u32]) -> bool
 fn fresh_number(shape: Shape, rules: Rules, marks: &[u8], lasts: &[u32], records: &[u32]) -> u32
     ensures { λ r. ⌜ r ≡ freshNumber (plan shape (now (marks .entry))) rules (now (lasts .entry)) (now (records .entry)) ⌝ }
 {
-    if !sizes_fine(shape, rules, marks, lasts) {
+    if !fresh_sizes_fine(shape, rules, marks, lasts) {
         return 1;
     }
     if !marks_fine(shape, marks) {

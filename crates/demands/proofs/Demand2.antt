@@ -24,7 +24,6 @@ use Rattle.grid.specs.Marks.{exit}
 use Rattle.grid.proofs.SquareLaws.{opposite-small}
 use Rattle.grid.proofs.MarkLaws.{unless-closed}
 use Rattle.rule.specs.Drops.{dropOff}
-use Rattle.rule.specs.Length.{durationFor}
 use Rattle.rule.specs.Weighing.{heightOf, slopeOf, criticalSpeed}
 use Rattle.rule.proofs.WeighingLaws.{weighed-weighted, weighed-directed, weighed-unlimited}
 use Rattle.rule.specs.declared.rules.Rules.{Rules}

@@ -27,7 +27,7 @@ use Rattle.checks.specs.Bounds.{boundsRefusals, boundsNumber, toldBounds, bound
 use Rattle.checks.specs.declared.bounds.StepBounds.{StepBounds}
 use Rattle.checks.specs.declared.bounds.Bounds.{Bounds}
 use Rattle.checks.specs.declared.bounds.Bounds.the-variants.{Bounded, NotBounded}
-use Rattle.checks.specs.declared.bounds.Bounds.the-variants as Told
+use Rattle.checks.specs.declared.bounds.Bounds.the-variants as Spans
 use Rattle.sight.specs.Refusals.{sharedRefusals}
 use Rattle.sight.specs.Arrows.{view, arrowEarlyRefusals, arrowRefusals, arrowNumber, sighted, seenBy, seenAt}
 use Rattle.sight.specs.WetRows.{wetRefusals, wetNumber, onesOver}
@@ -43,7 +43,7 @@ use Rattle.sheet.specs.declared.reading.Sheet.{Sheet}
 use Rattle.sheet.specs.declared.reading.Sheet.the-variants.{Read}
 use Rattle.sheet.specs.declared.reading.Sheet.the-variants as Reading
 use Rattle.exports.specs.Numbers.{runValueFrom, runNumbers, runSize, countSize}
-use Rattle.exports.specs.Steps.{bothSized, ExportsFresh, ExportsStep, ExportsRun, ExportsBack, freshGives, stepGives, backGives, ranSized}
+use Rattle.exports.specs.Steps.{bothSized, ExportsFresh, ExportsStep, ExportsRun, ExportsBack, freshCallNumber, stepCallNumber, backCallNumber, ranSized}
 use Rattle.exports.specs.Refusals.{numberIf, lastCheck, unlessRefused, unlessChecks}
 use Rattle.exports.specs.Bounds.{boundsSized, boundsTold, figuresIn}
 use Rattle.exports.specs.Sights.{ExportsWet, arrowSized, sightNumber, speedsIn, wetGives}
@@ -217,7 +217,7 @@ figures-stay : (a : Bounds) (old : List ℕ) → (boundsTold a ≡ 0 → ⊥) �
 unfolding boundsTold figuresIn
 figures-stay (Bounded b) old d = absurd (d refl)
 figures-stay NotBounded old d = refl
-figures-stay (Told.Refused n) old d = refl
+figures-stay (Spans.Refused n) old d = refl
 
 bounds-left : (sized : Bool) (a : Bounds) {number : ℕ} {bounds old : List ℕ} → number ≡ numberIf sized (boundsTold a) →
     bounds ≡ pick sized (figuresIn a old) old → (number ≡ 0 → ⊥) → bounds ≡ old
@@ -290,7 +290,7 @@ module _ (p : Plan) (N : NoneDepends p) where
       ExportsFresh p r others rooms rules old m lasts′ run′ → (number ≡ m) × (SameOpen p lasts lasts′ × (run ≡ run′))
   fresh-same r before others records rooms rules old number m lasts lasts′ run run′ L R x y =
       let same = N .fresh r before others records rooms L R in
-      let q : freshGives p r before records rules old ≡ freshGives p r others rooms rules old = ap (numberIf (bothSized rules old)) (same .0) in (
+      let q : freshCallNumber p r before records rules old ≡ freshCallNumber p r others rooms rules old = ap (numberIf (bothSized rules old)) (same .0) in (
         x .number-is ∙ (q ∙ sym (y .number-is)),
         (unless-both (SameOpen p) q (same .2) L (x .lasts-are) (y .lasts-are), unless-both Equal q (ap runNumbers (same .1)) refl (x .run-is) (y .run-is)),
       )
@@ -301,7 +301,7 @@ module _ (p : Plan) (N : NoneDepends p) where
       (number ≡ m) × (SameOpen p depths depths′ × (SameOpen p lasts lasts′ × (SameRoom p records records′ × (run ≡ run′))))
   step-same g h w v rules old number m depths depths′ lasts lasts′ records records′ run run′ G W x y =
       let same = N .step g h w v G W in
-      let q : stepGives p g w rules old ≡ stepGives p h v rules old = ap (numberIf (bothSized rules old)) (same .0) in (
+      let q : stepCallNumber p g w rules old ≡ stepCallNumber p h v rules old = ap (numberIf (bothSized rules old)) (same .0) in (
         x .number-is ∙ (q ∙ sym (y .number-is)),
         (
           unless-both (SameOpen p) q (same .1 .depths) (W .depths) (x .depths-are) (y .depths-are),
@@ -346,7 +346,7 @@ module _ (p : Plan) (N : NoneDepends p) where
       (number ≡ m) × (SameOpen p depths depths′ × (SameOpen p lasts lasts′ × (run ≡ run′)))
   back-same w v old number m depths depths′ lasts lasts′ run run′ W x y =
       let same = N .take-back w v W in
-      let q : backGives p w old ≡ backGives p v old = ap (numberIf (eqb (length old) runSize)) (same .0) in (
+      let q : backCallNumber p w old ≡ backCallNumber p v old = ap (numberIf (eqb (length old) runSize)) (same .0) in (
         x .number-is ∙ (q ∙ sym (y .number-is)),
         (
           unless-both (SameOpen p) q (same .1 .depths) (W .depths) (x .depths-are) (y .depths-are),

@@ -2,35 +2,35 @@
 -- the ring of records.
 -- Assumes nothing.
 use mathlib.Core.Path.{_≡_, refl, sym, ap, ap₂, subst, _∙_}
-use mathlib.Core.Bool.{Bool, true, false}
+use mathlib.Core.Bool.{true}
 use mathlib.Core.List.{List, [], _∷_, _++_, map}
 use Prim.Native.Nat.{ℕ, zero, suc, _+_, _-_, _≤_, _<_}
 use native.Mathlib.Omega.{arith}
-use lib.Dec.{T, eqb, leb}
-use lib.ListN.{length, getD, set, replicate, take, drop, length-append, length-take, length-drop, length-set, length-replicate}
+use lib.Dec.{eqb}
+use lib.ListN.{length, getD, set, replicate, drop, length-append, length-drop, length-set, length-replicate}
 use native.Mathlib.Decide.{ℕ-discrete}
 use borrow.Author.Tests.{eq-eqb, ne-eqb}
-use Rattle.reckon.specs.Tests.{pick, every, refusal, _unless_}
+use Rattle.reckon.specs.Tests.{pick, refusal}
 use Rattle.reckon.proofs.TestLaws.{pick-true, pick-false, pick-both, not-both, every-each}
-use Rattle.trials.specs.Ring.{slotsIn, slotStart, slotBefore, slotAgo}
+use Rattle.trials.specs.Ring.{slotBefore, slotAgo}
 use Rattle.trials.specs.Room.{recordIn}
-use Rattle.trials.proofs.RingLaws.{slot-within, ago-below}
+use Rattle.trials.proofs.RingLaws.{ago-below}
 use Rattle.ledger.specs.Runs.{Plan, World, Seen, world, seenOf}
 use Rattle.ledger.specs.Record.{roomSlots}
 use Rattle.ledger.specs.TakeBack.{backNumber, takenBack}
 use Rattle.ledger.specs.declared.runs.Run.{Run}
 use Rattle.checks.specs.Given.{Given}
-use Rattle.flood.specs.Run.{Ended, goOn, runTo, stepsOn}
+use Rattle.flood.specs.Run.{Ended, goOn, runTo}
 use Rattle.answer.specs.Printed.{madeText}
-use Rattle.hatches.specs.Log.{Evening, evening, worldOf, opened, mostHatches, drawn, ratesKept, lineFine, keptFine, entryRefusals, entryNumber, stepsNumber, lineRun, lineBack, further, backFrom, afterHatch, afterRate, ratesBack, afterBack, entered, afterEntry}
+use Rattle.hatches.specs.Log.{Evening, evening, worldOf, mostHatches, drawn, ratesKept, lineFine, entryRefusals, entryNumber, stepsNumber, lineRun, further, backFrom, afterHatch, afterRate, ratesBack, afterBack, entered, afterEntry}
 use Rattle.hatches.specs.Told.{standsText}
-use Rattle.hatches.proofs.RefusalLaws.{Entered, entered-is, back-kept}
+use Rattle.hatches.proofs.RefusalLaws.{entered-is, back-kept}
 use Rattle.hatches.proofs.BackLaws.{backs, Backed, backed}
 use Rattle.hatches.specs.declared.lines.Entry.{Entry}
 use Rattle.hatches.specs.declared.lines.Entry.the-variants.{Hatch, Rate, Back, Unread}
 use Rattle.hatches.specs.declared.log.Hatches.{Hatches}
 use Rattle.demands.specs.Demand3.{Call, running, takingBack, Trail, start, called, series, alone, AllMade, Fresh, NeverMade}
-use Rattle.demands.specs.HatchLog.{Notes, notes, notedBack, notedWith, notedAfter, Page, firstPage, pageAfter, standingGivens, onlyStanding, LeavesNoMark, Opens, HatchLog, SeasonUntouched}
+use Rattle.demands.specs.HatchLog.{Notes, notedBack, notedWith, notedAfter, Page, firstPage, pageAfter, onlyStanding, LeavesNoMark, Opens, HatchLog, SeasonUntouched}
 use Rattle.hatches.specs.inner.Rates.{newestAfter, keptSteps, Beside}
 use Rattle.demands.proofs.LineClock.{line-clock}
 use Rattle.demands.proofs.Demand3.{demand-3}
@@ -200,7 +200,7 @@ module _ (p : Plan) (g : Given) (f : World) (fresh : Fresh p f) where
                     some = o .some;
                     kept-fits = omega (arith, fresh .kept-none);
                     newest-below = omega (arith, fresh .newest-last, o .some);
-                    room = o .room;
+                    room = o .rates-suffice;
                     few = omega (arith, fresh .kept-none);
                     rates = λ j h. absurd (omega (arith, fresh .kept-none));
                   };

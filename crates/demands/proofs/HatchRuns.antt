@@ -2,41 +2,39 @@
 -- Assumes nothing.
 use mathlib.Core.Path.{_≡_, refl, sym, ap, ap₂, subst, _∙_}
 use mathlib.Core.Bool.{Bool, true, false}
-use mathlib.Core.List.{List, [], _∷_, _++_, append-assoc, append-nil}
-use Prim.Native.Nat.{ℕ, zero, suc, _+_, _-_, _*_, _≤_, _<_}
+use mathlib.Core.List.{List, [], _∷_, _++_, append-nil}
+use Prim.Native.Nat.{ℕ, _+_, _-_, _*_, _≤_, _<_}
 use native.Mathlib.Decide.{decLt, ℕ-discrete}
 use native.Mathlib.Omega.{arith}
-use lib.Dec.{eqb, ltb, leb}
-use lib.ListN.{length, take, drop, replicate, length-replicate}
-use borrow.Author.Tests.{eq-eqb, ne-eqb, lt-ltb, le-ltb, le-leb, leb-true, eqb-true, ltb-true, lt-leb}
-use Rattle.reckon.specs.Tests.{pick, every, refusal}
+use lib.Dec.{ltb, leb}
+use lib.ListN.{length, take, replicate, length-replicate}
+use borrow.Author.Tests.{eq-eqb, ne-eqb, lt-ltb, le-ltb, le-leb, leb-true, eqb-true}
+use Rattle.reckon.specs.Tests.{pick}
 use Rattle.reckon.specs.Lists.{placed}
 use Rattle.reckon.specs.Ranges.{mostTableRows}
-use Rattle.reckon.specs.Tables.{rainKind, inflowKind, tableRoom}
+use Rattle.reckon.specs.Tables.{rainKind, inflowKind}
 use Rattle.reckon.proofs.ListLaws.{length-filled, length-placed}
 use Rattle.sheet.proofs.RoomLaws.{table-long}
 use native.Mathlib.Nat.{mul-le-mul-left}
 use Rattle.reckon.proofs.TestLaws.{pick-true, pick-false, not-both, every-each, each-every, every-fails}
 use Rattle.grid.specs.Squares.{squares, shapeFine}
 use Rattle.ledger.specs.Runs.{Plan, plan}
-use Rattle.ledger.specs.Record.{recordSize}
 use Rattle.checks.specs.Given.{Given, ground, given}
 use Rattle.sheet.specs.Lines.{rainWord, inflowWord}
-use Rattle.sheet.specs.Sheet.{Rooms, Cells, cellsRooms, rooms, planIn, givenIn, noLasts, lineOne, shapeOf, rainAt, rainRows, inflowAt, inflowRows, said, roomsFilled, cellsFilled, roomsAfter, roomsFine, headingOf, sheetOf}
+use Rattle.sheet.specs.Sheet.{Rooms, Cells, cellsRooms, planIn, givenIn, lineOne, shapeOf, rainAt, rainRows, inflowAt, inflowRows, said, roomsFilled, cellsFilled, roomsAfter, roomsFine, headingOf, sheetOf}
 use Rattle.sheet.specs.declared.reading.Heading.{Heading}
 use Rattle.sheet.specs.declared.reading.Sheet.{Sheet}
 use Rattle.sheet.specs.declared.reading.Sheet.the-variants.{Read, Refused}
 use Rattle.sheet.proofs.JudgeLaws.{said-from, table-taken, take-put, zeros-are}
-use Rattle.sheet.proofs.SheetLaws.{Well, well, rooms-shape, rooms-cells, rain-few, inflow-few}
+use Rattle.sheet.proofs.SheetLaws.{Well, well, rooms-cells, rain-few, inflow-few}
 use Rattle.answer.specs.Printed.{refusedText}
 use Rattle.programs.specs.Program.{Prints, mostText, programRooms, programSquares}
 use Rattle.hatches.specs.Lines.{logLine}
-use Rattle.hatches.specs.Log.{Evening, evening, mostHatches, mostKept, mostNumbers, keptRecords, entryNumber, afterEntry}
-use Rattle.hatches.specs.Told.{lineTold}
-use Rattle.hatches.specs.Program.{linesFrom, firstLog, firstEvening, sheetLogText, hatchlogText, Stores, stores, recordsLent, ratesLent, planHeld, givenHeld, eveningHeld, Holds, isLeft, nightFine, roomsFit, nightFits, nightOver, nightNumber, nightEvening, nightLine, nightNext, textAfter, eveningAfter, nightAfter, firstNight, noNight, sheetBegun, sheetBegunText, begun, begunText, begunStores, Begins, GoesOn}
+use Rattle.hatches.specs.Log.{Evening, evening, mostHatches, mostKept, mostNumbers}
+use Rattle.hatches.specs.Program.{linesFrom, firstLog, firstEvening, sheetLogText, hatchlogText, Stores, stores, recordsLent, ratesLent, planHeld, givenHeld, eveningHeld, isLeft, nightFine, roomsFit, nightFits, nightOver, nightNumber, nightEvening, nightLine, nightNext, textAfter, eveningAfter, nightAfter, firstNight, noNight, sheetBegun, sheetBegunText, begun, begunText, begunStores, GoesOn}
 use Rattle.hatches.specs.declared.log.Log.{Log}
 use Rattle.hatches.specs.declared.program.Night.{Night}
-use Rattle.hatches.proofs.NightLaws.{left-at, Fine, fine-is, kept-fit, kept-few}
+use Rattle.hatches.proofs.NightLaws.{left-at, kept-fit, kept-few}
 use Rattle.demands.specs.HatchLog.{storesWith, Logged, HatchLogRuns}
 use Rattle.demands.specs.HatchLog.Logged.{over, on}
 use Rattle.demands.proofs.LinePlaces.{zero-forth, from-over, from-refused, from-taken}

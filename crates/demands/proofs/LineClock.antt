@@ -1,12 +1,12 @@
 -- A run that is not refused has come to its end: no step passes the next multiple of U, and the end is one.
 -- Assumes nothing.
 use mathlib.Core.Path.{_≡_, refl, sym, ap, _∙_}
-use Prim.Native.Nat.{ℕ, zero, suc, _+_, _-_, _*_, _/_, _%_, _≤_, _<_, min}
+use Prim.Native.Nat.{ℕ, zero, suc, _+_, _-_, _/_, _%_, _≤_, _<_}
 use native.Mathlib.Nat.{div-add-mod', mod-lt, mul-le-mul-right, suc-mul}
 use native.Mathlib.Decide.{decLt, ℕ-discrete}
 use native.Mathlib.Omega.{arith}
 use borrow.Author.Tests.{eq-eqb}
-use Rattle.reckon.specs.Tests.{pick, refusal}
+use Rattle.reckon.specs.Tests.{refusal}
 use Rattle.reckon.proofs.TestLaws.{pick-true}
 use Rattle.rule.specs.Length.{durationFor}
 use Rattle.ledger.specs.Runs.{Plan, World, seenOf}
@@ -18,7 +18,7 @@ use Rattle.flood.specs.Step.{stepNumber, stepped}
 use Rattle.flood.specs.Run.{Ended, ended, runTo}
 use Rattle.checks.proofs.CheckLaws.{ready, end-is, run-checks-step, run-checks-end}
 use Rattle.flood.proofs.RunToLaws.{Valid, still-valid, clock-after, clock-on, whole, run-ends, run-refused, run-steps, run-checked, run-passed}
-use Rattle.hatches.specs.Log.{Evening, worldOf, drawn, entryRefusals, entryNumber, stepsNumber, lineRun, afterRate, entered, afterEntry}
+use Rattle.hatches.specs.Log.{Evening, worldOf, drawn, entryNumber, stepsNumber, afterRate, entered, afterEntry}
 use Rattle.hatches.specs.declared.lines.Entry.the-variants.{Rate}
 use Rattle.hatches.proofs.RefusalLaws.{entered-is, rate-clock}
 use Rattle.demands.proofs.LinePlaces.{number-zero}

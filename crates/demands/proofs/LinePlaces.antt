@@ -1,30 +1,28 @@
 -- A line that can be read ends after it began; so the lines of a log come to an end, and more of them than it has bytes do not matter.
 -- Assumes nothing.
-use mathlib.Core.Path.{_≡_, refl, sym, ap, subst, _∙_}
+use mathlib.Core.Path.{_≡_, refl, sym, ap, _∙_}
 use mathlib.Core.Bool.{Bool, true, false}
 use mathlib.Core.List.{List, [], _∷_, _++_}
 use Prim.Native.Nat.{ℕ, zero, suc, _+_, _-_, _≤_, _<_}
 use native.Mathlib.Decide.{decLt, ℕ-discrete}
 use native.Mathlib.Omega.{arith}
-use lib.Dec.{eqb, ltb, leb}
+use lib.Dec.{eqb, leb}
 use lib.ListN.{length, drop}
 use borrow.Author.Tests.{eq-eqb, ne-eqb, lt-ltb, le-ltb}
 use Rattle.reckon.specs.Tests.{pick, refusal}
 use Rattle.reckon.proofs.TestLaws.{pick-true, pick-false, not-both}
 use Rattle.ledger.specs.Runs.{Plan}
-use Rattle.rule.specs.declared.rules.Rules.{Rules}
 use Rattle.checks.specs.Given.{Given}
 use Rattle.text.specs.Reading.{Reading, newline, tab, mostNumber, isByte, wordAt, digitsOf, valueFrom, wellFormed, numberFrom, numberAt, fieldAt, withNumber, before, readFields, lineEnded, readRest, readLine}
 use Rattle.text.specs.Reading.Reading.{read, unread}
 use Rattle.text.specs.declared.reading.Number.{Number}
 use Rattle.text.specs.declared.reading.Number.the-variants.{Is, Not}
 use Rattle.hatches.specs.Lines.{hatchWord, hatchFields, backWord, backFields, rateFields, asHatch, asBack, asRate, readRate, entryFrom, unreadAt, logLine}
-use Rattle.hatches.specs.Log.{Evening, lineFine, entryRefusals, entryNumber, stepsNumber, afterEntry}
+use Rattle.hatches.specs.Log.{Evening, lineFine, entryRefusals, entryNumber, afterEntry}
 use Rattle.hatches.specs.Told.{lineTold}
 use Rattle.hatches.specs.Program.{linesText, linesFrom}
 use Rattle.hatches.specs.declared.lines.Entry.{Entry}
-use Rattle.hatches.specs.declared.lines.Entry.the-variants.{Hatch, Rate, Back, Unread}
-use Rattle.hatches.specs.declared.log.Log.{Log}
+use Rattle.hatches.specs.declared.lines.Entry.the-variants.{Unread}
 use Rattle.hatches.proofs.RefusalLaws.{entered-is}
 
 -- ---- readings

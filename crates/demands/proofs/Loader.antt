@@ -8,7 +8,7 @@ use Prim.Native.Nat.{ℕ, zero, suc, _+_, _/_, _%_, _≤_, _<_}
 use native.Mathlib.Decide.{decLt}
 use native.Mathlib.Omega.{arith}
 use lib.Dec.{eqb}
-use lib.ListN.{length, getD, take, drop, List·getD-eq-default}
+use lib.ListN.{length, getD, drop, List·getD-eq-default}
 use borrow.Author.Tests.{eq-eqb, ne-eqb, eqb-true, le-leb, lt-leb, leb-true}
 use Rattle.reckon.specs.Tests.{pick, Row, _unless_, refusal}
 use Rattle.reckon.specs.Lists.{filled}
@@ -57,12 +57,12 @@ module _ (s : List ℕ) (lent : Rooms) where
 
   -- the answer by its three tests and two numbers
   abbrev answer : Bool → Bool → ℕ → ℕ → Sheet
-  answer first roomy bad check = pick first (pick roomy (judged bad check (headingOf s)) (Refused 1 0)) (Refused 12 1)
+  answer first rooms-good bad check = pick first (pick rooms-good (judged bad check (headingOf s)) (Refused 1 0)) (Refused 12 1)
 
-  number-by : (first roomy : Bool) (bad check : ℕ) (rows : List Row) → (roomy ≡ true → check ≡ refusal rows) →
-      sheetNumber (answer first roomy bad check) ≡ refusal (12 unless first ∷ 1 unless roomy ∷ 12 unless eqb bad 0 ∷ rows)
+  number-by : (first rooms-good : Bool) (bad check : ℕ) (rows : List Row) → (rooms-good ≡ true → check ≡ refusal rows) →
+      sheetNumber (answer first rooms-good bad check) ≡ refusal (12 unless first ∷ 1 unless rooms-good ∷ 12 unless eqb bad 0 ∷ rows)
   unfolding sheetNumber judged pick refusal
-  number-by false roomy bad check rows q = refl
+  number-by false rooms-good bad check rows q = refl
   number-by true false bad check rows q = refl
   number-by true true (suc bad) check rows q = sym (pick-false (refusal rows) 12 (ne-eqb (suc bad) 0 (λ z. omega (arith, z))))
   number-by true true zero zero rows q = q refl
@@ -72,9 +72,9 @@ module _ (s : List ℕ) (lent : Rooms) where
   unfolding sheetOf
   sheet-number = number-by (lineOne s .found) (roomsFine (shapeOf s) (lineOne s .side) lent) (badLine s) (checksOf s) _ checks-are
 
-  read-by : (first roomy : Bool) (bad check : ℕ) → sheetNumber (answer first roomy bad check) ≡ 0 → answer first roomy bad check ≡ Read (headingOf s)
+  read-by : (first rooms-good : Bool) (bad check : ℕ) → sheetNumber (answer first rooms-good bad check) ≡ 0 → answer first rooms-good bad check ≡ Read (headingOf s)
   unfolding sheetNumber judged pick
-  read-by false roomy bad check z = absurd (omega (arith, z))
+  read-by false rooms-good bad check z = absurd (omega (arith, z))
   read-by true false bad check z = absurd (omega (arith, z))
   read-by true true (suc bad) check z = absurd (omega (arith, z))
   read-by true true zero zero z = refl
@@ -85,23 +85,23 @@ module _ (s : List ℕ) (lent : Rooms) where
   unfolding sheetOf
   sheet-read z = read-by (lineOne s .found) (roomsFine (shapeOf s) (lineOne s .side) lent) (badLine s) (checksOf s) z
 
-  line-first : (first roomy : Bool) (bad check : ℕ) → first ≡ false → sheetLine (answer first roomy bad check) ≡ 1
+  line-first : (first rooms-good : Bool) (bad check : ℕ) → first ≡ false → sheetLine (answer first rooms-good bad check) ≡ 1
   unfolding sheetLine pick
-  line-first false roomy bad check e = refl
-  line-first true roomy bad check e = not-both refl e
+  line-first false rooms-good bad check e = refl
+  line-first true rooms-good bad check e = not-both refl e
 
-  line-later : (first roomy : Bool) (bad check : ℕ) → (roomy ≡ true → check ≡ 12 → ⊥) → first ≡ true → sheetNumber (answer first roomy bad check) ≡ 12 →
-      sheetLine (answer first roomy bad check) ≡ bad
+  line-later : (first rooms-good : Bool) (bad check : ℕ) → (rooms-good ≡ true → check ≡ 12 → ⊥) → first ≡ true → sheetNumber (answer first rooms-good bad check) ≡ 12 →
+      sheetLine (answer first rooms-good bad check) ≡ bad
   unfolding sheetLine sheetNumber judged pick
-  line-later false roomy bad check g e n = not-both e refl
+  line-later false rooms-good bad check g e n = not-both e refl
   line-later true false bad check g e n = absurd (omega (arith, n))
   line-later true true (suc bad) check g e n = refl
   line-later true true zero zero g e n = absurd (omega (arith, n))
   line-later true true zero (suc check) g e n = absurd (g refl n)
 
-  line-none : (first roomy : Bool) (bad check : ℕ) → (sheetNumber (answer first roomy bad check) ≡ 12 → ⊥) → sheetLine (answer first roomy bad check) ≡ 0
+  line-none : (first rooms-good : Bool) (bad check : ℕ) → (sheetNumber (answer first rooms-good bad check) ≡ 12 → ⊥) → sheetLine (answer first rooms-good bad check) ≡ 0
   unfolding sheetLine sheetNumber judged pick
-  line-none false roomy bad check n = absurd (n refl)
+  line-none false rooms-good bad check n = absurd (n refl)
   line-none true false bad check n = refl
   line-none true true (suc bad) check n = absurd (n refl)
   line-none true true zero zero n = refl
@@ -157,7 +157,7 @@ loader-refuses =
 module _ (s : List ℕ) (before after : Rooms) (h : Heading) (R : Reads s before (Read h) after) where
   -- the tests that it passed
   record Passes : Type 0 where
-    roomy : roomsFine (shapeOf s) (lineOne s .side) before ≡ true
+    rooms-good : roomsFine (shapeOf s) (lineOne s .side) before ≡ true
     text-good : badLine s ≡ 0
     heading : h ≡ headingOf s
 
@@ -168,13 +168,13 @@ module _ (s : List ℕ) (before after : Rooms) (h : Heading) (R : Reads s before
       never : {number line : ℕ} → Read h ≡ Refused number line → Passes
       never e = absurd (let z : _≡_ {A = ℕ} 0 1 = cc in omega arith)
 
-      go : (first roomy : Bool) (bad check : ℕ) → roomsFine (shapeOf s) (lineOne s .side) before ≡ roomy → badLine s ≡ bad →
-          Read h ≡ answer s before first roomy bad check → Passes
-      go false roomy bad check e f q = never q
+      go : (first rooms-good : Bool) (bad check : ℕ) → roomsFine (shapeOf s) (lineOne s .side) before ≡ rooms-good → badLine s ≡ bad →
+          Read h ≡ answer s before first rooms-good bad check → Passes
+      go false rooms-good bad check e f q = never q
       go true false bad check e f q = never q
       go true true (suc bad) check e f q = never q
       go true true zero (suc check) e f q = never q
-      go true true zero zero e f q = record { roomy = e; text-good = f; heading = cc }
+      go true true zero zero e f q = record { rooms-good = e; text-good = f; heading = cc }
 
   shape-is : h .shape ≡ shapeOf s
   unfolding headingOf
@@ -196,12 +196,12 @@ module _ (s : List ℕ) (before after : Rooms) (h : Heading) (R : Reads s before
       let all = leb-true n _ (second _ _ _ _ _ (passes .text-good)) in
       failing-before n (λ k. cellFrom s (cellsAt s) (shapeOf s .columns) k .found) i (omega (arith, all))
 
-  roomy-marks : n ≤ length (before .cells .marks)
-  roomy-marks = rooms-cells (shapeOf s) (lineOne s .side) before (passes .roomy) .0
+  good-marks : n ≤ length (before .cells .marks)
+  good-marks = rooms-cells (shapeOf s) (lineOne s .side) before (passes .rooms-good) .0
 
   mark-is : (i : ℕ) → i < n → getD (after .cells .marks) i 0 ≡ cellFrom s (cellsAt s) (shapeOf s .columns) i .mark
   unfolding roomsAfter roomsFilled cellsFilled
-  mark-is i l = ap (λ (z : Rooms). getD (z .cells .marks) i 0) (R .rooms-are) ∙ filled-in n _ _ (before .cells .marks) i (omega (arith, roomy-marks)) l refl
+  mark-is i l = ap (λ (z : Rooms). getD (z .cells .marks) i 0) (R .rooms-are) ∙ filled-in n _ _ (before .cells .marks) i (omega (arith, good-marks)) l refl
 
   marks-are-letters : MarksAreLetters s (h .shape) (after .cells .marks)
   unfolding closed letterOf

@@ -2,13 +2,13 @@
 -- Assumes nothing.
 use mathlib.Core.Path.{_≡_, refl, sym, ap, _∙_, subst}
 use mathlib.Core.Bool.{Bool, true, false}
-use mathlib.Core.List.{List, [], _∷_}
+use mathlib.Core.List.{List}
 use Prim.Native.Nat.{ℕ, zero, suc}
 use native.Mathlib.Omega.{arith}
 use lib.Dec.{eqb}
-use borrow.Author.Tests.{eq-eqb, ne-eqb}
+use borrow.Author.Tests.{ne-eqb}
 use Rattle.reckon.specs.Tests.{pick}
-use Rattle.reckon.proofs.TestLaws.{pick-true, pick-false}
+use Rattle.reckon.proofs.TestLaws.{pick-false}
 use Rattle.grid.specs.declared.walks.Walk.{Walk}
 use Rattle.ledger.specs.Runs.{Plan, World, world, answered}
 use Rattle.ledger.specs.Record.{newestRecord}
@@ -19,12 +19,12 @@ use Rattle.ledger.specs.declared.runs.Answer.{Answer}
 use Rattle.ledger.specs.declared.runs.Answer.the-variants.{Done, Refused}
 use Rattle.checks.specs.Given.{Given}
 use Rattle.flood.specs.Step.{Steps, stepNumber, stepped}
-use Rattle.flood.specs.Run.{Ended, RunsTo, runTo}
+use Rattle.flood.specs.Run.{Ended, RunsTo}
 use Rattle.flood.specs.declared.run.Ran.{Ran}
 use Rattle.flood.proofs.RunToLaws.{refused-is}
 use Rattle.demands.specs.EnginesAgree.{StepBy, RunBy}
 use Rattle.demands.specs.Demand2.{StepGives}
-use Rattle.demands.specs.Demand3.{Call, stepping, running, takingBack, Trail, start, called, series, afterCall, Fresh, NeverMade}
+use Rattle.demands.specs.Demand3.{Call, stepping, running, takingBack, Trail, start, called, series, afterCall, NeverMade}
 use Rattle.demands.specs.Played.{runAfter, Played, by-step, by-run, by-back, Plays, at-rest, then, reached, ReadsOfBoth}
 use Rattle.demands.proofs.EnginesAgree.{step-is, run-is}
 use Rattle.demands.proofs.Demand2.{demand-2}

@@ -6,7 +6,6 @@ use mathlib.Core.List.{List}
 use Prim.Native.Nat.{ℕ, _*_, _<_}
 use lib.Dec.{ltb}
 use lib.ListN.{length, getD}
-use Rattle.reckon.specs.Lists.{tabulate}
 use Rattle.reckon.proofs.ListLaws.{length-tabulate, getD-tabulate}
 use Rattle.grid.specs.Squares.{squareAt}
 use Rattle.grid.specs.Masks.{isWet, bitAt, rowMask, wetMasks}

@@ -41,7 +41,7 @@ use Rattle.sight.specs.Refusals.{depthsFine, sharedRefusals}
 use Rattle.sight.specs.Speeds.{quotientOf}
 use Rattle.sight.specs.Speeds as Speeds
 use Rattle.sight.specs.Arrows.{outThrough, nearDepth, throughSide, allStill, arrowBy, sighted, seenBy, askedFine, arrowEarlyRefusals, arrowRefusals, arrowNumber, seenAt}
-use Rattle.demands.specs.Worked.{documentSheet, documentOutput, exitSheet, levelSheet, soakSheet, Told, told, SheetCases, ExitCases, LevelCases, NumberCases, EditionCases, SoakCases, wholeSheet, printedWorld, columnSheet, TextCases, DitchCases, ColumnCases, LentCases, ProvedCases}
+use Rattle.demands.specs.Worked.{documentSheet, documentOutput, exitSheet, levelSheet, soakSheet, Meadow, meadowIn, SheetCases, ExitCases, LevelCases, NumberCases, EditionCases, SoakCases, wholeSheet, printedWorld, columnSheet, TextCases, DitchCases, ColumnCases, LentCases, ProvedCases}
 use Rattle.text.specs.Bytes.{bytesOf}
 use Rattle.exports.specs.Sights.{sightNumber, speedsIn}
 use Rattle.exports.specs.Bounds.{boundsTold, figuresIn}
@@ -52,40 +52,40 @@ abbrev rules : Rules
 rules = record { «square_side» = 1; tolerance = 100; shortest = 1_000; longest = 1_000; update = 1_000; edge = 10_000; edition = 1 }
 
 -- of two squares, or of one
-abbrev documentTold : Told
-documentTold =
+abbrev documentMeadow : Meadow
+documentMeadow =
     record {
       shape = record { rows = 1; columns = 2 };
       rules = rules;
       held = rooms (1 ∷ 1 ∷ []) (0 ∷ 0 ∷ []) (100 ∷ 100 ∷ []) (0 ∷ 0 ∷ []) (1_000 ∷ 0 ∷ []) [] [];
     }
 
-abbrev exitTold : Told
-exitTold =
+abbrev exitMeadow : Meadow
+exitMeadow =
     record {
       shape = record { rows = 1; columns = 1 };
       rules = rules;
       held = rooms (2 ∷ []) (0 ∷ []) (100 ∷ []) (0 ∷ []) (10_000 ∷ []) [] [];
     }
 
-abbrev levelTold : Told
-levelTold =
+abbrev levelMeadow : Meadow
+levelMeadow =
     record {
       shape = record { rows = 1; columns = 2 };
       rules = rules;
       held = rooms (1 ∷ 1 ∷ []) (0 ∷ 0 ∷ []) (100 ∷ 100 ∷ []) (0 ∷ 0 ∷ []) (500 ∷ 500 ∷ []) [] [];
     }
 
-abbrev soakTold : Told
-soakTold =
+abbrev soakMeadow : Meadow
+soakMeadow =
     record {
       shape = record { rows = 1; columns = 2 };
       rules = rules;
       held = rooms (1 ∷ 1 ∷ []) (0 ∷ 0 ∷ []) (100 ∷ 100 ∷ []) (1_800 ∷ 1_000_000 ∷ []) (1_000 ∷ 0 ∷ []) [] [];
     }
 
-abbrev columnTold : Told
-columnTold =
+abbrev columnMeadow : Meadow
+columnMeadow =
     record {
       shape = record { rows = 2; columns = 1 };
       rules = rules;
@@ -94,11 +94,11 @@ columnTold =
 
 -- the texts are read apart from the steps on them, so that no step reads a text again
 record Texts : Type 0 where
-  document : told documentSheet ≡ documentTold
-  exit : told exitSheet ≡ exitTold
-  level : told levelSheet ≡ levelTold
-  soak : told soakSheet ≡ soakTold
-  column : told columnSheet ≡ columnTold
+  document : meadowIn documentSheet ≡ documentMeadow
+  exit : meadowIn exitSheet ≡ exitMeadow
+  level : meadowIn levelSheet ≡ levelMeadow
+  soak : meadowIn soakSheet ≡ soakMeadow
+  column : meadowIn columnSheet ≡ columnMeadow
 
 texts : Texts
 unfolding pick every allBelow firstFailing refusal tabulate filled joined placed isByte wordAt isDigit digitsOf valueFrom wellFormed numberFrom numberAt fieldAt before readFields lineEnded readRest readLine padded asFields lineLength nextLine lineFrom asGrid gridLine asRun runLine noCell closedCell asOpen openCell markedCell placedCell cellLine cellsRead rowsRead tableRows cellsFilled bytesOf
@@ -106,7 +106,7 @@ texts = record { document = refl; exit = refl; level = refl; soak = refl; column
 
 -- ---- the steps
 
-sheet-cases : SheetCases documentTold
+sheet-cases : SheetCases documentMeadow
 unfolding pick every allBelow refusal tabulate filled joined placed sumBelow waterFine rootFrom rootOf rowGives tableGives rainBy onSquare inflowBy rowFine tableFine slotAfter slotBefore ringFine recordIn beside opposite onRim shapeFine closed exit markFine marksFine inflowSquareFine inflowSquaresFine dropOff candidate counts sideCandidates candidatesOf leastFrom heldBetween freshLength isUpdate lengthAt durationFor sideFine rateFine groundFine rulesFine lesserPositive leastDrop greatestDrop dropSum heightOf slopeOf criticalSpeed manningSpeed speedOf mostThrough totalOf throughSides nothingUnless weightedSides weighed runValuesFine runFine gone sent came offSide offSquare offGrid soakedSquare soakedGrid leavesIn lastIn addedIn soakedIn squareRecord recordOf roomSlots newestRecord remains newDepth depthsFit newOutflow newSoaked lateRefusals stepRecord worldAfter oneEach watersFine timesFine heldAndGone cameAndAdded depthBefore squareRestorable restorable worldBefore earlyRefusals backRefusals backNumber takenBack sideDrop dropsOf squareCandidates candidates leavesFor soakedFor soakBy soakDue addedFor stepLength stepDuration squareGroundFine groundsFine checkRefusals stepNumber stepped freshRun depthsFine sharedRefusals quotientOf Speeds.sideSpeed outThrough nearDepth throughSide allStill arrowBy sighted seenBy askedFine arrowEarlyRefusals arrowRefusals arrowNumber seenAt Ieee.sub
 sheet-cases =
     record {
@@ -131,10 +131,10 @@ sheet-cases =
 
 -- an exit alone, two equal levels, and a sheet that soaks
 record Others : Type 0 where
-  exit : ExitCases exitTold
-  level : LevelCases levelTold
-  soak : SoakCases soakTold
-  column : ColumnCases columnTold
+  exit : ExitCases exitMeadow
+  level : LevelCases levelMeadow
+  soak : SoakCases soakMeadow
+  column : ColumnCases columnMeadow
 
 others : Others
 unfolding pick every allBelow refusal tabulate filled joined placed sumBelow waterFine rootFrom rootOf rowGives tableGives rainBy onSquare inflowBy rowFine tableFine slotAfter slotBefore ringFine recordIn beside opposite onRim shapeFine closed exit markFine marksFine inflowSquareFine inflowSquaresFine dropOff candidate counts sideCandidates candidatesOf leastFrom heldBetween freshLength isUpdate lengthAt durationFor sideFine rateFine groundFine rulesFine lesserPositive leastDrop greatestDrop dropSum heightOf slopeOf criticalSpeed manningSpeed speedOf mostThrough totalOf throughSides nothingUnless weightedSides weighed runValuesFine runFine gone sent came offSide offSquare offGrid soakedSquare soakedGrid leavesIn lastIn addedIn soakedIn squareRecord recordOf roomSlots newestRecord remains newDepth depthsFit newOutflow newSoaked lateRefusals stepRecord worldAfter oneEach watersFine timesFine heldAndGone cameAndAdded depthBefore squareRestorable restorable worldBefore earlyRefusals backRefusals backNumber takenBack sideDrop dropsOf squareCandidates candidates leavesFor soakedFor soakBy soakDue addedFor stepLength stepDuration squareGroundFine groundsFine checkRefusals stepNumber stepped freshRun depthsFine sharedRefusals quotientOf Speeds.sideSpeed outThrough nearDepth throughSide allStill arrowBy sighted seenBy askedFine arrowEarlyRefusals arrowRefusals arrowNumber seenAt Ieee.sub

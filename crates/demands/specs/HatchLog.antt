@@ -24,8 +24,8 @@ use Rattle.demands.specs.Demand3.{Call, Fresh, alone, AllMade, start, se
 
 -- ---- what is left of an evening
 
--- What one would note on paper beside the log, with no ring and no room to run out: the rates now, and for each standing step the rates it was
--- made at, the newest first.
+-- What one would note on paper beside the log, with no ring and no slots to run out of: the rates now, and for each standing step the rates
+-- it was made at, the newest first.
 pub record Notes : Type 0 where
   pub litres : List ℕ
   pub standing : List (List ℕ)
@@ -98,11 +98,11 @@ module _ (p : Plan) (g : Given) where
     -- no more steps are kept than stand
     pub kept-low : x .at .log .run .kept ≤ length (x .noted .standing)
 
-  -- a fresh run with room for a record, and beside it nine rates a slot
+  -- a fresh run whose room has a slot, and beside it nine rates a slot
   pub record Opens (f : World) (began : List ℕ) : Type 0 where
     pub fresh : Fresh p f
     pub some : 0 < roomSlots p (f .records)
-    pub room : roomSlots p (f .records) ≤ slotsIn mostHatches (length began)
+    pub rates-suffice : roomSlots p (f .records) ≤ slotsIn mostHatches (length began)
 
   -- for any lines, refused ones among them
   pub record HatchLog : Type 0 where

@@ -70,15 +70,15 @@ printedWorld = "cell\t0\t0\t7\ncell\t0\t2\t9\nout\t1\nsoak\t2\nsteps\t3\nclock\t
 
 -- ---- what a text says, and steps on it
 
-pub record Told : Type 0 where
+pub record Meadow : Type 0 where
   pub shape : Shape
   pub rules : Rules
   pub held : Rooms
 
-abbrev pub told : String → Told
-told text = record { shape = shapeOf (bytesOf text); rules = lineTwo (bytesOf text) .rules; held = said (bytesOf text) }
+abbrev pub meadowIn : String → Meadow
+meadowIn text = record { shape = shapeOf (bytesOf text); rules = lineTwo (bytesOf text) .rules; held = said (bytesOf text) }
 
-module _ (t : Told) where
+module _ (t : Meadow) where
   abbrev onPlan : Plan
   onPlan = planIn (t .shape) (t .rules) (t .held)
 
@@ -135,7 +135,7 @@ eastSpeed = fin false 1_116_892_707_587_883 (negsuc 53)
 -- ---- the cases
 
 -- of the sheet, by what it says
-pub record SheetCases (t : Told) : Type 0 where
+pub record SheetCases (t : Meadow) : Type 0 where
   -- "the sheet above: h 100, s 316, .. m 31, total 62, through east 31"; by #105 the speeds are 99,045 and 31,600
   pub first-drops : drops t (before t) ≡ 0 ∷ 1_000 ∷ 0 ∷ 0 ∷ []
   pub first-workings : workings t (before t) ≡ 100 ∷ 316 ∷ 99_045 ∷ 31_600 ∷ 31_600 ∷ 31 ∷ 62 ∷ []
@@ -160,7 +160,7 @@ pub record SheetCases (t : Told) : Type 0 where
   pub arrow-into : seenAt (onPlan t) 1 (view (once t .depths) (once t .records) (once t .run)) 0 1 ≡ Moving (record { east = eastSpeed; north = zero64 })
 
 -- of an exit alone
-pub record ExitCases (t : Told) : Type 0 where
+pub record ExitCases (t : Meadow) : Type 0 where
   -- "one exit square, D 1, k 100, depth 10,000, 1000 ms: .. total 10,000, each side 2,000; depth 2,000, outflow 8,000"; by #105 v is
   -- 313,209 and m 3,132
   pub exit-drops : drops t (before t) ≡ 10_000 ∷ 10_000 ∷ 10_000 ∷ 10_000 ∷ []
@@ -170,7 +170,7 @@ pub record ExitCases (t : Told) : Type 0 where
   pub exit-outflow : once t .run .outflow ≡ 8_000
 
 -- and of two equal levels
-pub record LevelCases (t : Told) : Type 0 where
+pub record LevelCases (t : Meadow) : Type 0 where
   -- "two equal levels: nothing moves"
   pub level-made : stepNumber (onPlan t) (byGiven t) (before t) ≡ 0
   pub level-depths : once t .depths ≡ 500 ∷ 500 ∷ []
@@ -203,7 +203,7 @@ pub record EditionCases : Type 0 where
   pub unlimited : weighed (narrow 3) 5_000_000 0 100 1_000 (3 ∷ 40_000 ∷ 50_000 ∷ 60_000 ∷ []) ≡ 99 ∷ 1_333_280 ∷ 1_666_600 ∷ 1_999_920 ∷ []
 
 -- document 02, #106, worked by hand: what is due by the clock, and two steps of a sheet that soaks
-pub record SoakCases (t : Told) : Type 0 where
+pub record SoakCases (t : Meadow) : Type 0 where
   -- 1,800 µm/h: half a micrometre by 1000 ms, one by 2000; so the second step's due is 1, and of its own duration it would be 0
   pub first-due : soakDue 1_800 0 1_000 ≡ 0
   pub second-due : soakDue 1_800 1_000 2_000 ≡ 1
@@ -257,7 +257,7 @@ pub record DitchCases : Type 0 where
   pub overlapping : rainBy (0 ∷ 1_000 ∷ 1_800 ∷ 500 ∷ 2_000 ∷ 3_600 ∷ []) 1_000 ≡ 1
 
 -- the column's arrow: its south speed is the sheet's east speed, so that the arrow points south
-pub record ColumnCases (t : Told) : Type 0 where
+pub record ColumnCases (t : Meadow) : Type 0 where
   pub arrow : seenAt (onPlan t) 1 (view (once t .depths) (once t .records) (once t .run)) 0 0 ≡ Moving (record { east = zero64; north = fin true 1_116_892_707_587_883 (negsuc 53) })
 
 -- what other languages lend and are told, each number its own place; and a run that is fresh
@@ -292,13 +292,13 @@ pub record LentCases : Type 0 where
 pub record ProvedCases : Type 0 where
   -- the sheet's output, whole
   pub printed : meadowText (bytesOf documentSheet) ≡ bytesOf documentOutput
-  pub sheet : SheetCases (told documentSheet)
-  pub exit : ExitCases (told exitSheet)
-  pub level : LevelCases (told levelSheet)
+  pub sheet : SheetCases (meadowIn documentSheet)
+  pub exit : ExitCases (meadowIn exitSheet)
+  pub level : LevelCases (meadowIn levelSheet)
   pub numbers : NumberCases
   pub editions : EditionCases
-  pub soaking : SoakCases (told soakSheet)
+  pub soaking : SoakCases (meadowIn soakSheet)
   pub texts : TextCases
   pub ditch-mouth : DitchCases
-  pub column : ColumnCases (told columnSheet)
+  pub column : ColumnCases (meadowIn columnSheet)
   pub lent : LentCases

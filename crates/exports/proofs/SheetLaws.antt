@@ -23,15 +23,15 @@ use Rattle.exports.proofs.AnswerLaws.{sized-number, unsized-number}
 
 -- ---- reading
 
-abbrev pub Told : Sheet → List ℕ → ℕ → List ℕ → List ℕ → Type 0
-Told a old number heading line = (number ≡ sheetNumber a) × (heading ≡ headingIn a old) × (line ≡ sheetLine a ∷ [])
+abbrev pub SheetGives : Sheet → List ℕ → ℕ → List ℕ → List ℕ → Type 0
+SheetGives a old number heading line = (number ≡ sheetNumber a) × (heading ≡ headingIn a old) × (line ≡ sheetLine a ∷ [])
 
-pub read-told : {a : Sheet} {h : Heading} (old : List ℕ) {heading line : List ℕ} → a ≡ Read h → heading ≡ headingNumbers h → line ≡ 0 ∷ [] → Told a old 0 heading line
+pub read-told : {a : Sheet} {h : Heading} (old : List ℕ) {heading line : List ℕ} → a ≡ Read h → heading ≡ headingNumbers h → line ≡ 0 ∷ [] → SheetGives a old 0 heading line
 unfolding sheetNumber sheetLine headingIn
 read-told old e s l =
     (ap sheetNumber (sym e), s ∙ ap (λ (z : Sheet). headingIn z old) (sym e), l ∙ ap (λ (z : Sheet). sheetLine z ∷ []) (sym e))
 
-pub refused-told : {a : Sheet} {n at : ℕ} (old : List ℕ) {line : List ℕ} → a ≡ Refused n at → line ≡ at ∷ [] → Told a old n old line
+pub refused-told : {a : Sheet} {n at : ℕ} (old : List ℕ) {line : List ℕ} → a ≡ Refused n at → line ≡ at ∷ [] → SheetGives a old n old line
 unfolding sheetNumber sheetLine headingIn
 refused-told old e l =
     (ap sheetNumber (sym e), ap (λ (z : Sheet). headingIn z old) (sym e), l ∙ ap (λ (z : Sheet). sheetLine z ∷ []) (sym e))
@@ -48,7 +48,7 @@ module _ (s : List ℕ) (before : Rooms) (oldHeading oldLine : List ℕ) where
 
   pub sheet-told :
       {a : Sheet} {number : ℕ} {after : Rooms} {heading line : List ℕ} → length oldHeading ≡ headingSize → length oldLine ≡ lineSize →
-      Reads s before a after → Told a oldHeading number heading line → ExportsRead s before oldHeading oldLine number after heading line
+      Reads s before a after → SheetGives a oldHeading number heading line → ExportsRead s before oldHeading oldLine number after heading line
   sheet-told h l f t =
       let fits : sheetSized s before oldHeading oldLine ≡ true =
       each-every _ (eq-eqb (length oldHeading) headingSize h, (eq-eqb (length oldLine) lineSize l, tt)) in

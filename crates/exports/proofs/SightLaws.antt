@@ -22,7 +22,7 @@ use Rattle.sight.specs.declared.wet_rows.Wet.the-variants as Wet
 use Rattle.exports.specs.Numbers.{countSize}
 use Rattle.exports.specs.Refusals.{unlessRefused}
 use Rattle.exports.specs.Sights.{sightNumber, speedsIn, arrowSized, ExportsArrow, wetNumberOf, wetGives, ExportsWet}
-use Rattle.exports.specs.inner.Told.{countIn}
+use Rattle.exports.specs.inner.Slices.{countIn}
 use Rattle.exports.proofs.AnswerLaws.{sized-number, unsized-number, refused-leaves}
 
 -- ---- the arrow

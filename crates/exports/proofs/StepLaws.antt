@@ -27,8 +27,8 @@ use Rattle.flood.specs.Run.{Ended, RunsTo}
 use Rattle.flood.specs.declared.run.Ran.{Ran}
 use Rattle.exports.specs.Numbers.{runNumbers, runSize}
 use Rattle.exports.specs.Refusals.{unlessChecks, unlessRefused}
-use Rattle.exports.specs.inner.Told.{answerRun}
-use Rattle.exports.specs.Steps.{answerNumber, bothSized, freshGives, ExportsFresh, stepGives, ExportsStep, backGives, ExportsBack, ranSized, ExportsRun}
+use Rattle.exports.specs.inner.Slices.{answerRun}
+use Rattle.exports.specs.Steps.{answerNumber, bothSized, freshCallNumber, ExportsFresh, stepCallNumber, ExportsStep, backCallNumber, ExportsBack, ranSized, ExportsRun}
 use Rattle.exports.proofs.AnswerLaws.{sized-number, unsized-number, refused-leaves, chosen-twice, number-answered, run-answered}
 
 -- ---- a fresh run
@@ -36,7 +36,7 @@ use Rattle.exports.proofs.AnswerLaws.{sized-number, unsized-number, ref
 module _ (p : Plan) (r : Rules) (before records rules old : List ℕ) where
   pub fresh-unsized : bothSized rules old ≡ false → ExportsFresh p r before records rules old 1 before old
   fresh-unsized d =
-      let one : freshGives p r before records rules old ≡ 1 = unsized-number _ d in
+      let one : freshCallNumber p r before records rules old ≡ 1 = unsized-number _ d in
       record {
         number-is = sym one;
         lasts-are = sym (refused-leaves (freshLasts p r before records) before one);
@@ -54,7 +54,7 @@ module _ (p : Plan) (r : Rules) (before records rules old : List ℕ) where
         ExportsFresh p r before records rules old number lasts run
     fresh-told h same-plan same-rules made t =
         let f = subst₂ (λ (x : Plan) (y : Rules). Freshens x y before records a lasts) same-plan same-rules made in
-        let gives : freshGives p r before records rules old ≡ freshNumber p r before records = sized-number h in
+        let gives : freshCallNumber p r before records rules old ≡ freshNumber p r before records = sized-number h in
         record {
           number-is = t .0 ∙ (ap answerNumber (f .answer) ∙ (number-answered (freshNumber p r before records) (freshRun r (roomSlots p records)) ∙ sym gives));
           lasts-are = f .lasts-are ∙ (sym fresh-stays ∙ ap (λ (n : ℕ). unlessRefused n (freshLasts p r before records) before) (sym gives));
@@ -70,7 +70,7 @@ module _ (p : Plan) (r : Rules) (before records rules old : List ℕ) where
 module _ (p : Plan) (g : Given) (w : World) (rules old : List ℕ) where
   pub step-unsized : bothSized rules old ≡ false → ExportsStep p g w rules old 1 (w .depths) (w .lasts) (w .records) old
   step-unsized d =
-      let one : stepGives p g w rules old ≡ 1 = unsized-number _ d in
+      let one : stepCallNumber p g w rules old ≡ 1 = unsized-number _ d in
       record {
         number-is = sym one;
         depths-are = sym (refused-leaves (stepped p g w .depths) (w .depths) one);
@@ -89,8 +89,8 @@ module _ (p : Plan) (g : Given) (w : World) (rules old : List ℕ) where
         (number ≡ answerNumber a) × (run ≡ answerRun a old) → ExportsStep p g w rules old number depths lasts records run
     step-told fits same-plan same-given same-world made t =
         let f = subst₃ (λ (x : Plan) (y : Given) (z : World). Steps x y z a depths lasts records) same-plan same-given same-world made in
-        let gives : stepGives p g w rules old ≡ stepNumber p g w = sized-number fits in
-        let stays : (x : World → List ℕ) → x (stepped p g w) ≡ unlessRefused (stepGives p g w rules old) (x (stepped p g w)) (x w) =
+        let gives : stepCallNumber p g w rules old ≡ stepNumber p g w = sized-number fits in
+        let stays : (x : World → List ℕ) → x (stepped p g w) ≡ unlessRefused (stepCallNumber p g w rules old) (x (stepped p g w)) (x w) =
         λ x. sym (step-stays x) ∙ ap (λ (n : ℕ). unlessRefused n (x (stepped p g w)) (x w)) (sym gives) in
         record {
           number-is = t .0 ∙ (ap answerNumber (f .answer) ∙ (number-answered (stepNumber p g w) (stepped p g w .run) ∙ sym gives));
@@ -109,7 +109,7 @@ module _ (p : Plan) (g : Given) (w : World) (rules old : List ℕ) where
 module _ (p : Plan) (w : World) (old : List ℕ) where
   pub back-unsized : (length old ≡ runSize → ⊥) → ExportsBack p w old 1 (w .depths) (w .lasts) old
   back-unsized d =
-      let one : backGives p w old ≡ 1 = unsized-number _ (ne-eqb (length old) runSize d) in
+      let one : backCallNumber p w old ≡ 1 = unsized-number _ (ne-eqb (length old) runSize d) in
       record {
         number-is = sym one;
         depths-are = sym (refused-leaves (takenBack p w .depths) (w .depths) one);
@@ -127,8 +127,8 @@ module _ (p : Plan) (w : World) (old : List ℕ) where
         ExportsBack p w old number depths lasts run
     back-told h same-plan same-world made t =
         let f = subst₂ (λ (x : Plan) (y : World). TakesBack x y a depths lasts) same-plan same-world made in
-        let gives : backGives p w old ≡ backNumber p w = sized-number (eq-eqb (length old) runSize h) in
-        let stays : (x : World → List ℕ) → x (takenBack p w) ≡ unlessRefused (backGives p w old) (x (takenBack p w)) (x w) =
+        let gives : backCallNumber p w old ≡ backNumber p w = sized-number (eq-eqb (length old) runSize h) in
+        let stays : (x : World → List ℕ) → x (takenBack p w) ≡ unlessRefused (backCallNumber p w old) (x (takenBack p w)) (x w) =
         λ x. sym (back-stays x) ∙ ap (λ (n : ℕ). unlessRefused n (x (takenBack p w)) (x w)) (sym gives) in
         record {
           number-is = t .0 ∙ (ap answerNumber (f .answer) ∙ (number-answered (backNumber p w) (takenBack p w .run) ∙ sym gives));

@@ -28,34 +28,34 @@ abbrev pub bothSized : List ℕ → List ℕ → Bool
 bothSized rules run = every (sized rules rulesSize ∷ sized run runSize ∷ [])
 
 module _ (p : Plan) (r : Rules) (before records rules old : List ℕ) where
-  abbrev pub freshGives : ℕ
-  freshGives = numberIf (bothSized rules old) (freshNumber p r before records)
+  abbrev pub freshCallNumber : ℕ
+  freshCallNumber = numberIf (bothSized rules old) (freshNumber p r before records)
 
   pub record ExportsFresh (number : ℕ) (lasts run : List ℕ) : Type 0 where
-    pub number-is : number ≡ freshGives
-    pub lasts-are : lasts ≡ unlessRefused freshGives (freshLasts p r before records) before
-    pub run-is : run ≡ unlessRefused freshGives (runNumbers (freshRun r (roomSlots p records))) old
+    pub number-is : number ≡ freshCallNumber
+    pub lasts-are : lasts ≡ unlessRefused freshCallNumber (freshLasts p r before records) before
+    pub run-is : run ≡ unlessRefused freshCallNumber (runNumbers (freshRun r (roomSlots p records))) old
 
 module _ (p : Plan) (g : Given) (w : World) (rules old : List ℕ) where
-  abbrev pub stepGives : ℕ
-  stepGives = numberIf (bothSized rules old) (stepNumber p g w)
+  abbrev pub stepCallNumber : ℕ
+  stepCallNumber = numberIf (bothSized rules old) (stepNumber p g w)
 
   pub record ExportsStep (number : ℕ) (depths lasts records run : List ℕ) : Type 0 where
-    pub number-is : number ≡ stepGives
-    pub depths-are : depths ≡ unlessRefused stepGives (stepped p g w .depths) (w .depths)
-    pub lasts-are : lasts ≡ unlessRefused stepGives (stepped p g w .lasts) (w .lasts)
-    pub records-are : records ≡ unlessRefused stepGives (stepped p g w .records) (w .records)
-    pub run-is : run ≡ unlessRefused stepGives (runNumbers (stepped p g w .run)) old
+    pub number-is : number ≡ stepCallNumber
+    pub depths-are : depths ≡ unlessRefused stepCallNumber (stepped p g w .depths) (w .depths)
+    pub lasts-are : lasts ≡ unlessRefused stepCallNumber (stepped p g w .lasts) (w .lasts)
+    pub records-are : records ≡ unlessRefused stepCallNumber (stepped p g w .records) (w .records)
+    pub run-is : run ≡ unlessRefused stepCallNumber (runNumbers (stepped p g w .run)) old
 
 module _ (p : Plan) (w : World) (old : List ℕ) where
-  abbrev pub backGives : ℕ
-  backGives = numberIf (sized old runSize) (backNumber p w)
+  abbrev pub backCallNumber : ℕ
+  backCallNumber = numberIf (sized old runSize) (backNumber p w)
 
   pub record ExportsBack (number : ℕ) (depths lasts run : List ℕ) : Type 0 where
-    pub number-is : number ≡ backGives
-    pub depths-are : depths ≡ unlessRefused backGives (takenBack p w .depths) (w .depths)
-    pub lasts-are : lasts ≡ unlessRefused backGives (takenBack p w .lasts) (w .lasts)
-    pub run-is : run ≡ unlessRefused backGives (runNumbers (takenBack p w .run)) old
+    pub number-is : number ≡ backCallNumber
+    pub depths-are : depths ≡ unlessRefused backCallNumber (takenBack p w .depths) (w .depths)
+    pub lasts-are : lasts ≡ unlessRefused backCallNumber (takenBack p w .lasts) (w .lasts)
+    pub run-is : run ≡ unlessRefused backCallNumber (runNumbers (takenBack p w .run)) old
 
 -- "If one of its steps is refused, it gives that number with the steps made and leaves the state before that step: the exception"
 module _ (p : Plan) (g : Given) (end : ℕ) (w : World) (rules old oldSteps : List ℕ) where

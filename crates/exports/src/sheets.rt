@@ -59,7 +59,7 @@ pub extern "C" fn flood_read_sheet(
     tell_sheet(sheet, heading, line)
 }
 
-// What `meadow` prints of a text, at the start of out, and its length; 0 and nothing where out has not the room that always suffices.
+// What `meadow` prints of a text, at the start of out, and its length; 0 and nothing where out is shorter than what always suffices.
 #[no_mangle]
 pub extern "C" fn flood_meadow(text: &[u8], out: &mut [u8]) -> usize
     ensures { λ r. ⌜ ExportsMeadow (now (text .entry)) (now (out .entry)) r (now (out .exit)) ⌝ }

@@ -15,7 +15,7 @@ ghost use Rattle.ledger.specs.Runs.{plan};
 ghost use Rattle.sight.specs.Arrows.{view};
 ghost use Rattle.exports.specs.Numbers.{countSize, runValueFrom, shapeFrom, speedsSize};
 ghost use Rattle.exports.specs.Sights.{ExportsArrow, ExportsWet, sightNumber, speedsIn, wetNumberOf};
-ghost use Rattle.exports.specs.inner.Told.{countIn};
+ghost use Rattle.exports.specs.inner.Slices.{countIn};
 
 // What is seen where nothing is refused: a moving square's speeds have been written; the others are past every refusal's number.
 const MOVING: u32 = 0;

@@ -22,7 +22,7 @@ ghost use Rattle.checks.specs.Given.{ground, given};
 ghost use Rattle.exports.specs.Numbers.{rulesFrom, runNumbers, runSize, runValueFrom, shapeFrom, stepsSize};
 ghost use Rattle.exports.specs.Refusals.{unlessChecks};
 ghost use Rattle.exports.specs.Steps.{answerNumber, ExportsBack, ExportsFresh, ExportsRun, ExportsStep};
-ghost use Rattle.exports.specs.inner.Told.{answerRun};
+ghost use Rattle.exports.specs.inner.Slices.{answerRun};
 
 // The last of the numbers that are tried before any step.
 const LAST_CHECK: u32 = 6;

@@ -4,7 +4,7 @@
 use mathlib.Core.Path.{_≡_, refl, sym, ap, ap₂, _∙_, subst}
 use mathlib.Core.Bool.{Bool, true, false, _&&_, not}
 use mathlib.Core.List.{List, _++_}
-use Prim.Native.Nat.{ℕ, _+_, _-_, _*_, _≤_, _<_}
+use Prim.Native.Nat.{ℕ, _+_, _-_, _≤_, _<_}
 use native.Mathlib.Nat.{le-trans}
 use native.Mathlib.Omega.{arith}
 use lib.Dec.{eqb}
@@ -19,26 +19,24 @@ use Rattle.trials.proofs.RoomLaws.{put-back}
 use Rattle.grid.specs.Squares.{squares, mostAlong, mostSquares, ShapeInRange, SquaresOf}
 use Rattle.reckon.specs.Lists.{placed}
 use Rattle.trials.specs.Ring.{slotsIn, slotStart, slotAfter}
-use Rattle.trials.specs.Room.{recordIn, storedIn}
+use Rattle.trials.specs.Room.{recordIn}
 use Rattle.grid.specs.Walks.{bitOf}
 use Rattle.grid.specs.declared.walks.Walk.{Walk}
 use Rattle.ledger.specs.Runs.{Plan, World, world, answered, Seen, seenOf}
 use Rattle.ledger.specs.Flows.{Leaves, shut, gone}
-use Rattle.ledger.specs.Record.{lastedIn, leavesIn, addedIn, soakedIn, roomSlots, ringOf, headWords, squareWords, SizeOf, recordSize}
+use Rattle.ledger.specs.Record.{lastedIn, leavesIn, addedIn, soakedIn, roomSlots, ringOf, recordSize}
 use Rattle.ledger.specs.After.{Moves, newDepth, depthsFit, lateRefusals, stepRecord, worldAfter, worldWith}
 use Rattle.ledger.specs.inner.Walks.{sends}
-use Rattle.settling.specs.inner.Settle.{movesIn, settleNumber, settled, Settles, SettlesTo, IdleAt, Told, RoomAdded, surelySettles, nextRecord}
+use Rattle.settling.specs.inner.Settle.{movesIn, settleNumber, settled, Settles, SettlesTo, IdleAt, WalkTells, RoomAdded, surelySettles, nextRecord}
 use Rattle.grid.specs.declared.squares.Shape.{Shape}
 use Rattle.ledger.proofs.ReadBack.{lasted-read, gone-read, added-read, soaked-read, step-long, step-lasted, step-gone, step-added, step-soaked}
 use Rattle.settling.proofs.ByRecord.{settled-is, late-settled}
-use Rattle.ledger.proofs.RecordLaws.{slots-of}
 use Rattle.settling.proofs.SureLaws.{surely-settled, next-read, stored-settles, stored-number, stored-made, stored-left}
 use Rattle.checks.specs.Given.{Ground, Given}
-use Rattle.moves.specs.Moves.{leavesFor, soakedFor, addedFor, stepLength, stepDuration, stepMoves}
+use Rattle.moves.specs.Moves.{leavesFor, soakedFor, stepLength, stepDuration, stepMoves}
 use Rattle.moves.specs.inner.Added.{addedFits}
 use Rattle.moves.specs.inner.Fill.{isWorked, workedRows, senderRows, LeftKept}
 use Rattle.checks.specs.inner.Ready.{Ready}
-use Rattle.rule.specs.Rules.{rulesFine}
 use Rattle.ledger.specs.declared.runs.Answer.the-variants.{Done, Refused}
 use Rattle.ledger.proofs.RunLaws.{answered-done, answered-refused}
 use Rattle.checks.specs.Refusals.{stepChecks}
@@ -252,7 +250,7 @@ module _ (p : Plan) (o : Ground) (w : World) (room : List ℕ) (ms : ℕ) where
     pub told :
         {left senders : List ℕ} → length left ≡ squares (p .shape) → length worked ≡ p .shape .rows → length senders ≡ p .shape .rows →
         senders ≡ senderRows p o (w .depths) (w .lasts) ms → LeftKept walk p o (w .depths) (w .lasts) room ms left →
-        Told p rec (w .depths) (w .lasts) left worked senders
+        WalkTells p rec (w .depths) (w .lasts) left worked senders
     told left-long worked-long senders-long sent kept =
         record {
           left-long = left-long;
@@ -278,16 +276,16 @@ module _ {p : Plan} {w : World} {rec records : List ℕ} {held : ℕ} (s : Settl
 
   -- what is asked there
   pub stored-asks :
-      {left worked senders room : List ℕ} {sure : Bool} → Told p rec (w .depths) (w .lasts) left worked senders → RoomAdded p rec room →
+      {left worked senders room : List ℕ} {sure : Bool} → WalkTells p rec (w .depths) (w .lasts) left worked senders → RoomAdded p rec room →
       (sure ≡ true → surelySettles (w .run) (w .depths) room ≡ true) →
       (Settles p (nextRecord p stored) held stored)
-      × ((Told p (nextRecord p stored) (w .depths) (w .lasts) left worked senders)
+      × ((WalkTells p (nextRecord p stored) (w .depths) (w .lasts) left worked senders)
       × ((RoomAdded p (nextRecord p stored) room) × (sure ≡ true → settleNumber p (nextRecord p stored) held stored ≡ 0)))
   stored-asks {left} {worked} {senders} {room} t a sure =
       let added : RoomAdded p (nextRecord p stored) room = subst (λ (r : List ℕ). RoomAdded p r room) (sym stored-is) a in (
         stored-settles s q,
         (
-          subst (λ (r : List ℕ). Told p r (w .depths) (w .lasts) left worked senders) (sym stored-is) t,
+          subst (λ (r : List ℕ). WalkTells p r (w .depths) (w .lasts) left worked senders) (sym stored-is) t,
           (added, λ y. surely-settled (stored-settles s q) added (sure y)),
         ),
       )

@@ -19,7 +19,6 @@ ghost use Rattle.moves.specs.inner.Added.{rowsApart};
 ghost use Rattle.flood.specs.Step.{Passes};
 ghost use Rattle.flood.specs.Run.{RunsTo};
 ghost use Rattle.flood.specs.inner.Run.{RunsOn};
-ghost use Rattle.flood.specs.inner.Step.{RoomsLent};
 
 // The refusal's number, 0 for none, the steps made, and the run that they leave.
 pub struct Ran {
@@ -28,7 +27,7 @@ pub struct Ran {
     pub run: Run,
 }
 
-// Steps while the clock is below the end, up to a step that is refused, in working rooms.
+// Steps while the clock is below the end, up to a step that is refused, all in the same working rooms.
 fn run_on(
     way: Way,
     run: Run,
@@ -42,15 +41,17 @@ fn run_on(
     depths: &mut [u32],
     lasts: &mut [u32],
     records: &mut [u32],
-    left: &mut [u32],
-    worked: &mut [u64],
-    senders: &mut [u64],
-    room: &mut [u32],
 ) -> Ran
     requires { ⌜ Passes (plan (way .shape) (now marks)) (given (ground (way .rules) (now beds) (now roughness) (now rates)) (now rain) (now inflow)) (world (now depths) (now lasts) (now records) run) ⌝ }
-    requires { ⌜ (RoomsLent (way .shape) (now left) (now worked) (now senders) (now room)) × (way .apart ≡ rowsApart (now inflow)) × (end ≤ lastClock) ⌝ }
+    requires { ⌜ (way .apart ≡ rowsApart (now inflow)) × (end ≤ lastClock) ⌝ }
     ensures { λ r. ⌜ RunsOn (plan (way .shape) (now (marks .entry))) (given (ground (way .rules) (now (beds .entry)) (now (roughness .entry)) (now (rates .entry))) (now (rain .entry)) (now (inflow .entry))) end (world (now (depths .entry)) (now (lasts .entry)) (now (records .entry)) run) r (now (depths .exit)) (now (lasts .exit)) (now (records .exit)) ⌝ }
 {
+    let squares = squares_of(way.shape);
+    let rows = way.shape.rows;
+    let mut left = [0u32; MOST_SQUARES];
+    let mut worked = [0u64; MOST_ALONG];
+    let mut senders = [0u64; MOST_ALONG];
+    let mut room = [0u32; MOST_SQUARES];
     let mut at = run;
     let mut steps: u64 = 0;
     while at.clock < end {
@@ -66,10 +67,10 @@ fn run_on(
             depths,
             lasts,
             records,
-            left,
-            worked,
-            senders,
-            room,
+            &mut left[..squares],
+            &mut worked[..rows],
+            &mut senders[..rows],
+            &mut room[..squares],
         );
         let refused = made.refused;
         let after = made.run;
@@ -131,18 +132,12 @@ pub fn run_to(
             run: run,
         };
     }
-    let squares = squares_of(shape);
-    let rows = shape.rows;
     let way = Way {
         walk: walk,
         shape: shape,
         rules: rules,
         apart: rows_apart(inflow),
     };
-    let mut left = [0u32; MOST_SQUARES];
-    let mut worked = [0u64; MOST_ALONG];
-    let mut senders = [0u64; MOST_ALONG];
-    let mut room = [0u32; MOST_SQUARES];
     run_on(
         way,
         run,
@@ -156,9 +151,5 @@ pub fn run_to(
         depths,
         lasts,
         records,
-        &mut left[..squares],
-        &mut worked[..rows],
-        &mut senders[..rows],
-        &mut room[..squares],
     )
 }

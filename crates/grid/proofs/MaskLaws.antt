@@ -174,9 +174,9 @@ module _ (says : ℕ → Bool) (first columns : ℕ) where
         rw (p .1)
         (le-trans (mask-small says (first + left) (columns - left)) (pow-mono {i = columns - left} {j = 63} (omega (arith, p .0))))
 
-    -- there is room for one column more
-    pub row-room : (b : Bool) {bit : ℕ} → 0 < left → columns ≤ bits → bit ≡ digit b → mask * 2 + bit < 2 ^ bits
-    row-room b h g e = omega (arith, row-small h g, digit-le b)
+    -- one column more fits
+    pub bit-fits : (b : Bool) {bit : ℕ} → 0 < left → columns ≤ bits → bit ≡ digit b → mask * 2 + bit < 2 ^ bits
+    bit-fits b h g e = omega (arith, row-small h g, digit-le b)
 
     pub row-more : {bit : ℕ} → 0 < left → bit ≡ digit (says (first + (left - 1))) → Built (left - 1) (mask * 2 + bit)
     unfolding maskFrom

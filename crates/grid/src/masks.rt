@@ -6,7 +6,7 @@ ghost use Rattle.grid.specs.Masks.{Masked, NextFound, OnesOf, RowLent, R
 use crate::marks::is_closed;
 use crate::squares::Shape;
 
-// The columns that a mask has room for.
+// The most columns of a mask.
 const BITS: usize = 64;
 
 // 1 for a square that is not closed and at least that deep, else 0.

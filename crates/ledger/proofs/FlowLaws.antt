@@ -1,10 +1,9 @@
 -- Laws of amounts: a side's case decides what was sent or went off the grid; and sums of 32-bit words stay far below 64 bits.
 -- Assumes nothing.
 use mathlib.Core.Path.{_≡_, refl, sym, ap, ap₂, _∙_}
-use mathlib.Core.Bool.{true, false}
+use mathlib.Core.Bool.{false}
 use mathlib.Core.List.{List}
 use Prim.Native.Nat.{ℕ, _+_, _-_, _*_, _≤_, _<_}
-use native.Mathlib.Nat.{mul-le-mul-right}
 use native.Mathlib.Omega.{arith}
 use lib.ListN.{length, getD}
 use borrow.Author.Tests.{lt-ltb, le-ltb}
@@ -12,11 +11,11 @@ use Rattle.reckon.specs.Tests.{pick}
 use Rattle.reckon.specs.Lists.{sumBelow}
 use Rattle.reckon.proofs.TestLaws.{pick-true, pick-false, pick-same, pick-both}
 use Rattle.reckon.proofs.ListLaws.{sum-le}
-use Rattle.grid.specs.Squares.{north, east, south, west, sides, mostSquares, squares, within, beside, opposite, onRim, ShapeInRange}
+use Rattle.grid.specs.Squares.{north, east, south, west, sides, squares, within, beside, opposite, onRim}
 use Rattle.grid.proofs.SquareLaws.{each-within}
 use Rattle.grid.proofs.MarkLaws.{closed-past}
 use Rattle.ledger.specs.Runs.{Plan}
-use Rattle.ledger.specs.Flows.{Leaves, fourSides, shut, gone, sent, came, offSide, offSquare, offGrid, soakedSquare, soakedGrid}
+use Rattle.ledger.specs.Flows.{Leaves, fourSides, shut, gone, sent, came, offSide, offSquare, soakedSquare}
 use Rattle.ledger.specs.Record.{wordPlace, addedWord, soakedWord, leavesIn, addedIn, soakedIn}
 
 pub four-sides : (f : ℕ → ℕ) {a b c d : ℕ} → a ≡ f north → b ≡ f east → c ≡ f south → d ≡ f west → a + b + c + d ≡ fourSides f
@@ -63,15 +62,7 @@ module _ (p : Plan) (i : ℕ) where
   unfolding offSquare
   off-open out e = sym (pick-false _ _ e)
 
-  pub off-shut : (out : Leaves) → shut p i ≡ true → offSquare p out i ≡ 0
-  unfolding offSquare
-  off-shut out e = pick-true _ _ e
-
   module _ (soaked : ℕ → ℕ) where
-    pub soaked-shut : shut p i ≡ true → soakedSquare p soaked i ≡ 0
-    unfolding soakedSquare
-    soaked-shut e = pick-true _ _ e
-
     pub soaked-open : shut p i ≡ false → soakedSquare p soaked i ≡ soaked i
     unfolding soakedSquare
     soaked-open e = pick-false _ _ e
@@ -125,10 +116,6 @@ module _ (rec : List ℕ) (words : (k : ℕ) → getD rec k 0 < 4294967296) wher
     pub off-sum-small : (n : ℕ) → sumBelow n (offSquare p (leavesIn rec)) ≤ n * fourWords
     off-sum-small n = sum-le n fourWords (offSquare p (leavesIn rec)) (λ i l. off-small i)
 
-    pub off-grid-small : ShapeInRange (p .shape) → offGrid p (leavesIn rec) ≤ mostSquares * fourWords
-    unfolding offGrid
-    off-grid-small f = omega (arith, off-sum-small (squares (p .shape)), mul-le-mul-right fourWords (f .few))
-
     -- what soaked of a square not closed, as the code finds it
     pub soaked-made : (i : ℕ) {x : ℕ} → x ≡ pick (shut p i) 0 (soakedIn rec i) → x ≡ soakedSquare p (soakedIn rec) i
     unfolding soakedSquare
@@ -140,7 +127,3 @@ module _ (rec : List ℕ) (words : (k : ℕ) → getD rec k 0 < 4294967296) wher
 
     pub soaked-sum-small : (n : ℕ) → sumBelow n (soakedSquare p (soakedIn rec)) ≤ n * word
     soaked-sum-small n = sum-le n word (soakedSquare p (soakedIn rec)) (λ i l. soaked-square-small i)
-
-    pub soaked-grid-small : ShapeInRange (p .shape) → soakedGrid p (soakedIn rec) ≤ mostSquares * word
-    unfolding soakedGrid
-    soaked-grid-small f = omega (arith, soaked-sum-small (squares (p .shape)), mul-le-mul-right word (f .few))

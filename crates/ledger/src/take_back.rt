@@ -44,7 +44,7 @@ use reckon::numbers::number;
 use reckon::ranges::MOST_DEPTH;
 
 // Refusal 1: the shape is in range, and marks, depths and last leaving have one number a square.
-fn sizes_fine(shape: Shape, marks: &[u8], depths: &[u32], lasts: &[u32]) -> bool
+fn back_sizes_fine(shape: Shape, marks: &[u8], depths: &[u32], lasts: &[u32]) -> bool
     ensures { λ r. ⌜ r ≡ every (shapeFine shape ∷ oneEach (plan shape (now (marks .entry))) (now (marks .entry)) ∷ oneEach (plan shape (now (marks .entry))) (now (depths .entry)) ∷ oneEach (plan shape (now (marks .entry))) (now (lasts .entry)) ∷ []) ⌝ }
 {
     if !shape_fine(shape) {
@@ -70,7 +70,7 @@ fn early_refusal(
 ) -> u32
     ensures { λ r. ⌜ EarlyRefused (plan shape (now (marks .entry))) (world (now (depths .entry)) (now (lasts .entry)) (now (records .entry)) run) r ⌝ }
 {
-    if !sizes_fine(shape, marks, depths, lasts) {
+    if !back_sizes_fine(shape, marks, depths, lasts) {
         return 1;
     }
     if !marks_fine(shape, marks) {

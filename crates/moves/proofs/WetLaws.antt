@@ -206,7 +206,7 @@ module _ {p : Plan} {o : Ground} {depths lasts added : List ℕ} {start ms first
         at column g b z (no e) =
             left-elsewhere one (first + column) (λ q. e (omega (arith, q))) ∙ f .left-at column (omega arith) b z
 
-    -- the mask of the senders has room in 64 bits
+    -- the mask of the senders fits 64 bits
     pub senders-fit : c ≤ bits → senders < 2 ^ bits
     senders-fit h = omega (arith, f .senders-are, mask-small (sends p (leavesFor p o depths lasts ms)) first c, pow-mono {i = c} {j = bits} h)
 

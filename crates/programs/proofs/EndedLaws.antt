@@ -15,7 +15,7 @@ use Rattle.text.specs.Writing.{Wrote}
 use Rattle.text.proofs.WritingLaws.{wrote-length}
 use Rattle.answer.specs.Printed.{refusedText, madeText}
 use Rattle.answer.proofs.PrintLaws.{refused-short, made-short}
-use Rattle.programs.specs.Program.{roomFor, mostPrinted, endedText, ranText, PutRan, Prints}
+use Rattle.programs.specs.Program.{bytesFor, mostPrinted, endedText, ranText, PutRan, Prints}
 
 -- the numbers of a run's answer fit their words
 pub record Words (depths : List ℕ) (a : Ran) : Type 0 where
@@ -27,14 +27,14 @@ pub record Words (depths : List ℕ) (a : Ran) : Type 0 where
   pub clock-is : a .run .clock < 2 ^ 64
 
 module _ (p : Plan) (depths : List ℕ) (a : Ran) (few : squares (p .shape) ≤ mostSquares) (w : Words depths a) where
-  pub made-fits : length (madeText p depths (a .run) (a .steps)) ≤ roomFor (squares (p .shape))
+  pub made-fits : length (madeText p depths (a .run) (a .steps)) ≤ bytesFor (squares (p .shape))
   made-fits =
       omega (arith, made-short p depths (a .run) (a .steps) few (w .depths-are) (w .outflow-is) (w .soaked-is) (w .steps-are) (w .clock-is))
 
-  ran-fits : length (ranText p depths a) ≤ roomFor (squares (p .shape))
+  ran-fits : length (ranText p depths a) ≤ bytesFor (squares (p .shape))
   unfolding endedText
   ran-fits =
-      pick-both (λ (t : List ℕ). length t ≤ roomFor (squares (p .shape))) _ made-fits
+      pick-both (λ (t : List ℕ). length t ≤ bytesFor (squares (p .shape))) _ made-fits
       (omega (arith, refused-short (a .refused) 0 (w .number-is) (omega arith)))
 
   pub ran-refused :

@@ -26,8 +26,8 @@ abbrev pub programSquares : ℕ
 programSquares = 1_024
 
 -- the bytes that always suffice for what is printed of so many squares; and of the program's most
-abbrev pub roomFor : ℕ → ℕ
-roomFor n = 38 * n + 128
+abbrev pub bytesFor : ℕ → ℕ
+bytesFor n = 38 * n + 128
 
 abbrev pub mostPrinted : ℕ
 mostPrinted = 40_960
@@ -67,7 +67,7 @@ pub record RunsSheet (h : Heading) (held : Rooms) (a : Ran) (depths lasts record
 
 pub record PutRan (p : Plan) (depths : List ℕ) (a : Ran) (at : ℕ) (old new : List ℕ) (r : ℕ) : Type 0 where
   pub wrote : Wrote (ranText p depths a) at old new r
-  pub fits : length (ranText p depths a) ≤ roomFor (squares (p .shape))
+  pub fits : length (ranText p depths a) ≤ bytesFor (squares (p .shape))
 
 -- the text at the start of a room, where it fits; the rest of the room stays; the last two follow, and are what `&out[..r]` asks
 pub record Prints (t old new : List ℕ) (r : ℕ) : Type 0 where

@@ -7,7 +7,7 @@ pub const MOST_TEXT: usize = 65_536;
 
 pub const TEXT_ROOM: usize = MOST_TEXT + 1;
 
-// The most squares, and room for one record of them.
+// The most squares, and the numbers of a room that holds one record of them.
 pub const PROGRAM_SQUARES: usize = 1_024;
 
 pub const RECORD_ROOM: usize = HEAD_WORDS + SQUARE_WORDS * PROGRAM_SQUARES;

@@ -8,7 +8,7 @@ ghost use Prim.Native.Nat.{_+_, _≤_};
 ghost use lib.ListN.{length};
 ghost use Rattle.grid.specs.Squares.{ShapeInRange, squares};
 ghost use Rattle.ledger.specs.Runs.{plan};
-ghost use Rattle.programs.specs.Program.{PutRan, roomFor};
+ghost use Rattle.programs.specs.Program.{PutRan, bytesFor};
 
 // What a run left, or its refusal alone, put into a lent room at a place.
 pub fn put_ran(
@@ -20,7 +20,7 @@ pub fn put_ran(
     ran: Ran,
 ) -> usize
     requires { ⌜ (ShapeInRange shape) × (squares shape ≡ length (now marks)) × (squares shape ≡ length (now depths)) ⌝ }
-    requires { ⌜ at + roomFor (squares shape) ≤ length (now out) ⌝ }
+    requires { ⌜ at + bytesFor (squares shape) ≤ length (now out) ⌝ }
     ensures { λ r. ⌜ PutRan (plan shape (now (marks .entry))) (now (depths .entry)) ran at (now (out .entry)) (now (out .exit)) r ⌝ }
 {
     if ran.refused != 0 {

@@ -8,7 +8,7 @@ ghost use mathlib.Core.Path.{_≡_};
 ghost use Rattle.sheet.specs.Sheet.{checksIn, noLasts, noRecords, rooms};
 ghost use Rattle.programs.specs.Program.{RunsSheet};
 
-// Lent are the parts of the rooms that belong to a sheet that was read well, no last leaving, and room for one record.
+// Lent are the parts of the rooms that belong to a sheet that was read well, no last leaving, and a room for one record.
 pub fn run_sheet(
     heading: Heading,
     marks: &[u8],

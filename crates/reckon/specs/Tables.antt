@@ -19,7 +19,7 @@ rainKind = record { width = 3; lead = 0; most = mostRain }
 abbrev pub inflowKind : Kind
 inflowKind = record { width = 5; lead = 2; most = mostLitres }
 
--- "192 for rain or 320 for inflow": room for the most rows
+-- "192 for rain or 320 for inflow": the numbers of a room for the most rows
 abbrev pub tableRoom : Kind → ℕ
 tableRoom k = k .width * mostTableRows
 

@@ -32,7 +32,7 @@ pub const RAIN_WIDTH: usize = 3;
 
 pub const INFLOW_WIDTH: usize = 5;
 
-// Room for the most rows of each.
+// The numbers of a room for the most rows of each.
 pub const RAIN_ROOM: usize = RAIN_WIDTH * MOST_TABLE_ROWS;
 
 pub const INFLOW_ROOM: usize = INFLOW_WIDTH * MOST_TABLE_ROWS;

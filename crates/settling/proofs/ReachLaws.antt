@@ -29,7 +29,7 @@ use Rattle.ledger.specs.Flows.{shut, gone, sent, came}
 use Rattle.ledger.specs.Record.{leavesIn}
 use Rattle.ledger.specs.After.{remains, newDepth, depthsFit}
 use Rattle.ledger.specs.inner.Walks.{sends}
-use Rattle.settling.specs.inner.Settle.{movesIn, depthBy, depthsBy, SentBy, Told, RoomDepths, reachedRow, reachedAt, NoneBeyond, fitsAt, Written, skipsIn, skipsBy, workedRow}
+use Rattle.settling.specs.inner.Settle.{movesIn, depthBy, depthsBy, SentBy, WalkTells, RoomDepths, reachedRow, reachedAt, NoneBeyond, fitsAt, Written, skipsIn, skipsBy, workedRow}
 use Rattle.ledger.proofs.FlowLaws.{four-sides}
 use Rattle.settling.proofs.SpreadLaws.{side-part}
 
@@ -73,7 +73,7 @@ module _ (p : Plan) (rec rows : List ℕ) (by : SentBy p rec rows) where
         (four-sides (sent p (leavesIn rec) i) (none north (omega arith)) (none east (omega arith)) (none south (omega arith)) (none west (omega arith)))
 
 -- a square that is not reached, if it is not closed, has no water before and none after
-module _ {p : Plan} {rec depths lasts left worked senders : List ℕ} (t : Told p rec depths lasts left worked senders) (f : ShapeInRange (p .shape))
+module _ {p : Plan} {rec depths lasts left worked senders : List ℕ} (t : WalkTells p rec depths lasts left worked senders) (f : ShapeInRange (p .shape))
     (l : length (p .marks) ≡ squares (p .shape)) where
   module _ {i : ℕ} (h : i < squares (p .shape)) (c : reachedAt (p .shape) worked senders i ≡ false) (o : shut p i ≡ false) where
     both-clear :
@@ -261,7 +261,7 @@ skips-row p row {first} e masks q i a b =
 or-left : (a b : Bool) → a ≡ true → (a || b) ≡ true
 or-left a b e = rw e
 
-module _ {p : Plan} {rec depths lasts left worked senders : List ℕ} (t : Told p rec depths lasts left worked senders) where
+module _ {p : Plan} {rec depths lasts left worked senders : List ℕ} (t : WalkTells p rec depths lasts left worked senders) where
   pub lasts-written :
       {new : List ℕ} → Written (skipsBy p (workedRow worked)) (λ i. getD left i 0) 0 (squares (p .shape)) lasts new →
       new ≡ filled (squares (p .shape)) (shut p) (gone (leavesIn rec)) lasts

@@ -5,13 +5,11 @@ use mathlib.Core.Bool.{Bool, true, false}
 use mathlib.Core.List.{List}
 use Prim.Native.Nat.{ℕ, _+_, _≤_, _<_}
 use native.Mathlib.Omega.{arith}
-use lib.Dec.{leb}
 use lib.ListN.{length}
-use borrow.Author.Tests.{le-leb, lt-leb, eq-eqb, ne-eqb}
+use borrow.Author.Tests.{eq-eqb, ne-eqb}
 use Rattle.reckon.specs.Tests.{refusal}
 use Rattle.reckon.specs.Lists.{filled, placed}
-use Rattle.reckon.specs.Ranges.{mostOutflow, mostSoaked}
-use Rattle.reckon.proofs.TestLaws.{pick-true, pick-false, refusal-here, refusal-later, passed-refusal}
+use Rattle.reckon.proofs.TestLaws.{pick-true, pick-false}
 use Rattle.trials.specs.Ring.{slotsIn, slotStart, slotAfter, keptAfter}
 use Rattle.trials.proofs.RingLaws.{after-below}
 use Rattle.grid.specs.Squares.{squares}

@@ -24,7 +24,7 @@ use Rattle.ledger.specs.Flows.{Leaves, fourSides, shut, gone, sent, came, offSi
 use Rattle.ledger.specs.Record.{leavesIn, addedIn, soakedIn}
 use Rattle.ledger.specs.After.{remains, newDepth}
 use Rattle.settling.specs.declared.spread.Lost.{Lost}
-use Rattle.settling.specs.inner.Settle.{movesIn, Spreads, IdleAt, RoomAdded, cameBelow, staysBelow, brings, bringsAll, Grown, mostRoom, Roomy, SpreadTo, SpreadAll}
+use Rattle.settling.specs.inner.Settle.{movesIn, Spreads, IdleAt, RoomAdded, cameBelow, staysBelow, brings, bringsAll, Grown, mostInRoom, SpaceLeft, SpreadTo, SpreadAll}
 use Rattle.ledger.proofs.FlowLaws.{four-sides, sent-none, soaked-open}
 
 -- what leaves through a side is part of what leaves
@@ -289,11 +289,11 @@ module _ (p : Plan) (rec : List ℕ) (n side : ℕ) where
       }
 
   -- a room with space for more has so much less of it after that
-  pub roomy-after :
-      (more : ℕ) {old new : List ℕ} → Roomy p (more + mostDepth) old → Grown p (brings p rec n side) old new → leavesIn rec n side ≤ mostDepth →
-      Roomy p more new
+  pub space-after :
+      (more : ℕ) {old new : List ℕ} → SpaceLeft p (more + mostDepth) old → Grown p (brings p rec n side) old new → leavesIn rec n side ≤ mostDepth →
+      SpaceLeft p more new
   unfolding brings
-  roomy-after more r g few i k o =
+  space-after more r g few i k o =
       omega (
         arith,
         r i k o,
@@ -312,12 +312,12 @@ brought-all p rec n x y z w =
     }
 
 -- the room with what remains of the next square: space for what that sends
-pub roomy-next :
+pub space-next :
     {p : Plan} {rec depths : List ℕ} (g : Spreads p rec depths) {n : ℕ} {lost : Lost} {room mid : List ℕ} {x : ℕ} → SpreadTo p rec depths n lost room →
-    n < squares (p .shape) → shut p n ≡ false → x ≡ getD room n 0 + stays p rec depths n → mid ≡ set room n x → Roomy p (4 * mostDepth) mid
-roomy-next {p} {rec} {depths} g {n} {lost} {room} {mid} {x} t inside o q e i h c = go (ℕ-discrete i n)
+    n < squares (p .shape) → shut p n ≡ false → x ≡ getD room n 0 + stays p rec depths n → mid ≡ set room n x → SpaceLeft p (4 * mostDepth) mid
+space-next {p} {rec} {depths} g {n} {lost} {room} {mid} {x} t inside o q e i h c = go (ℕ-discrete i n)
   where
-    go : Dec (i ≡ n) → getD mid i 0 + 4 * mostDepth ≤ mostRoom
+    go : Dec (i ≡ n) → getD mid i 0 + 4 * mostDepth ≤ mostInRoom
     go (yes z) =
         let here : getD mid i 0 ≡ x =
         ap (λ (l : List ℕ). getD l i 0) e ∙ subst (λ (j : ℕ). getD (set room n x) j 0 ≡ x) (sym z) (getD-set-same room n x 0 (omega (arith, t .long))) in

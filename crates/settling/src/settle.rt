@@ -6,7 +6,7 @@ ghost use lib.ListN.{length};
 ghost use Rattle.reckon.specs.Tests.{allBelow};
 ghost use Rattle.grid.specs.Squares.{ShapeInRange, squares};
 ghost use Rattle.ledger.specs.Runs.{plan, world};
-ghost use Rattle.settling.specs.inner.Settle.{NoneBeyond, RoomAdded, Settles, SettlesTo, SurelyJudged, Told, fitsAt, joinedAll, lateNumber, nextRecord, settleNumber};
+ghost use Rattle.settling.specs.inner.Settle.{NoneBeyond, RoomAdded, Settles, SettlesTo, SurelyJudged, WalkTells, fitsAt, joinedAll, lateNumber, nextRecord, settleNumber};
 use crate::reach::all_fit;
 use crate::reach::write_water;
 use crate::spread::spread;
@@ -105,7 +105,7 @@ pub fn settle(
     room: &mut [u32],
 ) -> Settled
     requires { ⌜ Settles (plan shape (now marks)) (nextRecord (plan shape (now marks)) (world (now depths) (now lasts) (now records) run)) held (world (now depths) (now lasts) (now records) run) ⌝ }
-    requires { ⌜ Told (plan shape (now marks)) (nextRecord (plan shape (now marks)) (world (now depths) (now lasts) (now records) run)) (now depths) (now lasts) (now left) (now worked) (now senders) ⌝ }
+    requires { ⌜ WalkTells (plan shape (now marks)) (nextRecord (plan shape (now marks)) (world (now depths) (now lasts) (now records) run)) (now depths) (now lasts) (now left) (now worked) (now senders) ⌝ }
     requires { ⌜ RoomAdded (plan shape (now marks)) (nextRecord (plan shape (now marks)) (world (now depths) (now lasts) (now records) run)) (now room) ⌝ }
     requires { ⌜ (sure ≡ true → settleNumber (plan shape (now marks)) (nextRecord (plan shape (now marks)) (world (now depths) (now lasts) (now records) run)) held (world (now depths) (now lasts) (now records) run) ≡ 0) ⌝ }
     ensures { λ r. ⌜ SettlesTo (plan shape (now (marks .entry))) (nextRecord (plan shape (now (marks .entry))) (world (now (depths .entry)) (now (lasts .entry)) (now (records .entry)) run)) held (world (now (depths .entry)) (now (lasts .entry)) (now (records .entry)) run) (r .refused) (world (now (depths .exit)) (now (lasts .exit)) (now (records .entry)) (r .run)) ⌝ }

@@ -12,7 +12,7 @@ ghost use Rattle.grid.specs.inner.Rows.{InRow};
 ghost use Rattle.ledger.specs.Runs.{plan};
 ghost use Rattle.ledger.specs.Flows.{gone, offSide, offSquare, shut};
 ghost use Rattle.ledger.specs.Record.{leavesIn};
-ghost use Rattle.settling.specs.inner.Settle.{Grown, IdleAt, IdleBy, LeftBy, RoomAdded, Roomy, SendsFew, SpreadAll, SpreadTo, Spreads, WhereClear, WhereSet, brings, bringsAll};
+ghost use Rattle.settling.specs.inner.Settle.{Grown, IdleAt, IdleBy, LeftBy, RoomAdded, SpaceLeft, SendsFew, SpreadAll, SpreadTo, Spreads, WhereClear, WhereSet, brings, bringsAll};
 use grid::marks::is_closed;
 use grid::squares::EAST;
 use grid::squares::NORTH;
@@ -56,7 +56,7 @@ fn send_side(
     room: &mut [u32],
 ) -> u64
     requires { ⌜ (SendsFew (plan shape (now marks)) (now rec) square column) × (side < sides) ⌝ }
-    requires { ⌜ (Roomy (plan shape (now marks)) mostDepth (now room)) × (length (now room) ≡ length (now marks)) ⌝ }
+    requires { ⌜ (SpaceLeft (plan shape (now marks)) mostDepth (now room)) × (length (now room) ≡ length (now marks)) ⌝ }
     ensures { λ r. ⌜ (r ≡ offSide (plan shape (now (marks .entry))) (leavesIn (now (rec .entry))) square side) × (Grown (plan shape (now (marks .entry))) (brings (plan shape (now (marks .entry))) (now (rec .entry)) square side) (now (room .entry)) (now (room .exit))) ⌝ }
 {
     let amount = leaving(rec, square, side);
@@ -78,7 +78,7 @@ fn send_by_sides(
     room: &mut [u32],
 ) -> u64
     requires { ⌜ (SendsFew (plan shape (now marks)) (now rec) square column) × (shut (plan shape (now marks)) square ≡ false) ⌝ }
-    requires { ⌜ (Roomy (plan shape (now marks)) (4 * mostDepth) (now room)) × (length (now room) ≡ length (now marks)) ⌝ }
+    requires { ⌜ (SpaceLeft (plan shape (now marks)) (4 * mostDepth) (now room)) × (length (now room) ≡ length (now marks)) ⌝ }
     ensures { λ r. ⌜ (r ≡ offSquare (plan shape (now (marks .entry))) (leavesIn (now (rec .entry))) square) × (Grown (plan shape (now (marks .entry))) (bringsAll (plan shape (now (marks .entry))) (now (rec .entry)) square) (now (room .entry)) (now (room .exit))) ⌝ }
 {
     let north = send_side(shape, marks, rec, square, column, NORTH, room);
@@ -98,7 +98,7 @@ fn send_within(
     room: &mut [u32],
 )
     requires { ⌜ (SendsFew (plan shape (now marks)) (now rec) square column) × (onRim shape square ≡ false) ⌝ }
-    requires { ⌜ (Roomy (plan shape (now marks)) (4 * mostDepth) (now room)) × (length (now room) ≡ length (now marks)) ⌝ }
+    requires { ⌜ (SpaceLeft (plan shape (now marks)) (4 * mostDepth) (now room)) × (length (now room) ≡ length (now marks)) ⌝ }
     ensures { λ _. ⌜ Grown (plan shape (now (marks .entry))) (bringsAll (plan shape (now (marks .entry))) (now (rec .entry)) square) (now (room .entry)) (now (room .exit)) ⌝ }
 {
     let columns = shape.columns;
@@ -118,7 +118,7 @@ fn send(
     room: &mut [u32],
 ) -> u64
     requires { ⌜ (SendsFew (plan shape (now marks)) (now rec) square column) × (shut (plan shape (now marks)) square ≡ false) ⌝ }
-    requires { ⌜ (Roomy (plan shape (now marks)) (4 * mostDepth) (now room)) × (length (now room) ≡ length (now marks)) ⌝ }
+    requires { ⌜ (SpaceLeft (plan shape (now marks)) (4 * mostDepth) (now room)) × (length (now room) ≡ length (now marks)) ⌝ }
     ensures { λ r. ⌜ (r ≡ offSquare (plan shape (now (marks .entry))) (leavesIn (now (rec .entry))) square) × (Grown (plan shape (now (marks .entry))) (bringsAll (plan shape (now (marks .entry))) (now (rec .entry)) square) (now (room .entry)) (now (room .exit))) ⌝ }
 {
     if on_rim(shape, square, column) {

@@ -104,7 +104,7 @@ module _ (s : List ℕ) (before : Rooms) (h : Heading) (w : Well s before h) (la
         rates-alike = λ i k. let o = not-closed i k in room-alike n _ _ (before .cells .rates) (replicate n 0) i (o .0) (o .1) (cells .3) (omega (arith, zeros));
         depths-alike = λ i k. let o = not-closed i k in room-alike n _ _ (before .cells .depths) (replicate n 0) i (o .0) (o .1) (cells .4) (omega (arith, zeros));
         lasts-none = none;
-        room-one = one;
+        slot-one = one;
       })
 
   pub sheet-passes :

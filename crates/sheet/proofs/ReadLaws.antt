@@ -135,8 +135,8 @@ module _ {s : List ℕ} {top : GridLine} {run : RunLine} (k : HeadRead s top run
         after-at : inflow .next ≡ afterAll s
         after-at = inflow-are .next-is ∙ ap (lineFrom s (inflowAt s)) (inflow-are .count-is)
 
-        pub body-room : squares (top .shape) + rain .count + inflow .count + 2 ≤ inflow .next
-        body-room = omega (arith, two-low, c .passed, ra .passed, fl .passed, h)
+        pub body-lines : squares (top .shape) + rain .count + inflow .count + 2 ≤ inflow .next
+        body-lines = omega (arith, two-low, c .passed, ra .passed, fl .passed, h)
 
         cells-fine : leb (squares (shapeOf s)) (cellsRead s (cellsAt s) (shapeOf s)) ≡ true
         cells-fine = le-leb (squares (shapeOf s)) (cellsRead s (cellsAt s) (shapeOf s)) (omega (arith, all-cells, cells-are .count-is))

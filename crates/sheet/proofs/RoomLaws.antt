@@ -287,7 +287,7 @@ module _ (s : List ℕ) (p : ℕ) (word : List ℕ) (width : ℕ) (few : width �
         (omega (arith, fits, table-long i, row-long i))
         ∙ ap (placed old 0) (sym (joined-more i _))))))
 
--- there is room for one row more
+-- one row more fits
 pub table-fits : (width : ℕ) {i count long : ℕ} → i < count → width * count ≤ long → width * i + width ≤ long
 table-fits width {i} l h = omega (arith, mul-le-mul-left width l, mul-suc width i, h)
 

@@ -11,7 +11,7 @@ use Rattle.reckon.specs.Tests.{refusal}
 use Rattle.reckon.specs.Ranges.{mostDepth, lastClock, mostOutflow, mostSoaked, waterFine}
 use Rattle.reckon.proofs.TestLaws.{or-right, or-of, every-each, each-every, all-at, all-of, refusal-passed, passed-refusal}
 use Rattle.trials.specs.Ring.{ringFine}
-use Rattle.grid.specs.Squares.{ShapeInRange, squares}
+use Rattle.grid.specs.Squares.{squares}
 use Rattle.grid.specs.declared.squares.Shape.{Shape}
 use Rattle.rule.specs.declared.rules.Rules.{Rules}
 use Rattle.ledger.specs.Runs.{world, seenOf, runValuesFine}
@@ -36,15 +36,6 @@ module _ (shape : Shape) (r : Rules) (held : Rooms) (end : ℕ) (e : checksIn sh
   pub is-ready : Ready (planIn shape r held) (givenIn shape r held) (seenOf (startIn shape r held))
   is-ready = ready _ _ _ _ step-zero
 
-  pub run-shape : ShapeInRange shape
-  run-shape = is-ready .waters .fine
-
-  pub run-marks : length (held .cells .marks) ≡ squares shape
-  run-marks = is-ready .waters .marks-long
-
-  pub run-depths : length (held .cells .depths) ≡ squares shape
-  run-depths = is-ready .flows .lies .sited .depths-long
-
 -- rooms of one number a square that are alike where no square is closed
 pub record Handed (shape : Shape) (r : Rules) (held : Rooms) (beds roughness rates depths lasts records : List ℕ) : Type 0 where
   pub beds-long : length beds ≡ squares shape
@@ -57,7 +48,7 @@ pub record Handed (shape : Shape) (r : Rules) (held : Rooms) (beds roughness rat
   pub rates-alike : (i : ℕ) → shut (planIn shape r held) i ≡ false → getD rates i 0 ≡ getD (held .cells .rates) i 0
   pub depths-alike : (i : ℕ) → shut (planIn shape r held) i ≡ false → getD depths i 0 ≡ getD (held .cells .depths) i 0
   pub lasts-none : (i : ℕ) → shut (planIn shape r held) i ≡ false → getD lasts i 0 ≡ 0
-  pub room-one : 1 ≤ roomSlots (planIn shape r held) records
+  pub slot-one : 1 ≤ roomSlots (planIn shape r held) records
 
 pub ring-fresh : (K : ℕ) → 1 ≤ K → ringFine K 0 (K - 1) ≡ true
 unfolding ringFine
@@ -117,7 +108,7 @@ run-passes shape r held end e beds roughness rates depths lasts records g =
               rows .1 .1 .1 .1 .0,
               (
                 each-every _ (
-                  ring-fresh (roomSlots p records) (g .room-one),
+                  ring-fresh (roomSlots p records) (g .slot-one),
                   (le-leb 0 lastClock (omega arith), (every-each _ (rows .1 .1 .1 .1 .1 .0) .1 .1 .0, (every-each _ (rows .1 .1 .1 .1 .1 .0) .1 .1 .1 .0, (le-leb 0 mostOutflow (omega arith), (le-leb 0 mostSoaked (omega arith), tt))))),
                 ),
                 tt,

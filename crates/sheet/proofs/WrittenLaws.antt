@@ -129,14 +129,14 @@ module _ (s : List ℕ) (before after : Rooms) (h : Heading) (R : Reads s before
   rain-put : (m : ℕ) → m < rainKind .width * rainRows s → getD (placed (before .rain) 0 (rainTable s)) m 0 ≡ getD (rainTable s) m 0
   rain-put m l =
       let long = table-long s (rainAt s) rainWord (rainKind .width) (omega arith) (rainRows s) in
-      let roomy = rooms-tables (shapeOf s) (lineOne s .side) before (is-well .fine) .0 in
-      table-put (before .rain) (rainTable s) (omega (arith, long, roomy, rain-few s (is-well .checks))) m (omega (arith, long, l))
+      let rooms-good = rooms-tables (shapeOf s) (lineOne s .side) before (is-well .fine) .0 in
+      table-put (before .rain) (rainTable s) (omega (arith, long, rooms-good, rain-few s (is-well .checks))) m (omega (arith, long, l))
 
   inflow-put : (m : ℕ) → m < inflowKind .width * inflowRows s → getD (placed (before .inflow) 0 (inflowTable s)) m 0 ≡ getD (inflowTable s) m 0
   inflow-put m l =
       let long = table-long s (inflowAt s) inflowWord (inflowKind .width) (omega arith) (inflowRows s) in
-      let roomy = rooms-tables (shapeOf s) (lineOne s .side) before (is-well .fine) .1 in
-      table-put (before .inflow) (inflowTable s) (omega (arith, long, roomy, inflow-few s (is-well .checks))) m (omega (arith, long, l))
+      let rooms-good = rooms-tables (shapeOf s) (lineOne s .side) before (is-well .fine) .1 in
+      table-put (before .inflow) (inflowTable s) (omega (arith, long, rooms-good, inflow-few s (is-well .checks))) m (omega (arith, long, l))
 
   held-read : Held s after
   unfolding roomsAfter roomsFilled

@@ -171,7 +171,7 @@ roomsFine shape D lent =
     ∷ leb (tableRoom inflowKind) (length (lent .inflow))
     ∷ [])
 
--- ---- "then 2 to 5": the checks of a run to the sheet's end, from a fresh run with room for one record (`never-one`, `never-six`)
+-- ---- "then 2 to 5": the checks of a run to the sheet's end, from a fresh run with a room for one record (`never-one`, `never-six`)
 
 -- the plan, what is given and the world of a fresh run, by what rooms hold
 module _ (shape : Shape) (r : Rules) (held : Rooms) where

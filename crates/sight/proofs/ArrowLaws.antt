@@ -306,9 +306,9 @@ module _ (p : Plan) (D : ℕ) (w : World) (row column : ℕ) {n : ℕ} (e : n �
 -- the part of the room that is lent
 module _ {p : Plan} {D : ℕ} {w : World} {row column : ℕ} (left : Open p D w row column) {size at : ℕ}
     (s : size ≡ recordSize p) (a : at ≡ slotStart size (w .run .newest)) where
-  pub room-within : at + size ≤ length (w .records)
+  pub record-within : at + size ≤ length (w .records)
   unfolding roomSlots
-  room-within =
+  record-within =
       let inside : w .run .newest < slotsIn size (length (w .records)) = rw s (left .newest-in) in
       omega (arith, slot-within size (omega arith) inside)
 
@@ -321,7 +321,7 @@ module _ {p : Plan} {D : ℕ} {w : World} {row column : ℕ} (left : Open p D w 
 
   pub record-long : length (take (at + size - at) (drop at (w .records))) ≡ recordSize p
   record-long =
-      length-take-le (at + size - at) (drop at (w .records)) (omega (arith, length-drop at (w .records), room-within)) ∙ omega arith
+      length-take-le (at + size - at) (drop at (w .records)) (omega (arith, length-drop at (w .records), record-within)) ∙ omega arith
 
   pub laid : SightLent p (w .depths) (take (at + size - at) (drop at (w .records)))
   laid =

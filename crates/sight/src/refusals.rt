@@ -13,7 +13,7 @@ use ledger::lent::one_each;
 use ledger::lent::waters_fine;
 
 // Refusal 1: the shape is in range, and marks and depths have one number a square.
-fn sizes_fine(shape: Shape, marks: &[u8], depths: &[u32]) -> bool
+fn seen_sizes_fine(shape: Shape, marks: &[u8], depths: &[u32]) -> bool
     ensures { λ r. ⌜ r ≡ every (shapeFine shape ∷ oneEach (plan shape (now (marks .entry))) (now (marks .entry)) ∷ oneEach (plan shape (now (marks .entry))) (now (depths .entry)) ∷ []) ⌝ }
 {
     if !shape_fine(shape) {
@@ -37,7 +37,7 @@ fn depths_fine(shape: Shape, marks: &[u8], depths: &[u32]) -> bool
 pub(crate) fn shared_refusal(shape: Shape, marks: &[u8], depths: &[u32], more: bool) -> u32
     ensures { λ r. ⌜ r ≡ refusal (sharedRefusals (plan shape (now (marks .entry))) (now (depths .entry)) more) ⌝ }
 {
-    if !sizes_fine(shape, marks, depths) {
+    if !seen_sizes_fine(shape, marks, depths) {
         return 1;
     }
     if !more {

@@ -145,17 +145,17 @@ pub record Left (rest : List ℕ) (p : ℕ) (room total : List ℕ) (at : ℕ) (
 pub left-all : (t : List ℕ) (at : ℕ) (old : List ℕ) → at + length t ≤ length old → Left t at old t at old
 left-all t at old h = record { fits = h; long = refl; ends = refl; same = refl }
 
--- there is room for the next piece
-pub left-room :
+-- the next piece fits
+pub left-fits :
     (v rest : List ℕ) {room total old : List ℕ} {p at : ℕ} → Left (v ++ rest) p room total at old →
     p + length v + length rest ≤ length room
-left-room v rest l = omega (arith, l .fits, l .long, l .ends, length-append v rest)
+left-fits v rest l = omega (arith, l .fits, l .long, l .ends, length-append v rest)
 
 pub left-step :
     {v rest room new total old : List ℕ} {p q at : ℕ} → Left (v ++ rest) p room total at old → Wrote v p room new q →
     Left rest q new total at old
 left-step {v} {rest} {room} {new} {total} {old} {p} {q} {at} l w =
-    let h : p + length v + length rest ≤ length room = left-room v rest l in
+    let h : p + length v + length rest ≤ length room = left-fits v rest l in
     record {
       fits = l .fits;
       long = wrote-length (omega arith) w ∙ l .long;

@@ -54,7 +54,7 @@ counter-laws = record {
   unmake-made = λ {i} {v} {made} e. rw (counted true i v made e .is-it);
 }
 
--- a fresh run with room for one record
+-- a fresh run whose room has one slot
 one-slot : State counter
 one-slot = record { seen = 5; room = 9 ∷ []; kept = 0; newest = 0 }
 
@@ -76,7 +76,7 @@ first-stands : series counter (stepping 7 ∷ stepping 3 ∷ takingBack ∷ taki
 unfolding one-slot series step takeBack andThen pick every placed recordIn slotAfter slotBefore ringFine
 first-stands = refl
 
--- with room for two, both are taken back
+-- with two slots, both are taken back
 both-back :
     series counter (stepping 7 ∷ stepping 3 ∷ takingBack ∷ takingBack ∷ [])
     (start counter (record { seen = 5; room = 9 ∷ 9 ∷ []; kept = 0; newest = 1 })) .at .seen ≡ 5

@@ -120,6 +120,11 @@ class Sheet:
         return "".join(line + "\n" for line in lines)
 
 
+def total_of(kind, words):
+    """A property of an answer: the number on its line of a kind."""
+    return property(lambda answer: answer.totals[kind], doc=words)
+
+
 class Answer:
     """What `meadow` printed of a sheet: depths by place, and the totals by their word. A refusal is no answer, nor is a part of one."""
 
@@ -147,25 +152,10 @@ class Answer:
         if self.text != answer_text(self.depths, totals):
             raise Unreadable("this is no answer of meadow: a line is doubled, out of order or not ended")
 
-    @property
-    def out(self):
-        """What left by the exits, in µm over one square."""
-        return self.totals["out"]
-
-    @property
-    def soaked(self):
-        """What soaked into the ground, in µm over one square."""
-        return self.totals["soak"]
-
-    @property
-    def steps(self):
-        """How many steps were made."""
-        return self.totals["steps"]
-
-    @property
-    def clock(self):
-        """Where the run came to, in ms."""
-        return self.totals["clock"]
+    out = total_of("out", "What left by the exits, in µm over one square.")
+    soaked = total_of("soak", "What soaked into the ground, in µm over one square.")
+    steps = total_of("steps", "How many steps were made.")
+    clock = total_of("clock", "Where the run came to, in ms.")
 
     def depth(self, place):
         """The depth of a square, which the answer must have."""

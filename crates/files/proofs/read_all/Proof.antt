@@ -1,6 +1,6 @@
 -- `files::read_all` meets its contract: what came lies between the room's start and the position, and the position grows.
 -- Assumes nothing.
-use mathlib.Core.Path.{refl, _∙_}
+use mathlib.Core.Path.{refl}
 use Prim.Native.Nat.{_-_}
 use native.Mathlib.Omega.{arith}
 use lib.ListN.{length}

@@ -144,7 +144,7 @@ abbrev pub SentBy : Plan → List ℕ → List ℕ → Type 0
 SentBy p rec rows = (i : ℕ) → i < squares (p .shape) → bitOf (p .shape) rows i ≡ false → sends p (leavesIn rec) i ≡ false
 
 -- what a step's walk tells: the rows of the squares that it worked and those of the squares that sent, and what left each that it worked
-pub record Told (p : Plan) (rec depths lasts left worked senders : List ℕ) : Type 0 where
+pub record WalkTells (p : Plan) (rec depths lasts left worked senders : List ℕ) : Type 0 where
   pub left-long : length left ≡ squares (p .shape)
   pub worked-long : length worked ≡ p .shape .rows
   pub senders-long : length senders ≡ p .shape .rows
@@ -181,12 +181,12 @@ pub record Grown (p : Plan) (amount : ℕ → ℕ) (old new : List ℕ) : Type 0
   pub grown : (i : ℕ) → i < squares (p .shape) → shut p i ≡ false → getD new i 0 ≡ getD old i 0 + amount i
 
 -- the most that a room's number comes to: what a square holds, what is added, and what four neighbours send, twice over
-abbrev pub mostRoom : ℕ
-mostRoom = 10 * mostDepth
+abbrev pub mostInRoom : ℕ
+mostInRoom = 10 * mostDepth
 
 -- a room with space left for so much at each square not closed
-abbrev pub Roomy : Plan → ℕ → List ℕ → Type 0
-Roomy p more room = (i : ℕ) → i < squares (p .shape) → shut p i ≡ false → getD room i 0 + more ≤ mostRoom
+abbrev pub SpaceLeft : Plan → ℕ → List ℕ → Type 0
+SpaceLeft p more room = (i : ℕ) → i < squares (p .shape) → shut p i ≡ false → getD room i 0 + more ≤ mostInRoom
 
 -- a square not closed that sends no more than it can hold
 pub record SendsFew (p : Plan) (rec : List ℕ) (i column : ℕ) : Type 0 where

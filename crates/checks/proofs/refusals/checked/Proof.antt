@@ -8,7 +8,6 @@ use borrow.Author.Tests.{not-true, not-false}
 use borrow.Author.Needs.{needs}
 use Rattle.reckon.specs.Tests.{Row, refusal}
 use Rattle.reckon.proofs.TestLaws.{each-every, every-fails, refusal-here, refusal-later, passed-refusal}
-use Rattle.trials.specs.Ring.{slotsIn}
 use Rattle.ledger.specs.Runs.{plan, runFine, world, seenOf}
 use Rattle.ledger.specs.Record.{roomSlots, ringOf}
 use Rattle.checks.specs.Given.{ground, given}

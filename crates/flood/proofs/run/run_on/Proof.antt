@@ -1,43 +1,50 @@
 -- `flood::run::run_on` meets its contract: where the loop has come to, the run from there is the whole run.
 -- Assumes nothing.
-use mathlib.Core.Path.{_≡_, refl, _∙_}
-use Prim.Native.Nat.{_-_}
+use mathlib.Core.Path.{_≡_, refl, sym, _∙_}
+use mathlib.Core.List.{List, _++_}
+use Prim.Native.Nat.{ℕ, _-_, _≤_}
 use native.Mathlib.Omega.{arith}
-use lib.ListN.{length}
+use lib.ListN.{length, take, drop, length-append, length-drop, length-replicate}
+use lib.Seq.{length-take-le}
 use borrow.Author.Needs.{needs}
+use Rattle.grid.specs.Squares.{ShapeInRange, mostAlong, mostSquares}
 use Rattle.ledger.specs.Runs.{Plan, World, plan, world}
 use Rattle.checks.specs.Given.{Given, ground, given}
+use Rattle.flood.proofs.StepLaws.{is-ready}
 use Rattle.flood.proofs.RunToLaws.{Running, running-starts, running-on, running-further, running-refused, running-ends}
 use Rattle.flood.proofs.run.run_on.Statement.{statement}
 use Rattle.flood.proofs.run.run_on.Tie as tie
 
 abbrev Inv-loop : tie.InvT-loop
-Inv-loop way end marks beds roughness rates rain inflow depths₀ lasts₀ records₀ left₀ worked₀ senders₀ room₀ at₀ steps₀ depths lasts records left worked senders room at steps =
+Inv-loop way end marks beds roughness rates rain inflow depths₀ lasts₀ records₀ squares rows left₀ worked₀ senders₀ room₀ at₀ steps₀ depths lasts records left worked senders room at steps =
     Running (plan (way .shape) marks) (given (ground (way .rules) beds roughness rates) rain inflow) end (world depths₀ lasts₀ records₀ at₀) (world depths lasts records at) steps
     × (length depths ≡ length depths₀)
     × (length lasts ≡ length lasts₀)
     × (length records ≡ length records₀)
-    × (length left ≡ length left₀)
-    × (length worked ≡ length worked₀)
-    × (length senders ≡ length senders₀)
-    × (length room ≡ length room₀)
+    × (length left ≡ mostSquares)
+    × (length worked ≡ mostAlong)
+    × (length senders ≡ mostAlong)
+    × (length room ≡ mostSquares)
 
 abbrev μ-loop : tie.MeasureT-loop
-μ-loop way end marks beds roughness rates rain inflow depths₀ lasts₀ records₀ left₀ worked₀ senders₀ room₀ at₀ steps₀ depths lasts records left worked senders room at steps = end - at .clock
+μ-loop way end marks beds roughness rates rain inflow depths₀ lasts₀ records₀ squares rows left₀ worked₀ senders₀ room₀ at₀ steps₀ depths lasts records left worked senders room at steps = end - at .clock
 
 -- ---- the places, each by the one before it
 
-abbrev begin : tie.After-slice-known7 Inv-loop μ-loop → tie.Start Inv-loop μ-loop
-begin c = c .before .before .before .before .before .before .before .before .before .before .before .before .before
+abbrev begin : tie.After-squares-of Inv-loop μ-loop → tie.Start Inv-loop μ-loop
+begin c = c .before .before .before .before .before .before .before .before .before .before
 
 abbrev turned : tie.Then1 Inv-loop μ-loop → tie.At-loop Inv-loop μ-loop
 turned c = c .before .before
 
-abbrev to-step : tie.After-step-on-arg7 Inv-loop μ-loop → tie.Then1 Inv-loop μ-loop
-to-step c = c .before .before .before .before .before .before .before
+abbrev to-step : tie.After-step-on-arg3 Inv-loop μ-loop → tie.Then1 Inv-loop μ-loop
+to-step c = c .before .before .before
+
+abbrev lent : tie.After-step-on Inv-loop μ-loop → tie.Then1 Inv-loop μ-loop
+lent c = to-step (c .before .before .before .before .before)
 
 abbrev finished : tie.After-after Inv-loop μ-loop → tie.After-step-on Inv-loop μ-loop
-finished c = c .before .before .before .before .before .before .before .before .before .before .before .before .before .before .before
+finished c = c .before .before .before .before .before .before .before .before .before .before .before
 
 -- ---- what is known there
 
@@ -52,54 +59,90 @@ abbrev w : tie.Start Inv-loop μ-loop → World
 w s = world (s .args .depths .now) (s .args .lasts .now) (s .args .records .now) (s .args .run)
 
 abbrev under : tie.After-after Inv-loop μ-loop → tie.Then1 Inv-loop μ-loop
-under c = to-step (finished c .before)
+under c = lent (finished c)
+
+abbrev counted : tie.Then1 Inv-loop μ-loop → tie.After-squares-of Inv-loop μ-loop
+counted c = turned c .before
 
 abbrev start : tie.Then1 Inv-loop μ-loop → tie.Start Inv-loop μ-loop
-start c = begin (turned c .before)
+start c = begin (counted c)
 
--- the slices are as long after a step as before it
-kept-depths : (c : tie.After-step-on Inv-loop μ-loop) → length (c .step-on .last .1 .1 .1 .1 .1 .1 .1 .1 .0) ≡ length (turned (to-step (c .before)) .loop .depths)
-kept-depths c = c .step-on .kept .1 .1 .1 .1 .1 .1 .1 .1 .0
+fine : (s : tie.Start Inv-loop μ-loop) → ShapeInRange (s .args .way .shape)
+fine s = is-ready (p s) (g s) (w s) (s .pre .0 .checked) .waters .fine
 
-kept-lasts : (c : tie.After-step-on Inv-loop μ-loop) → length (c .step-on .last .1 .1 .1 .1 .1 .1 .1 .1 .1 .0) ≡ length (turned (to-step (c .before)) .loop .lasts)
-kept-lasts c = c .step-on .kept .1 .1 .1 .1 .1 .1 .1 .1 .1 .0
+squares-fit : (c : tie.Then1 Inv-loop μ-loop) → counted c .squares-of .result ≤ mostSquares
+squares-fit c = omega (arith, counted c .squares-of .ensures, fine (start c) .few)
 
-kept-records : (c : tie.After-step-on Inv-loop μ-loop) → length (c .step-on .last .1 .1 .1 .1 .1 .1 .1 .1 .1 .1 .0) ≡ length (turned (to-step (c .before)) .loop .records)
-kept-records c = c .step-on .kept .1 .1 .1 .1 .1 .1 .1 .1 .1 .1 .0
+rows-fit : (c : tie.Then1 Inv-loop μ-loop) → start c .args .way .shape .rows ≤ mostAlong
+rows-fit c = fine (start c) .rows-high
 
-kept-left : (c : tie.After-step-on Inv-loop μ-loop) → length (c .step-on .last .1 .1 .1 .1 .1 .1 .1 .1 .1 .1 .1 .0) ≡ length (turned (to-step (c .before)) .loop .left)
-kept-left c = c .step-on .kept .1 .1 .1 .1 .1 .1 .1 .1 .1 .1 .1 .0
+-- a part of a room is as long as it should be
+part : {n most : ℕ} (room : List ℕ) → length room ≡ most → n ≤ most → length (take n room) ≡ n
+part room long h = length-take-le _ room (omega (arith, long, h))
 
-kept-worked : (c : tie.After-step-on Inv-loop μ-loop) → length (c .step-on .last .1 .1 .1 .1 .1 .1 .1 .1 .1 .1 .1 .1 .0) ≡ length (turned (to-step (c .before)) .loop .worked)
-kept-worked c = c .step-on .kept .1 .1 .1 .1 .1 .1 .1 .1 .1 .1 .1 .1 .0
-
-kept-senders : (c : tie.After-step-on Inv-loop μ-loop) → length (c .step-on .last .1 .1 .1 .1 .1 .1 .1 .1 .1 .1 .1 .1 .1 .0) ≡ length (turned (to-step (c .before)) .loop .senders)
-kept-senders c = c .step-on .kept .1 .1 .1 .1 .1 .1 .1 .1 .1 .1 .1 .1 .1 .0
-
-kept-room : (c : tie.After-step-on Inv-loop μ-loop) → length (c .step-on .last .1 .1 .1 .1 .1 .1 .1 .1 .1 .1 .1 .1 .1 .1 .0) ≡ length (turned (to-step (c .before)) .loop .room)
-kept-room c = c .step-on .kept .1 .1 .1 .1 .1 .1 .1 .1 .1 .1 .1 .1 .1 .1 .0
+-- a room with a part of it written is as long as it was
+refilled : {n most : ℕ} (new old : List ℕ) → length new ≡ length (take n old) → length old ≡ most → n ≤ most → length (new ++ drop n old) ≡ most
+refilled {n} new old kept long h =
+    length-append new (drop n old) ∙ omega (arith, kept, part old long h, length-drop n old, long, h)
 
 -- ---- the answers
 
+squares-of-requires : tie.Need-squares-of-requires Inv-loop μ-loop
+squares-of-requires c κs = fine (c .before .before .before .before .before .before .before .before .before)
+
 loop-holds : tie.Need-loop-holds Inv-loop μ-loop
 loop-holds c =
-    let s = begin c in
-    (running-starts (p s) (g s) (s .args .end) (w s) (s .pre .0 .checked), refl, refl, refl, refl, refl, refl, refl)
+    let s = begin c in (
+      running-starts (p s) (g s) (s .args .end) (w s) (s .pre .0 .checked),
+      refl,
+      refl,
+      refl,
+      length-replicate {A = ℕ} mostSquares 0,
+      length-replicate {A = ℕ} mostAlong 0,
+      length-replicate {A = ℕ} mostAlong 0,
+      length-replicate {A = ℕ} mostSquares 0,
+    )
+
+array-borrow-prefix-left : tie.Need-array-borrow-prefix-left Inv-loop μ-loop
+array-borrow-prefix-left c = let at = to-step c in omega (arith, squares-fit at, turned at .loop .inv .4)
+
+slice-aggregate-step-on : tie.Need-slice-aggregate-step-on Inv-loop μ-loop
+slice-aggregate-step-on c = let at = to-step (c .before) in sym (part (turned at .loop .left) (turned at .loop .inv .4) (squares-fit at))
+
+array-borrow-prefix-worked : tie.Need-array-borrow-prefix-worked Inv-loop μ-loop
+array-borrow-prefix-worked c = let at = to-step (c .before) in omega (arith, rows-fit at, turned at .loop .inv .5)
+
+slice-aggregate-step-on-2 : tie.Need-slice-aggregate-step-on-2 Inv-loop μ-loop
+slice-aggregate-step-on-2 c = let at = to-step (c .before .before) in sym (part (turned at .loop .worked) (turned at .loop .inv .5) (rows-fit at))
+
+array-borrow-prefix-senders : tie.Need-array-borrow-prefix-senders Inv-loop μ-loop
+array-borrow-prefix-senders c = let at = to-step (c .before .before) in omega (arith, rows-fit at, turned at .loop .inv .6)
+
+slice-aggregate-step-on-3 : tie.Need-slice-aggregate-step-on-3 Inv-loop μ-loop
+slice-aggregate-step-on-3 c = let at = to-step (c .before .before .before) in sym (part (turned at .loop .senders) (turned at .loop .inv .6) (rows-fit at))
+
+array-borrow-prefix-room : tie.Need-array-borrow-prefix-room Inv-loop μ-loop
+array-borrow-prefix-room c = let at = to-step (c .before .before .before) in omega (arith, squares-fit at, turned at .loop .inv .7)
+
+slice-aggregate-step-on-4 : tie.Need-slice-aggregate-step-on-4 Inv-loop μ-loop
+slice-aggregate-step-on-4 c =
+    let at = to-step (c .before .before .before .before) in
+    sym (part (turned at .loop .room) (turned at .loop .inv .7) (squares-fit at))
 
 step-on-requires : tie.Need-step-on-requires Inv-loop μ-loop
 step-on-requires c κs =
-    let inv = turned (to-step c) .loop .inv in
-    let asked = start (to-step c) .pre .1 in
-    let rooms = asked .0 in (
+    let at = to-step (c .before .before .before .before) in
+    let inv = turned at .loop .inv in
+    let many = counted at .squares-of .ensures in (
       record { checked = inv .0 .valid },
       (
         record {
-          left-long = inv .4 ∙ rooms .left-long;
-          worked-long = inv .5 ∙ rooms .worked-long;
-          senders-long = inv .6 ∙ rooms .senders-long;
-          room-long = inv .7 ∙ rooms .room-long;
+          left-long = part (turned at .loop .left) (inv .4) (squares-fit at) ∙ many;
+          worked-long = part (turned at .loop .worked) (inv .5) (rows-fit at);
+          senders-long = part (turned at .loop .senders) (inv .6) (rows-fit at);
+          room-long = part (turned at .loop .room) (inv .7) (squares-fit at) ∙ many;
         },
-        asked .1,
+        start at .pre .1 .0,
       ),
     )
 
@@ -111,18 +154,6 @@ same-length-2 c = search needs
 
 same-length-3 : tie.Need-same-length-3 Inv-loop μ-loop
 same-length-3 c = search needs
-
-same-length-4 : tie.Need-same-length-4 Inv-loop μ-loop
-same-length-4 c = search needs
-
-same-length-5 : tie.Need-same-length-5 Inv-loop μ-loop
-same-length-5 c = search needs
-
-same-length-6 : tie.Need-same-length-6 Inv-loop μ-loop
-same-length-6 c = search needs
-
-same-length-7 : tie.Need-same-length-7 Inv-loop μ-loop
-same-length-7 c = search needs
 
 returns : tie.Need-returns Inv-loop μ-loop
 returns c =
@@ -137,7 +168,7 @@ returns c =
 add-steps : tie.Need-add-steps Inv-loop μ-loop
 add-steps c =
     let at-if1 = under (c .before) in
-    omega (arith, turned at-if1 .loop .inv .0 .few, start at-if1 .pre .1 .2, at-if1 .if1 .taken)
+    omega (arith, turned at-if1 .loop .inv .0 .few, start at-if1 .pre .1 .1, at-if1 .if1 .taken)
 
 loop-less : tie.Need-loop-less Inv-loop μ-loop
 loop-less c =
@@ -155,37 +186,27 @@ loop-again c =
     let at-step-on = finished (c .before) in
     let at-if1 = under (c .before) in
     let s = start at-if1 in
+    let last = at-step-on .step-on .last .1 .1 .1 .1 .1 .1 .1 .1 .1 .1 .1 in
+    let kept = at-step-on .step-on .kept .1 .1 .1 .1 .1 .1 .1 .1 .1 .1 .1 in
     let inv = turned at-if1 .loop .inv in (
       running-on (p s) (g s) (s .args .end) (inv .0) (at-if1 .if1 .taken) (at-step-on .step-on .ensures) (c .if2 .left),
-      kept-depths at-step-on ∙ inv .1,
-      kept-lasts at-step-on ∙ inv .2,
-      kept-records at-step-on ∙ inv .3,
-      kept-left at-step-on ∙ inv .4,
-      kept-worked at-step-on ∙ inv .5,
-      kept-senders at-step-on ∙ inv .6,
-      kept-room at-step-on ∙ inv .7,
+      at-step-on .step-on .kept .1 .1 .1 .1 .1 .1 .1 .1 .0 ∙ inv .1,
+      at-step-on .step-on .kept .1 .1 .1 .1 .1 .1 .1 .1 .1 .0 ∙ inv .2,
+      at-step-on .step-on .kept .1 .1 .1 .1 .1 .1 .1 .1 .1 .1 .0 ∙ inv .3,
+      refilled (last .0) (turned at-if1 .loop .left) (kept .0) (inv .4) (squares-fit at-if1),
+      refilled (last .1 .0) (turned at-if1 .loop .worked) (kept .1 .0) (inv .5) (rows-fit at-if1),
+      refilled (last .1 .1 .0) (turned at-if1 .loop .senders) (kept .1 .1 .0) (inv .6) (rows-fit at-if1),
+      refilled (last .1 .1 .1 .0) (turned at-if1 .loop .room) (kept .1 .1 .1 .0) (inv .7) (squares-fit at-if1),
     )
 
-same-length-8 : tie.Need-same-length-8 Inv-loop μ-loop
-same-length-8 c = c .before .before .loop .inv .1
+same-length-4 : tie.Need-same-length-4 Inv-loop μ-loop
+same-length-4 c = c .before .before .loop .inv .1
 
-same-length-9 : tie.Need-same-length-9 Inv-loop μ-loop
-same-length-9 c = c .before .before .loop .inv .2
+same-length-5 : tie.Need-same-length-5 Inv-loop μ-loop
+same-length-5 c = c .before .before .loop .inv .2
 
-same-length-10 : tie.Need-same-length-10 Inv-loop μ-loop
-same-length-10 c = c .before .before .loop .inv .3
-
-same-length-11 : tie.Need-same-length-11 Inv-loop μ-loop
-same-length-11 c = c .before .before .loop .inv .4
-
-same-length-12 : tie.Need-same-length-12 Inv-loop μ-loop
-same-length-12 c = c .before .before .loop .inv .5
-
-same-length-13 : tie.Need-same-length-13 Inv-loop μ-loop
-same-length-13 c = c .before .before .loop .inv .6
-
-same-length-14 : tie.Need-same-length-14 Inv-loop μ-loop
-same-length-14 c = c .before .before .loop .inv .7
+same-length-6 : tie.Need-same-length-6 Inv-loop μ-loop
+same-length-6 c = c .before .before .loop .inv .3
 
 returns-2 : tie.Need-returns-2 Inv-loop μ-loop
 returns-2 c =
@@ -199,24 +220,25 @@ run-on-spec =
     (tie.spec
     Inv-loop
     μ-loop
+    squares-of-requires
     loop-holds
+    array-borrow-prefix-left
+    slice-aggregate-step-on
+    array-borrow-prefix-worked
+    slice-aggregate-step-on-2
+    array-borrow-prefix-senders
+    slice-aggregate-step-on-3
+    array-borrow-prefix-room
+    slice-aggregate-step-on-4
     step-on-requires
     same-length
     same-length-2
     same-length-3
-    same-length-4
-    same-length-5
-    same-length-6
-    same-length-7
     returns
     add-steps
     loop-less
     loop-again
-    same-length-8
-    same-length-9
-    same-length-10
-    same-length-11
-    same-length-12
-    same-length-13
-    same-length-14
+    same-length-4
+    same-length-5
+    same-length-6
     returns-2)

@@ -1,6 +1,6 @@
 -- `flood::step::fill_slot` meets its contract: the slot after the newest lies in the room, and what is filled there is the record.
 -- Assumes nothing.
-use mathlib.Core.Path.{_≡_, ap, _∙_}
+use mathlib.Core.Path.{ap, _∙_}
 use Prim.Native.Nat.{_+_, _≤_}
 use native.Mathlib.Omega.{arith}
 use lib.ListN.{length}

@@ -1,6 +1,6 @@
 -- `flood::step::step` meets its contract: rows 1 to 6 refuse, or the inner step decides, in parts of the rooms that are of their sizes.
 -- Assumes nothing.
-use mathlib.Core.Path.{_≡_, refl, sym, _∙_}
+use mathlib.Core.Path.{refl, sym}
 use Prim.Native.Nat.{_≤_}
 use native.Mathlib.Omega.{arith}
 use borrow.Author.Needs.{needs}

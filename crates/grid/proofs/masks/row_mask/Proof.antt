@@ -3,7 +3,7 @@
 use native.Mathlib.Omega.{arith}
 use borrow.Author.Needs.{needs}
 use Rattle.grid.specs.Masks.{isWet}
-use Rattle.grid.proofs.MaskLaws.{Built, row-none, row-small, row-room, row-more, row-whole}
+use Rattle.grid.proofs.MaskLaws.{Built, row-none, row-small, bit-fits, row-more, row-whole}
 use Rattle.grid.proofs.masks.row_mask.Statement.{statement}
 use Rattle.grid.proofs.masks.row_mask.Tie as tie
 
@@ -33,7 +33,7 @@ add-mask : tie.Need-add-mask Inv-loop μ-loop
 add-mask c =
     let l = c .before .before .loop in
     let start = c .before .before .before .before .before in
-    omega (arith, row-room _ _ _ (l .inv) _ (c .before .loop-test .taken) (start .pre .columns-high) (c .wet-digit .ensures))
+    omega (arith, bit-fits _ _ _ (l .inv) _ (c .before .loop-test .taken) (start .pre .columns-high) (c .wet-digit .ensures))
 
 loop-less : tie.Need-loop-less Inv-loop μ-loop
 loop-less c = search needs

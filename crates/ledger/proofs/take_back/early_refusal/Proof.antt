@@ -16,10 +16,10 @@ use Rattle.ledger.proofs.take_back.early_refusal.Tie as tie
 
 -- ---- the places, each from the one after it
 
-abbrev start : tie.After-sizes-fine → tie.Start
+abbrev start : tie.After-back-sizes-fine → tie.Start
 start c = c .before .before .before .before .before
 
-abbrev sizes : tie.Else1 → tie.After-sizes-fine
+abbrev sizes : tie.Else1 → tie.After-back-sizes-fine
 sizes c = c .before
 
 abbrev marks : tie.Else2 → tie.After-marks-fine
@@ -48,14 +48,14 @@ kept c = c .before
 
 -- ---- what is known there: the tests that passed
 
-abbrev ground : tie.After-sizes-fine → Plan
+abbrev ground : tie.After-back-sizes-fine → Plan
 ground c = plan (start c .args .shape) (start c .args .marks .now)
 
-abbrev now-is : tie.After-sizes-fine → World
+abbrev now-is : tie.After-back-sizes-fine → World
 now-is c = world (start c .args .depths .now) (start c .args .lasts .now) (start c .args .records .now) (start c .args .run)
 
 sizes-pass : (c : tie.Else1) → sized (ground (sizes c)) (now-is (sizes c)) ≡ true
-sizes-pass c = sym (sizes c .sizes-fine .ensures) ∙ not-false _ (c .if1 .left)
+sizes-pass c = sym (sizes c .back-sizes-fine .ensures) ∙ not-false _ (c .if1 .left)
 
 module _ (c : tie.Else2) where
   abbrev first : tie.Else1
@@ -88,11 +88,11 @@ run-judged c =
 
 -- ---- the needs
 
-sizes-fine-requires : tie.Need-sizes-fine-requires
-sizes-fine-requires c κs = search needs
+back-sizes-fine-requires : tie.Need-back-sizes-fine-requires
+back-sizes-fine-requires c κs = search needs
 
 returns : tie.Need-returns
-returns c = looked-1 (ground (c .before)) (now-is (c .before)) (sym (c .before .sizes-fine .ensures) ∙ not-true _ (c .if1 .taken))
+returns c = looked-1 (ground (c .before)) (now-is (c .before)) (sym (c .before .back-sizes-fine .ensures) ∙ not-true _ (c .if1 .taken))
 
 marks-fine-requires : tie.Need-marks-fine-requires
 marks-fine-requires c κs =
@@ -146,7 +146,7 @@ pub early-refusal-spec : {M : Type 1} → statement M
 early-refusal-spec =
     tie.close
     (tie.spec
-    sizes-fine-requires
+    back-sizes-fine-requires
     returns
     marks-fine-requires
     returns-2

@@ -2,7 +2,7 @@
 -- Assumes nothing.
 use native.Mathlib.Omega.{arith}
 use borrow.Author.Needs.{needs}
-use Rattle.grid.proofs.MaskLaws.{Built, row-none, row-small, row-room, row-more, row-whole}
+use Rattle.grid.proofs.MaskLaws.{Built, row-none, row-small, bit-fits, row-more, row-whole}
 use Rattle.moves.specs.inner.Fill.{worksOn}
 use Rattle.moves.proofs.fill.worked_row.Statement.{statement}
 use Rattle.moves.proofs.fill.worked_row.Tie as tie
@@ -39,7 +39,7 @@ worked-digit-requires c κs = search needs
 add-mask : tie.Need-add-mask Inv-loop μ-loop
 add-mask c =
     let at-loop = c .before .before in
-    omega (arith, row-room _ _ _ (at-loop .loop .inv) _ (c .before .loop-test .taken) (start at-loop .pre .columns-high) (c .worked-digit .ensures))
+    omega (arith, bit-fits _ _ _ (at-loop .loop .inv) _ (c .before .loop-test .taken) (start at-loop .pre .columns-high) (c .worked-digit .ensures))
 
 loop-less : tie.Need-loop-less Inv-loop μ-loop
 loop-less c = search needs

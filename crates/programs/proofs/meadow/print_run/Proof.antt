@@ -2,7 +2,7 @@
 -- Assumes nothing.
 use mathlib.Core.Path.{_≡_, refl, sym, _∙_}
 use mathlib.Core.List.{List}
-use Prim.Native.Nat.{ℕ, _+_, _*_, _≤_}
+use Prim.Native.Nat.{ℕ, _+_, _*_}
 use native.Mathlib.Omega.{arith}
 use lib.ListN.{length, take, drop}
 use borrow.Author.Needs.{needs}
@@ -10,7 +10,6 @@ use Rattle.ledger.specs.Record.{headWords, squareWords}
 use Rattle.sheet.specs.Sheet.{Rooms, rooms}
 use Rattle.sheet.proofs.JudgeLaws.{taken-long, zeros-are}
 use Rattle.programs.specs.Program.{programSquares}
-use Rattle.programs.specs.inner.Held.{Holds}
 use Rattle.programs.proofs.HeldLaws.{part-long, parts-pass, record-in, first-part, first-in}
 use Rattle.programs.proofs.RunLaws.{run-printed}
 use Rattle.programs.proofs.meadow.print_run.Statement.{statement}

@@ -1,7 +1,6 @@
 -- `programs::reading::read_within` meets its contract: a text that is too long is refused, and the rooms stay.
 -- Assumes nothing.
 use borrow.Author.Needs.{needs}
-use native.Mathlib.Omega.{arith}
 use Rattle.programs.proofs.HeldLaws.{too-long, not-too-long}
 use Rattle.programs.proofs.reading.read_within.Statement.{statement}
 use Rattle.programs.proofs.reading.read_within.Tie as tie

@@ -1,4 +1,4 @@
--- `reckon::tables::sums_with` meets its contract: the row is tested once, and where it counts each sum has room for what it has given.
+-- `reckon::tables::sums_with` meets its contract: the row is tested once, and where it counts each sum can take what it has given.
 -- Assumes nothing.
 use mathlib.Core.Path.{sym, _∙_}
 use Prim.Native.Nat.{ℕ, _*_, _≤_}

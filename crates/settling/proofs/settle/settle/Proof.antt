@@ -10,7 +10,7 @@ use lib.ListN.{length, take, drop}
 use Rattle.trials.specs.Ring.{slotStart}
 use Rattle.ledger.specs.Runs.{Plan, World, plan, world}
 use Rattle.ledger.specs.Record.{roomSlots}
-use Rattle.settling.specs.inner.Settle.{Settles, Told, RoomAdded, nextRecord, settleNumber}
+use Rattle.settling.specs.inner.Settle.{Settles, WalkTells, RoomAdded, nextRecord, settleNumber}
 use Rattle.ledger.proofs.RecordLaws.{slots-of}
 use Rattle.settling.proofs.ReachLaws.{fits-are, room-beyond, lasts-written, depths-written}
 use Rattle.settling.proofs.SettleLaws.{settles-spreads, late-is, settles-refused, settles-made, outflow-by, soaked-by, written-is, next-fits}
@@ -99,8 +99,8 @@ module _ (c : tie.After-slot-start) where
   asks : Settles p rec (s .args .held) w
   asks = subst (λ (r : List ℕ). Settles p r (s .args .held) w) (sym rec-is) (s .pre .0)
 
-  tells : Told p rec (w .depths) (w .lasts) (s .args .left .now) (s .args .worked .now) (s .args .senders .now)
-  tells = subst (λ (r : List ℕ). Told p r (w .depths) (w .lasts) (s .args .left .now) (s .args .worked .now) (s .args .senders .now)) (sym rec-is) (s .pre .1 .0)
+  tells : WalkTells p rec (w .depths) (w .lasts) (s .args .left .now) (s .args .worked .now) (s .args .senders .now)
+  tells = subst (λ (r : List ℕ). WalkTells p r (w .depths) (w .lasts) (s .args .left .now) (s .args .worked .now) (s .args .senders .now)) (sym rec-is) (s .pre .1 .0)
 
   adds : RoomAdded p rec (s .args .room .now)
   adds = subst (λ (r : List ℕ). RoomAdded p r (s .args .room .now)) (sym rec-is) (s .pre .1 .1 .0)

@@ -10,9 +10,9 @@ use Rattle.grid.specs.Squares.{north, east, south, west}
 use Rattle.ledger.specs.Runs.{Plan, plan}
 use Rattle.ledger.specs.Flows.{offSide}
 use Rattle.ledger.specs.Record.{leavesIn}
-use Rattle.settling.specs.inner.Settle.{Roomy}
+use Rattle.settling.specs.inner.Settle.{SpaceLeft}
 use Rattle.ledger.proofs.FlowLaws.{four-sides, off-open, off-side-small}
-use Rattle.settling.proofs.SpreadLaws.{brought-all, roomy-after}
+use Rattle.settling.proofs.SpreadLaws.{brought-all, space-after}
 use borrow.Author.Needs.{needs}
 use Rattle.settling.proofs.spread.send_by_sides.Statement.{statement}
 use Rattle.settling.proofs.spread.send_by_sides.Tie as tie
@@ -49,18 +49,18 @@ module _ (c : tie.After-send-side) where
   words : (k : ℕ) → getD rec k 0 < 4294967296
   words k = known2 c .shared-slice-known2 .given k .fits
 
-  roomy1 : Roomy p (3 * mostDepth) (c .send-side .last .1 .1 .1 .1 .1 .1 .0)
-  roomy1 = roomy-after p rec i north (3 * mostDepth) (start c .pre .1 .0) (c .send-side .ensures .1) (start c .pre .0 .0 .few north (omega arith))
+  space1 : SpaceLeft p (3 * mostDepth) (c .send-side .last .1 .1 .1 .1 .1 .1 .0)
+  space1 = space-after p rec i north (3 * mostDepth) (start c .pre .1 .0) (c .send-side .ensures .1) (start c .pre .0 .0 .few north (omega arith))
 
-roomy2 : (c : tie.After-send-side2) → Roomy (p (first c)) (2 * mostDepth) (c .send-side2 .last .1 .1 .1 .1 .1 .1 .0)
-roomy2 c =
+space2 : (c : tie.After-send-side2) → SpaceLeft (p (first c)) (2 * mostDepth) (c .send-side2 .last .1 .1 .1 .1 .1 .1 .0)
+space2 c =
     let f = first c in
-    roomy-after (p f) (rec f) (i f) east (2 * mostDepth) (roomy1 f) (c .send-side2 .ensures .1) (start f .pre .0 .0 .few east (omega arith))
+    space-after (p f) (rec f) (i f) east (2 * mostDepth) (space1 f) (c .send-side2 .ensures .1) (start f .pre .0 .0 .few east (omega arith))
 
-roomy3 : (c : tie.After-send-side3) → Roomy (p (first (second c))) mostDepth (c .send-side3 .last .1 .1 .1 .1 .1 .1 .0)
-roomy3 c =
+space3 : (c : tie.After-send-side3) → SpaceLeft (p (first (second c))) mostDepth (c .send-side3 .last .1 .1 .1 .1 .1 .1 .0)
+space3 c =
     let f = first (second c) in
-    roomy-after (p f) (rec f) (i f) south mostDepth (roomy2 (second c)) (c .send-side3 .ensures .1) (start f .pre .0 .0 .few south (omega arith))
+    space-after (p f) (rec f) (i f) south mostDepth (space2 (second c)) (c .send-side3 .ensures .1) (start f .pre .0 .0 .few south (omega arith))
 
 -- ---- the needs
 
@@ -73,7 +73,7 @@ send-side-requires-2 : tie.Need-send-side-requires-2
 send-side-requires-2 c κs =
     let f = c .before .before .before in
     let s = start f in
-    ((s .pre .0 .0, omega arith), ((λ j h o. omega (arith, roomy1 f j h o)), f .send-side .ensures .1 .long ∙ s .pre .1 .1))
+    ((s .pre .0 .0, omega arith), ((λ j h o. omega (arith, space1 f j h o)), f .send-side .ensures .1 .long ∙ s .pre .1 .1))
 
 send-side-requires-3 : tie.Need-send-side-requires-3
 send-side-requires-3 c κs =
@@ -81,7 +81,7 @@ send-side-requires-3 c κs =
     let f = first q in
     let s = start f in (
       (s .pre .0 .0, omega arith),
-      ((λ j h o. omega (arith, roomy2 q j h o)), q .send-side2 .ensures .1 .long ∙ (f .send-side .ensures .1 .long ∙ s .pre .1 .1)),
+      ((λ j h o. omega (arith, space2 q j h o)), q .send-side2 .ensures .1 .long ∙ (f .send-side .ensures .1 .long ∙ s .pre .1 .1)),
     )
 
 send-side-requires-4 : tie.Need-send-side-requires-4
@@ -92,7 +92,7 @@ send-side-requires-4 c κs =
     let s = start f in (
       (s .pre .0 .0, omega arith),
       (
-        roomy3 t,
+        space3 t,
         t .send-side3 .ensures .1 .long ∙ (q .send-side2 .ensures .1 .long ∙ (f .send-side .ensures .1 .long ∙ s .pre .1 .1)),
       ),
     )

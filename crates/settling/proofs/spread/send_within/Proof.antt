@@ -9,8 +9,8 @@ use Rattle.reckon.specs.Ranges.{mostDepth}
 use Rattle.grid.specs.Squares.{north, east, south, west, squares}
 use Rattle.grid.proofs.SquareLaws.{north-within, east-within, south-within, west-within, east-in, west-in, north-is, east-is, south-is, west-is}
 use Rattle.ledger.specs.Runs.{Plan, plan}
-use Rattle.settling.specs.inner.Settle.{Grown, Roomy, brings}
-use Rattle.settling.proofs.SpreadLaws.{brought, brought-all, roomy-after}
+use Rattle.settling.specs.inner.Settle.{Grown, SpaceLeft, brings}
+use Rattle.settling.proofs.SpreadLaws.{brought, brought-all, space-after}
 use borrow.Author.Needs.{needs}
 use Rattle.settling.proofs.spread.send_within.Statement.{statement}
 use Rattle.settling.proofs.spread.send_within.Tie as tie
@@ -84,20 +84,20 @@ grown3 c =
     (omega (arith, long s, grown1 (first q) .long, grown2 q .long, to-south s)) (c .before .before .leaving3 .ensures) (c .send-to3 .ensures)
 
 -- the space that the room has
-roomy1 : (c : tie.After-send-to) → Roomy (p (start1 c)) (3 * mostDepth) (c .send-to .last .1 .1 .1 .0)
-roomy1 c =
+space1 : (c : tie.After-send-to) → SpaceLeft (p (start1 c)) (3 * mostDepth) (c .send-to .last .1 .1 .1 .0)
+space1 c =
     let s = start1 c in
-    roomy-after (p s) (rec s) (i s) north (3 * mostDepth) (s .pre .1 .0) (grown1 c) (s .pre .0 .0 .few north (omega arith))
+    space-after (p s) (rec s) (i s) north (3 * mostDepth) (s .pre .1 .0) (grown1 c) (s .pre .0 .0 .few north (omega arith))
 
-roomy2 : (c : tie.After-send-to2) → Roomy (p (start1 (first c))) (2 * mostDepth) (c .send-to2 .last .1 .1 .1 .0)
-roomy2 c =
+space2 : (c : tie.After-send-to2) → SpaceLeft (p (start1 (first c))) (2 * mostDepth) (c .send-to2 .last .1 .1 .1 .0)
+space2 c =
     let s = start1 (first c) in
-    roomy-after (p s) (rec s) (i s) east (2 * mostDepth) (roomy1 (first c)) (grown2 c) (s .pre .0 .0 .few east (omega arith))
+    space-after (p s) (rec s) (i s) east (2 * mostDepth) (space1 (first c)) (grown2 c) (s .pre .0 .0 .few east (omega arith))
 
-roomy3 : (c : tie.After-send-to3) → Roomy (p (start1 (first (second c)))) mostDepth (c .send-to3 .last .1 .1 .1 .0)
-roomy3 c =
+space3 : (c : tie.After-send-to3) → SpaceLeft (p (start1 (first (second c)))) mostDepth (c .send-to3 .last .1 .1 .1 .0)
+space3 c =
     let s = start1 (first (second c)) in
-    roomy-after (p s) (rec s) (i s) south mostDepth (roomy2 (second c)) (grown3 c) (s .pre .0 .0 .few south (omega arith))
+    space-after (p s) (rec s) (i s) south mostDepth (space2 (second c)) (grown3 c) (s .pre .0 .0 .few south (omega arith))
 
 -- ---- the needs
 
@@ -135,7 +135,7 @@ send-to-requires-2 c κs =
     let s = start1 f in (
       omega (arith, to-east s, s .pre .0 .0 .recorded .marks-long),
       omega (arith, to-east s, long s, grown1 f .long),
-      (λ o. omega (arith, roomy1 f (i s + 1) (to-east s) o, c .before .leaving2 .ensures, s .pre .0 .0 .few east (omega arith))),
+      (λ o. omega (arith, space1 f (i s + 1) (to-east s) o, c .before .leaving2 .ensures, s .pre .0 .0 .few east (omega arith))),
     )
 
 add-send-to-2 : tie.Need-add-send-to-2
@@ -153,7 +153,7 @@ send-to-requires-3 c κs =
     let s = start1 f in (
       omega (arith, to-south s, s .pre .0 .0 .recorded .marks-long),
       omega (arith, to-south s, long s, grown1 f .long, grown2 q .long),
-      (λ o. omega (arith, roomy2 q (i s + s .args .shape .columns) (to-south s) o, c .before .leaving3 .ensures, s .pre .0 .0 .few south (omega arith))),
+      (λ o. omega (arith, space2 q (i s + s .args .shape .columns) (to-south s) o, c .before .leaving3 .ensures, s .pre .0 .0 .few south (omega arith))),
     )
 
 sub-send-to-2 : tie.Need-sub-send-to-2
@@ -171,7 +171,7 @@ send-to-requires-4 c κs =
     let s = start1 f in (
       omega (arith, inside s, s .pre .0 .0 .recorded .marks-long),
       omega (arith, inside s, long s, grown1 f .long, grown2 q .long, grown3 t .long),
-      (λ o. omega (arith, roomy3 t (i s - 1) (omega (arith, inside s)) o, c .before .leaving4 .ensures, s .pre .0 .0 .few west (omega arith))),
+      (λ o. omega (arith, space3 t (i s - 1) (omega (arith, inside s)) o, c .before .leaving4 .ensures, s .pre .0 .0 .few west (omega arith))),
     )
 
 same-length : tie.Need-same-length

@@ -16,7 +16,7 @@ use Rattle.ledger.specs.Record.{leavesIn, soakedIn}
 use Rattle.ledger.specs.After.{remains}
 use Rattle.settling.specs.inner.Settle.{movesIn}
 use Rattle.ledger.proofs.FlowLaws.{fourWords, word, off-small, off-sum-small, soaked-small, soaked-sum-small}
-use Rattle.settling.proofs.SpreadLaws.{spread-idle, spread-open, stays-is, next-few, roomy-next, leaves-few}
+use Rattle.settling.proofs.SpreadLaws.{spread-idle, spread-open, stays-is, next-few, space-next, leaves-few}
 use borrow.Author.Needs.{needs}
 use Rattle.settling.proofs.spread.spread_one.Statement.{statement}
 use Rattle.settling.proofs.spread.spread_one.Tie as tie
@@ -138,7 +138,7 @@ send-requires c κs =
         open-here a,
       ),
       (
-        roomy-next (z .pre .0 .0) (z .pre .0 .2) (inside a) (open-here a) (room-is n) refl,
+        space-next (z .pre .0 .0) (z .pre .0 .2) (inside a) (open-here a) (room-is n) refl,
         length-set (z .args .room .now) (i a) _ ∙ (z .pre .0 .2 .long ∙ sym (z .pre .0 .0 .recorded .marks-long)),
       ),
     )

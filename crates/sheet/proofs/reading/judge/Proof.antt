@@ -1,4 +1,4 @@
--- `sheet::reading::judge` meets its contract: what is lent is a fresh run's, with room for one record.
+-- `sheet::reading::judge` meets its contract: what is lent is a fresh run's, with a room for one record.
 -- Assumes nothing.
 use mathlib.Core.Path.{refl, ap}
 use Prim.Native.Nat.{ℕ, _≤_}

@@ -8,7 +8,7 @@ use borrow.Author.Tests.{not-true, not-false}
 use borrow.Author.Needs.{needs}
 use Rattle.grid.specs.Squares.{squares}
 use Rattle.sheet.specs.Sheet.{firstCell}
-use Rattle.sheet.proofs.ReadLaws.{HeadRead, body-run, body-cells, body-rest, body-good, body-room, plain-rain, plain-inflow}
+use Rattle.sheet.proofs.ReadLaws.{HeadRead, body-run, body-cells, body-rest, body-good, body-lines, plain-rain, plain-inflow}
 use Rattle.sheet.proofs.reading.read_body.Statement.{statement}
 use Rattle.sheet.proofs.reading.read_body.Tie as tie
 
@@ -61,7 +61,7 @@ room :
 room c =
     let f = filled c in
     let e = found (counted f) in
-    body-room (head (run e)) (run-found e) (f .fill-cells .ensures) (enough c) (rain c .count-rows .ensures) (c .count-rows2 .ensures)
+    body-lines (head (run e)) (run-found e) (f .fill-cells .ensures) (enough c) (rain c .count-rows .ensures) (c .count-rows2 .ensures)
 
 run-line-requires : tie.Need-run-line-requires
 run-line-requires c κs = search needs

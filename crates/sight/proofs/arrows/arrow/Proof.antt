@@ -4,7 +4,7 @@ use mathlib.Core.Path.{refl}
 use native.Mathlib.Omega.{arith}
 use borrow.Author.Tests.{not-true, not-false}
 use borrow.Author.Needs.{needs}
-use Rattle.sight.proofs.ArrowLaws.{opened, seen-refused, seen-late, seen-is, timed, room-within, record-is, record-long, laid, stands}
+use Rattle.sight.proofs.ArrowLaws.{opened, seen-refused, seen-late, seen-is, timed, record-within, record-is, record-long, laid, stands}
 use Rattle.sight.proofs.arrows.arrow.Statement.{statement}
 use Rattle.sight.proofs.arrows.arrow.Tie as tie
 
@@ -36,7 +36,7 @@ slot-start-requires c κs =
     let start = begin at-early-refusal in
     omega (
       arith,
-      room-within (opened _ _ _ _ _ (at-early-refusal .early-refusal .ensures) (c .before .if1 .left))
+      record-within (opened _ _ _ _ _ (at-early-refusal .early-refusal .ensures) (c .before .if1 .left))
           (c .record-size .ensures) refl,
       (start .good),
     )
@@ -48,7 +48,7 @@ add-end c =
     let start = begin at-early-refusal in
     omega (
       arith,
-      room-within (opened _ _ _ _ _ (at-early-refusal .early-refusal .ensures) (at-if1 .if1 .left))
+      record-within (opened _ _ _ _ _ (at-early-refusal .early-refusal .ensures) (at-if1 .if1 .left))
           (c .before .record-size .ensures) (c .slot-start .ensures),
       (start .good),
     )
@@ -60,7 +60,7 @@ mul-rec c =
     let start = begin at-early-refusal in
     omega (
       arith,
-      room-within (opened _ _ _ _ _ (at-early-refusal .early-refusal .ensures) (at-if1 .if1 .left))
+      record-within (opened _ _ _ _ _ (at-early-refusal .early-refusal .ensures) (at-if1 .if1 .left))
           (c .before .record-size .ensures) (c .slot-start .ensures),
       (start .good),
     )
@@ -75,7 +75,7 @@ part-rec-end : tie.Need-part-rec-end
 part-rec-end c =
     let at-if1 = let-in c in
     let at-early-refusal = at-if1 .before in
-    room-within (opened _ _ _ _ _ (at-early-refusal .early-refusal .ensures) (at-if1 .if1 .left)) (c .before .record-size .ensures)
+    record-within (opened _ _ _ _ _ (at-early-refusal .early-refusal .ensures) (at-if1 .if1 .left)) (c .before .record-size .ensures)
     (c .slot-start .ensures)
 
 times-fine-requires : tie.Need-times-fine-requires

@@ -1,6 +1,5 @@
 -- `text::lines::next_line` meets its contract: the next line starts after the newline, or where the text ends.
 -- Assumes nothing.
-use mathlib.Core.Path.{sym, _∙_}
 use native.Mathlib.Omega.{arith}
 use borrow.Author.Needs.{needs}
 use Rattle.text.proofs.EndLaws.{next-after, next-last}

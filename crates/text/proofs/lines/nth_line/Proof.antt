@@ -1,9 +1,8 @@
 -- `text::lines::nth_line` meets its contract: after i turns the position is the start of line i.
 -- Assumes nothing.
 use mathlib.Core.Path.{_≡_, refl, sym, ap, _∙_}
-use Prim.Native.Nat.{ℕ, _-_, _≤_}
+use Prim.Native.Nat.{_-_, _≤_}
 use native.Mathlib.Omega.{arith}
-use lib.ListN.{length}
 use Rattle.text.specs.Reading.{nextLine, lineFrom}
 use Rattle.text.specs.Lines.{lineAt}
 use Rattle.text.proofs.LineLaws.{line-next}

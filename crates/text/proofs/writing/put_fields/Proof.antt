@@ -4,7 +4,7 @@ use Prim.Native.Nat.{_+_, _-_, _≤_}
 use native.Mathlib.Omega.{arith}
 use lib.ListN.{length, getD, drop}
 use Rattle.text.specs.Writing.{fieldText, fieldsText}
-use Rattle.text.proofs.WritingLaws.{Left, left-all, left-room, left-step, left-none, fields-text-more, fields-text-end}
+use Rattle.text.proofs.WritingLaws.{Left, left-all, left-fits, left-step, left-none, fields-text-more, fields-text-end}
 use Rattle.text.proofs.writing.put_fields.Statement.{statement}
 use Rattle.text.proofs.writing.put_fields.Tie as tie
 
@@ -30,7 +30,7 @@ put-field-requires c κs =
     let l = c .before .before .before .loop in
     omega (
       arith,
-      left-room (fieldText (getD (a .values .now) (l .i) 0)) (fieldsText (drop (l .i + 1) (a .values .now)))
+      left-fits (fieldText (getD (a .values .now) (l .i) 0)) (fieldsText (drop (l .i + 1) (a .values .now)))
           (rw (fields-text-more (a .values .now) (l .i) (omega arith)) at (l .inv .1)),
     )
 

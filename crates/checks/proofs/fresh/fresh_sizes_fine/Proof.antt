@@ -1,4 +1,4 @@
--- `checks::fresh::sizes_fine` meets its contract: the first test that fails decides, and where each before it holds the last does.
+-- `checks::fresh::fresh_sizes_fine` meets its contract: the first test that fails decides, and where each before it holds the last does.
 -- Assumes nothing.
 use mathlib.Core.Path.{sym, _∙_}
 use borrow.Author.Needs.{needs}
@@ -6,8 +6,8 @@ use Rattle.reckon.proofs.TestLaws.{every-fails}
 use Rattle.grid.proofs.SquareLaws.{ranges-of-fine}
 use Rattle.ledger.specs.Checks.{oneEach}
 use Rattle.checks.proofs.CheckLaws.{fails-by, holds-by, every-decided}
-use Rattle.checks.proofs.fresh.sizes_fine.Statement.{statement}
-use Rattle.checks.proofs.fresh.sizes_fine.Tie as tie
+use Rattle.checks.proofs.fresh.fresh_sizes_fine.Statement.{statement}
+use Rattle.checks.proofs.fresh.fresh_sizes_fine.Tie as tie
 
 shape-fine-requires : tie.Need-shape-fine-requires
 shape-fine-requires c κs = search needs
@@ -48,8 +48,8 @@ returns-4 c =
       ),
     ))
 
-pub sizes-fine-spec : {M : Type 1} → statement M
-sizes-fine-spec =
+pub fresh-sizes-fine-spec : {M : Type 1} → statement M
+fresh-sizes-fine-spec =
     tie.close
     (tie.spec
     shape-fine-requires

@@ -1,4 +1,4 @@
--- `ledger::take_back::sizes_fine` meets its contract: each early return is a test that fails, and the last leaving decides at last.
+-- `ledger::take_back::back_sizes_fine` meets its contract: each early return is a test that fails, and the last leaving decides at last.
 -- Assumes nothing.
 use mathlib.Core.Path.{sym, _∙_}
 use mathlib.Core.List.{[], _∷_}
@@ -10,8 +10,8 @@ use Rattle.ledger.specs.Runs.{plan}
 use Rattle.ledger.specs.Checks.{oneEach}
 use Rattle.ledger.proofs.RunLaws.{every-decides}
 use borrow.Author.Needs.{needs}
-use Rattle.ledger.proofs.take_back.sizes_fine.Statement.{statement}
-use Rattle.ledger.proofs.take_back.sizes_fine.Tie as tie
+use Rattle.ledger.proofs.take_back.back_sizes_fine.Statement.{statement}
+use Rattle.ledger.proofs.take_back.back_sizes_fine.Tie as tie
 
 shape-fine-requires : tie.Need-shape-fine-requires
 shape-fine-requires c κs = search needs
@@ -62,8 +62,8 @@ returns-4 c =
       ),
     )
 
-pub sizes-fine-spec : {M : Type 1} → statement M
-sizes-fine-spec =
+pub back-sizes-fine-spec : {M : Type 1} → statement M
+back-sizes-fine-spec =
     tie.close
     (tie.spec
     shape-fine-requires

@@ -1,4 +1,4 @@
--- `sight::refusals::sizes_fine` meets its contract: the first test that fails decides, and after the others the last one does.
+-- `sight::refusals::seen_sizes_fine` meets its contract: the first test that fails decides, and after the others the last one does.
 -- Assumes nothing.
 use mathlib.Core.Path.{sym, _∙_}
 use mathlib.Core.List.{[], _∷_}
@@ -8,8 +8,8 @@ use Rattle.reckon.proofs.TestLaws.{every-fails}
 use Rattle.grid.proofs.SquareLaws.{ranges-of-fine}
 use Rattle.ledger.specs.Checks.{oneEach}
 use Rattle.sight.proofs.RefusalLaws.{every-last}
-use Rattle.sight.proofs.refusals.sizes_fine.Statement.{statement}
-use Rattle.sight.proofs.refusals.sizes_fine.Tie as tie
+use Rattle.sight.proofs.refusals.seen_sizes_fine.Statement.{statement}
+use Rattle.sight.proofs.refusals.seen_sizes_fine.Tie as tie
 
 shape-fine-requires : tie.Need-shape-fine-requires
 shape-fine-requires c κs = search needs
@@ -34,8 +34,8 @@ returns-3 c =
     let marks = sym (c .before .before .one-each .ensures) ∙ not-false _ (c .before .if2 .left) in
     c .one-each2 .ensures ∙ sym (every-last (_ ∷ _ ∷ []) (shape, (marks, tt)))
 
-pub sizes-fine-spec : {M : Type 1} → statement M
-sizes-fine-spec =
+pub seen-sizes-fine-spec : {M : Type 1} → statement M
+seen-sizes-fine-spec =
     tie.close
     (tie.spec
     shape-fine-requires
