@@ -1,0 +1,4 @@
+pub mod AcceptedLaws
+pub mod FileLaws
+pub mod TallyLaws
+pub mod RightLaws
