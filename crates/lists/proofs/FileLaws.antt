@@ -1,7 +1,7 @@
 -- Laws of one name of a list: the plan of an accepted sheet, and numbers by plans that agree.
 -- Assumes nothing.
 use mathlib.Core.Path.{_≡_, refl, sym, ap, ap₂, _∙_}
-use mathlib.Core.Bool.{Bool, true, false}
+use mathlib.Core.Bool.{Bool, true}
 use mathlib.Core.List.{List, [], _∷_}
 use Prim.Native.Nat.{ℕ, zero, suc, _*_, _≤_, _<_}
 use native.Mathlib.Omega.{arith}
@@ -14,7 +14,7 @@ use Rattle.reckon.proofs.ListLaws.{length-filled}
 use Rattle.grid.specs.Squares.{ShapeInRange, squares}
 use Rattle.ledger.specs.Runs.{Plan, plan}
 use Rattle.text.proofs.ReadingLaws.{by-test}
-use Rattle.sheet.specs.Sheet.{Rooms, lineOne, shapeOf, cellsFilled, said, planIn, badLine, checksOf, headingOf, judged, sheetOf}
+use Rattle.sheet.specs.Sheet.{lineOne, shapeOf, cellsFilled, said, planIn, badLine, checksOf, headingOf, judged, sheetOf}
 use Rattle.sheet.specs.declared.reading.Heading.{Heading}
 use Rattle.sheet.specs.declared.reading.Sheet.{Sheet}
 use Rattle.sheet.specs.declared.reading.Sheet.the-variants.{Read, Refused}

@@ -1,4 +1,5 @@
 pub mod AcceptedLaws
 pub mod FileLaws
-pub mod TallyLaws
+pub mod PrintLaws
 pub mod RightLaws
+pub mod TallyLaws

@@ -3,9 +3,8 @@
 use mathlib.Core.Path.{_≡_, refl, sym, ap, ap₂, _∙_}
 use mathlib.Core.Bool.{Bool, true, false}
 use mathlib.Core.List.{List, [], _∷_, _++_, append-nil, append-assoc}
-use Prim.Native.Nat.{ℕ, zero, suc, _+_, _-_, _/_, _%_, _≤_, _<_}
+use Prim.Native.Nat.{ℕ, suc, _+_, _-_, _/_, _%_, _≤_, _<_}
 use native.Mathlib.Nat.{not-suc-le-zero}
-use native.Mathlib.Numerals.{add-one}
 use native.Mathlib.Omega.{arith}
 use lib.Dec.{eqb, leb}
 use lib.ListN.{length, getD, take, length-append}
@@ -18,17 +17,17 @@ use Rattle.grid.specs.Squares.{squares, shapeFine}
 use Rattle.grid.specs.Marks.{closed}
 use Rattle.grid.specs.declared.squares.Shape.{Shape}
 use Rattle.grid.proofs.SquareLaws.{fine-of-ranges}
-use Rattle.ledger.specs.Runs.{Plan}
+use Rattle.ledger.specs.Runs.{Plan, plan}
 use Rattle.ledger.specs.Flows.{shut}
 use Rattle.text.proofs.ReadingLaws.{by-test}
 use Rattle.programs.specs.Program.{programSquares}
 use Rattle.lists.specs.Names.{mostSheets}
 use Rattle.lists.specs.Sheets.{File, fileNumber, filePeaks}
 use Rattle.lists.specs.Drowned.{Accepted, accepted, drowned, deepestOf, firstGave, noPlan, begunWith, planWith, numbersFrom, planFrom, acceptedFrom, numbersText, refusedLines, refusedMany, numbersOf, firstPlan, sheetsRun, drownedLine, drownedText}
-use Rattle.lists.specs.Tally.{Rooms, beginning, tallyAfter, roomsAfter, numbersKept, squareText, squaresText, sheetsText, tallyFine, tallyText}
-use Rattle.lists.specs.Right.{taken, RoomsLong, ending, SquareRight, ListRight, DrownedRight}
+use Rattle.lists.specs.Tally.{Rooms, beginning, tallyAfter, roomsAfter, squareText, squaresText, sheetsText, tallyFine, tallyText}
+use Rattle.lists.specs.Right.{taken, RoomsLong, ending, ListRight, DrownedRight}
 use Rattle.lists.specs.declared.tally.Tally.{Tally}
-use Rattle.lists.proofs.TallyLaws.{Held, Noted, Follows, follows-as, follows-one}
+use Rattle.lists.proofs.TallyLaws.{Held, Follows, follows-as, follows-one}
 
 -- ---- name after name
 
@@ -89,11 +88,14 @@ module _ (wet : ℕ) (files : List File) (begun : Bool) {t : Tally} {r : Rooms} 
       (ap shapeFine (h .shape-is) ∙ fine-of-ranges (firstPlan wet files .shape) (h .some b .1), (le-leb (squares (t .shape)) programSquares (omega (arith, ap squares (h .shape-is), h .few)), tt)))
       (λ b. pick-false _ _ (h .begun-is ∙ b))
 
-  is-fine : tallyFine t r ≡ true
+  is-fine : tallyFine t ≡ true
   unfolding tallyFine
   is-fine = each-every _ (le-leb (t .taken) mostSheets few-taken, (shape-kept, tt))
 
-  line-is : (i : ℕ) → i < squares (firstPlan wet files .shape) → squareText t r i ≡ drownedLine wet files i
+  abbrev lineKept : ℕ → List ℕ
+  lineKept = squareText (plan (t .shape) (r .marks)) (r .counts) (r .deepest) (r .places)
+
+  line-is : (i : ℕ) → i < squares (firstPlan wet files .shape) → lineKept i ≡ drownedLine wet files i
   unfolding squareText drownedLine closed
   line-is i low =
       by-test (shut (firstPlan wet files) i) (λ c. pick-true _ _ (same-mark ∙ c) ∙ sym (pick-true _ _ c))
@@ -116,26 +118,27 @@ module _ (wet : ℕ) (files : List File) (begun : Bool) {t : Tally} {r : Rooms} 
               numbersText (a ∷ b ∷ c ∷ d ∷ p ∷ []) ≡ numbersText (a′ ∷ b′ ∷ c′ ∷ d′ ∷ p′ ∷ [])
           five v w x y z = cc
 
-  squares-are : squaresText t r ≡ joined (squares (firstPlan wet files .shape)) (drownedLine wet files)
+  squares-are :
+      pick (t .begun) (squaresText (plan (t .shape) (r .marks)) (r .counts) (r .deepest) (r .places)) []
+      ≡ joined (squares (firstPlan wet files .shape)) (drownedLine wet files)
   unfolding squaresText
   squares-are =
       by-test begun
       (λ b.
       pick-true _ _ (h .begun-is ∙ b)
-      ∙ (ap (λ (n : ℕ). joined n (squareText t r)) (ap squares (h .shape-is)) ∙ joined-ext _ _ _ line-is))
+      ∙ (ap (λ (n : ℕ). joined n lineKept) (ap squares (h .shape-is)) ∙ joined-ext _ _ _ line-is))
       (λ b.
       pick-false _ _ (h .begun-is ∙ b)
       ∙ sym (ap (λ (n : ℕ). joined n (drownedLine wet files)) (h .none b .1) ∙ joined-none (drownedLine wet files)))
 
   sheets-are :
-      sheetsText t r
+      sheetsText (take (t .taken) (r .numbers))
       ≡ numbersText (length (sheetsRun wet files) ∷ refusedMany (numbersOf wet files) ∷ []) ++ refusedLines 1 (numbersOf wet files)
   unfolding sheetsText
   sheets-are =
-      ap (λ (l : List ℕ). numbersText ((t .taken - refusedMany l) ∷ refusedMany l ∷ []) ++ refusedLines 1 l)
-      (ap (λ (k : ℕ). take k (r .numbers)) (h .taken-is) ∙ h .told .numbers-are)
+      ap sheetsText (ap (λ (k : ℕ). take k (r .numbers)) (h .taken-is) ∙ h .told .numbers-are)
       ∙ ap (λ (k : ℕ). numbersText (k ∷ refusedMany (numbersOf wet files) ∷ []) ++ refusedLines 1 (numbersOf wet files))
-      (let e : t .taken - refusedMany (numbersOf wet files) ≡ length (sheetsRun wet files) = omega (arith, h .taken-is, h .told .all-told) in e)
+      (let e : length (numbersOf wet files) - refusedMany (numbersOf wet files) ≡ length (sheetsRun wet files) = omega (arith, h .told .all-told) in e)
 
   text-is : tallyText t r ≡ drownedText wet files
   unfolding tallyText drownedText

@@ -3,7 +3,7 @@
 use mathlib.Core.Path.{_≡_, refl, sym, ap, subst, _∙_}
 use mathlib.Core.Bool.{Bool, true, false, _&&_, _||_}
 use mathlib.Core.List.{List, [], _∷_, _++_, append-nil}
-use Prim.Native.Nat.{ℕ, zero, suc, _+_, _*_, _≤_, _<_, max}
+use Prim.Native.Nat.{ℕ, suc, _+_, _≤_, _<_, max}
 use native.Mathlib.Numerals.{add-one}
 use native.Mathlib.Omega.{arith}
 use lib.Dec.{eqb, leb, ltb}
@@ -24,8 +24,8 @@ use Rattle.text.proofs.WritingLaws.{placed-byte}
 use Rattle.programs.specs.Program.{programSquares}
 use Rattle.lists.specs.Names.{mostSheets}
 use Rattle.lists.specs.Sheets.{File, fileNumber, filePlan, filePeaks}
-use Rattle.lists.specs.Drowned.{Accepted, accepted, peakIn, drowned, deepestOf, firstGave, refusedMany, begunWith, planWith}
-use Rattle.lists.specs.Tally.{Rooms, rooms, countsWith, deepestWith, placesWith, numberWith, planNow, tallyAfter, merged, noted, roomsAfter}
+use Rattle.lists.specs.Drowned.{Accepted, accepted, drowned, deepestOf, firstGave, refusedMany, begunWith, planWith}
+use Rattle.lists.specs.Tally.{Rooms, rooms, countsWith, deepestWith, placesWith, numberWith, planNow, tallyAfter, roomsAfter}
 use Rattle.lists.specs.Right.{RoomsLong}
 use Rattle.lists.specs.declared.tally.Tally.{Tally}
 use Rattle.lists.proofs.AcceptedLaws.{drowned-more, drowned-few, deepest-more, first-more, first-alone}
