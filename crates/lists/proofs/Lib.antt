@@ -3,3 +3,4 @@ pub mod FileLaws
 pub mod PrintLaws
 pub mod RightLaws
 pub mod TallyLaws
+pub mod WorkedLaws
