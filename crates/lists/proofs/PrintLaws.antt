@@ -140,7 +140,7 @@ module _ (p : Plan) (counts deepest places : List ℕ) where
         decimal-short 2 (getD places i 0) (omega arith),
       ))
 
-  pub squares-short :
+  squares-short :
       squares (p .shape) ≤ programSquares → ((i : ℕ) → getD counts i 0 < 2 ^ 8) → ((i : ℕ) → getD deepest i 0 < 2 ^ 32) →
       ((i : ℕ) → getD places i 0 < 2 ^ 8) → length (squaresText p counts deepest places) ≤ 29 * programSquares
   unfolding squaresText
@@ -167,7 +167,7 @@ pub refused-line : (place n : ℕ) → (n ≡ 0 → ⊥) → refusedLine place n
 unfolding refusedLine
 refused-line place n d = pick-false _ _ (ne-eqb n 0 d)
 
-pub refused-left :
+refused-left :
     (numbers : List ℕ) (i : ℕ) → i < length numbers →
     refusedMany (drop i numbers) ≡ pick (eqb (getD numbers i 0) 0) 0 1 + refusedMany (drop (i + 1) numbers)
 unfolding refusedMany pick
@@ -184,7 +184,7 @@ unfolding refusedMany
 refused-few [] = omega arith
 refused-few (n ∷ rest) = pick-both (λ (k : ℕ). k ≤ suc (length rest)) (eqb n 0) (omega (arith, refused-few rest)) (omega (arith, refused-few rest))
 
-pub lines-more :
+lines-more :
     (numbers : List ℕ) (i : ℕ) → i < length numbers →
     refusedLines (i + 1) (drop i numbers) ≡ refusedLine (i + 1) (getD numbers i 0) ++ refusedLines (i + 1 + 1) (drop (i + 1) numbers)
 unfolding refusedLines
@@ -193,7 +193,7 @@ lines-more numbers i h =
     ∙ (ap (λ (k : ℕ). refusedLine (i + 1) (getD numbers i 0) ++ refusedLines k (drop (suc i) numbers)) (sym (add-one (i + 1)))
     ∙ ap (λ (k : ℕ). refusedLine (i + 1) (getD numbers i 0) ++ refusedLines (i + 1 + 1) (drop k numbers)) (sym (add-one i)))
 
-pub lines-end : (numbers : List ℕ) (i : ℕ) → length numbers ≤ i → refusedLines (i + 1) (drop i numbers) ≡ []
+lines-end : (numbers : List ℕ) (i : ℕ) → length numbers ≤ i → refusedLines (i + 1) (drop i numbers) ≡ []
 unfolding refusedLines
 lines-end numbers i h = ap (refusedLines (i + 1)) (drop-of-length-le numbers h)
 
@@ -265,11 +265,11 @@ module _ (numbers : List ℕ) where
       Wrote countsLine at old mid p
   counts-written {at = at} {p} {old} {mid} e w = subst (λ (n : ℕ). Wrote (numbersText ((length numbers - n) ∷ n ∷ [])) at old mid p) e w
 
-  pub sheets-long : length (sheetsText numbers) ≡ length countsLine + length (refusedLines 1 numbers)
+  sheets-long : length (sheetsText numbers) ≡ length countsLine + length (refusedLines 1 numbers)
   unfolding sheetsText
   sheets-long = length-append countsLine (refusedLines 1 numbers)
 
-  pub sheets-short :
+  sheets-short :
       length numbers ≤ mostSheets → ((i : ℕ) → i < length numbers → getD numbers i 0 < 2 ^ 32) → length (sheetsText numbers) ≤ 3_008
   sheets-short h g =
       omega (

@@ -12,6 +12,7 @@ use Rattle.lists.specs.Sheets.{sameMarks, samePlan, fileNumber}
 use Rattle.lists.specs.Drowned.{drowned, deepestOf, firstWith, numbersFrom, planFrom, acceptedFrom, numbersText, refusedLine, refusedLines, refusedMany, drownedLine, drownedText}
 use Rattle.lists.specs.Tally.{squareText, squaresText, sheetsText}
 use Rattle.lists.specs.Worked.{ListCases}
+use Rattle.lists.proofs.WholeLaws.{whole-list}
 
 pub list-cases : ListCases
 unfolding pick every allBelow refusal joined closed bytesOf isByte isDigit digitsOf valueFrom wellFormed numberFrom numberAt digitsIn decimal fieldText fieldsText restText linesIn listNumber listOf listed sameMarks samePlan fileNumber drowned deepestOf firstWith numbersFrom planFrom acceptedFrom numbersText refusedLine refusedLines refusedMany drownedLine drownedText squareText squaresText sheetsText
@@ -50,4 +51,5 @@ list-cases =
       all-run = refl;
       none-accepted = refl;
       empty-list = refl;
+      whole-list = whole-list;
     }

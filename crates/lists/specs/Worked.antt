@@ -5,11 +5,12 @@ use mathlib.Core.Path.{_≡_}
 use mathlib.Core.Bool.{true, false}
 use mathlib.Core.List.{List, [], _∷_}
 use Prim.Native.Nat.{ℕ}
+use Prim.Native.String.{String}
 use Rattle.ledger.specs.Runs.{Plan, plan}
 use Rattle.text.specs.Bytes.{bytesOf}
 use Rattle.lists.specs.Names.{listNumber, listed}
-use Rattle.lists.specs.Sheets.{samePlan, fileNumber}
-use Rattle.lists.specs.Sheets.File.{notOpened}
+use Rattle.lists.specs.Sheets.{File, samePlan, fileNumber}
+use Rattle.lists.specs.Sheets.File.{notOpened, holds}
 use Rattle.lists.specs.Drowned.{Accepted, accepted, noPlan, drowned, deepestOf, firstGave, drownedText}
 use Rattle.lists.specs.Tally.{squaresText, sheetsText}
 use Rattle.lists.specs.declared.names.Listed.{Listed}
@@ -27,6 +28,22 @@ grid rows columns = plan (record { rows = rows; columns = columns }) (0 ∷ 1 �
 -- the sheets at places 2, 4 and 7 were accepted; the deepest values of their squares
 abbrev sheets : List Accepted
 sheets = accepted 2 (40 ∷ 90 ∷ 0 ∷ []) ∷ accepted 4 (70 ∷ 80 ∷ 0 ∷ []) ∷ accepted 7 (70 ∷ 90 ∷ 0 ∷ []) ∷ []
+
+-- sheets of one square: an exit, an open one that is deeper, and an exit again; and a list of them after a name that can't be opened
+abbrev pub shallow : List ℕ
+shallow = bytesOf "grid\t1\t1\t1\nrun\t100\t1000\t1000\t1000\t1000\t10000\t1\ncell\t0\t0\te\t0\t100\t10000\t0\n"
+
+abbrev pub bank : List ℕ
+bank = bytesOf "grid\t1\t1\t1\nrun\t100\t1000\t1000\t1000\t1000\t10000\t1\ncell\t0\t0\to\t0\t100\t90000\t0\n"
+
+abbrev pub deep : List ℕ
+deep = bytesOf "grid\t1\t1\t1\nrun\t100\t1000\t1000\t1000\t1000\t10000\t1\ncell\t0\t0\te\t0\t100\t12000\t0\n"
+
+abbrev pub wholeList : List File
+wholeList = notOpened ∷ holds shallow ∷ holds bank ∷ holds deep ∷ []
+
+abbrev pub wholeText : String
+wholeText = "0\t0\t2\t12000\t4\n2\t2\n1\t12\n3\t14\n"
 
 pub record ListCases : Type 0 where
   -- a depth, then a name a line; a last one without its newline is a name; a list may have none
@@ -74,3 +91,5 @@ pub record ListCases : Type 0 where
   -- with none accepted no square
   pub none-accepted : drownedText 5 (notOpened ∷ notOpened ∷ []) ≡ bytesOf "0\t2\n1\t12\n2\t12\n"
   pub empty-list : drownedText 5 [] ≡ bytesOf "0\t0\n"
+  -- two of four are run, both at least 10,000 deep in their starting state, the later one deepest; "shape or marks differ" is 14
+  pub whole-list : drownedText 10_000 wholeList ≡ bytesOf wholeText
