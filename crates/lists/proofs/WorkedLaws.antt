@@ -7,7 +7,7 @@ use Rattle.grid.specs.Marks.{closed}
 use Rattle.text.specs.Bytes.{bytesOf}
 use Rattle.text.specs.Reading.{isByte, isDigit, digitsOf, valueFrom, wellFormed, numberFrom, numberAt}
 use Rattle.text.specs.Writing.{digitsIn, decimal, fieldText, fieldsText, restText}
-use Rattle.lists.specs.Names.{linesIn, listNumber, listOf, listed}
+use Rattle.lists.specs.Names.{linesIn, listAfter, listNumber, listed}
 use Rattle.lists.specs.Sheets.{sameMarks, samePlan, fileNumber}
 use Rattle.lists.specs.Drowned.{drowned, deepestOf, firstWith, numbersFrom, planFrom, acceptedFrom, numbersText, refusedLine, refusedLines, refusedMany, drownedLine, drownedText}
 use Rattle.lists.specs.Tally.{squareText, squaresText, sheetsText}
@@ -15,7 +15,7 @@ use Rattle.lists.specs.Worked.{ListCases}
 use Rattle.lists.proofs.WholeLaws.{whole-list}
 
 pub list-cases : ListCases
-unfolding pick every allBelow refusal joined closed bytesOf isByte isDigit digitsOf valueFrom wellFormed numberFrom numberAt digitsIn decimal fieldText fieldsText restText linesIn listNumber listOf listed sameMarks samePlan fileNumber drowned deepestOf firstWith numbersFrom planFrom acceptedFrom numbersText refusedLine refusedLines refusedMany drownedLine drownedText squareText squaresText sheetsText
+unfolding pick every allBelow refusal joined closed bytesOf isByte isDigit digitsOf valueFrom wellFormed numberFrom numberAt digitsIn decimal fieldText fieldsText restText linesIn listNumber listAfter listed sameMarks samePlan fileNumber drowned deepestOf firstWith numbersFrom planFrom acceptedFrom numbersText refusedLine refusedLines refusedMany drownedLine drownedText squareText squaresText sheetsText
 list-cases =
     record {
       two-names = refl;

@@ -33,15 +33,13 @@ unfoldable pub listNumber : ℕ → ℕ → ℕ
 listNumber wet names = refusal (5 unless leb wet mostDepth ∷ 16 unless leb names mostSheets ∷ [])
 
 -- the first line is a number and its newline; the names are the lines after it
-unfoldable pub listOf : List ℕ → Listed
-listOf s =
-    withNumber (numberAt s 0) (listRefused 1)
-    (λ wet q.
+unfoldable pub listAfter : List ℕ → ℕ → ℕ → Listed
+listAfter s wet q =
     pick (isByte s q newline) (record { number = listNumber wet (namesFrom s (q + 1)); line = 0; wet = wet; names = namesFrom s (q + 1) })
-    (listRefused 1))
+    (listRefused 1)
 
 unfoldable pub listed : List ℕ → Listed
-listed s = pick (leb (length s) mostText) (listOf s) (listRefused 0)
+listed s = pick (leb (length s) mostText) (withNumber (numberAt s 0) (listRefused 1) (listAfter s)) (listRefused 0)
 
 -- ---- what the public function gives
 

@@ -35,23 +35,26 @@ beginning wet = record { wet = wet; taken = 0; begun = false; shape = record { r
 
 -- ---- one accepted sheet more, into the squares that are not closed: what was in the rooms before the first one does not matter
 
+-- no more than the sheets that a list can have
+abbrev pub countWith : ℕ → ℕ → ℕ → ℕ
+countWith wet peak count = pick (every (leb wet peak ∷ ltb count mostSheets ∷ [])) (count + 1) count
+
+-- it is the first, or deeper than any before it
+abbrev pub gives : Bool → ℕ → ℕ → Bool
+gives begun deepest peak = pick begun (ltb deepest peak) true
+
 module _ (p : Plan) (begun : Bool) (wet place : ℕ) (peaks : List ℕ) where
-  -- no more than the sheets that a list can have
-  abbrev pub countWith : ℕ → ℕ → ℕ
-  countWith peak count = pick (every (leb wet peak ∷ ltb count mostSheets ∷ [])) (count + 1) count
-
   unfoldable pub countsWith : List ℕ → List ℕ
-  countsWith counts = filled (squares (p .shape)) (shut p) (λ i. countWith (getD peaks i 0) (pick begun (getD counts i 0) 0)) counts
+  countsWith counts = filled (squares (p .shape)) (shut p) (λ i. countWith wet (getD peaks i 0) (pick begun (getD counts i 0) 0)) counts
 
-  -- it is the first, or deeper than any before it
-  abbrev pub gives : List ℕ → ℕ → Bool
-  gives deepest i = pick begun (ltb (getD deepest i 0) (getD peaks i 0)) true
+  abbrev pub givesAt : List ℕ → ℕ → Bool
+  givesAt deepest i = gives begun (getD deepest i 0) (getD peaks i 0)
 
   unfoldable pub deepestWith : List ℕ → List ℕ
-  deepestWith deepest = filled (squares (p .shape)) (shut p) (λ i. pick (gives deepest i) (getD peaks i 0) (getD deepest i 0)) deepest
+  deepestWith deepest = filled (squares (p .shape)) (shut p) (λ i. pick (givesAt deepest i) (getD peaks i 0) (getD deepest i 0)) deepest
 
   unfoldable pub placesWith : List ℕ → List ℕ → List ℕ
-  placesWith deepest places = filled (squares (p .shape)) (shut p) (λ i. pick (gives deepest i) place (getD places i 0)) places
+  placesWith deepest places = filled (squares (p .shape)) (shut p) (λ i. pick (givesAt deepest i) place (getD places i 0)) places
 
 -- ---- one name more
 

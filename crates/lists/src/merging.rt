@@ -3,24 +3,37 @@ use crate::names::MOST_SHEETS;
 use grid::marks::is_closed;
 use grid::squares::Shape;
 use grid::squares::squares_of;
-use reckon::numbers::number;
 ghost use mathlib.Core.Path.{_≡_};
-ghost use Prim.Native.Nat.{_≤_};
+ghost use Prim.Native.Nat.{_<_, _≤_};
 ghost use lib.ListN.{length};
+ghost use Rattle.reckon.specs.Tests.{pick};
 ghost use Rattle.grid.specs.Squares.{ShapeInRange, squares};
 ghost use Rattle.ledger.specs.Runs.{plan};
-ghost use Rattle.lists.specs.inner.Judged.{Merges};
+ghost use Rattle.lists.specs.Tally.{countWith, gives};
+ghost use Rattle.lists.specs.inner.Judged.{Merges, MergesSquare};
 
 // The sheet: whether one was accepted before it, the depth that counts, and its place in the list.
-pub struct Merging {
-    pub begun: bool,
-    pub wet: u32,
-    pub place: u8,
+pub(crate) struct Merging {
+    pub(crate) begun: bool,
+    pub(crate) wet: u32,
+    pub(crate) place: u8,
+}
+
+// A square's count before the sheet: what a room holds before the first one does not matter.
+fn count_before(merging: Merging, count: u8) -> u8
+    ensures { λ r. ⌜ r ≡ pick (merging .begun) count 0 ⌝ }
+{
+    if merging.begun {
+        return count;
+    }
+    0
 }
 
 // A square's count with the sheet, whose peak in it is given.
-fn count_with(merging: Merging, peak: u32, count: u8) -> u8 {
-    let before = if merging.begun { count } else { 0 };
+fn count_with(merging: Merging, peak: u32, count: u8) -> u8
+    ensures { λ r. ⌜ r ≡ countWith (merging .wet) peak (pick (merging .begun) count 0) ⌝ }
+{
+    let before = count_before(merging, count);
     if peak < merging.wet {
         return before;
     }
@@ -31,15 +44,43 @@ fn count_with(merging: Merging, peak: u32, count: u8) -> u8 {
 }
 
 // Whether the sheet gives a square's deepest value: it is the first, or deeper than any before it.
-fn gives(merging: Merging, deepest: u32, peak: u32) -> bool {
+fn is_given(merging: Merging, deepest: u32, peak: u32) -> bool
+    ensures { λ r. ⌜ r ≡ gives (merging .begun) deepest peak ⌝ }
+{
     if !merging.begun {
         return true;
     }
     deepest < peak
 }
 
+// One square with the sheet, unless it is closed.
+fn merge_square(
+    merging: Merging,
+    square: usize,
+    marks: &[u8],
+    peaks: &[u32],
+    counts: &mut [u8],
+    deepest: &mut [u32],
+    places: &mut [u8],
+)
+    requires { ⌜ (square < length (now marks)) × (square < length (now peaks)) ⌝ }
+    requires { ⌜ (square < length (now counts)) × (square < length (now deepest)) × (square < length (now places)) ⌝ }
+    ensures { λ _. ⌜ MergesSquare merging square (now (marks .entry)) (now (peaks .entry)) (now (counts .entry)) (now (deepest .entry)) (now (places .entry)) (now (counts .exit)) (now (deepest .exit)) (now (places .exit)) ⌝ }
+{
+    if is_closed(marks, square) {
+        return;
+    }
+    let peak = peaks[square];
+    counts[square] = count_with(merging, peak, counts[square]);
+    if !is_given(merging, deepest[square], peak) {
+        return;
+    }
+    deepest[square] = peak;
+    places[square] = merging.place;
+}
+
 // Every square not closed with the sheet.
-pub fn merge(
+pub(crate) fn merge(
     merging: Merging,
     shape: Shape,
     marks: &[u8],
@@ -55,14 +96,7 @@ pub fn merge(
     let squares = squares_of(shape);
     let mut square: usize = 0;
     while square < squares {
-        if !is_closed(marks, square) {
-            let peak = peaks[square];
-            counts[square] = count_with(merging, peak, counts[square]);
-            if gives(merging, deepest[square], peak) {
-                deepest[square] = peak;
-                places[square] = merging.place;
-            }
-        }
+        merge_square(merging, square, marks, peaks, counts, deepest, places);
         square += 1;
     }
 }

@@ -8,7 +8,7 @@ use text::reading::number_at;
 ghost use mathlib.Core.Path.{_≡_};
 ghost use Prim.Native.Nat.{_≤_};
 ghost use lib.ListN.{length};
-ghost use Rattle.lists.specs.Names.{ListRead, listNumber, listRefused, namesFrom};
+ghost use Rattle.lists.specs.Names.{ListRead, listAfter, listNumber, listRefused, namesFrom};
 
 // "up to 200 sheets' file names"
 pub const MOST_SHEETS: usize = 200;
@@ -58,13 +58,29 @@ fn count_names(text: &[u8], at: usize) -> usize
 fn list_number(wet: u32, names: usize) -> u32
     ensures { λ r. ⌜ r ≡ listNumber wet names ⌝ }
 {
-    if MOST_DEPTH < wet as u64 {
+    if MOST_DEPTH < wet {
         return 5;
     }
     if MOST_SHEETS < names {
         return 16;
     }
     0
+}
+
+// The list whose first line begins with a depth that ends at a position.
+fn list_after(text: &[u8], wet: u32, end: usize) -> Listed
+    ensures { λ r. ⌜ r ≡ listAfter (now (text .entry)) wet end ⌝ }
+{
+    if !byte_is(text, end, NEWLINE) {
+        return refused(1);
+    }
+    let names = count_names(text, end + 1);
+    Listed {
+        number: list_number(wet, names),
+        line: 0,
+        wet: wet,
+        names: names,
+    }
 }
 
 // The list's refusal, or its depth and the count of its names.
@@ -76,17 +92,6 @@ pub fn read_list(text: &[u8]) -> Listed
     }
     match number_at(text, 0) {
         Number::Not => refused(1),
-        Number::Is(wet, end) => {
-            if !byte_is(text, end, NEWLINE) {
-                return refused(1);
-            }
-            let names = count_names(text, end + 1);
-            Listed {
-                number: list_number(wet, names),
-                line: 0,
-                wet: wet,
-                names: names,
-            }
-        }
+        Number::Is(wet, end) => list_after(text, wet, end),
     }
 }

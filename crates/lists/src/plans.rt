@@ -22,7 +22,7 @@ fn same_marks(count: usize, marks: &[u8], others: &[u8]) -> bool
     true
 }
 
-pub fn same_plan(shape: Shape, marks: &[u8], other: Shape, others: &[u8]) -> bool
+pub(crate) fn same_plan(shape: Shape, marks: &[u8], other: Shape, others: &[u8]) -> bool
     requires { ⌜ (ShapeInRange shape) × (squares shape ≤ length (now marks)) × (squares shape ≤ length (now others)) ⌝ }
     ensures { λ r. ⌜ r ≡ samePlan (plan shape (now (marks .entry))) (plan other (now (others .entry))) ⌝ }
 {
