@@ -79,13 +79,16 @@ module _ (wet : ℕ) (files : List File) (begun : Bool) {t : Tally} {r : Rooms} 
   abbrev shapeKept : Bool
   shapeKept = pick (t .begun) (every (shapeFine (t .shape) ∷ leb (squares (t .shape)) programSquares ∷ [])) true
 
+  few-squares : leb (squares (t .shape)) programSquares ≡ true
+  few-squares = le-leb (squares (t .shape)) programSquares (omega (arith, ap squares (h .shape-is), h .few))
+
   shape-kept : shapeKept ≡ true
   shape-kept =
       by-test begun
       (λ b.
       pick-true _ _ (h .begun-is ∙ b)
       ∙ each-every _
-      (ap shapeFine (h .shape-is) ∙ fine-of-ranges (firstPlan wet files .shape) (h .some b .1), (le-leb (squares (t .shape)) programSquares (omega (arith, ap squares (h .shape-is), h .few)), tt)))
+      (ap shapeFine (h .shape-is) ∙ fine-of-ranges (firstPlan wet files .shape) (h .some b .1), (few-squares, tt)))
       (λ b. pick-false _ _ (h .begun-is ∙ b))
 
   is-fine : tallyFine t ≡ true
@@ -161,7 +164,9 @@ module _ (wet : ℕ) (files : List File) (r : Rooms) (long : RoomsLong r) (most 
         held = λ i low land. absurd (not-suc-le-zero low);
       }
 
-  at-end : Follows wet (numbersOf wet files) (sheetsRun wet files) (begunFrom false noPlan files) (firstPlan wet files) (ending wet files r .0) (ending wet files r .1)
+  at-end :
+      Follows wet (numbersOf wet files) (sheetsRun wet files) (begunFrom false noPlan files) (firstPlan wet files) (ending wet files r .0)
+      (ending wet files r .1)
   at-end = follows-all files [] [] false noPlan (beginning wet) r start (omega (arith, most))
 
   list-right : ListRight wet files r

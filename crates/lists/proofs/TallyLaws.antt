@@ -230,6 +230,10 @@ module _ {wet : ℕ} {numbers : List ℕ} {sheets : List Accepted} {begun : Bool
   abbrev sheet : Accepted
   sheet = accepted (length numbers + 1) (filePeaks f)
 
+  -- the rooms after it, were it accepted
+  abbrev after : Plan → Bool → Rooms
+  after p later = mergedBy p later wet (length numbers + 1) (filePeaks f) (length numbers) r
+
   room : ltb (t .taken) mostSheets ≡ true
   room = lt-ltb (t .taken) mostSheets (omega (arith, h .taken-is, most))
 
@@ -289,7 +293,7 @@ module _ {wet : ℕ} {numbers : List ℕ} {sheets : List Accepted} {begun : Bool
           tally-same (h .wet-is) (pick-true _ _ room ∙ ap (λ (k : ℕ). k + 1) (h .taken-is)) (pick-true _ _ is-zero)
           (pick-true _ _ is-zero ∙ ap (λ (x : Plan). x .shape) now-is) (number-is ∙ e)
 
-      rooms-accepted : roomsAfter t f r ≡ mergedBy p begun wet (length numbers + 1) (filePeaks f) (length numbers) r
+      rooms-accepted : roomsAfter t f r ≡ after p begun
       unfolding roomsAfter
       rooms-accepted =
           pick-true _ _ room
@@ -298,7 +302,7 @@ module _ {wet : ℕ} {numbers : List ℕ} {sheets : List Accepted} {begun : Bool
 
       module _ (Q : Plan) (marks : List ℕ) (p-is : p ≡ plan (Q .shape) marks) where
         abbrev mergedNow : Rooms
-        mergedNow = mergedBy (plan (Q .shape) marks) begun wet (length numbers + 1) (filePeaks f) (length numbers) r
+        mergedNow = after (plan (Q .shape) marks) begun
 
         follows-accepted :
             ShapeInRange (Q .shape) → squares (Q .shape) ≤ programSquares → length marks ≡ programSquares →
@@ -307,7 +311,7 @@ module _ {wet : ℕ} {numbers : List ℕ} {sheets : List Accepted} {begun : Bool
             Follows wet (numbers ++ (0 ∷ [])) (sheets ++ (sheet ∷ [])) true Q (tallyAfter t f r) (roomsAfter t f r)
         follows-accepted shape few marks-long agree held =
             follows-as refl refl refl refl (sym (tally-accepted ∙ ap (λ (x : Plan). tallied wet (length numbers + 1) true (x .shape) 0) p-is))
-            (sym (rooms-accepted ∙ ap (λ (x : Plan). mergedBy x begun wet (length numbers + 1) (filePeaks f) (length numbers) r) p-is))
+            (sym (rooms-accepted ∙ ap (λ (x : Plan). after x begun) p-is))
             (record {
               wet-is = refl;
               taken-is = sym (length-append numbers (0 ∷ []));
@@ -329,9 +333,9 @@ module _ {wet : ℕ} {numbers : List ℕ} {sheets : List Accepted} {begun : Bool
         follows-accepted _ (pick-false _ _ (h .begun-is ∙ b)) (filePlan f) marks refl (fine .shape) (fine .few)
         (length-placed (r .marks) 0 (filePlan f .marks) fits ∙ h .told .long .marks-long) agree
         (λ i low land.
-        subst (λ (z : Bool). Held wet i (sheets ++ (sheet ∷ [])) (mergedBy (plan (filePlan f .shape) marks) z wet (length numbers + 1) (filePeaks f) (length numbers) r))
+        subst (λ (z : Bool). Held wet i (sheets ++ (sheet ∷ [])) (after (plan (filePlan f .shape) marks) z))
         (sym b)
-        (subst (λ (z : List Accepted). Held wet i (z ++ (sheet ∷ [])) (mergedBy (plan (filePlan f .shape) marks) false wet (length numbers + 1) (filePeaks f) (length numbers) r))
+        (subst (λ (z : List Accepted). Held wet i (z ++ (sheet ∷ [])) (after (plan (filePlan f .shape) marks) false))
         (sym (h .none b .0))
         (held-first (filePlan f) (fine .few) marks agree wet (length numbers + 1) (length numbers) (filePeaks f) r (h .told .long) i low land)))
       where
@@ -354,7 +358,7 @@ module _ {wet : ℕ} {numbers : List ℕ} {sheets : List Accepted} {begun : Bool
         follows-accepted _ (pick-true _ _ (h .begun-is ∙ b)) q (r .marks) (ap (λ (s : Shape). plan s (r .marks)) (h .shape-is)) (h .some b .1) (h .few)
         (h .told .long .marks-long) (h .agree)
         (λ i low land.
-        subst (λ (z : Bool). Held wet i (sheets ++ (sheet ∷ [])) (mergedBy (plan (q .shape) (r .marks)) z wet (length numbers + 1) (filePeaks f) (length numbers) r))
+        subst (λ (z : Bool). Held wet i (sheets ++ (sheet ∷ [])) (after (plan (q .shape) (r .marks)) z))
         (sym b)
         (held-next q (h .few) (r .marks) (h .agree) wet (length numbers + 1) (length numbers) (filePeaks f) r (h .told .long) i low land sheets (h .some b .0)
         (omega (arith, most, h .told .all-told)) (h .held i low land)))

@@ -44,7 +44,12 @@ loop-less c =
 
 loop-again : tie.Need-loop-again Inv-loop μ-loop
 loop-again c =
-    (omega arith, omega (arith, c .before .before .before .loop .inv, counted-few (c .before .number .result) (c .counted .ensures)), counted-more (c .before .before .before .before .before .args .numbers .now) (c .before .before .before .loop .place) (c .before .before .before .loop .refused) (omega arith) (c .before .before .before .loop .inv .2) (c .before .number .ensures) (c .counted .ensures))
+    let l = c .before .before .before in
+    let n = c .before in (
+      omega arith,
+      omega (arith, l .loop .inv, counted-few (n .number .result) (c .counted .ensures)),
+      counted-more (l .before .before .args .numbers .now) (l .loop .place) (l .loop .refused) (omega arith) (l .loop .inv .2) (n .number .ensures) (c .counted .ensures),
+    )
 
 returns : tie.Need-returns Inv-loop μ-loop
 returns c =

@@ -16,12 +16,17 @@ put-refused-requires c κs = search needs
 
 returns : tie.Need-returns
 returns c =
-    printed-refused _ (rooms (c .before .before .before .before .args .marks .now) (c .before .before .before .before .args .counts .now) (c .before .before .before .before .args .deepest .now) (c .before .before .before .before .args .places .now) (c .before .before .before .before .args .numbers .now))
+    let a = c .before .before .before .before .args in
+    printed-refused _ (rooms (a .marks .now) (a .counts .now) (a .deepest .now) (a .places .now) (a .numbers .now))
     (fails-by (c .before .before .before .tally-fine .ensures) (c .before .before .if1 .taken)) (omega arith) (c .put-refused .ensures)
 
 put-tally-requires : tie.Need-put-tally-requires
 put-tally-requires c κs =
-    (holds-by (c .before .before .before .before .before .before .before .tally-fine .ensures) (c .before .before .before .before .before .before .if1 .left), record { marks-long = omega arith; counts-long = omega arith; deepest-long = omega arith; places-long = omega arith; numbers-long = omega arith }, omega arith)
+    let judged = c .before .before .before .before .before .before in (
+      holds-by (judged .before .tally-fine .ensures) (judged .if1 .left),
+      record { marks-long = omega arith; counts-long = omega arith; deepest-long = omega arith; places-long = omega arith; numbers-long = omega arith },
+      omega arith,
+    )
 
 returns-2 : tie.Need-returns-2
 returns-2 c = search needs

@@ -8,22 +8,41 @@ use Rattle.lists.proofs.printing.put_numbers.Tie as tie
 
 put-number-requires : tie.Need-put-number-requires
 put-number-requires c κs =
-    omega (arith, c .before .before .before .pre, numbers-long (c .before .before .before .args .head) (c .before .before .before .args .values .now))
+    let s = c .before .before .before in
+    omega (arith, s .pre, numbers-long (s .args .head) (s .args .values .now))
 
 put-fields-requires : tie.Need-put-fields-requires
 put-fields-requires c κs =
-    omega (arith, c .before .before .before .before .before .before .before .pre, numbers-long (c .before .before .before .before .before .before .before .args .head) (c .before .before .before .before .before .before .before .args .values .now), c .before .before .before .put-number .ensures .next, c .before .before .before .put-number .kept .0)
+    let first = c .before .before .before in
+    let s = first .before .before .before .before in
+    omega (arith, s .pre, numbers-long (s .args .head) (s .args .values .now), first .put-number .ensures .next, first .put-number .kept .0)
 
 put-byte-requires : tie.Need-put-byte-requires
 put-byte-requires c κs =
-    omega (arith, c .before .before .before .before .before .before .before .before .before .before .before .pre, numbers-long (c .before .before .before .before .before .before .before .before .before .before .before .args .head) (c .before .before .before .before .before .before .before .before .before .before .before .args .values .now), c .before .before .before .before .before .before .before .put-number .ensures .next, c .before .before .before .before .before .before .before .put-number .kept .0, c .before .before .before .put-fields .ensures .next, c .before .before .before .put-fields .kept .0)
+    let second = c .before .before .before in
+    let first = second .before .before .before .before in
+    let s = first .before .before .before .before in
+    omega (
+      arith,
+      s .pre,
+      numbers-long (s .args .head) (s .args .values .now),
+      first .put-number .ensures .next,
+      first .put-number .kept .0,
+      second .put-fields .ensures .next,
+      second .put-fields .kept .0,
+    )
 
 same-length : tie.Need-same-length
 same-length c = search needs
 
 returns : tie.Need-returns
 returns c =
-    numbers-written (c .before .before .before .before .before .before .before .before .before .before .before .before .before .before .args .head) (c .before .before .before .before .before .before .before .before .before .before .before .before .before .before .args .values .now) (c .before .before .before .before .before .before .before .before .before .before .before .before .before .before .pre) (c .before .before .before .before .before .before .before .before .before .before .put-number .ensures) (c .before .before .before .before .before .before .put-fields .ensures) (c .before .before .put-byte .ensures)
+    let third = c .before .before in
+    let second = third .before .before .before .before in
+    let first = second .before .before .before .before in
+    let s = first .before .before .before .before in
+    numbers-written (s .args .head) (s .args .values .now) (s .pre) (first .put-number .ensures) (second .put-fields .ensures)
+    (third .put-byte .ensures)
 
 pub put-numbers-spec : {M : Type 1} → statement M
 put-numbers-spec =

@@ -17,7 +17,8 @@ slice-aggregate-put-numbers c = search needs
 
 put-numbers-requires : tie.Need-put-numbers-requires
 put-numbers-requires c κs =
-    omega (arith, c .before .before .before .before .pre, ap length (refused-line (c .before .before .before .before .args .place) (c .before .before .before .before .args .number) (c .before .before .if1 .left)))
+    let s = c .before .before .before .before in
+    omega (arith, s .pre, ap length (refused-line (s .args .place) (s .args .number) (c .before .before .if1 .left)))
 
 same-length : tie.Need-same-length
 same-length c = search needs

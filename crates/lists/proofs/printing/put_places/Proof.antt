@@ -31,7 +31,8 @@ number-requires c κs =
 
 put-place-requires : tie.Need-put-place-requires Inv-loop μ-loop
 put-place-requires c κs =
-    place-fits (c .before .before .before .before .before .before .args .numbers .now) (c .before .before .before .loop .place) (omega arith) (c .before .before .before .loop .inv .1) (c .number .ensures)
+    let l = c .before .before .before in
+    place-fits (l .before .before .before .args .numbers .now) (l .loop .place) (omega arith) (l .loop .inv .1) (c .number .ensures)
 
 add-place : tie.Need-add-place Inv-loop μ-loop
 add-place c =
@@ -43,7 +44,11 @@ loop-less c =
 
 loop-again : tie.Need-loop-again Inv-loop μ-loop
 loop-again c =
-    (omega arith, place-written (c .before .before .before .before .before .before .before .before .before .args .numbers .now) (c .before .before .before .before .before .before .loop .place) (omega arith) (c .before .before .before .before .before .before .loop .inv .1) (c .before .before .before .number .ensures) (c .before .before .put-place .ensures))
+    let put = c .before .before in
+    let l = put .before .before .before .before in (
+      omega arith,
+      place-written (l .before .before .before .args .numbers .now) (l .loop .place) (omega arith) (l .loop .inv .1) (put .before .number .ensures) (put .put-place .ensures),
+    )
 
 same-length : tie.Need-same-length Inv-loop μ-loop
 same-length c =

@@ -32,19 +32,22 @@ put-numbers-requires c κs =
 
 put-places-requires : tie.Need-put-places-requires
 put-places-requires c κs =
-    let a = c .before .before .before .before .before .before .before .before .before .args in
-    places-fit (a .numbers .now) (a .at) (a .out .now) (c .before .before .before .before .before .before .before .before .before .pre)
-    (counts-written (a .numbers .now) (c .before .before .before .before .before .before .count-refused .ensures) (c .before .before .before .put-numbers .ensures))
+    let first = c .before .before .before in
+    let s = first .before .before .before .before .before .before in
+    places-fit (s .args .numbers .now) (s .args .at) (s .args .out .now) (s .pre)
+    (counts-written (s .args .numbers .now) (first .before .before .before .count-refused .ensures) (first .put-numbers .ensures))
 
 same-length : tie.Need-same-length
 same-length c = search needs
 
 returns : tie.Need-returns
 returns c =
-    let a = c .before .before .before .before .before .before .before .before .before .before .before .before .args in
-    sheets-written (a .numbers .now) (a .at) (a .out .now) (c .before .before .before .before .before .before .before .before .before .before .before .before .pre)
-    (counts-written (a .numbers .now) (c .before .before .before .before .before .before .before .before .before .count-refused .ensures) (c .before .before .before .before .before .before .put-numbers .ensures))
-    (c .before .before .put-places .ensures)
+    let second = c .before .before in
+    let first = second .before .before .before .before in
+    let s = first .before .before .before .before .before .before in
+    sheets-written (s .args .numbers .now) (s .args .at) (s .args .out .now) (s .pre)
+    (counts-written (s .args .numbers .now) (first .before .before .before .count-refused .ensures) (first .put-numbers .ensures))
+    (second .put-places .ensures)
 
 pub put-sheets-spec : {M : Type 1} → statement M
 put-sheets-spec =

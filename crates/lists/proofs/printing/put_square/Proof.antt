@@ -1,9 +1,13 @@
 -- `lists::printing::put_square` meets its contract: a closed square has no line.
 -- Assumes nothing.
-use mathlib.Core.Path.{sym, ap, _∙_}
+use mathlib.Core.Path.{_≡_, sym, ap, _∙_}
+use mathlib.Core.List.{[], _∷_}
+use Prim.Native.Nat.{_/_, _%_}
 use native.Mathlib.Omega.{arith}
 use lib.ListN.{length}
 use Rattle.ledger.specs.Runs.{plan}
+use Rattle.lists.specs.Drowned.{numbersText}
+use Rattle.lists.specs.Tally.{squareText}
 use Rattle.lists.proofs.PrintLaws.{written-as, nothing-written, closed-text, square-as}
 use borrow.Author.Needs.{needs}
 use Rattle.lists.proofs.printing.put_square.Statement.{statement}
@@ -34,23 +38,30 @@ div-put-numbers c = search needs
 slice-aggregate-put-numbers : tie.Need-slice-aggregate-put-numbers
 slice-aggregate-put-numbers c = search needs
 
+-- the line, by the numbers that were read
+line :
+    (c : tie.After-byte2) →
+    let a = c .before .before .before .before .before .before .before .before .before .before .args in
+    squareText (plan (a .shape) (a .marks .now)) (a .counts .now) (a .deepest .now) (a .places .now) (a .square)
+    ≡ numbersText
+    (a .square / a .shape .columns ∷ a .square % a .shape .columns ∷ c .before .before .byte .result ∷ c .before .number .result ∷ c .byte2 .result ∷ [])
+line c =
+    let closed = c .before .before .before .before in
+    square-as _ _ _ _ _ (sym (closed .is-closed .ensures) ∙ c .before .before .before .if1 .left) (c .before .before .byte .ensures)
+    (c .before .number .ensures) (c .byte2 .ensures)
+
 put-numbers-requires : tie.Need-put-numbers-requires
 put-numbers-requires c κs =
-    let a = c .before .before .before .before .before .before .before .before .before .before .before .before .args in
-    let h = square-as (plan (a .shape) (a .marks .now)) (a .counts .now) (a .deepest .now) (a .places .now) (a .square)
-    (sym (c .before .before .before .before .before .before .is-closed .ensures) ∙ c .before .before .before .before .before .if1 .left) (c .before .before .before .before .byte .ensures) (c .before .before .before .number .ensures) (c .before .before .byte2 .ensures) in
-    omega (arith, c .before .before .before .before .before .before .before .before .before .before .before .before .pre .1, ap length h)
+    let read = c .before .before in
+    omega (arith, read .before .before .before .before .before .before .before .before .before .before .pre .1, ap length (line read))
 
 same-length : tie.Need-same-length
 same-length c = search needs
 
 returns-2 : tie.Need-returns-2
 returns-2 c =
-    let a = c .before .before .before .before .before .before .before .before .before .before .before .before .before .before .before .args in
-    written-as
-    (square-as (plan (a .shape) (a .marks .now)) (a .counts .now) (a .deepest .now) (a .places .now) (a .square)
-    (sym (c .before .before .before .before .before .before .before .before .before .is-closed .ensures) ∙ c .before .before .before .before .before .before .before .before .if1 .left) (c .before .before .before .before .before .before .before .byte .ensures) (c .before .before .before .before .before .before .number .ensures) (c .before .before .before .before .before .byte2 .ensures))
-    (c .before .before .put-numbers .ensures)
+    let put = c .before .before in
+    written-as (line (put .before .before .before)) (put .put-numbers .ensures)
 
 pub put-square-spec : {M : Type 1} → statement M
 put-square-spec =

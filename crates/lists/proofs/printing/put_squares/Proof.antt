@@ -1,6 +1,7 @@
 -- `lists::printing::put_squares` meets its contract: the lines so far stand at the start.
 -- Assumes nothing.
 use mathlib.Core.Path.{_≡_, subst}
+use mathlib.Core.List.{List}
 use Prim.Native.Nat.{ℕ, _-_, _≤_}
 use native.Mathlib.Omega.{arith}
 use Rattle.reckon.specs.Lists.{joined}
@@ -20,6 +21,25 @@ abbrev μ-loop : tie.MeasureT-loop
 μ-loop out₀ shape marks counts deepest places squares next₀ square₀ out next square =
     squares - square
 
+-- the places, each by one after it
+abbrev start : tie.After-squares-of Inv-loop μ-loop → tie.Start Inv-loop μ-loop
+start c = c .before .before .before .before .before .before
+
+abbrev counted : tie.At-loop Inv-loop μ-loop → tie.After-squares-of Inv-loop μ-loop
+counted c = c .before
+
+-- the lines, by what is lent
+abbrev lines : tie.After-squares-of Inv-loop μ-loop → ℕ → List ℕ
+lines c =
+    let a = start c .args in
+    squareText (plan (a .shape) (a .marks .now)) (a .counts .now) (a .deepest .now) (a .places .now)
+
+abbrev many : tie.After-squares-of Inv-loop μ-loop → ℕ
+many c = squares (start c .args .shape)
+
+abbrev room : tie.After-squares-of Inv-loop μ-loop → List ℕ
+room c = start c .args .out .now
+
 squares-of-requires : tie.Need-squares-of-requires Inv-loop μ-loop
 squares-of-requires c κs =
     c .before .before .before .before .before .pre .0 .0
@@ -31,9 +51,13 @@ loop-holds c =
 put-square-requires : tie.Need-put-square-requires Inv-loop μ-loop
 unfolding squaresText
 put-square-requires c κs =
-    let a = c .before .before .before .before .before .before .before .before .before .args in
-    let n = c .before .before .before .squares-of .ensures in
-    ((c .before .before .before .before .before .before .before .before .before .pre .0 .0, omega (arith, n, c .before .before .before .before .before .before .before .before .before .pre .0 .1), omega (arith, n, c .before .before .before .before .before .before .before .before .before .pre .0 .2), omega (arith, n, c .before .before .before .before .before .before .before .before .before .pre .0 .3), omega (arith, n, c .before .before .before .before .before .before .before .before .before .pre .0 .4)), line-fits (squares (a .shape)) (squareText (plan (a .shape) (a .marks .now)) (a .counts .now) (a .deepest .now) (a .places .now)) 0 (a .out .now) (c .before .before .before .before .before .before .before .before .before .pre .1) (c .before .before .loop .square) (c .before .before .loop .inv .1) (omega (arith, n)))
+    let l = c .before .before in
+    let n = counted l in
+    let e = n .squares-of .ensures in
+    let h = start n .pre in (
+      (h .0 .0, omega (arith, e, h .0 .1), omega (arith, e, h .0 .2), omega (arith, e, h .0 .3), omega (arith, e, h .0 .4)),
+      line-fits (many n) (lines n) 0 (room n) (h .1) (l .loop .square) (l .loop .inv .1) (omega (arith, e)),
+    )
 
 add-square : tie.Need-add-square Inv-loop μ-loop
 add-square c =
@@ -46,21 +70,28 @@ loop-less c =
 loop-again : tie.Need-loop-again Inv-loop μ-loop
 unfolding squaresText
 loop-again c =
-    let a = c .before .before .before .before .before .before .before .before .before .before .before .before .args in
-    (omega arith, line-written (squares (a .shape)) (squareText (plan (a .shape) (a .marks .now)) (a .counts .now) (a .deepest .now) (a .places .now)) 0 (a .out .now) (c .before .before .before .before .before .before .before .before .before .before .before .before .pre .1) (c .before .before .before .before .before .loop .square) (c .before .before .before .before .before .loop .inv .1) (omega (arith, c .before .before .before .before .before .before .squares-of .ensures)) (c .before .before .put-square .ensures))
+    let put = c .before .before in
+    let l = put .before .before .before in
+    let n = counted l in (
+      omega arith,
+      line-written (many n) (lines n) 0 (room n) (start n .pre .1) (l .loop .square) (l .loop .inv .1) (omega (arith, n .squares-of .ensures))
+          (put .put-square .ensures),
+    )
 
 same-length : tie.Need-same-length Inv-loop μ-loop
 unfolding squaresText
 same-length c =
-    let a = c .before .before .before .before .before .before .before .before .args in
-    lines-length (squares (a .shape)) (squareText (plan (a .shape) (a .marks .now)) (a .counts .now) (a .deepest .now) (a .places .now)) 0 (a .out .now) (c .before .before .before .before .before .before .before .before .pre .1) (c .before .loop .square) (c .before .loop .inv .1) (omega (arith, c .before .before .squares-of .ensures))
+    let l = c .before in
+    let n = counted l in
+    lines-length (many n) (lines n) 0 (room n) (start n .pre .1) (l .loop .square) (l .loop .inv .1) (omega (arith, n .squares-of .ensures))
 
 returns : tie.Need-returns Inv-loop μ-loop
 unfolding squaresText
 returns c =
-    let a = c .before .before .before .before .before .before .before .before .args in
-    let end : c .before .loop .square ≡ squares (a .shape) = omega (arith, c .before .before .squares-of .ensures) in
-    subst (λ (k : ℕ). Wrote (joined k (squareText (plan (a .shape) (a .marks .now)) (a .counts .now) (a .deepest .now) (a .places .now))) 0 (a .out .now) (c .before .loop .out) (c .before .loop .next)) end (c .before .loop .inv .1)
+    let l = c .before in
+    let n = counted l in
+    let end : l .loop .square ≡ many n = omega (arith, n .squares-of .ensures) in
+    subst (λ (k : ℕ). Wrote (joined k (lines n)) 0 (room n) (l .loop .out) (l .loop .next)) end (l .loop .inv .1)
 
 pub put-squares-spec : {M : Type 1} → statement M
 put-squares-spec =

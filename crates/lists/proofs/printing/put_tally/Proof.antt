@@ -61,8 +61,10 @@ put-squares-requires c κs =
     let s = start k in
     let b = not-false _ (c .before .if1 .left) in
     let h = shape-kept (s .args .tally) (R s) (lent k) b in
-    let g = s .pre .1 in
-    ((h .0, omega (arith, h .1, g .marks-long), omega (arith, h .1, g .counts-long), omega (arith, h .1, g .deepest-long), omega (arith, h .1, g .places-long)), squares-fit (s .args .tally) (R s) (lent k) (s .args .out .now) (s .pre .2) b)
+    let g = s .pre .1 in (
+      (h .0, omega (arith, h .1, g .marks-long), omega (arith, h .1, g .counts-long), omega (arith, h .1, g .deepest-long), omega (arith, h .1, g .places-long)),
+      squares-fit (s .args .tally) (R s) (lent k) (s .args .out .now) (s .pre .2) b,
+    )
 
 slice-aggregate-put-sheets-2 : tie.Need-slice-aggregate-put-sheets-2
 slice-aggregate-put-sheets-2 c = part-long _ (taken-in _ _ (lent (known (squared c))))

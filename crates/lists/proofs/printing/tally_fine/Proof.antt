@@ -30,7 +30,9 @@ shape-fine-requires c κs = search needs
 returns-3 : tie.Need-returns-3
 unfolding tallyFine
 returns-3 c =
-    sym (every-fails _ 1 (pick-true _ _ (not-false _ (c .before .before .if2 .left)) ∙ every-fails _ 0 (fails-by (c .before .shape-fine .ensures) (c .if3 .taken))))
+    sym
+    (every-fails _ 1
+    (pick-true _ _ (not-false _ (c .before .before .if2 .left)) ∙ every-fails _ 0 (fails-by (c .before .shape-fine .ensures) (c .if3 .taken))))
 
 squares-of-requires : tie.Need-squares-of-requires
 squares-of-requires c κs =
@@ -39,8 +41,10 @@ squares-of-requires c κs =
 returns-4 : tie.Need-returns-4
 unfolding tallyFine
 returns-4 c =
+    let shaped = c .before .before in
     ap (λ (k : ℕ). leb k programSquares) (c .squares-of .ensures)
-    ∙ fine-last _ _ _ _ (le-leb _ _ (c .before .before .before .before .before .if1 .left)) (not-false _ (c .before .before .before .if2 .left)) (holds-by (c .before .before .shape-fine .ensures) (c .before .if3 .left))
+    ∙ fine-last _ _ _ _ (le-leb _ _ (shaped .before .before .before .if1 .left)) (not-false _ (shaped .before .if2 .left))
+    (holds-by (shaped .shape-fine .ensures) (c .before .if3 .left))
 
 pub tally-fine-spec : {M : Type 1} → statement M
 tally-fine-spec =
