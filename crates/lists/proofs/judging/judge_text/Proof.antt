@@ -17,6 +17,9 @@ start c = c .before .before .before .before .before .before .before .before .bef
 abbrev read : tie.After-sheet2 → tie.After-read-within
 read c = c .before .before .before .before .before .before .before .before .before .before
 
+abbrev well : tie.After-run-judged-arg2 → tie.After-sheet2
+well c = c .before .before .before .before .before .before .before .before .before
+
 -- the rooms after the reader, and that it has read them
 abbrev rooms-read : tie.After-read-within → Rooms
 rooms-read c =
@@ -78,14 +81,17 @@ slice-aggregate-run-judged-6 c = search needs
 
 run-judged-requires : tie.Need-run-judged-requires
 run-judged-requires c κs =
-    let z = c .before .before .before .before .before .before .before .before .before in
-    (read-holds mostText programSquares _ (reads z), (c .before .before .before .before .before .before .before .before .before .before .before .before .before .before .before .before .before .before .before .before .before .before .before .before .before .before .before .before .before .before .before .pre .0, c .before .before .before .before .before .before .before .before .before .before .before .before .before .before .before .before .before .before .before .before .before .before .before .before .before .before .before .before .before .before .before .pre .2))
+    let pre = c .before .before .before .before .before .before .before .before .before .before .before .before .before .before .before .before .before .before .before .before .before .before .before .before .before .before .before .before .before .before .before .pre in
+    (read-holds mostText programSquares _ (reads (well c)), (pre .0, pre .2))
 
 same-length : tie.Need-same-length
 same-length c = search needs
 
 returns : tie.Need-returns
-returns c = judged-refused (c .before .before .before .before .before .before .before .before .before .before .before .before .before .before .before .before .before .before .before .before .before .before .before .before .args .text .now) (read-as (c .before .before .sheet .given .1) (reads-program (c .before .before .before .before .before .before .before .before .before .before .before .before .before .before .before .before .before .before .before .before .before .before .before .before .pre .1) (c .before .before .before .before .before .before .before .before .before .before .before .before .read-within .ensures))) (c .refused .ensures)
+returns c =
+    let r = c .before .before .before .before .before .before .before .before .before .before .before .before in
+    let s = start r in
+    judged-refused (s .args .text .now) (read-as (c .before .before .sheet .given .1) (reads-program (s .pre .1) (r .read-within .ensures))) (c .refused .ensures)
 
 same-length-2 : tie.Need-same-length-2
 same-length-2 c = c .before .before .before .before .before .before .before .before .before .before .before .before .before .before .before .before .before .before .before .before .before .before .before .read-within .kept .1 .1 .0
@@ -95,8 +101,8 @@ same-length-3 c = search needs
 
 returns-2 : tie.Need-returns-2
 returns-2 c =
-    let z = c .before .before .before .before .before .before .before .before .before .before .before .before .before in
-    judged-read (c .before .before .before .before .before .before .before .before .before .before .before .before .before .before .before .before .before .before .before .before .before .before .before .before .before .before .before .before .before .before .before .before .before .before .before .args .text .now) (reads z) (c .before .before .before .run-judged .ensures)
+    let z = well (c .before .before .before .before) in
+    judged-read (start (read z) .args .text .now) (reads z) (c .before .before .before .run-judged .ensures)
 
 pub judge-text-spec : {M : Type 1} → statement M
 judge-text-spec = tie.close (tie.spec slice-aggregate-read-within slice-aggregate-read-within-2 slice-aggregate-read-within-3 slice-aggregate-read-within-4 slice-aggregate-read-within-5 slice-aggregate-read-within-6 read-within-requires enum-known-sheet refused-requires enum-known-sheet-2 slice-aggregate-run-judged slice-aggregate-run-judged-2 slice-aggregate-run-judged-3 slice-aggregate-run-judged-4 slice-aggregate-run-judged-5 slice-aggregate-run-judged-6 run-judged-requires same-length returns same-length-2 same-length-3 returns-2)

@@ -13,8 +13,9 @@ use Rattle.lists.proofs.judging.run_judged.Tie as tie
 
 is-like-first-requires : tie.Need-is-like-first-requires
 is-like-first-requires c κs =
-    let h = c .before .before .before .before .before .before .before .before .before .before .pre .0 in
-    (h .shape, omega (arith, h .few, h .marks-long), omega (arith, h .few, c .before .before .before .before .before .before .before .before .before .before .pre .1 .0))
+    let pre = c .before .before .before .before .before .before .before .before .before .before .pre in
+    let h = pre .0 in
+    (h .shape, omega (arith, h .few, h .marks-long), omega (arith, h .few, pre .1 .0))
 
 refused-requires : tie.Need-refused-requires
 refused-requires c κs = search needs
@@ -27,8 +28,9 @@ slice-aggregate-run-sheet-peaks c = search needs
 
 run-sheet-peaks-requires : tie.Need-run-sheet-peaks-requires
 run-sheet-peaks-requires c κs =
+    let pre = c .before .before .before .before .before .before .before .before .before .before .before .before .before .before .before .pre in
     let long = length-replicate {A = ℕ} programSquares 0 in
-    (c .before .before .before .before .before .before .before .before .before .before .before .before .before .before .before .pre .0, (ap length (c .before .before .before .before .before .before .before .before .before .before .before .before .before .before .before .pre .1 .1) ∙ long, long))
+    (pre .0, (ap length (pre .1 .1) ∙ long, long))
 
 same-length : tie.Need-same-length
 same-length c = search needs
@@ -37,7 +39,9 @@ same-length-2 : tie.Need-same-length-2
 same-length-2 c = search needs
 
 returns-2 : tie.Need-returns-2
-returns-2 c = judged-run (c .before .before .before .before .before .before .before .before .before .before .is-like-first .ensures) (not-false _ (c .before .before .before .before .before .before .before .before .before .if1 .left)) (c .before .before .before .before .before .before .before .before .before .before .before .before .before .before .before .before .before .before .before .before .before .pre .1 .1) (c .before .before .before .before .before .before .before .before .before .before .before .before .before .before .before .before .before .before .before .before .before .pre .0 .few) (c .before .before .before .before .before .run-sheet-peaks .ensures)
+returns-2 c =
+    let pre = c .before .before .before .before .before .before .before .before .before .before .before .before .before .before .before .before .before .before .before .before .before .pre in
+    judged-run (c .before .before .before .before .before .before .before .before .before .before .is-like-first .ensures) (not-false _ (c .before .before .before .before .before .before .before .before .before .if1 .left)) (pre .1 .1) (pre .0 .few) (c .before .before .before .before .before .run-sheet-peaks .ensures)
 
 pub run-judged-spec : {M : Type 1} → statement M
 run-judged-spec = tie.close (tie.spec is-like-first-requires refused-requires returns slice-aggregate-run-sheet-peaks run-sheet-peaks-requires same-length same-length-2 returns-2)

@@ -19,6 +19,16 @@ file s = fileOf (s .args .opened) (s .args .text .now)
 abbrev lent : tie.Start → Rooms
 lent s = rooms (s .args .marks .now) (s .args .counts .now) (s .args .deepest .now) (s .args .places .now) (s .args .numbers .now)
 
+-- the places, each by one after it
+abbrev start : tie.After-judge → tie.Start
+start c = c .before .before .before .before .before .before .before .before
+
+abbrev going-on : tie.After-judge → tie.Else1
+going-on c = c .before .before .before .before .before .before
+
+abbrev ruled : tie.After-copy-into → tie.After-judge
+ruled c = c .before .before .before .before .before
+
 full-requires : tie.Need-full-requires
 full-requires c κs = search needs
 
@@ -47,8 +57,10 @@ noted-requires c κs = search needs
 
 returns-2 : tie.Need-returns-2
 returns-2 c =
-    let s = (c .before .before .before .before .before .before .before .before .before .before .before .before .before .before .before) in
-    taken-refused (s .args .tally) (file s) (lent s) (c .before .before .before .before .before .before .before .before .before .before .before .before .before .if1 .left) (c .before .before .before .before .before .before .before .judge .ensures .number-is) (c .before .before .copy-into .ensures) (c .before .if2 .taken) (c .noted .ensures)
+    let noted = c .before .before in
+    let j = ruled noted in
+    let s = start j in
+    taken-refused (s .args .tally) (file s) (lent s) (going-on j .if1 .left) (j .judge .ensures .number-is) (noted .copy-into .ensures) (c .before .if2 .taken) (c .noted .ensures)
 
 slice-aggregate-take-accepted : tie.Need-slice-aggregate-take-accepted
 slice-aggregate-take-accepted c = search needs
@@ -58,20 +70,25 @@ slice-aggregate-take-accepted-2 c = search needs
 
 take-accepted-requires : tie.Need-take-accepted-requires
 take-accepted-requires c κs =
-    let j = c .before .before .before .before .before .before .before .before .before .before .before .before .before .judge .ensures in
-    let z = c .before .before .before .before .before .before .before .if2 .left in
-    let long = length-replicate {A = ℕ} programSquares 0 in (
-      (c .before .before .before .before .before .before .before .before .before .before .before .before .before .before .before .before .before .before .before .if1 .left, j .in-range z, j .few z),
+    let j = ruled (c .before .before .before .before .before .before .before .before) in
+    let given = j .judge .ensures in
+    let none = c .before .before .before .before .before .before .before .if2 .left in
+    let long = length-replicate {A = ℕ} programSquares 0 in
+    let lent-long = start j .good in (
+      (going-on j .if1 .left, given .in-range none, given .few none),
       (
-        (c .before .before .before .before .before .before .before .before .before .before .before .before .before .judge .kept .1 .1 .1 .1 .0 ∙ long, c .before .before .before .before .before .before .before .before .before .before .before .before .before .judge .kept .1 .1 .1 .1 .1 .0 ∙ long, omega (arith, c .before .before .before .before .before .before .before .before .before .before .before .before .before .before .before .before .before .before .before .before .before .good)),
-        (omega (arith, c .before .before .before .before .before .before .before .before .before .before .before .before .before .before .before .before .before .before .before .before .before .good), omega (arith, c .before .before .before .before .before .before .before .before .before .before .before .before .before .before .before .before .before .before .before .before .before .good), omega (arith, c .before .before .before .before .before .before .before .before .before .before .before .before .before .before .before .before .before .before .before .before .before .good)),
+        (j .judge .kept .1 .1 .1 .1 .0 ∙ long, j .judge .kept .1 .1 .1 .1 .1 .0 ∙ long, omega (arith, lent-long)),
+        (omega (arith, lent-long), omega (arith, lent-long), omega (arith, lent-long)),
       ),
     )
 
 returns-3 : tie.Need-returns-3
 returns-3 c =
-    let s = (c .before .before .before .before .before .before .before .before .before .before .before .before .before .before .before .before .before .before .before .before .before .before) in
-    taken-accepted (s .args .tally) (file s) (lent s) (c .before .before .before .before .before .before .before .before .before .before .before .before .before .before .before .before .before .before .before .before .if1 .left) (c .before .before .before .before .before .before .before .before .before .before .before .before .before .before .judge .ensures) (c .before .before .before .before .before .before .before .before .if2 .left) (c .before .before .before .before .before .before .before .before .before .copy-into .ensures) (c .take-accepted .ensures)
+    let noted = c .before .before .before .before .before .before .before .before .before in
+    let j = ruled noted in
+    let s = start j in
+    taken-accepted (s .args .tally) (file s) (lent s) (going-on j .if1 .left) (j .judge .ensures) (c .before .before .before .before .before .before .before .before .if2 .left) (noted .copy-into .ensures)
+    (c .take-accepted .ensures)
 
 pub take-sheet-spec : {M : Type 1} → statement M
 take-sheet-spec = tie.close (tie.spec full-requires returns slice-aggregate-judge slice-aggregate-judge-2 judge-requires slice-aggregate-copy-into copy-into-requires noted-requires returns-2 slice-aggregate-take-accepted slice-aggregate-take-accepted-2 take-accepted-requires returns-3)
