@@ -1,8 +1,8 @@
 -- Document 02, #114, "Which squares drown most often": a whole list in the document's words, from what came of each name to what is printed.
 -- Assumes nothing.
-use mathlib.Core.Bool.{Bool, true, false, _||_}
+use mathlib.Core.Bool.{Bool, false, _||_}
 use mathlib.Core.List.{List, [], _∷_, _++_}
-use Prim.Native.Nat.{ℕ, zero, suc, _/_, _%_, max}
+use Prim.Native.Nat.{ℕ, suc, _/_, _%_, max}
 use lib.Dec.{eqb, leb}
 use lib.ListN.{length, getD}
 use Rattle.reckon.specs.Tests.{pick}
@@ -78,10 +78,13 @@ unfoldable pub numbersText : List ℕ → List ℕ
 numbersText [] = restText []
 numbersText (v ∷ vs) = decimal v ++ restText vs
 
--- "then each refused one's place and number"
+-- "then each refused one's place and number": the line of a place, none where its sheet was accepted; and those of all from a place on
+unfoldable pub refusedLine : ℕ → ℕ → List ℕ
+refusedLine place n = pick (eqb n 0) [] (numbersText (place ∷ n ∷ []))
+
 unfoldable pub refusedLines : ℕ → List ℕ → List ℕ
 refusedLines place [] = []
-refusedLines place (n ∷ rest) = pick (eqb n 0) [] (numbersText (place ∷ n ∷ [])) ++ refusedLines (suc place) rest
+refusedLines place (n ∷ rest) = refusedLine place n ++ refusedLines (suc place) rest
 
 unfoldable pub refusedMany : List ℕ → ℕ
 refusedMany [] = 0

@@ -93,32 +93,32 @@ module _ (t : Tally) (f : File) (r : Rooms) where
 
 -- ---- what is printed
 
-module _ (t : Tally) (r : Rooms) where
-  abbrev pub planKept : Plan
-  planKept = plan (t .shape) (r .marks)
-
+-- a square's line by what the rooms hold, none where it is closed; and those of all squares
+module _ (p : Plan) (counts deepest places : List ℕ) where
   unfoldable pub squareText : ℕ → List ℕ
   squareText i =
-      pick (shut planKept i) []
-      (numbersText (i / t .shape .columns ∷ i % t .shape .columns ∷ getD (r .counts) i 0 ∷ getD (r .deepest) i 0 ∷ getD (r .places) i 0 ∷ []))
+      pick (shut p i) []
+      (numbersText (i / p .shape .columns ∷ i % p .shape .columns ∷ getD counts i 0 ∷ getD deepest i 0 ∷ getD places i 0 ∷ []))
 
-  -- no square where none was accepted
   unfoldable pub squaresText : List ℕ
-  squaresText = pick (t .begun) (joined (squares (t .shape)) squareText) []
+  squaresText = joined (squares (p .shape)) squareText
 
-  abbrev pub numbersKept : List ℕ
-  numbersKept = take (t .taken) (r .numbers)
+-- by the numbers of all names: the counts of sheets run and refused, and the refused ones
+unfoldable pub sheetsText : List ℕ → List ℕ
+sheetsText numbers = numbersText ((length numbers - refusedMany numbers) ∷ refusedMany numbers ∷ []) ++ refusedLines 1 numbers
 
-  unfoldable pub sheetsText : List ℕ
-  sheetsText = numbersText ((t .taken - refusedMany numbersKept) ∷ refusedMany numbersKept ∷ []) ++ refusedLines 1 numbersKept
+-- whether the rooms can hold what a tally tells
+unfoldable pub tallyFine : Tally → Bool
+tallyFine t =
+    every (leb (t .taken) mostSheets ∷ pick (t .begun) (every (shapeFine (t .shape) ∷ leb (squares (t .shape)) programSquares ∷ [])) true ∷ [])
 
-  -- 1, of a tally that no list gives: one that the rooms cannot hold
-  unfoldable pub tallyFine : Bool
-  tallyFine =
-      every (leb (t .taken) mostSheets ∷ pick (t .begun) (every (shapeFine (t .shape) ∷ leb (squares (t .shape)) programSquares ∷ [])) true ∷ [])
-
-  unfoldable pub tallyText : List ℕ
-  tallyText = pick tallyFine (squaresText ++ sheetsText) (refusedText 1 0)
+-- no square where none was accepted; 1 of a tally that no list gives
+unfoldable pub tallyText : Tally → Rooms → List ℕ
+tallyText t r =
+    pick (tallyFine t)
+    (pick (t .begun) (squaresText (plan (t .shape) (r .marks)) (r .counts) (r .deepest) (r .places)) []
+    ++ sheetsText (take (t .taken) (r .numbers)))
+    (refusedText 1 0)
 
 -- ---- what the public functions give
 
