@@ -22,7 +22,7 @@ use Rattle.ledger.specs.Flows.{shut}
 use Rattle.text.specs.Reading.{newline}
 use Rattle.text.specs.Writing.{decimal, fieldText, fieldsText, lineText, Wrote}
 use Rattle.text.proofs.ReadingLaws.{by-lt, by-test}
-use Rattle.text.proofs.WritingLaws.{decimal-short, line-text-long, placed-none, wrote-both, wrote-length, wrote-line, Left, left-room, left-step, left-none}
+use Rattle.text.proofs.WritingLaws.{decimal-short, line-text-long, placed-none, wrote-both, wrote-length, wrote-line, Left, left-fits, left-step, left-none}
 use Rattle.answer.specs.Printed.{refusedText}
 use Rattle.programs.specs.Program.{Prints, programSquares, mostPrinted}
 use Rattle.programs.proofs.EndedLaws.{prints, refused-printed}
@@ -217,7 +217,7 @@ module _ (numbers : List ℕ) (i : ℕ) (l : i < length numbers) {p at : ℕ} {r
   place-fits =
       omega (
         arith,
-        left-room (refusedLine (i + 1) (getD numbers i 0)) (refusedLines (i + 1 + 1) (drop (i + 1) numbers)) two-parts,
+        left-fits (refusedLine (i + 1) (getD numbers i 0)) (refusedLines (i + 1 + 1) (drop (i + 1) numbers)) two-parts,
         ap (λ (k : ℕ). length (refusedLine (i + 1) k)) e,
       )
 

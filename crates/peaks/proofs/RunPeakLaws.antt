@@ -173,13 +173,13 @@ module _ {size : ℕ} (h : Heading) (held : Rooms) (ok : Holds size h held) (pea
   taken room e = length-take-le (squares (h .shape)) room (omega (arith, ok .few, e))
 
   -- with as many squares as were counted
-  abbrev Told : ℕ → Ran → List ℕ → List ℕ → List ℕ → List ℕ → List ℕ → Type 0
-  Told n a depths lasts records peaks′ clocks′ =
+  abbrev SheetRuns : ℕ → Ran → List ℕ → List ℕ → List ℕ → List ℕ → List ℕ → Type 0
+  SheetRuns n a depths lasts records peaks′ clocks′ =
       RunsPeaking (planIn (h .shape) (h .rules) (partsAt n h held)) (givenIn (h .shape) (h .rules) (partsAt n h held)) (h .end)
       (startIn (h .shape) (h .rules) (partsAt n h held)) (take n peaks) (take n clocks) a depths lasts records peaks′ clocks′
 
   told :
-      {a : Ran} {depths lasts records peaks′ clocks′ : List ℕ} → Told (squares (h .shape)) a depths lasts records peaks′ clocks′ →
+      {a : Ran} {depths lasts records peaks′ clocks′ : List ℕ} → SheetRuns (squares (h .shape)) a depths lasts records peaks′ clocks′ →
       length (peaks′ ++ drop (squares (h .shape)) peaks) ≡ length peaks → length (clocks′ ++ drop (squares (h .shape)) clocks) ≡ length clocks →
       SheetPeaks h (partsOf h held) peaks clocks a (peaks′ ++ drop (squares (h .shape)) peaks) (clocks′ ++ drop (squares (h .shape)) clocks)
   unfolding peaksOver clocksOver
@@ -202,12 +202,12 @@ module _ {size : ℕ} (h : Heading) (held : Rooms) (ok : Holds size h held) (pea
       }
 
   pub sheet-peaks :
-      {n : ℕ} {a : Ran} {depths lasts records peaks′ clocks′ : List ℕ} → n ≡ squares (h .shape) → Told n a depths lasts records peaks′ clocks′ →
+      {n : ℕ} {a : Ran} {depths lasts records peaks′ clocks′ : List ℕ} → n ≡ squares (h .shape) → SheetRuns n a depths lasts records peaks′ clocks′ →
       length (peaks′ ++ drop n peaks) ≡ length peaks → length (clocks′ ++ drop n clocks) ≡ length clocks →
       SheetPeaks h (partsOf h held) peaks clocks a (peaks′ ++ drop n peaks) (clocks′ ++ drop n clocks)
   sheet-peaks {a = a} {depths} {lasts} {records} {peaks′} {clocks′} e =
       subst
       (λ (k : ℕ).
-      Told k a depths lasts records peaks′ clocks′ → length (peaks′ ++ drop k peaks) ≡ length peaks → length (clocks′ ++ drop k clocks) ≡ length clocks →
+      SheetRuns k a depths lasts records peaks′ clocks′ → length (peaks′ ++ drop k peaks) ≡ length peaks → length (clocks′ ++ drop k clocks) ≡ length clocks →
       SheetPeaks h (partsOf h held) peaks clocks a (peaks′ ++ drop k peaks) (clocks′ ++ drop k clocks))
       (sym e) told
