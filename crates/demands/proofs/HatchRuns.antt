@@ -31,12 +31,13 @@ use Rattle.sheet.proofs.SheetLaws.{Well, well, rooms-shape, rooms-cells, rain-f
 use Rattle.answer.specs.Printed.{refusedText}
 use Rattle.programs.specs.Program.{Prints, mostText, programRooms, programSquares}
 use Rattle.hatches.specs.Lines.{logLine}
-use Rattle.hatches.specs.Log.{Evening, evening, mostHatches, mostKept, mostNumbers, keptRecords, entryNumber, afterEntry}
-use Rattle.hatches.specs.Told.{lineTold}
-use Rattle.hatches.specs.Program.{linesFrom, firstLog, firstEvening, sheetLogText, hatchlogText, Stores, stores, recordsLent, ratesLent, planHeld, givenHeld, eveningHeld, Holds, isLeft, nightFine, roomsFit, nightFits, nightOver, nightNumber, nightEvening, nightLine, nightNext, textAfter, eveningAfter, nightAfter, firstNight, noNight, sheetBegun, sheetBegunText, begun, begunText, begunStores, Begins, GoesOn}
+use Rattle.hatches.specs.Log.{Evening, evening, mostHatches, mostKept, mostNumbers, keptRecords}
+use Rattle.evenings.specs.Taking.{entryNumber, afterEntry}
+use Rattle.evenings.specs.Shown.{lineShown}
+use Rattle.evenings.specs.Program.{linesFrom, firstLog, firstEvening, sheetLogText, hatchlogText, Stores, stores, recordsLent, ratesLent, planHeld, givenHeld, eveningHeld, Holds, isLeft, nightFine, roomsFit, nightFits, nightOver, nightNumber, nightEvening, nightLine, nightNext, textAfter, eveningAfter, nightAfter, firstNight, noNight, sheetBegun, sheetBegunText, begun, begunText, begunStores, Begins, GoesOn}
 use Rattle.hatches.specs.declared.log.Log.{Log}
-use Rattle.hatches.specs.declared.program.Night.{Night}
-use Rattle.hatches.proofs.NightLaws.{left-at, Fine, fine-is, kept-fit, kept-few}
+use Rattle.evenings.specs.declared.program.Night.{Night}
+use Rattle.evenings.proofs.NightLaws.{left-at, Fine, fine-is, kept-fit, kept-few}
 use Rattle.demands.specs.HatchLog.{storesWith, Logged, HatchLogRuns}
 use Rattle.demands.specs.HatchLog.Logged.{over, on}
 use Rattle.demands.proofs.LinePlaces.{zero-forth, from-over, from-refused, from-taken}
