@@ -4,7 +4,7 @@ use evenings::program::Night;
 use evenings::program::RATES_ROOM;
 use evenings::program::begin_log;
 use evenings::program::go_on;
-use evenings::taking::Came;
+use evenings::taking::EntryTaken;
 use evenings::taking::take_entry;
 use evenings::telling::LineTaken;
 use evenings::telling::take_line;
@@ -40,7 +40,7 @@ pub fn after_take_entry(
     lasts: &mut [u32],
     records: &mut [u32],
     began: &mut [u32],
-) -> Came
+) -> EntryTaken
     ensures { λ r. ⌜ AfterEntry (plan shape (now (marks .entry))) (given (ground rules (now (beds .entry)) (now (roughness .entry)) (now (rates .entry))) (now (rain .entry)) (now (inflow .entry))) entry (evening (now (depths .entry)) (now (lasts .entry)) (now (records .entry)) (now (began .entry)) log) (r .number) (evening (now (depths .exit)) (now (lasts .exit)) (now (records .exit)) (now (began .exit)) (r .log)) ⌝ }
 {
     take_entry(

@@ -27,7 +27,7 @@ use Rattle.evenings.specs.Taking.{TakesEntry}
 use Rattle.evenings.specs.Shown.{TakesLine}
 use Rattle.evenings.specs.Program.{Stores, Holds, Begins, GoesOn}
 use Rattle.hatches.specs.declared.lines.Entry.{Entry}
-use Rattle.evenings.specs.declared.taking.Came.{Came}
+use Rattle.evenings.specs.declared.taking.EntryTaken.{EntryTaken}
 use Rattle.evenings.specs.declared.telling.LineTaken.{LineTaken}
 use Rattle.evenings.specs.declared.program.Night.{Night}
 
@@ -100,7 +100,7 @@ held-one {n} {a = a} {b} x y =
 
 entry-one :
     {p : Plan} {g : Given} {entry : Entry} {e : Evening} →
-    One {Out = Came × (List ℕ × (List ℕ × (List ℕ × List ℕ)))}
+    One {Out = EntryTaken × (List ℕ × (List ℕ × (List ℕ × List ℕ)))}
     (λ o. TakesEntry p g entry e (o .0 .number) (evening (o .1 .0) (o .1 .1 .0) (o .1 .1 .1 .0) (o .1 .1 .1 .1) (o .0 .log)))
 entry-one a b x y =
     let n = x .number-is ∙ sym (y .number-is) in

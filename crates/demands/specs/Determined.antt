@@ -32,7 +32,7 @@ use Rattle.evenings.specs.Taking.{TakesEntry}
 use Rattle.evenings.specs.Shown.{TakesLine}
 use Rattle.evenings.specs.Program.{Stores, Begins, GoesOn}
 use Rattle.hatches.specs.declared.lines.Entry.{Entry}
-use Rattle.evenings.specs.declared.taking.Came.{Came}
+use Rattle.evenings.specs.declared.taking.EntryTaken.{EntryTaken}
 use Rattle.evenings.specs.declared.telling.LineTaken.{LineTaken}
 use Rattle.evenings.specs.declared.program.Night.{Night}
 
@@ -65,7 +65,7 @@ pub record ProgramsDetermined : Type 0 where
 -- `take_entry` and `take_line` tell the log's own value beside the rooms
 pub record EveningsDetermined : Type 0 where
   pub take-entry : (p : Plan) (g : Given) (entry : Entry) (e : Evening) →
-      One {Out = Came × (List ℕ × (List ℕ × (List ℕ × List ℕ)))}
+      One {Out = EntryTaken × (List ℕ × (List ℕ × (List ℕ × List ℕ)))}
       (λ o. TakesEntry p g entry e (o .0 .number) (evening (o .1 .0) (o .1 .1 .0) (o .1 .1 .1 .0) (o .1 .1 .1 .1) (o .0 .log)))
   pub take-line : (p : Plan) (g : Given) (s : List ℕ) (at line : ℕ) (e : Evening) (old : List ℕ) →
       One {Out = LineTaken × (List ℕ × (List ℕ × (List ℕ × (List ℕ × List ℕ))))}

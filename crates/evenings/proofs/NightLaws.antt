@@ -14,7 +14,7 @@ use Rattle.reckon.specs.Tests.{every}
 use Rattle.reckon.specs.Lists.{filled}
 use Rattle.reckon.specs.Ranges.{mostTableRows}
 use Rattle.reckon.specs.Tables.{rainKind, inflowKind, tableRoom}
-use Rattle.reckon.proofs.TestLaws.{pick-true, pick-false, every-each, each-every, every-fails}
+use Rattle.reckon.proofs.TestLaws.{pick-true, pick-false, every-each, every-fails, and-true}
 use Rattle.reckon.proofs.ListLaws.{length-filled, filled-in, filled-store}
 use Rattle.grid.specs.Squares.{ShapeInRange, squares}
 use Rattle.grid.specs.declared.squares.Shape.{Shape}
@@ -229,13 +229,21 @@ pub fits-not : (n : Night) (r : Stores) → nightFine n ≡ false → nightFits 
 unfolding nightFits
 fits-not n r e = every-fails _ 0 e
 
-pub rooms-not : (n : Night) (r : Stores) → roomsFit (n .heading) r ≡ false → nightFits n r ≡ false
-unfolding nightFits
-rooms-not n r e = every-fails _ 1 e
+-- a fine night's rooms decide
+rooms-decide : (n : Night) (r : Stores) → nightFine n ≡ true → roomsFit (n .heading) r ≡ nightFits n r
+unfolding nightFits every
+rooms-decide n r e = simp (e, and-true (roomsFit (n .heading) r))
 
-pub fits-both : (n : Night) (r : Stores) → nightFine n ≡ true → roomsFit (n .heading) r ≡ true → nightFits n r ≡ true
+pub fits-are : (n : Night) (r : Stores) → nightFine n ≡ true → {z : Sizes} → SizesAre (n .heading) z → sizesFit z r ≡ nightFits n r
+fits-are n r e a = fit-same (n .heading) r a ∙ rooms-decide n r e
+
+pub fits-fine : (n : Night) (r : Stores) → nightFits n r ≡ true → nightFine n ≡ true
 unfolding nightFits
-fits-both n r e f = each-every _ (e, (f, tt))
+fits-fine n r e = every-each _ e .0
+
+pub held-fit : (n : Night) (r : Stores) {z : Sizes} → SizesAre (n .heading) z → nightFits n r ≡ true → Fitting z r
+unfolding nightFits
+held-fit n r {z} a e = fitting z r (fit-same (n .heading) r a ∙ every-each _ e .1 .0)
 
 -- ---- a line taken out of the rooms
 

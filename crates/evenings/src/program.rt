@@ -34,9 +34,9 @@ ghost use lib.Dec.{eqb, ltb};
 ghost use lib.ListN.{length, replicate};
 ghost use Rattle.reckon.specs.Tests.{every};
 ghost use Rattle.grid.specs.Squares.{ShapeInRange, squares};
-ghost use Rattle.programs.specs.Program.{programSquares};
+ghost use Rattle.programs.specs.Program.{programRooms, programSquares};
 ghost use Rattle.sheet.specs.Sheet.{rooms};
-ghost use Rattle.evenings.specs.Program.{Begins, GoesOn, firstNight, nightFine, nightOver, noNight, stores};
+ghost use Rattle.evenings.specs.Program.{Begins, GoesOn, firstNight, isLeft, nightFine, nightFits, nightOver, noNight, stores};
 ghost use Rattle.evenings.specs.inner.Sizes.{SizesAre, nightWith, sizesFit};
 
 // The most rates that are kept.
@@ -82,6 +82,27 @@ fn clear_bytes(room: &mut [u8])
         room[i] = 0;
         i += 1;
     }
+}
+
+// Writes 0 over the rooms of a sheet.
+fn clear_sheet(
+    marks: &mut [u8; PROGRAM_SQUARES],
+    beds: &mut [u32; PROGRAM_SQUARES],
+    roughness: &mut [u32; PROGRAM_SQUARES],
+    rates: &mut [u32; PROGRAM_SQUARES],
+    rain: &mut [u32; RAIN_ROOM],
+    inflow: &mut [u32; INFLOW_ROOM],
+    depths: &mut [u32; PROGRAM_SQUARES],
+)
+    ensures { λ _. ⌜ rooms (now (marks .exit)) (now (beds .exit)) (now (roughness .exit)) (now (rates .exit)) (now (depths .exit)) (now (rain .exit)) (now (inflow .exit)) ≡ programRooms ⌝ }
+{
+    clear_bytes(marks);
+    clear(beds);
+    clear(roughness);
+    clear(rates);
+    clear(rain);
+    clear(inflow);
+    clear(depths);
 }
 
 // The night before a log's first line.
@@ -161,13 +182,7 @@ pub fn begin_log(
 ) -> Night
     ensures { λ r. ⌜ Begins (now (sheet .entry)) (now (log .entry)) r (stores (rooms (now (marks .exit)) (now (beds .exit)) (now (roughness .exit)) (now (rates .exit)) (now (depths .exit)) (now (rain .exit)) (now (inflow .exit))) (now (lasts .exit)) (now (records .exit)) (now (began .exit))) (now (out .entry)) (now (out .exit)) ⌝ }
 {
-    clear_bytes(marks);
-    clear(beds);
-    clear(roughness);
-    clear(rates);
-    clear(rain);
-    clear(inflow);
-    clear(depths);
+    clear_sheet(marks, beds, roughness, rates, rain, inflow, depths);
     clear(lasts);
     clear(records);
     clear(began);
@@ -276,6 +291,42 @@ fn rooms_fit(
     sizes.began <= began.len()
 }
 
+// Whether a night and the rooms go together.
+fn fits(
+    night: Night,
+    marks: &[u8],
+    beds: &[u32],
+    roughness: &[u32],
+    rates: &[u32],
+    rain: &[u32],
+    inflow: &[u32],
+    depths: &[u32],
+    lasts: &[u32],
+    records: &[u32],
+    began: &[u32],
+) -> bool
+    requires { ⌜ night .at + 1 < 18_446_744_073_709_551_616 ⌝ }
+    ensures { λ r. ⌜ r ≡ nightFits night (stores (rooms (now (marks .entry)) (now (beds .entry)) (now (roughness .entry)) (now (rates .entry)) (now (depths .entry)) (now (rain .entry)) (now (inflow .entry))) (now (lasts .entry)) (now (records .entry)) (now (began .entry))) ⌝ }
+{
+    if !night_fine(night) {
+        return false;
+    }
+    let sizes = sizes_of(night);
+    rooms_fit(
+        sizes,
+        marks,
+        beds,
+        roughness,
+        rates,
+        rain,
+        inflow,
+        depths,
+        lasts,
+        records,
+        began,
+    )
+}
+
 // A night of which no line is left.
 fn over(night: Night, length: usize) -> Night
     ensures { λ r. ⌜ r ≡ nightOver night length ⌝ }
@@ -319,8 +370,8 @@ fn goes_on(taken: LineTaken, length: usize) -> bool
     taken.next < length
 }
 
-// Takes the next line of a log: what is printed of it, at the start of out, and where the log has come to.
-pub fn go_on(
+// Takes the line that is left: each room is lent as far as its size.
+fn take_held(
     night: Night,
     text: &[u8],
     marks: &[u8],
@@ -335,30 +386,10 @@ pub fn go_on(
     began: &mut [u32],
     out: &mut [u8; OUT_ROOM],
 ) -> Night
+    requires { ⌜ (isLeft (now text) night ≡ true) × (nightFits night (stores (rooms (now marks) (now beds) (now roughness) (now rates) (now depths) (now rain) (now inflow)) (now lasts) (now records) (now began)) ≡ true) ⌝ }
     ensures { λ r. ⌜ GoesOn (now (text .entry)) night (stores (rooms (now (marks .entry)) (now (beds .entry)) (now (roughness .entry)) (now (rates .entry)) (now (depths .entry)) (now (rain .entry)) (now (inflow .entry))) (now (lasts .entry)) (now (records .entry)) (now (began .entry))) r (now (depths .exit)) (now (lasts .exit)) (now (records .exit)) (now (began .exit)) (now (out .entry)) (now (out .exit)) ⌝ }
 {
-    if !is_left(night, text.len()) {
-        return over(night, 0);
-    }
-    if !night_fine(night) {
-        return over(night, put_refused(out, 0, 1, 0));
-    }
     let sizes = sizes_of(night);
-    if !rooms_fit(
-        sizes,
-        marks,
-        beds,
-        roughness,
-        rates,
-        rain,
-        inflow,
-        depths,
-        lasts,
-        records,
-        began,
-    ) {
-        return over(night, put_refused(out, 0, 1, 0));
-    }
     let squares = sizes.squares;
     let rain_end = sizes.rain;
     let inflow_end = sizes.inflow;
@@ -385,4 +416,57 @@ pub fn go_on(
         out,
     );
     next_night(night, taken, text.len())
+}
+
+// Takes the next line of a log: what is printed of it, at the start of out, and where the log has come to.
+pub fn go_on(
+    night: Night,
+    text: &[u8],
+    marks: &[u8],
+    beds: &[u32],
+    roughness: &[u32],
+    rates: &[u32],
+    rain: &[u32],
+    inflow: &[u32],
+    depths: &mut [u32],
+    lasts: &mut [u32],
+    records: &mut [u32],
+    began: &mut [u32],
+    out: &mut [u8; OUT_ROOM],
+) -> Night
+    ensures { λ r. ⌜ GoesOn (now (text .entry)) night (stores (rooms (now (marks .entry)) (now (beds .entry)) (now (roughness .entry)) (now (rates .entry)) (now (depths .entry)) (now (rain .entry)) (now (inflow .entry))) (now (lasts .entry)) (now (records .entry)) (now (began .entry))) r (now (depths .exit)) (now (lasts .exit)) (now (records .exit)) (now (began .exit)) (now (out .entry)) (now (out .exit)) ⌝ }
+{
+    if !is_left(night, text.len()) {
+        return over(night, 0);
+    }
+    if !fits(
+        night,
+        marks,
+        beds,
+        roughness,
+        rates,
+        rain,
+        inflow,
+        depths,
+        lasts,
+        records,
+        began,
+    ) {
+        return over(night, put_refused(out, 0, 1, 0));
+    }
+    take_held(
+        night,
+        text,
+        marks,
+        beds,
+        roughness,
+        rates,
+        rain,
+        inflow,
+        depths,
+        lasts,
+        records,
+        began,
+        out,
+    )
 }

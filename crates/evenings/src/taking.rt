@@ -29,7 +29,7 @@ ghost use Rattle.evenings.specs.inner.Backs.{BacksOnce};
 ghost use Rattle.hatches.specs.declared.lines.Entry.the-variants as kinds;
 
 // The number that a line is refused with, 0 for none, and the log after it.
-pub struct Came {
+pub struct EntryTaken {
     pub number: u32,
     pub log: Log,
 }
@@ -101,7 +101,7 @@ fn run_line(
     lasts: &mut [u32],
     records: &mut [u32],
     began: &mut [u32],
-) -> Came
+) -> EntryTaken
     requires { ⌜ refusal (entryRefusals (plan shape (now marks)) (given (ground rules (now beds) (now roughness) (now rates)) (now rain) (now inflow)) (evening (now depths) (now lasts) (now records) (now began) log) (kinds.Rate clock number rate)) ≡ 0 ⌝ }
     ensures { λ r. ⌜ (r .number ≡ lineRun (plan shape (now (marks .entry))) (given (ground rules (now (beds .entry)) (now (roughness .entry)) (now (rates .entry))) (now (rain .entry)) (now (inflow .entry))) (evening (now (depths .entry)) (now (lasts .entry)) (now (records .entry)) (now (began .entry)) log) clock .number) × (evening (now (depths .exit)) (now (lasts .exit)) (now (records .exit)) (now (began .exit)) (r .log) ≡ afterRate (plan shape (now (marks .entry))) (given (ground rules (now (beds .entry)) (now (roughness .entry)) (now (rates .entry))) (now (rain .entry)) (now (inflow .entry))) (evening (now (depths .entry)) (now (lasts .entry)) (now (records .entry)) (now (began .entry)) log) clock number rate) ⌝ }
 {
@@ -130,7 +130,7 @@ fn run_line(
     let refused = ran.refused;
     keep_made(&litres, slots, before.newest, ran.steps, began);
     let written = rates_with(litres, number, rate, refused);
-    Came {
+    EntryTaken {
         number: refused,
         log: further(log, run, log.steps + ran.steps, written),
     }
@@ -207,7 +207,7 @@ fn back_line(
     lasts: &mut [u32],
     records: &[u32],
     began: &[u32],
-) -> Came
+) -> EntryTaken
     requires { ⌜ (lentFine (plan shape (now marks)) (now depths) (now records) (now began) ≡ true) × (standingFine log ≡ true) × (keptFine log (kinds.Back count) ≡ true) ⌝ }
     ensures { λ r. ⌜ ((g : Givens.Given) → (r .number ≡ lineBack (plan shape (now (marks .entry))) g (evening (now (depths .entry)) (now (lasts .entry)) (now (records .entry)) (now (began .entry)) log) count .number) × (evening (now (depths .exit)) (now (lasts .exit)) (now (records .entry)) (now (began .entry)) (r .log) ≡ afterBack (plan shape (now (marks .entry))) g (evening (now (depths .entry)) (now (lasts .entry)) (now (records .entry)) (now (began .entry)) log) count)) ⌝ }
 {
@@ -215,7 +215,7 @@ fn back_line(
     let back = take_backs(log.run, count, shape, marks, depths, lasts, records);
     let litres = rates_back(log, back.steps, slots, began);
     let run = back.run;
-    Came {
+    EntryTaken {
         number: back.refused,
         log: further(log, run, log.steps - back.steps, litres),
     }
@@ -237,7 +237,7 @@ pub fn take_entry(
     lasts: &mut [u32],
     records: &mut [u32],
     began: &mut [u32],
-) -> Came
+) -> EntryTaken
     ensures { λ r. ⌜ TakesEntry (plan shape (now (marks .entry))) (given (ground rules (now (beds .entry)) (now (roughness .entry)) (now (rates .entry))) (now (rain .entry)) (now (inflow .entry))) entry (evening (now (depths .entry)) (now (lasts .entry)) (now (records .entry)) (now (began .entry)) log) (r .number) (evening (now (depths .exit)) (now (lasts .exit)) (now (records .exit)) (now (began .exit)) (r .log)) ⌝ }
 {
     let refused = entry_number(
@@ -252,13 +252,13 @@ pub fn take_entry(
         began,
     );
     if refused != 0 {
-        return Came {
+        return EntryTaken {
             number: refused,
             log: log,
         };
     }
     match entry {
-        Entry::Hatch(number, row, column) => Came {
+        Entry::Hatch(number, row, column) => EntryTaken {
             number: 0,
             log: name_hatch(log, number, row, column),
         },
@@ -281,7 +281,7 @@ pub fn take_entry(
             began,
         ),
         Entry::Back(count) => back_line(log, count, shape, marks, depths, lasts, records, began),
-        Entry::Unread => Came {
+        Entry::Unread => EntryTaken {
             number: 0,
             log: log,
         },

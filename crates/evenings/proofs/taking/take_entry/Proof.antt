@@ -1,6 +1,6 @@
 -- `evenings::taking::take_entry` meets its contract: the checks, and then what the kind of line does.
 -- Assumes nothing.
-use mathlib.Core.Path.{sym, ap, _∙_}
+use mathlib.Core.Path.{_≡_, sym, ap, _∙_}
 use borrow.Author.Needs.{needs}
 use Rattle.reckon.specs.Tests.{refusal}
 use Rattle.ledger.specs.Runs.{Plan, plan}
@@ -21,6 +21,10 @@ G s = given (ground (s .args .rules) (s .args .beds .now) (s .args .roughness .n
 
 abbrev E : tie.Start → Evening
 E s = evening (s .args .depths .now) (s .args .lasts .now) (s .args .records .now) (s .args .began .now) (s .args .log)
+
+-- no row refuses the line before its steps
+passed : (c : tie.Else1) → refusal (entryRefusals (P (c .before .before .before .before .before .before .before .before .before .before .before .before .before .before .before)) (G (c .before .before .before .before .before .before .before .before .before .before .before .before .before .before .before)) (E (c .before .before .before .before .before .before .before .before .before .before .before .before .before .before .before)) (c .before .before .before .before .before .before .before .before .before .before .before .before .before .before .before .args .entry)) ≡ 0
+passed c = sym (c .before .entry-number .ensures _ _ _ _ _) ∙ c .if1 .left
 
 entry-number-requires : tie.Need-entry-number-requires
 entry-number-requires c κs = search needs
@@ -44,19 +48,19 @@ name-hatch-requires : tie.Need-name-hatch-requires
 name-hatch-requires c κs =
     let s = (c .before .before .before .before .before .before .before .before .before .before .before .before .before .before .before .before .before .before) in
     hatch-number (s .args .rules) (s .args .log) _ _ _
-    (ap (lineFine (s .args .rules) (s .args .log)) (sym (c .before .entry .given .1)) ∙ entered-is (P s) (G s) (E s) _ (sym (c .before .before .before .before .entry-number .ensures _ _ _ _ _) ∙ c .before .before .before .if1 .left) .line)
+    (ap (lineFine (s .args .rules) (s .args .log)) (sym (c .before .entry .given .1)) ∙ entered-is (P s) (G s) (E s) _ (passed (c .before .before .before)) .line)
 
 enum-known-entry-2 : tie.Need-enum-known-entry-2
 enum-known-entry-2 c = search needs
 
 run-line-requires : tie.Need-run-line-requires
-run-line-requires c κs = let s = (c .before .before .before .before .before .before .before .before .before .before .before .before .before .before .before .before .before .before .before .before .before .before) in ap (λ (x : Entry). refusal (entryRefusals (P s) (G s) (E s) x)) (sym (c .before .before .before .before .before .entry2 .given .1)) ∙ (sym (c .before .before .before .before .before .before .before .before .entry-number .ensures _ _ _ _ _) ∙ c .before .before .before .before .before .before .before .if1 .left)
+run-line-requires c κs = let s = (c .before .before .before .before .before .before .before .before .before .before .before .before .before .before .before .before .before .before .before .before .before .before) in ap (λ (x : Entry). refusal (entryRefusals (P s) (G s) (E s) x)) (sym (c .before .before .before .before .before .entry2 .given .1)) ∙ (passed (c .before .before .before .before .before .before .before))
 
 enum-known-entry-3 : tie.Need-enum-known-entry-3
 enum-known-entry-3 c = search needs
 
 back-line-requires : tie.Need-back-line-requires
-back-line-requires c κs = let s = (c .before .before .before .before .before .before .before .before .before .before .before .before .before .before .before .before .before .before .before .before .before .before) in entered-back (P s) (G s) (E s) (sym (c .before .before .before .before .before .before .before .before .entry-number .ensures _ _ _ _ _) ∙ c .before .before .before .before .before .before .before .if1 .left) (c .before .before .before .before .before .entry3 .given .1)
+back-line-requires c κs = let s = (c .before .before .before .before .before .before .before .before .before .before .before .before .before .before .before .before .before .before .before .before .before .before) in entered-back (P s) (G s) (E s) (passed (c .before .before .before .before .before .before .before)) (c .before .before .before .before .before .entry3 .given .1)
 
 enum-told : tie.Need-enum-told
 enum-told c = search needs
@@ -71,7 +75,7 @@ same-length-6 : tie.Need-same-length-6
 same-length-6 c = search needs
 
 returns-2 : tie.Need-returns-2
-returns-2 c = let s = (c .before .before .before .before .before .before .before .before .before .before .before .before .before .before .before .before .before .before .before) in took-hatch (P s) (G s) (E s) (sym (c .before .before .before .before .before .entry-number .ensures _ _ _ _ _) ∙ c .before .before .before .before .if1 .left) (c .before .before .entry .given .1) (c .name-hatch .ensures)
+returns-2 c = let s = (c .before .before .before .before .before .before .before .before .before .before .before .before .before .before .before .before .before .before .before) in took-hatch (P s) (G s) (E s) (passed (c .before .before .before .before)) (c .before .before .entry .given .1) (c .name-hatch .ensures)
 
 same-length-7 : tie.Need-same-length-7
 same-length-7 c = search needs
@@ -86,7 +90,7 @@ same-length-10 : tie.Need-same-length-10
 same-length-10 c = search needs
 
 returns-3 : tie.Need-returns-3
-returns-3 c = let s = (c .before .before .before .before .before .before .before .before .before .before .before .before .before .before .before .before .before .before .before .before .before .before .before .before .before .before .before .before .before .before .before) in took-rate (P s) (G s) (E s) (sym (c .before .before .before .before .before .before .before .before .before .before .before .before .before .before .before .before .before .entry-number .ensures _ _ _ _ _) ∙ c .before .before .before .before .before .before .before .before .before .before .before .before .before .before .before .before .if1 .left) (c .before .before .before .before .before .before .before .before .before .before .before .before .before .before .entry2 .given .1) (c .before .before .before .before .before .before .before .before .run-line .ensures)
+returns-3 c = let s = (c .before .before .before .before .before .before .before .before .before .before .before .before .before .before .before .before .before .before .before .before .before .before .before .before .before .before .before .before .before .before .before) in took-rate (P s) (G s) (E s) (passed (c .before .before .before .before .before .before .before .before .before .before .before .before .before .before .before .before)) (c .before .before .before .before .before .before .before .before .before .before .before .before .before .before .entry2 .given .1) (c .before .before .before .before .before .before .before .before .run-line .ensures)
 
 same-length-11 : tie.Need-same-length-11
 same-length-11 c = search needs
@@ -101,7 +105,7 @@ same-length-14 : tie.Need-same-length-14
 same-length-14 c = search needs
 
 returns-4 : tie.Need-returns-4
-returns-4 c = let s = (c .before .before .before .before .before .before .before .before .before .before .before .before .before .before .before .before .before .before .before .before .before .before .before .before .before .before .before) in took-back (P s) (G s) (E s) (sym (c .before .before .before .before .before .before .before .before .before .before .before .before .before .entry-number .ensures _ _ _ _ _) ∙ c .before .before .before .before .before .before .before .before .before .before .before .before .if1 .left) (c .before .before .before .before .before .before .before .before .before .before .entry3 .given .1) (c .before .before .before .before .back-line .ensures (G s))
+returns-4 c = let s = (c .before .before .before .before .before .before .before .before .before .before .before .before .before .before .before .before .before .before .before .before .before .before .before .before .before .before .before) in took-back (P s) (G s) (E s) (passed (c .before .before .before .before .before .before .before .before .before .before .before .before)) (c .before .before .before .before .before .before .before .before .before .before .entry3 .given .1) (c .before .before .before .before .back-line .ensures (G s))
 
 same-length-15 : tie.Need-same-length-15
 same-length-15 c = search needs
@@ -113,7 +117,7 @@ same-length-17 : tie.Need-same-length-17
 same-length-17 c = search needs
 
 returns-5 : tie.Need-returns-5
-returns-5 c = let s = (c .before .before .before .before .before .before .before .before .before .before .before .before .before .before .before .before .before) in took-none (P s) (G s) (E s) (sym (c .before .before .before .entry-number .ensures _ _ _ _ _) ∙ c .before .before .if1 .left) (c .enum-told .given .1)
+returns-5 c = let s = (c .before .before .before .before .before .before .before .before .before .before .before .before .before .before .before .before .before) in took-none (P s) (G s) (E s) (passed (c .before .before)) (c .enum-told .given .1)
 
 pub take-entry-spec : {M : Type 1} → statement M
 take-entry-spec =
