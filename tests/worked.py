@@ -49,7 +49,7 @@ def tell(call, refused, same):
     print_decimal(1, f"{call.decode('ascii')} {refused}, {'as it was' if same else 'changed'}\n")
 
 
-def tell_bounds(answer):
+def tell_answer(answer):
     print_decimal(1, f"bounds {answer}\n")
 
 
@@ -73,7 +73,7 @@ GIVEN = {
     "tell": tell,
     "tell_same": tell_same,
     "step_bounds": lent.step_bounds,
-    "tell_bounds": tell_bounds,
+    "tell_answer": tell_answer,
 }
 
 

@@ -9,7 +9,7 @@ CLAUSE = re.compile(r"^    (requires|ensures) \{(.*?)\}$", re.M | re.S)
 SLICE = re.compile(r"&(mut )?\[")
 # crates of which only our own crates call the functions, but for those named; every other function that asks nothing is an entry point
 LAYERS = ("reckon", "trials", "grid", "rule", "ledger", "settling", "moves", "text", "files", "programs", "hatches")
-ENTRIES_OF_LAYERS = {("ledger", "take_back"), ("programs", "meadow_of")} | {("hatches", name) for name in ("take_entry", "take_line", "begin_log", "go_on")}
+ENTRIES_OF_LAYERS = {("ledger", "take_back"), ("programs", "meadow_of")}
 
 
 class Function(NamedTuple):

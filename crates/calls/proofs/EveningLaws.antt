@@ -9,12 +9,13 @@ use Rattle.reckon.proofs.TestLaws.{pick-true, pick-false}
 use Rattle.ledger.specs.Runs.{Plan}
 use Rattle.checks.specs.Given.{Given}
 use Rattle.hatches.specs.Lines.{logLine}
-use Rattle.hatches.specs.Log.{Evening, entryRefusals, entryNumber, afterEntry, TakesEntry}
-use Rattle.hatches.specs.Told.{TakesLine}
-use Rattle.hatches.specs.Program.{Stores, Begins, GoesOn}
+use Rattle.hatches.specs.Log.{Evening, entryRefusals}
+use Rattle.evenings.specs.Taking.{entryNumber, afterEntry, TakesEntry}
+use Rattle.evenings.specs.Shown.{TakesLine}
+use Rattle.evenings.specs.Program.{Stores, Begins, GoesOn}
 use Rattle.hatches.specs.declared.lines.Entry.{Entry}
-use Rattle.hatches.specs.declared.telling.Told.{Told}
-use Rattle.hatches.specs.declared.program.Night.{Night}
+use Rattle.evenings.specs.declared.telling.LineTaken.{LineTaken}
+use Rattle.evenings.specs.declared.program.Night.{Night}
 use Rattle.demands.specs.Table.{FirstFails, TableSays}
 use Rattle.demands.proofs.Table.{table-says}
 use Rattle.demands.specs.HatchLog.{pageAfter, on, storesWith}
@@ -42,7 +43,7 @@ module _ (p : Plan) (g : Given) (entry : Entry) (e : Evening) where
       }
 
 pub after-line :
-    (p : Plan) (g : Given) (s : List ℕ) (at line : ℕ) (e : Evening) {a : Told} {after : Evening} {old new : List ℕ} →
+    (p : Plan) (g : Given) (s : List ℕ) (at line : ℕ) (e : Evening) {a : LineTaken} {after : Evening} {old new : List ℕ} →
     TakesLine p g s at line e a after old new → AfterLine p g s at line e a after old new
 after-line p g s at line e t =
     record {

@@ -10,12 +10,13 @@ use Rattle.ledger.specs.Runs.{Plan}
 use Rattle.checks.specs.Given.{Given}
 use Rattle.programs.specs.Program.{Prints}
 use Rattle.hatches.specs.Lines.{logLine}
-use Rattle.hatches.specs.Log.{Evening, entryRefusals, stepsNumber, entered}
-use Rattle.hatches.specs.Told.{lineTold}
-use Rattle.hatches.specs.Program.{Stores, hatchlogText}
+use Rattle.hatches.specs.Log.{Evening, entryRefusals}
+use Rattle.evenings.specs.Taking.{stepsNumber, entered}
+use Rattle.evenings.specs.Shown.{lineShown}
+use Rattle.evenings.specs.Program.{Stores, hatchlogText}
 use Rattle.hatches.specs.declared.lines.Entry.{Entry}
-use Rattle.hatches.specs.declared.telling.Told.{Told}
-use Rattle.hatches.specs.declared.program.Night.{Night}
+use Rattle.evenings.specs.declared.telling.LineTaken.{LineTaken}
+use Rattle.evenings.specs.declared.program.Night.{Night}
 use Rattle.demands.specs.Table.{FirstFails}
 use Rattle.demands.specs.HatchLog.{Page, pageAfter, Logged}
 
@@ -29,10 +30,10 @@ pub record AfterEntry (p : Plan) (g : Given) (entry : Entry) (e : Evening) (numb
   pub goes-on : (x : Page p g) → x .at ≡ e → pageAfter p g (entry ∷ []) x .at ≡ after
 
 -- the same of the line at a position, and what is printed of it
-pub record AfterLine (p : Plan) (g : Given) (s : List ℕ) (at line : ℕ) (e : Evening) (a : Told) (after : Evening) (old new : List ℕ) : Type 0 where
+pub record AfterLine (p : Plan) (g : Given) (s : List ℕ) (at line : ℕ) (e : Evening) (a : LineTaken) (after : Evening) (old new : List ℕ) : Type 0 where
   pub entry-taken : AfterEntry p g (logLine s at .entry) e (a .number) after
   pub next-is : a .next ≡ logLine s at .next
-  pub prints : Prints (lineTold p g s at line e) old new (a .length)
+  pub prints : Prints (lineShown p g s at line e) old new (a .length)
 
 -- what is put first, and after it whatever the calls of `go_on` put, is the program's whole output
 abbrev pub AfterBegin : List ℕ → List ℕ → Night → Stores → List ℕ → Type 0

@@ -21,14 +21,15 @@ use Rattle.text.proofs.Determined.{written}
 use Rattle.sheet.specs.Sheet.{Rooms, Reads, roomsAfter}
 use Rattle.sheet.specs.declared.reading.Sheet.{Sheet}
 use Rattle.exports.specs.Steps.{ExportsStep, ExportsRun}
-use Rattle.demands.specs.Determined.{LedgerDetermined, ChecksDetermined, FloodDetermined, SightDetermined, SheetDetermined, ProgramsDetermined, HatchesDetermined, ExportsDetermined, Determined}
-use Rattle.hatches.specs.Log.{Evening, evening, TakesEntry}
-use Rattle.hatches.specs.Told.{TakesLine}
-use Rattle.hatches.specs.Program.{Stores, Holds, Begins, GoesOn}
+use Rattle.demands.specs.Determined.{LedgerDetermined, ChecksDetermined, FloodDetermined, SightDetermined, SheetDetermined, ProgramsDetermined, EveningsDetermined, ExportsDetermined, Determined}
+use Rattle.hatches.specs.Log.{Evening, evening}
+use Rattle.evenings.specs.Taking.{TakesEntry}
+use Rattle.evenings.specs.Shown.{TakesLine}
+use Rattle.evenings.specs.Program.{Stores, Holds, Begins, GoesOn}
 use Rattle.hatches.specs.declared.lines.Entry.{Entry}
-use Rattle.hatches.specs.declared.taking.Came.{Came}
-use Rattle.hatches.specs.declared.telling.Told.{Told}
-use Rattle.hatches.specs.declared.program.Night.{Night}
+use Rattle.evenings.specs.declared.taking.EntryTaken.{EntryTaken}
+use Rattle.evenings.specs.declared.telling.LineTaken.{LineTaken}
+use Rattle.evenings.specs.declared.program.Night.{Night}
 
 -- ---- one outcome
 
@@ -99,7 +100,7 @@ held-one {n} {a = a} {b} x y =
 
 entry-one :
     {p : Plan} {g : Given} {entry : Entry} {e : Evening} →
-    One {Out = Came × (List ℕ × (List ℕ × (List ℕ × List ℕ)))}
+    One {Out = EntryTaken × (List ℕ × (List ℕ × (List ℕ × List ℕ)))}
     (λ o. TakesEntry p g entry e (o .0 .number) (evening (o .1 .0) (o .1 .1 .0) (o .1 .1 .1 .0) (o .1 .1 .1 .1) (o .0 .log)))
 entry-one a b x y =
     let n = x .number-is ∙ sym (y .number-is) in
@@ -108,7 +109,7 @@ entry-one a b x y =
 
 line-one :
     {p : Plan} {g : Given} {s : List ℕ} {at line : ℕ} {e : Evening} {old : List ℕ} →
-    One {Out = Told × (List ℕ × (List ℕ × (List ℕ × (List ℕ × List ℕ))))}
+    One {Out = LineTaken × (List ℕ × (List ℕ × (List ℕ × (List ℕ × List ℕ))))}
     (λ o. TakesLine p g s at line e (o .0) (evening (o .1 .0) (o .1 .1 .0) (o .1 .1 .1 .0) (o .1 .1 .1 .1 .0) (o .0 .log)) old (o .1 .1 .1 .1 .1))
 line-one a b x y =
     let n = x .number-is ∙ sym (y .number-is) in
@@ -139,8 +140,8 @@ going-one a b x y =
       ),
     )
 
-hatches-determined : HatchesDetermined
-hatches-determined =
+evenings-determined : EveningsDetermined
+evenings-determined =
     record {
       take-entry = λ p g entry e. entry-one;
       take-line = λ p g s at line e old. line-one;
@@ -217,6 +218,6 @@ determined =
       sight = sight-determined;
       sheet = sheet-determined;
       programs = programs-determined;
-      hatches = hatches-determined;
+      evenings = evenings-determined;
       exports = exports-determined;
     }

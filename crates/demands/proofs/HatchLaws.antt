@@ -22,10 +22,11 @@ use Rattle.ledger.specs.declared.runs.Run.{Run}
 use Rattle.checks.specs.Given.{Given}
 use Rattle.flood.specs.Run.{Ended, goOn, runTo}
 use Rattle.answer.specs.Printed.{madeText}
-use Rattle.hatches.specs.Log.{Evening, evening, worldOf, mostHatches, drawn, ratesKept, lineFine, entryRefusals, entryNumber, stepsNumber, lineRun, further, backFrom, afterHatch, afterRate, ratesBack, afterBack, entered, afterEntry}
-use Rattle.hatches.specs.Told.{standsText}
+use Rattle.hatches.specs.Log.{Evening, evening, mostHatches, ratesKept, lineFine, entryRefusals, ratesBack}
+use Rattle.evenings.specs.Taking.{worldOf, drawn, entryNumber, stepsNumber, lineRun, further, backFrom, afterHatch, afterRate, afterBack, entered, afterEntry}
+use Rattle.evenings.specs.Shown.{standsText}
 use Rattle.hatches.proofs.RefusalLaws.{entered-is, back-kept}
-use Rattle.hatches.proofs.BackLaws.{backs, Backed, backed}
+use Rattle.evenings.proofs.BackLaws.{backs, Backed, backed}
 use Rattle.hatches.specs.declared.lines.Entry.{Entry}
 use Rattle.hatches.specs.declared.lines.Entry.the-variants.{Hatch, Rate, Back, Unread}
 use Rattle.hatches.specs.declared.log.Hatches.{Hatches}
@@ -35,7 +36,7 @@ use Rattle.hatches.specs.inner.Rates.{newestAfter, keptSteps, Beside}
 use Rattle.demands.proofs.LineClock.{line-clock}
 use Rattle.demands.proofs.Demand3.{demand-3}
 use Rattle.hatches.proofs.RatesLaws.{beside-steps, beside-back, nine-in}
-use Rattle.hatches.proofs.RingSteps.{run-made, steps-further, Returned, back-returned}
+use Rattle.evenings.proofs.RingSteps.{run-made, steps-further, Returned, back-returned}
 
 -- ---- lists
 

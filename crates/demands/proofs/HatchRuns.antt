@@ -31,10 +31,10 @@ use Rattle.answer.specs.Printed.{refusedText}
 use Rattle.programs.specs.Program.{Prints, mostText, programRooms, programSquares}
 use Rattle.hatches.specs.Lines.{logLine}
 use Rattle.hatches.specs.Log.{Evening, evening, mostHatches, mostKept, mostNumbers}
-use Rattle.hatches.specs.Program.{linesFrom, firstLog, firstEvening, sheetLogText, hatchlogText, Stores, stores, recordsLent, ratesLent, planHeld, givenHeld, eveningHeld, isLeft, nightFine, roomsFit, nightFits, nightOver, nightNumber, nightEvening, nightLine, nightNext, textAfter, eveningAfter, nightAfter, firstNight, noNight, sheetBegun, sheetBegunText, begun, begunText, begunStores, GoesOn}
+use Rattle.evenings.specs.Program.{linesFrom, firstLog, firstEvening, sheetLogText, hatchlogText, Stores, stores, recordsLent, ratesLent, planHeld, givenHeld, eveningHeld, isLeft, nightFine, roomsFit, nightFits, nightOver, nightNumber, nightEvening, nightLine, nightNext, textAfter, eveningAfter, nightAfter, firstNight, noNight, sheetBegun, sheetBegunText, begun, begunText, begunStores, GoesOn}
 use Rattle.hatches.specs.declared.log.Log.{Log}
-use Rattle.hatches.specs.declared.program.Night.{Night}
-use Rattle.hatches.proofs.NightLaws.{left-at, kept-fit, kept-few}
+use Rattle.evenings.specs.declared.program.Night.{Night}
+use Rattle.evenings.proofs.NightLaws.{left-at, kept-fit, kept-few}
 use Rattle.demands.specs.HatchLog.{storesWith, Logged, HatchLogRuns}
 use Rattle.demands.specs.HatchLog.Logged.{over, on}
 use Rattle.demands.proofs.LinePlaces.{zero-forth, from-over, from-refused, from-taken}

@@ -18,7 +18,8 @@ use Rattle.flood.specs.Step.{stepNumber, stepped}
 use Rattle.flood.specs.Run.{Ended, ended, runTo}
 use Rattle.checks.proofs.CheckLaws.{ready, end-is, run-checks-step, run-checks-end}
 use Rattle.flood.proofs.RunToLaws.{Valid, still-valid, clock-after, clock-on, whole, run-ends, run-refused, run-steps, run-checked, run-passed}
-use Rattle.hatches.specs.Log.{Evening, worldOf, drawn, entryNumber, stepsNumber, afterRate, entered, afterEntry}
+use Rattle.hatches.specs.Log.{Evening}
+use Rattle.evenings.specs.Taking.{worldOf, drawn, entryNumber, stepsNumber, afterRate, entered, afterEntry}
 use Rattle.hatches.specs.declared.lines.Entry.the-variants.{Rate}
 use Rattle.hatches.proofs.RefusalLaws.{entered-is, rate-clock}
 use Rattle.demands.proofs.LinePlaces.{number-zero}

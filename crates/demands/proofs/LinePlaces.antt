@@ -18,9 +18,10 @@ use Rattle.text.specs.Reading.Reading.{read, unread}
 use Rattle.text.specs.declared.reading.Number.{Number}
 use Rattle.text.specs.declared.reading.Number.the-variants.{Is, Not}
 use Rattle.hatches.specs.Lines.{hatchWord, hatchFields, backWord, backFields, rateFields, asHatch, asBack, asRate, readRate, entryFrom, unreadAt, logLine}
-use Rattle.hatches.specs.Log.{Evening, lineFine, entryRefusals, entryNumber, afterEntry}
-use Rattle.hatches.specs.Told.{lineTold}
-use Rattle.hatches.specs.Program.{linesText, linesFrom}
+use Rattle.hatches.specs.Log.{Evening, lineFine, entryRefusals}
+use Rattle.evenings.specs.Taking.{entryNumber, afterEntry}
+use Rattle.evenings.specs.Shown.{lineShown}
+use Rattle.evenings.specs.Program.{linesText, linesFrom}
 use Rattle.hatches.specs.declared.lines.Entry.{Entry}
 use Rattle.hatches.specs.declared.lines.Entry.the-variants.{Unread}
 use Rattle.hatches.proofs.RefusalLaws.{entered-is}
@@ -143,7 +144,7 @@ module _ (p : Plan) (g : Given) (s : List ℕ) where
 
   abbrev onward : ℕ → ℕ → ℕ → Evening → List ℕ
   onward most at line e =
-      lineTold p g s at line e ++ pick (eqb (num at e) 0) (linesText p g s most (logLine s at .next) (line + 1) (afterEntry p g e (logLine s at .entry))) []
+      lineShown p g s at line e ++ pick (eqb (num at e) 0) (linesText p g s most (logLine s at .next) (line + 1) (afterEntry p g e (logLine s at .entry))) []
 
   lines-over : (most at line : ℕ) (e : Evening) → length s ≤ at → linesText p g s most at line e ≡ []
   unfolding linesText
@@ -169,26 +170,26 @@ module _ (p : Plan) (g : Given) (s : List ℕ) where
       go (yes l) (yes z) ih =
           let f = zero-forth p g s at e z in
           lines-here a at line e l
-          ∙ (ap (λ (t : List ℕ). lineTold p g s at line e ++ pick (eqb (num at e) 0) t []) (ih (omega arith) (omega arith)) ∙ sym (lines-here b at line e l))
+          ∙ (ap (λ (t : List ℕ). lineShown p g s at line e ++ pick (eqb (num at e) 0) t []) (ih (omega arith) (omega arith)) ∙ sym (lines-here b at line e l))
       go (yes l) (no d) ih =
           let f = ne-eqb _ _ d in
           lines-here a at line e l
-          ∙ (ap (λ (t : List ℕ). lineTold p g s at line e ++ t) (pick-false _ _ f ∙ sym (pick-false _ _ f)) ∙ sym (lines-here b at line e l))
+          ∙ (ap (λ (t : List ℕ). lineShown p g s at line e ++ t) (pick-false _ _ f ∙ sym (pick-false _ _ f)) ∙ sym (lines-here b at line e l))
 
   pub from-over : (at line : ℕ) (e : Evening) → length s ≤ at → linesFrom p g s at line e ≡ []
   from-over at line e h = lines-over (length s - at) at line e h
 
-  pub from-refused : (at line : ℕ) (e : Evening) → at < length s → (num at e ≡ 0 → ⊥) → linesFrom p g s at line e ≡ lineTold p g s at line e ++ []
+  pub from-refused : (at line : ℕ) (e : Evening) → at < length s → (num at e ≡ 0 → ⊥) → linesFrom p g s at line e ≡ lineShown p g s at line e ++ []
   from-refused at line e h d =
       ap (λ (k : ℕ). linesText p g s k at line e) (let k : length s - at ≡ suc (length s - at - 1) = omega arith in k)
-      ∙ (lines-here (length s - at - 1) at line e h ∙ ap (λ (t : List ℕ). lineTold p g s at line e ++ t) (pick-false _ _ (ne-eqb _ _ d)))
+      ∙ (lines-here (length s - at - 1) at line e h ∙ ap (λ (t : List ℕ). lineShown p g s at line e ++ t) (pick-false _ _ (ne-eqb _ _ d)))
 
   pub from-taken : (at line : ℕ) (e : Evening) → at < length s → num at e ≡ 0 →
-      linesFrom p g s at line e ≡ lineTold p g s at line e ++ linesFrom p g s (logLine s at .next) (line + 1) (afterEntry p g e (logLine s at .entry))
+      linesFrom p g s at line e ≡ lineShown p g s at line e ++ linesFrom p g s (logLine s at .next) (line + 1) (afterEntry p g e (logLine s at .entry))
   from-taken at line e h z =
       let f = zero-forth p g s at e z in
       ap (λ (k : ℕ). linesText p g s k at line e) (let k : length s - at ≡ suc (length s - at - 1) = omega arith in k)
       ∙ (lines-here (length s - at - 1) at line e h
-      ∙ ap (λ (t : List ℕ). lineTold p g s at line e ++ t)
+      ∙ ap (λ (t : List ℕ). lineShown p g s at line e ++ t)
       (pick-true _ _ (eq-eqb _ _ z)
       ∙ lines-enough (length s - at - 1) (length s - logLine s at .next) (logLine s at .next) (line + 1) (afterEntry p g e (logLine s at .entry)) (omega arith) (omega arith)))

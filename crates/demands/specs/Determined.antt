@@ -27,13 +27,14 @@ use Rattle.exports.specs.Steps.{ExportsFresh, ExportsStep, ExportsRun, ExportsB
 use Rattle.exports.specs.Bounds.{ExportsBounds}
 use Rattle.exports.specs.Sights.{ExportsArrow, ExportsWet}
 use Rattle.exports.specs.Sheets.{ExportsRead, ExportsMeadow}
-use Rattle.hatches.specs.Log.{Evening, evening, TakesEntry}
-use Rattle.hatches.specs.Told.{TakesLine}
-use Rattle.hatches.specs.Program.{Stores, Begins, GoesOn}
+use Rattle.hatches.specs.Log.{Evening, evening}
+use Rattle.evenings.specs.Taking.{TakesEntry}
+use Rattle.evenings.specs.Shown.{TakesLine}
+use Rattle.evenings.specs.Program.{Stores, Begins, GoesOn}
 use Rattle.hatches.specs.declared.lines.Entry.{Entry}
-use Rattle.hatches.specs.declared.taking.Came.{Came}
-use Rattle.hatches.specs.declared.telling.Told.{Told}
-use Rattle.hatches.specs.declared.program.Night.{Night}
+use Rattle.evenings.specs.declared.taking.EntryTaken.{EntryTaken}
+use Rattle.evenings.specs.declared.telling.LineTaken.{LineTaken}
+use Rattle.evenings.specs.declared.program.Night.{Night}
 
 pub record LedgerDetermined : Type 0 where
   pub take-back : (p : Plan) (w : World) → One {Out = Answer × (List ℕ × List ℕ)} (λ o. TakesBack p w (o .0) (o .1 .0) (o .1 .1))
@@ -62,12 +63,12 @@ pub record ProgramsDetermined : Type 0 where
   pub meadow-of : (text old : List ℕ) → One {Out = ℕ × List ℕ} (λ o. Prints (meadowText text) old (o .1) (o .0))
 
 -- `take_entry` and `take_line` tell the log's own value beside the rooms
-pub record HatchesDetermined : Type 0 where
+pub record EveningsDetermined : Type 0 where
   pub take-entry : (p : Plan) (g : Given) (entry : Entry) (e : Evening) →
-      One {Out = Came × (List ℕ × (List ℕ × (List ℕ × List ℕ)))}
+      One {Out = EntryTaken × (List ℕ × (List ℕ × (List ℕ × List ℕ)))}
       (λ o. TakesEntry p g entry e (o .0 .number) (evening (o .1 .0) (o .1 .1 .0) (o .1 .1 .1 .0) (o .1 .1 .1 .1) (o .0 .log)))
   pub take-line : (p : Plan) (g : Given) (s : List ℕ) (at line : ℕ) (e : Evening) (old : List ℕ) →
-      One {Out = Told × (List ℕ × (List ℕ × (List ℕ × (List ℕ × List ℕ))))}
+      One {Out = LineTaken × (List ℕ × (List ℕ × (List ℕ × (List ℕ × List ℕ))))}
       (λ o. TakesLine p g s at line e (o .0) (evening (o .1 .0) (o .1 .1 .0) (o .1 .1 .1 .0) (o .1 .1 .1 .1 .0) (o .0 .log)) old (o .1 .1 .1 .1 .1))
   pub begin-log : (sheet log old : List ℕ) → One {Out = Night × (Stores × List ℕ)} (λ o. Begins sheet log (o .0) (o .1 .0) old (o .1 .1))
   pub go-on : (s : List ℕ) (n : Night) (r : Stores) (old : List ℕ) →
@@ -108,5 +109,5 @@ pub record Determined : Type 0 where
   pub sight : SightDetermined
   pub sheet : SheetDetermined
   pub programs : ProgramsDetermined
-  pub hatches : HatchesDetermined
+  pub evenings : EveningsDetermined
   pub exports : ExportsDetermined

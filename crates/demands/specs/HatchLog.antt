@@ -14,12 +14,13 @@ use Rattle.ledger.specs.Record.{roomSlots}
 use Rattle.trials.specs.Ring.{slotsIn}
 use Rattle.checks.specs.Given.{Given}
 use Rattle.answer.specs.Printed.{madeText}
-use Rattle.hatches.specs.Log.{Evening, evening, opened, mostHatches, drawn, entryRefusals, entryNumber, lineRun, lineBack, afterEntry}
-use Rattle.hatches.specs.Told.{standsText}
-use Rattle.hatches.specs.Program.{Stores, stores, hatchlogText, Begins, GoesOn}
+use Rattle.hatches.specs.Log.{Evening, evening, opened, mostHatches, entryRefusals}
+use Rattle.evenings.specs.Taking.{drawn, entryNumber, lineRun, lineBack, afterEntry}
+use Rattle.evenings.specs.Shown.{standsText}
+use Rattle.evenings.specs.Program.{Stores, stores, hatchlogText, Begins, GoesOn}
 use Rattle.hatches.specs.declared.lines.Entry.{Entry}
 use Rattle.hatches.specs.declared.lines.Entry.the-variants.{Hatch, Rate, Back, Unread}
-use Rattle.hatches.specs.declared.program.Night.{Night}
+use Rattle.evenings.specs.declared.program.Night.{Night}
 use Rattle.demands.specs.Demand3.{Call, Fresh, alone, AllMade, start, series}
 
 -- ---- what is left of an evening

@@ -1,12 +1,7 @@
-pub mod BackLaws
 pub mod Determined
 pub mod LineLaws
 pub mod LogLaws
-pub mod NightLaws
 pub mod RatesLaws
 pub mod RefusalLaws
-pub mod RingSteps
 pub mod RowLaws
-pub mod TakeLaws
-pub mod ToldLaws
 pub mod WorkedLaws

@@ -1,9 +1,9 @@
 -- Laws of a line that was read: the fields as they are handed back are those of the reading.
 -- Assumes nothing.
-use mathlib.Core.Path.{_≡_, refl, sym, ap, subst, _∙_}
-use mathlib.Core.Bool.{Bool, true, false}
+use mathlib.Core.Path.{_≡_, refl, sym, ap, _∙_}
+use mathlib.Core.Bool.{true, false}
 use mathlib.Core.List.{List, [], _∷_}
-use Prim.Native.Nat.{ℕ, zero, suc}
+use Prim.Native.Nat.{ℕ}
 use lib.ListN.{getD}
 use Rattle.reckon.specs.Lists.{tabulate}
 use Rattle.reckon.proofs.TestLaws.{not-both}
@@ -14,7 +14,7 @@ use Rattle.text.specs.declared.reading.Number.{Number}
 use Rattle.text.specs.declared.reading.Number.the-variants.{Is, Not}
 use Rattle.hatches.specs.Lines.{hatchWord, hatchFields, backWord, backFields, rateFields, asHatch, asBack, asRate, readRate, entryFrom, unreadAt, logLine}
 use Rattle.hatches.specs.declared.lines.Entry.{Entry}
-use Rattle.hatches.specs.declared.lines.Entry.the-variants.{Hatch, Rate, Back, Unread}
+use Rattle.hatches.specs.declared.lines.Entry.the-variants.{Hatch, Rate, Back}
 use Rattle.hatches.specs.declared.lines.LogLine.{LogLine}
 
 abbrev line : Entry → ℕ → LogLine

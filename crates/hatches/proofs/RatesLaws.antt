@@ -2,7 +2,7 @@
 -- Assumes nothing.
 use mathlib.Core.Path.{_≡_, refl, sym, ap, ap₂, subst, _∙_}
 use mathlib.Core.List.{List, [], _∷_, _++_}
-use Prim.Native.Nat.{ℕ, zero, suc, _+_, _-_, _*_, _≤_, _<_, min}
+use Prim.Native.Nat.{ℕ, zero, suc, _+_, _-_, _*_, _≤_, _<_}
 use native.Mathlib.Omega.{arith}
 use lib.ListN.{length, getD, take, drop, replicate, length-take, length-drop}
 use lib.Seq.{take-length}
@@ -10,7 +10,7 @@ use Rattle.trials.specs.Ring.{slotsIn, slotStart, slotAfter, slotBefore, slotAg
 use Rattle.trials.specs.Room.{recordIn, storedIn}
 use Rattle.reckon.proofs.ListLaws.{length-placed}
 use Rattle.sheet.proofs.JudgeLaws.{take-put}
-use Rattle.trials.proofs.RingLaws.{slot-within, after-below, before-below, before-after, ago-none, ago-more, ago-other, ago-below}
+use Rattle.trials.proofs.RingLaws.{slot-within, after-below, before-below, before-after, ago-none, ago-more, ago-other}
 use Rattle.trials.proofs.RoomLaws.{length-stored, read-stored, read-other}
 use Rattle.hatches.specs.Log.{mostHatches, ratesKept, ratesBack}
 use Rattle.hatches.specs.declared.log.Log.{Log}

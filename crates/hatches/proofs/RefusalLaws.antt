@@ -1,20 +1,20 @@
 -- Laws of a line's refusals: what holds of what is lent, and of a line, where none applies.
 -- Assumes nothing.
-use mathlib.Core.Path.{_≡_, refl, sym, ap, ap₂, _∙_}
-use mathlib.Core.Bool.{Bool, true, false, not}
-use mathlib.Core.List.{List, [], _∷_}
-use Prim.Native.Nat.{ℕ, _+_, _*_, _%_, _≤_, _<_}
+use mathlib.Core.Path.{_≡_, sym, ap, ap₂, _∙_}
+use mathlib.Core.Bool.{Bool, true}
+use mathlib.Core.List.{List, []}
+use Prim.Native.Nat.{ℕ, _+_, _%_, _≤_, _<_}
 use native.Mathlib.Nat.{mod-zero, mul-le-mul-right, suc-mul}
 use native.Mathlib.Omega.{arith}
 use lib.Dec.{eqb, leb}
 use lib.ListN.{length, length-append}
-use borrow.Author.Tests.{leb-true, le-leb, eqb-true, eq-eqb}
-use Rattle.reckon.specs.Tests.{every, refusal}
+use borrow.Author.Tests.{leb-true, eqb-true}
+use Rattle.reckon.specs.Tests.{refusal}
 use Rattle.reckon.specs.Ranges.{lastClock}
 use Rattle.reckon.specs.Tables.{inflowKind, tableRoom}
 use Rattle.reckon.proofs.TestLaws.{every-each, refusal-passed}
 use Rattle.trials.specs.Ring.{slotsIn}
-use Rattle.grid.specs.Squares.{ShapeInRange, squares, squareAt, shapeFine}
+use Rattle.grid.specs.Squares.{ShapeInRange, squares, squareAt}
 use Rattle.grid.specs.declared.squares.Shape.{Shape}
 use Rattle.grid.proofs.SquareLaws.{ranges-of-fine}
 use Rattle.rule.specs.declared.rules.Rules.{Rules}
@@ -24,9 +24,9 @@ use Rattle.ledger.specs.Record.{recordSize, roomSlots}
 use Rattle.ledger.specs.Checks.{oneEach}
 use Rattle.checks.specs.Given.{Given}
 use Rattle.programs.specs.Program.{programSquares}
-use Rattle.hatches.specs.Log.{Evening, mostHatches, isNamed, isNumber, hatchRows, tableWith, lineFine, lentFine, drawFine, standingFine, keptFine, entryRefusals}
+use Rattle.hatches.specs.Log.{Evening, mostHatches, isNamed, hatchRows, tableWith, lineFine, lentFine, drawFine, standingFine, keptFine, entryRefusals}
 use Rattle.hatches.specs.declared.lines.Entry.{Entry}
-use Rattle.hatches.specs.declared.lines.Entry.the-variants.{Hatch, Rate, Back, Unread}
+use Rattle.hatches.specs.declared.lines.Entry.the-variants.{Hatch, Rate, Back}
 use Rattle.hatches.specs.declared.log.Log.{Log}
 
 -- a multiple of 0 is 0

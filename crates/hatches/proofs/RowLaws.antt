@@ -1,14 +1,13 @@
 -- Laws of the hatches' rows: how many numbers they have, and one row put after another.
 -- Assumes nothing.
 use mathlib.Core.Path.{_≡_, refl, sym, ap, subst, _∙_}
-use mathlib.Core.Bool.{Bool, true, false, not}
-use mathlib.Core.List.{List, [], _∷_, _++_}
+use mathlib.Core.Bool.{Bool, true, false}
+use mathlib.Core.List.{List, [], _∷_}
 use Prim.Native.Nat.{ℕ, zero, suc, _+_, _*_, _≤_, _<_}
 use native.Mathlib.Nat.{le-refl}
 use native.Mathlib.Numerals.{add-one}
 use native.Mathlib.Omega.{arith}
 use lib.ListN.{length, getD, take, length-append}
-use borrow.Author.Tests.{not-true, not-false}
 use Rattle.reckon.specs.Tests.{pick}
 use Rattle.reckon.specs.Lists.{joined, placed}
 use Rattle.reckon.specs.Ranges.{lastClock}

@@ -11,15 +11,12 @@ use Rattle.ledger.specs.Record.{roomSlots}
 use Rattle.ledger.specs.Checks.{oneEach}
 use Rattle.text.specs.Bytes.{bytesOf}
 use Rattle.text.specs.Reading.{isByte, wordAt, isDigit, digitsOf, valueFrom, wellFormed, numberFrom, numberAt, fieldAt, before, readFields, lineEnded, readRest, readLine}
-use Rattle.text.specs.Writing.{digitsIn, decimal, fieldText, fieldsText, restText, lineText}
-use Rattle.answer.specs.Printed.{refusedText, cellText, cellsText, madeText}
 use Rattle.hatches.specs.Lines.{readRate, logLine}
 use Rattle.hatches.specs.Log.{isNamed, hatchRow, hatchRows, keptRecords, lineFine, lentFine, drawFine, standingFine, keptFine, entryRefusals, ratesBack}
-use Rattle.hatches.specs.Told.{isShown, entryText}
 use Rattle.hatches.specs.Worked.{LogCases}
 
 pub log-cases : LogCases
-unfolding pick every refusal joined slotBefore slotAgo recordIn closed shapeFine roomSlots oneEach isByte wordAt isDigit digitsOf valueFrom wellFormed numberFrom numberAt fieldAt before readFields lineEnded readRest readLine digitsIn decimal fieldText fieldsText restText lineText refusedText cellText cellsText madeText readRate logLine isNamed hatchRow hatchRows keptRecords lineFine lentFine drawFine standingFine keptFine entryRefusals ratesBack isShown entryText bytesOf allBelow
+unfolding pick every refusal joined slotBefore slotAgo recordIn closed shapeFine roomSlots oneEach isByte wordAt isDigit digitsOf valueFrom wellFormed numberFrom numberAt fieldAt before readFields lineEnded readRest readLine readRate logLine isNamed hatchRow hatchRows keptRecords lineFine lentFine drawFine standingFine keptFine entryRefusals ratesBack bytesOf allBelow
 log-cases =
     record {
       a-hatch = refl;
@@ -54,9 +51,4 @@ log-cases =
       back-rates = refl;
       back-one = refl;
       back-none = refl;
-      printed = refl;
-      at-clock = refl;
-      silent = refl;
-      refused-line = refl;
-      refused-none = refl;
     }

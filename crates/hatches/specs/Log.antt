@@ -1,4 +1,4 @@
--- Document 02, #107, "The hatch log": what a log's lines change, when a line is refused, and what it does.
+-- Document 02, #107, "The hatch log": what a log's lines change, and when a line is refused.
 -- Assumes nothing.
 use mathlib.Core.Path.{_≡_}
 use mathlib.Core.Bool.{Bool, true, false, not}
@@ -6,7 +6,7 @@ use mathlib.Core.List.{List, [], _∷_, _++_}
 use Prim.Native.Nat.{ℕ, zero, suc, _+_, _-_, _/_, _%_, min}
 use lib.Dec.{eqb, leb, ltb}
 use lib.ListN.{length, getD, set, replicate}
-use Rattle.reckon.specs.Tests.{pick, every, Row, _unless_, refusal}
+use Rattle.reckon.specs.Tests.{pick, every, Row, _unless_}
 use Rattle.reckon.specs.Lists.{joined}
 use Rattle.reckon.specs.Ranges.{lastClock, mostLitres}
 use Rattle.reckon.specs.Tables.{inflowKind, tableRoom}
@@ -15,14 +15,12 @@ use Rattle.trials.specs.Room.{recordIn, storedIn}
 use Rattle.grid.specs.Squares.{squareAt, squares, shapeFine}
 use Rattle.grid.specs.declared.squares.Shape.{Shape}
 use Rattle.rule.specs.declared.rules.Rules.{Rules}
-use Rattle.ledger.specs.Runs.{Plan, World, plan, world}
+use Rattle.ledger.specs.Runs.{Plan, plan}
 use Rattle.ledger.specs.Flows.{shut}
 use Rattle.ledger.specs.Record.{recordSize, roomSlots}
 use Rattle.ledger.specs.Checks.{oneEach}
-use Rattle.ledger.specs.TakeBack.{backNumber, takenBack}
 use Rattle.ledger.specs.declared.runs.Run.{Run}
-use Rattle.checks.specs.Given.{Given, given}
-use Rattle.flood.specs.Run.{Ended, ended, goOn, runTo}
+use Rattle.checks.specs.Given.{Given}
 use Rattle.programs.specs.Program.{programSquares}
 use Rattle.hatches.specs.declared.lines.Entry.{Entry}
 use Rattle.hatches.specs.declared.lines.Entry.the-variants.{Hatch, Rate, Back, Unread}
@@ -50,12 +48,9 @@ hatchRow hs litres h =
 unfoldable pub hatchRows : Hatches → List ℕ → List ℕ
 hatchRows hs litres = joined mostHatches (hatchRow hs litres)
 
--- "A step's inflow table is the sheet's rows plus, for each hatch, one row": the table, and what is given to a step of what the sheet gives
+-- "A step's inflow table is the sheet's rows plus, for each hatch, one row"
 abbrev pub tableWith : List ℕ → Hatches → List ℕ → List ℕ
 tableWith inflow hs litres = inflow ++ hatchRows hs litres
-
-abbrev pub drawn : Given → Hatches → List ℕ → Given
-drawn g hs litres = given (g .lie) (g .rain) (tableWith (g .inflow) hs litres)
 
 -- ---- the records kept, and the rates beside them
 
@@ -88,9 +83,6 @@ pub record Evening : Type 0 where
 
 abbrev pub evening : List ℕ → List ℕ → List ℕ → List ℕ → Log → Evening
 evening d l c b log = record { depths = d; lasts = l; records = c; began = b; log = log }
-
-abbrev pub worldOf : Evening → World
-worldOf e = world (e .depths) (e .lasts) (e .records) (e .log .run)
 
 -- a log of which no line has been read: no hatch is named, and each runs at "0 before its first line"
 abbrev pub opened : Run → Log
@@ -183,73 +175,10 @@ hatchNamed log n row column =
 abbrev pub logWith : Log → Run → ℕ → List ℕ → Log
 logWith log run steps litres = record { run = run; steps = steps; opening = false; hatches = log .hatches; litres = litres }
 
--- "A hatch runs at its last written rate": written where the line's steps were all made
-abbrev pub ratesWith : List ℕ → ℕ → ℕ → ℕ → List ℕ
-ratesWith litres n rate refused = pick (eqb refused 0) (set litres (n - 1) rate) litres
-
 -- "with hatch rates as they stood when the earliest of those steps began (0 changes nothing)": of so many slots of rates, from the newest back
 unfoldable pub ratesBack : ℕ → List ℕ → Log → ℕ → List ℕ
 ratesBack slots began log zero = log .litres
 ratesBack slots began log (suc n) = recordIn mostHatches began (slotAgo slots (log .run .newest) n)
-
--- ---- what a line does
-
--- "takes that many steps back", one after the other: a take-back that is refused gives its number and leaves the state before it, as a
--- step of a run does
-unfoldable pub backFrom : Plan → ℕ → ℕ → World → Ended
-backFrom p zero made w = ended 0 made w
-backFrom p (suc n) made w = goOn (backNumber p w) made w (backFrom p n (suc made) (takenBack p w))
-
-module _ (p : Plan) (g : Given) (e : Evening) where
-  -- a line's steps, at the rates before it
-  abbrev pub lineRun : ℕ → Ended
-  lineRun clock = runTo p (drawn g (e .log .hatches) (e .log .litres)) clock (worldOf e)
-
-  abbrev pub lineBack : ℕ → Ended
-  lineBack count = backFrom p count 0 (worldOf e)
-
-  -- the evening with another world, steps standing, rates and room of rates
-  abbrev pub further : World → ℕ → List ℕ → List ℕ → Evening
-  further w steps litres began = evening (w .depths) (w .lasts) (w .records) began (logWith (e .log) (w .run) steps litres)
-
-  abbrev pub slots : ℕ
-  slots = roomSlots p (e .records)
-
-  unfoldable pub afterHatch : ℕ → ℕ → ℕ → Evening
-  afterHatch n row column = evening (e .depths) (e .lasts) (e .records) (e .began) (hatchNamed (e .log) n row column)
-
-  -- after a line's steps; where one of them is refused, those made stand
-  unfoldable pub afterRate : ℕ → ℕ → ℕ → Evening
-  afterRate clock n litres =
-      further (lineRun clock .world) (e .log .steps + lineRun clock .steps) (ratesWith (e .log .litres) n litres (lineRun clock .number))
-      (ratesKept slots (lineRun clock .steps) (e .log .run .newest) (e .log .litres) (e .began))
-
-  -- "takes that many steps back and the log goes on from there"
-  unfoldable pub afterBack : ℕ → Evening
-  afterBack count =
-      further (lineBack count .world) (e .log .steps - lineBack count .steps) (ratesBack slots (e .began) (e .log) (lineBack count .steps)) (e .began)
-
-  unfoldable pub entered : Entry → Evening
-  entered (Hatch n row column) = afterHatch n row column
-  entered (Rate clock n litres) = afterRate clock n litres
-  entered (Back count) = afterBack count
-  entered Unread = e
-
-  -- the number of a line's own steps, 0 for none
-  unfoldable pub stepsNumber : Entry → ℕ
-  stepsNumber (Rate clock n litres) = lineRun clock .number
-  stepsNumber (Back count) = lineBack count .number
-  stepsNumber (Hatch n row column) = 0
-  stepsNumber Unread = 0
-
-  -- the number that a line is refused with, 0 for none
-  unfoldable pub entryNumber : Entry → ℕ
-  entryNumber entry =
-      pick (eqb (refusal (entryRefusals p g e entry)) 0) (stepsNumber entry) (refusal (entryRefusals p g e entry))
-
-  -- a line that is refused before its steps changes nothing
-  unfoldable pub afterEntry : Entry → Evening
-  afterEntry entry = pick (eqb (refusal (entryRefusals p g e entry)) 0) (entered entry) e
 
 -- ---- what the public functions give
 
@@ -258,8 +187,3 @@ KeptRecords s r = r ≡ keptRecords (plan s [])
 
 abbrev pub Opened : Run → Log → Type 0
 Opened run r = r ≡ opened run
-
--- the number and the evening afterwards, of what a line says
-pub record TakesEntry (p : Plan) (g : Given) (entry : Entry) (e : Evening) (number : ℕ) (after : Evening) : Type 0 where
-  pub number-is : number ≡ entryNumber p g e entry
-  pub evening-is : after ≡ afterEntry p g e entry

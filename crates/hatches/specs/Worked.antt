@@ -1,12 +1,10 @@
--- Document 02, #107, worked by hand: each field of a line, the rows of hatches, each refusal and what is printed, every number another one.
+-- Document 02, #107, worked by hand: each field of a line, the rows of hatches and each refusal, every number another one.
 -- Assumes nothing.
 use mathlib.Core.Path.{_≡_}
-use mathlib.Core.Bool.{Bool, true, false}
 use mathlib.Core.List.{List, [], _∷_}
 use Prim.Native.Nat.{ℕ}
 use lib.ListN.{replicate}
 use Rattle.text.specs.Bytes.{bytesOf}
-use Rattle.grid.specs.declared.squares.Shape.{Shape}
 use Rattle.rule.specs.declared.rules.Rules.{Rules}
 use Rattle.reckon.specs.Tests.{refusal}
 use Rattle.ledger.specs.Runs.{Plan, plan}
@@ -14,17 +12,15 @@ use Rattle.ledger.specs.declared.runs.Run.{Run}
 use Rattle.checks.specs.Given.{Given, given, ground}
 use Rattle.hatches.specs.Lines.{logLine}
 use Rattle.hatches.specs.Log.{Evening, evening, opened, hatchNamed, logWith, hatchRows, keptRecords, entryRefusals, ratesBack}
-use Rattle.hatches.specs.Told.{entryText}
 use Rattle.hatches.specs.declared.lines.Entry.{Entry}
 use Rattle.hatches.specs.declared.lines.Entry.the-variants.{Hatch, Rate, Back, Unread}
-use Rattle.hatches.specs.declared.lines.LogLine.{LogLine}
 use Rattle.hatches.specs.declared.log.Log.{Log}
 
 abbrev rules : Rules
 rules = record { «square_side» = 3; tolerance = 10; shortest = 300; longest = 700; update = 1_000; edge = 5; edition = 2 }
 
 -- 2 rows of 3, the last square of the first row closed; a sheet without inflow rows, and one with 63
-abbrev meadow : Plan
+abbrev pub meadow : Plan
 meadow = plan (record { rows = 2; columns = 3 }) (1 ∷ 1 ∷ 0 ∷ 1 ∷ 1 ∷ 1 ∷ [])
 
 abbrev dry : Given
@@ -43,11 +39,11 @@ at = record { clock = 2_500; length = 700; outflow = 6; kept = 2; newest = 1; so
 abbrev named : Log
 named = hatchNamed (hatchNamed (opened fresh) 7 1 2) 2 0 1
 
-abbrev going : Log
+abbrev pub going : Log
 going = logWith named at 5 (0 ∷ 35 ∷ 0 ∷ 0 ∷ 0 ∷ 0 ∷ 8 ∷ 0 ∷ 0 ∷ [])
 
 -- room for two records of 44 numbers, and for rates beside them
-abbrev stood : Log → Evening
+abbrev pub stood : Log → Evening
 stood log = evening (11 ∷ 12 ∷ 13 ∷ 14 ∷ 15 ∷ 16 ∷ []) [] (replicate 88 0) (replicate 18 0) log
 
 abbrev refused : Given → Log → Entry → ℕ
@@ -97,11 +93,3 @@ pub record LogCases : Type 0 where
   pub back-rates : ratesBack 2 slotRates going 2 ≡ 1 ∷ 1 ∷ 1 ∷ 1 ∷ 1 ∷ 1 ∷ 1 ∷ 1 ∷ 1 ∷ []
   pub back-one : ratesBack 2 slotRates going 1 ≡ 2 ∷ 2 ∷ 2 ∷ 2 ∷ 2 ∷ 2 ∷ 2 ∷ 2 ∷ 2 ∷ []
   pub back-none : ratesBack 2 [] going 0 ≡ going .litres
-  -- what is printed
-  pub printed : entryText meadow 0 (Back 1) 9 (stood going)
-      ≡ bytesOf "cell\t0\t0\t11\ncell\t0\t1\t12\ncell\t1\t0\t14\ncell\t1\t1\t15\ncell\t1\t2\t16\nout\t6\nsoak\t4\nsteps\t5\nclock\t2500\n"
-  pub at-clock : entryText meadow 0 (Rate 3_000 2 1) 9 (stood going)
-      ≡ bytesOf "cell\t0\t0\t11\ncell\t0\t1\t12\ncell\t1\t0\t14\ncell\t1\t1\t15\ncell\t1\t2\t16\nout\t6\nsoak\t4\nsteps\t5\nclock\t2500\n"
-  pub silent : entryText meadow 0 (Hatch 7 1 2) 9 (stood going) ≡ []
-  pub refused-line : entryText meadow 12 (Back 1) 9 (stood going) ≡ bytesOf "refused\t12\t9\n"
-  pub refused-none : entryText meadow 10 (Back 1) 9 (stood going) ≡ bytesOf "refused\t10\t0\n"

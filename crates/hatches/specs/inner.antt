@@ -1,4 +1,3 @@
-pub mod Backs
 pub mod Determined
+pub mod Judged
 pub mod Rates
-pub mod Sizes

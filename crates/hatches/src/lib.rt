@@ -1,16 +1,10 @@
-// The hatch log: one line of a log taken at a time, so that an evening of trials has no bound.
+// Hatches and the lines of their log: what a line says, the hatches' rows and rates, and when a line is refused.
 //
 //   lines      Entry, LogLine; log_line: what a line says
 //   log        Hatches, Log; open_log, kept_records: what the lines of a log change
 //   rates      the hatches' rows of the inflow table, and the ring of rates beside the ring of records
-//   refusals   when a line is refused
-//   taking     Came; take_entry: what a line does
-//   telling    Told; take_line: a line read, taken, and what is printed of it
-//   program    Night; begin_log, go_on: the whole program short of its files
+//   refusals   when a line is refused before its steps
 pub mod lines;
 pub mod log;
-pub mod program;
-mod rates;
-mod refusals;
-pub mod taking;
-pub mod telling;
+pub mod rates;
+pub mod refusals;

@@ -3,9 +3,8 @@ use grid::squares::Shape;
 use ledger::record::record_size;
 use ledger::runs::Run;
 ghost use mathlib.Core.Path.{_≡_};
-ghost use Prim.Native.Nat.{_≤_};
 ghost use Rattle.grid.specs.Squares.{ShapeInRange};
-ghost use Rattle.hatches.specs.Log.{KeptRecords, Opened, hatchNamed, isNamed, logWith, mostHatches, ratesWith};
+ghost use Rattle.hatches.specs.Log.{KeptRecords, Opened, isNamed};
 
 // A number of 1 to 9 stands at the place before it.
 pub const MOST_HATCHES: usize = 9;
@@ -74,53 +73,4 @@ pub(crate) fn is_named(hatches: Hatches, number: u32) -> bool
     let named = hatches.named;
     let place = number as usize - 1;
     named[place]
-}
-
-// A log with a hatch named.
-pub(crate) fn name_hatch(log: Log, number: u32, row: u32, column: u32) -> Log
-    requires { ⌜ (1 ≤ number) × (number ≤ mostHatches) ⌝ }
-    ensures { λ r. ⌜ r ≡ hatchNamed log number row column ⌝ }
-{
-    let place = number as usize - 1;
-    let mut hatches = log.hatches;
-    hatches.named[place] = true;
-    hatches.rows[place] = row;
-    hatches.columns[place] = column;
-    let run = log.run;
-    let litres = log.litres;
-    Log {
-        run: run,
-        steps: log.steps,
-        opening: true,
-        hatches: hatches,
-        litres: litres,
-    }
-}
-
-// A log with another run, steps standing and rates; the opening is over.
-pub(crate) fn further(log: Log, run: Run, steps: u64, litres: [u32; 9]) -> Log
-    ensures { λ r. ⌜ r ≡ logWith log run steps litres ⌝ }
-{
-    let hatches = log.hatches;
-    Log {
-        run: run,
-        steps: steps,
-        opening: false,
-        hatches: hatches,
-        litres: litres,
-    }
-}
-
-// Rates with one written, where the line's steps were all made.
-pub(crate) fn rates_with(litres: [u32; 9], number: u32, rate: u32, refused: u32) -> [u32; 9]
-    requires { ⌜ (1 ≤ number) × (number ≤ mostHatches) ⌝ }
-    ensures { λ r. ⌜ r ≡ ratesWith litres number rate refused ⌝ }
-{
-    if refused != 0 {
-        return litres;
-    }
-    let place = number as usize - 1;
-    let mut next = litres;
-    next[place] = rate;
-    next
 }

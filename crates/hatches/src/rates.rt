@@ -1,5 +1,6 @@
 // The hatches' rows of a step's inflow table, and the ring of rates beside the ring of records.
 use crate::log::Hatches;
+use crate::log::Log;
 use crate::log::MOST_HATCHES;
 use reckon::copying::copy_into;
 use reckon::ranges::LAST_CLOCK;
@@ -13,7 +14,8 @@ ghost use Rattle.reckon.specs.Tables.{inflowKind};
 ghost use Rattle.trials.specs.Ring.{slotAgo, slotsIn};
 ghost use Rattle.trials.specs.Room.{recordIn, storedIn};
 ghost use Rattle.text.specs.Writing.{Wrote};
-ghost use Rattle.hatches.specs.Log.{hatchRow, hatchRows, mostHatches, ratesKept, tableWith};
+ghost use Rattle.hatches.specs.Log.{hatchRow, hatchRows, mostHatches, ratesKept};
+ghost use Rattle.hatches.specs.inner.Rates.{RatesRestored, RatesStored, TableFilled};
 
 // How many hatches are named.
 pub(crate) fn count_named(hatches: Hatches) -> usize
@@ -68,14 +70,14 @@ fn put_rows(hatches: Hatches, litres: [u32; 9], table: &mut [u32], at: usize) ->
 }
 
 // A step's inflow table: the sheet's rows, and a row for each hatch; its length.
-pub(crate) fn fill_table(
+pub fn fill_table(
     inflow: &[u32],
     hatches: Hatches,
     litres: [u32; 9],
     table: &mut [u32; INFLOW_ROOM],
 ) -> usize
     requires { ⌜ length (now inflow) + length (hatchRows hatches litres) ≤ length (now table) ⌝ }
-    ensures { λ r. ⌜ Wrote (tableWith (now (inflow .entry)) hatches litres) 0 (now (table .entry)) (now (table .exit)) r ⌝ }
+    ensures { λ r. ⌜ TableFilled (now (inflow .entry)) hatches litres (now (table .entry)) (now (table .exit)) r ⌝ }
 {
     copy_into(inflow, table, 0);
     put_rows(hatches, litres, table, inflow.len())
@@ -91,13 +93,7 @@ fn keep_one(litres: &[u32; 9], slot: usize, began: &mut [u32])
 }
 
 // The same rates for so many steps, each in the slot of its record.
-pub(crate) fn keep_rates(
-    litres: &[u32; 9],
-    slots: usize,
-    newest: usize,
-    steps: u64,
-    began: &mut [u32],
-)
+fn keep_rates(litres: &[u32; 9], slots: usize, newest: usize, steps: u64, began: &mut [u32])
     requires { ⌜ (length (now litres) ≡ mostHatches) × (newest < slots) × (slots ≤ slotsIn mostHatches (length (now began))) ⌝ }
     ensures { λ _. ⌜ now (began .exit) ≡ ratesKept slots steps newest (now (litres .entry)) (now (began .entry)) ⌝ }
 {
@@ -110,8 +106,19 @@ pub(crate) fn keep_rates(
     }
 }
 
+// The same rates for so many steps that a run made, none where it made none.
+pub fn keep_made(litres: &[u32; 9], slots: usize, newest: usize, steps: u64, began: &mut [u32])
+    requires { ⌜ (length (now litres) ≡ mostHatches) × ((0 < steps) → (newest < slots)) × (slots ≤ slotsIn mostHatches (length (now began))) ⌝ }
+    ensures { λ _. ⌜ RatesStored slots steps newest (now (litres .entry)) (now (began .entry)) (now (began .exit)) ⌝ }
+{
+    if steps == 0 {
+        return;
+    }
+    keep_rates(litres, slots, newest, steps, began);
+}
+
 // The slot so many places before one.
-pub(crate) fn slot_ago(slots: usize, newest: usize, places: u64) -> usize
+fn slot_ago(slots: usize, newest: usize, places: u64) -> usize
     requires { ⌜ newest < slots ⌝ }
     ensures { λ r. ⌜ r ≡ slotAgo slots newest places ⌝ }
 {
@@ -125,7 +132,7 @@ pub(crate) fn slot_ago(slots: usize, newest: usize, places: u64) -> usize
 }
 
 // The rates in a slot.
-pub(crate) fn rates_in(began: &[u32], slot: usize) -> [u32; 9]
+fn rates_in(began: &[u32], slot: usize) -> [u32; 9]
     requires { ⌜ slot < slotsIn mostHatches (length (now began)) ⌝ }
     ensures { λ r. ⌜ r ≡ recordIn mostHatches (now (began .entry)) slot ⌝ }
 {
@@ -134,4 +141,16 @@ pub(crate) fn rates_in(began: &[u32], slot: usize) -> [u32; 9]
     let end = at + MOST_HATCHES;
     copy_into(&began[at..end], &mut litres, 0);
     litres
+}
+
+// The rates after so many take-backs: those of the earliest step taken back.
+pub fn rates_back(log: Log, steps: u64, slots: usize, began: &[u32]) -> [u32; 9]
+    requires { ⌜ ((0 < steps) → (log .run .newest < slots)) × (slots ≤ slotsIn mostHatches (length (now began))) ⌝ }
+    ensures { λ r. ⌜ RatesRestored slots (now (began .entry)) log steps r ⌝ }
+{
+    if steps == 0 {
+        return log.litres;
+    }
+    let run = log.run;
+    rates_in(began, slot_ago(slots, run.newest, steps - 1))
 }

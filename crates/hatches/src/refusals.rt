@@ -20,16 +20,15 @@ use reckon::tables::INFLOW_WIDTH;
 use rule::rules::Rules;
 ghost use mathlib.Core.Path.{_≡_};
 ghost use mathlib.Core.Bool.{true};
-ghost use mathlib.Core.List.{List, []};
+ghost use mathlib.Core.List.{List};
 ghost use Prim.Native.Nat.{ℕ, _+_, _*_, _%_, _≤_};
 ghost use lib.Dec.{eqb, leb};
 ghost use lib.ListN.{length};
-ghost use Rattle.reckon.specs.Tests.{refusal};
 ghost use Rattle.reckon.specs.Tables.{inflowKind, tableRoom};
 ghost use Rattle.grid.specs.Squares.{ShapeInRange, squares};
 ghost use Rattle.ledger.specs.Runs.{plan};
-ghost use Rattle.checks.specs.Given.{given, ground};
-ghost use Rattle.hatches.specs.Log.{drawFine, entryRefusals, evening, hatchRows, keptFine, lentFine, lineFine, mostHatches, standingFine};
+ghost use Rattle.hatches.specs.Log.{drawFine, hatchRows, keptFine, lentFine, lineFine, standingFine};
+ghost use Rattle.hatches.specs.inner.Judged.{EntryJudged};
 ghost use Rattle.rule.specs.declared.rules.Rules as Declared;
 ghost use Rattle.ledger.specs.Runs as Runs;
 ghost use Rattle.hatches.specs.declared.lines.Entry.the-variants as kinds;
@@ -202,7 +201,7 @@ fn kept_fine(entry: Entry, log: Log) -> bool
 }
 
 // The number that a line is refused with before its steps, 0 for none.
-pub(crate) fn entry_number(
+pub fn entry_number(
     entry: Entry,
     log: Log,
     shape: Shape,
@@ -213,7 +212,7 @@ pub(crate) fn entry_number(
     records: &[u32],
     began: &[u32],
 ) -> u32
-    ensures { λ r. ⌜ ((beds roughness rates rain lasts : List ℕ) → r ≡ refusal (entryRefusals (plan shape (now (marks .entry))) (given (ground rules beds roughness rates) rain (now (inflow .entry))) (evening (now (depths .entry)) lasts (now (records .entry)) (now (began .entry)) log) entry)) ⌝ }
+    ensures { λ r. ⌜ EntryJudged (plan shape (now (marks .entry))) rules (now (inflow .entry)) (now (depths .entry)) (now (records .entry)) (now (began .entry)) log entry r ⌝ }
 {
     if !line_fine(entry, log, rules) {
         return 12;

@@ -1,6 +1,6 @@
 -- The lines of a log come to an end: each that is taken has a higher number, and none has one above the log's bytes.
 -- Assumes nothing.
-use mathlib.Core.Path.{_≡_, refl, sym, ap, subst, _∙_}
+use mathlib.Core.Path.{_≡_, refl, ap, _∙_}
 use mathlib.Core.Bool.{Bool, true, false}
 use mathlib.Core.List.{List}
 use Prim.Native.Nat.{ℕ, suc, _+_, _-_, _≤_, _<_}
@@ -8,9 +8,9 @@ use native.Mathlib.Omega.{arith}
 use lib.ListN.{length}
 use Rattle.reckon.specs.Tests.{pick}
 use Rattle.reckon.proofs.TestLaws.{pick-true, pick-false, every-each}
-use Rattle.hatches.specs.Program.{Stores, isLeft, nightFits, nightNext, nightOver, nightAfter}
-use Rattle.hatches.specs.declared.program.Night.{Night}
-use Rattle.hatches.proofs.NightLaws.{left-at, fine-is}
+use Rattle.evenings.specs.Program.{Stores, isLeft, nightFits, nightNext, nightOver, nightAfter}
+use Rattle.evenings.specs.declared.program.Night.{Night}
+use Rattle.evenings.proofs.NightLaws.{left-at, fine-is}
 
 -- how many more lines there can be
 unfoldable pub linesLeft : ℕ → Night → ℕ

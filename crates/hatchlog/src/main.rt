@@ -1,13 +1,13 @@
 // Reads two file names from standard input, a sheet's and a log's, takes the log's lines in turn, and writes the water at each line's clock and
 // after each `back`, up to the first refusal.
+use evenings::program::Night;
+use evenings::program::RATES_ROOM;
+use evenings::program::begin_log;
+use evenings::program::go_on;
 use files::Came;
 use files::read_input;
 use files::read_named;
 use hatches::log::MOST_NUMBERS;
-use hatches::program::Night;
-use hatches::program::RATES_ROOM;
-use hatches::program::begin_log;
-use hatches::program::go_on;
 use programs::limits::OUT_ROOM;
 use programs::limits::PROGRAM_SQUARES;
 use programs::limits::TEXT_ROOM;

@@ -10,9 +10,10 @@ use crate::printing::field;
 use crate::printing::words;
 use checks::bounds::Bounds;
 use checks::bounds::step_bounds;
+use rule::rules::Rules;
 
-// A line: both figures, that they do not hold, or the refusal's number.
-fn tell_bounds(answer: Bounds) {
+// Both figures, that they do not hold, or the refusal's number.
+fn tell_answer(answer: Bounds) {
     match answer {
         Bounds::Bounded(figures) => {
             field(b"bounds most", figures.most);
@@ -28,6 +29,10 @@ fn tell_bounds(answer: Bounds) {
     end_line();
 }
 
+fn tell_bounds(rules: Rules, clock: u64, end: u64) {
+    tell_answer(step_bounds(rules, clock, end));
+}
+
 // Neither length divides U: 4 steps of the shortest and 2 of the longest come to a span.
 fn uneven() -> Meadow {
     let mut m = sheet(ROOM);
@@ -40,7 +45,7 @@ fn uneven() -> Meadow {
 fn told_and_run(m: Meadow, end: u64) {
     let rules = m.rules;
     let run = m.run;
-    tell_bounds(step_bounds(rules, run.clock, end));
+    tell_bounds(rules, run.clock, end);
     show_run(ran(m, end));
 }
 
@@ -74,23 +79,23 @@ fn refused_below_the_least() {
 fn other_clocks() {
     let m = uneven();
     let rules = m.rules;
-    tell_bounds(step_bounds(rules, 604_799_000, 604_800_000));
-    tell_bounds(step_bounds(rules, 2000, 2000));
-    tell_bounds(step_bounds(rules, 2000, 1000));
-    tell_bounds(step_bounds(rules, 1999, 3000));
+    tell_bounds(rules, 604_799_000, 604_800_000);
+    tell_bounds(rules, 2000, 2000);
+    tell_bounds(rules, 2000, 1000);
+    tell_bounds(rules, 1999, 3000);
 }
 
 // Bad rules, end and clock, each by its number in the table's order; all of them are before the case of its own.
 fn refused_bounds() {
     let m = uneven();
     let mut rules = m.rules;
-    tell_bounds(step_bounds(rules, 604_800_001, 604_800_000));
-    tell_bounds(step_bounds(rules, 604_800_001, 604_801_000));
-    tell_bounds(step_bounds(rules, 0, 1500));
+    tell_bounds(rules, 604_800_001, 604_800_000);
+    tell_bounds(rules, 604_800_001, 604_801_000);
+    tell_bounds(rules, 0, 1500);
     rules.update = 0;
-    tell_bounds(step_bounds(rules, 0, 0));
+    tell_bounds(rules, 0, 0);
     rules.square_side = 101;
-    tell_bounds(step_bounds(rules, 604_800_001, 1));
+    tell_bounds(rules, 604_800_001, 1);
 }
 
 pub(crate) fn bounds() {

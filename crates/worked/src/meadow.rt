@@ -38,17 +38,28 @@ pub(crate) struct Meadow {
     pub steps: u64,
 }
 
-// The sheet of document 01 with a closed row below it, and a room for `room` numbers, each 7.
-pub(crate) fn sheet(room: usize) -> Meadow {
-    let rules = Rules {
-        square_side: 1,
-        tolerance: 100,
-        shortest: 1000,
-        longest: 1000,
-        update: 1000,
+// Document 01's rules: edge slope 10,000 and edition 1.
+pub(crate) fn rules_of(
+    side: u64,
+    tolerance: u64,
+    shortest: u64,
+    longest: u64,
+    update: u64,
+) -> Rules {
+    Rules {
+        square_side: side,
+        tolerance: tolerance,
+        shortest: shortest,
+        longest: longest,
+        update: update,
         edge: 10_000,
         edition: 1,
-    };
+    }
+}
+
+// The sheet of document 01 with a closed row below it, and a room for `room` numbers, each 7.
+pub(crate) fn sheet(room: usize) -> Meadow {
+    let rules = rules_of(1, 100, 1000, 1000, 1000);
     Meadow {
         shape: Shape {
             rows: 2,

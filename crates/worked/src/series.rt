@@ -3,6 +3,7 @@ use crate::meadow::Meadow;
 use crate::meadow::ROOM;
 use crate::meadow::freshened;
 use crate::meadow::ran;
+use crate::meadow::rules_of;
 use crate::meadow::sheet;
 use crate::meadow::show;
 use crate::meadow::show_run;
@@ -71,11 +72,7 @@ pub(crate) fn refused_midway() {
 // A closed square, an exit, rain and inflow.
 fn varied() -> Meadow {
     let mut m = sheet(ROOM);
-    m.rules.square_side = 2;
-    m.rules.tolerance = 10;
-    m.rules.shortest = 100;
-    m.rules.longest = 2000;
-    m.rules.update = 2500;
+    m.rules = rules_of(2, 10, 100, 2000, 2500);
     let marks = [1, 1, 0, 2];
     m.marks = marks;
     let beds = [2000, 1500, 0, 0];
@@ -97,11 +94,18 @@ fn two_steps(m: Meadow) -> Meadow {
     show_step(show_step(m))
 }
 
+fn three_steps(m: Meadow) -> Meadow {
+    show_step(two_steps(m))
+}
+
+fn three_back(m: Meadow) -> Meadow {
+    show_back(show_back(show_back(m)))
+}
+
 // K = 3: five steps and three take-backs, then a fresh run with the two steps that stand.
 pub(crate) fn three_records() {
     words(b"three records\n");
-    let five = show_step(two_steps(two_steps(show_fresh(varied()))));
-    let back = show_back(show_back(show_back(five)));
+    let back = three_back(two_steps(three_steps(show_fresh(varied()))));
     let stand = two_steps(show_fresh(varied()));
     tell_same(back, stand);
 }
@@ -109,11 +113,7 @@ pub(crate) fn three_records() {
 // Other rules, beds and tables.
 fn second(m: Meadow) -> Meadow {
     let mut new = m;
-    new.rules.square_side = 5;
-    new.rules.tolerance = 0;
-    new.rules.shortest = 50;
-    new.rules.longest = 400;
-    new.rules.update = 300;
+    new.rules = rules_of(5, 0, 50, 400, 300);
     let beds = [0, 40_000, 0, 60_000];
     new.beds = beds;
     let rain = [0, 9000, 0];
@@ -126,11 +126,7 @@ fn second(m: Meadow) -> Meadow {
 // And others again.
 fn third(m: Meadow) -> Meadow {
     let mut new = m;
-    new.rules.square_side = 1;
-    new.rules.tolerance = 5000;
-    new.rules.shortest = 1;
-    new.rules.longest = 60_000;
-    new.rules.update = 3_600_000;
+    new.rules = rules_of(1, 5000, 1, 60_000, 3_600_000);
     let beds = [1_000_000, 0, 0, 5];
     new.beds = beds;
     let roughness = [1, 10_000, 0, 1];
@@ -142,14 +138,16 @@ fn third(m: Meadow) -> Meadow {
     new
 }
 
+fn changed(start: Meadow) -> Meadow {
+    let two = show_step(second(show_step(start)));
+    show_step(third(two))
+}
+
 // Rules, beds and tables that differ from step to step, and none of them asked for by the take-backs.
 pub(crate) fn changing() {
     words(b"changing\n");
     let start = show_fresh(varied());
-    let one = show_step(start);
-    let two = show_step(second(one));
-    let three = show_step(third(two));
-    tell_same(show_back(show_back(show_back(three))), start);
+    tell_same(three_back(changed(start)), start);
 }
 
 // What soaks is due by the clock: half a micrometre a step comes to one every other step. The due of a dry square is lost, what arrives is
@@ -160,6 +158,5 @@ pub(crate) fn soaking() {
     m.rates[0] = 1800;
     m.rates[1] = 1_000_000;
     let start = show_fresh(m);
-    let three = show_step(two_steps(start));
-    tell_same(show_back(show_back(show_back(three))), start);
+    tell_same(three_back(three_steps(start)), start);
 }

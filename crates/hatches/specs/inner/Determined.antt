@@ -4,11 +4,23 @@ use mathlib.Core.List.{List}
 use Prim.Native.Nat.{ℕ}
 use Rattle.reckon.specs.Outcomes.{One}
 use Rattle.grid.specs.declared.squares.Shape.{Shape}
+use Rattle.rule.specs.declared.rules.Rules.{Rules}
+use Rattle.ledger.specs.Runs.{Plan}
 use Rattle.ledger.specs.declared.runs.Run.{Run}
 use Rattle.hatches.specs.Lines.{LineRead}
 use Rattle.hatches.specs.Log.{KeptRecords, Opened}
+use Rattle.hatches.specs.inner.Rates.{TableFilled, RatesStored, RatesRestored}
+use Rattle.hatches.specs.inner.Judged.{EntryJudged}
+use Rattle.hatches.specs.declared.lines.Entry.{Entry}
+use Rattle.hatches.specs.declared.log.Hatches.{Hatches}
+use Rattle.hatches.specs.declared.log.Log.{Log}
 
 pub record HatchesDetermined : Type 0 where
   pub log-line : (text : List ℕ) (at : ℕ) → One (LineRead text at)
   pub kept-records : (s : Shape) → One (KeptRecords s)
   pub open-log : (run : Run) → One (Opened run)
+  pub fill-table : (inflow : List ℕ) (hs : Hatches) (litres old : List ℕ) → One {Out = ℕ × List ℕ} (λ o. TableFilled inflow hs litres old (o .1) (o .0))
+  pub keep-made : (slots steps newest : ℕ) (litres old : List ℕ) → One (RatesStored slots steps newest litres old)
+  pub rates-back : (slots : ℕ) (began : List ℕ) (log : Log) (steps : ℕ) → One (RatesRestored slots began log steps)
+  pub entry-number : (p : Plan) (r : Rules) (inflow depths records began : List ℕ) (log : Log) (entry : Entry) →
+      One (EntryJudged p r inflow depths records began log entry)

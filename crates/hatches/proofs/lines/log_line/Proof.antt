@@ -1,7 +1,5 @@
 -- `hatches::lines::log_line` meets its contract: the three kinds of line in their order.
 -- Assumes nothing.
-use mathlib.Core.Path.{sym, _∙_}
-use borrow.Author.Tests.{not-true, not-false}
 use Rattle.hatches.proofs.LineLaws.{line-hatch, line-back, line-rate}
 use borrow.Author.Needs.{needs}
 use Rattle.hatches.proofs.lines.log_line.Statement.{statement}

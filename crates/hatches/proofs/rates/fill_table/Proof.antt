@@ -1,9 +1,5 @@
 -- `hatches::rates::fill_table` meets its contract: the sheet's rows, and the hatches' after them.
 -- Assumes nothing.
-use native.Mathlib.Omega.{arith}
-use mathlib.Core.Path.{ap}
-use lib.ListN.{length}
-use Rattle.reckon.proofs.ListLaws.{length-placed}
 use Rattle.hatches.proofs.RowLaws.{table-written}
 use borrow.Author.Needs.{needs}
 use Rattle.hatches.proofs.rates.fill_table.Statement.{statement}

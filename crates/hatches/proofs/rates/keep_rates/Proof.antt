@@ -1,6 +1,5 @@
 -- `hatches::rates::keep_rates` meets its contract: what is still to be kept, from where the loop has come to, is the whole.
 -- Assumes nothing.
-use mathlib.Core.Path.{_≡_}
 use Prim.Native.Nat.{_-_}
 use native.Mathlib.Omega.{arith}
 use Rattle.hatches.proofs.RatesLaws.{Keeping, keeping-first, keeping-next, keeping-last, keeping-within}

@@ -1,6 +1,6 @@
 -- `hatches::rates::put_row` meets its contract: a hatch's row, or none.
 -- Assumes nothing.
-use mathlib.Core.Path.{ap, sym}
+use mathlib.Core.Path.{ap}
 use native.Mathlib.Omega.{arith}
 use lib.ListN.{length}
 use borrow.Author.Tests.{not-true, not-false}

@@ -6,9 +6,7 @@ use mathlib.Core.Bool.{not}
 use native.Mathlib.Omega.{arith}
 use borrow.Author.Tests.{le-ltb, lt-ltb}
 use Rattle.reckon.proofs.TestLaws.{every-fails}
-use Rattle.grid.specs.Squares.{squareAt}
 use Rattle.ledger.specs.Runs.{plan}
-use Rattle.ledger.specs.Flows.{shut}
 use Rattle.checks.proofs.CheckLaws.{every-decided}
 use Rattle.hatches.specs.Log.{drawFine}
 use Rattle.hatches.proofs.RefusalLaws.{square-inside, closed-at, table-judged}
