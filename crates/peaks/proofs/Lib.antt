@@ -1,5 +1,6 @@
+pub mod Determined
 pub mod HighLaws
 pub mod HighestLaws
 pub mod PeakLaws
-pub mod RunPeakLaws
 pub mod RaiseLaws
+pub mod RunPeakLaws

@@ -8,9 +8,9 @@ use native.Mathlib.Omega.{arith}
 use lib.Dec.{eqb}
 use lib.ListN.{length, take, drop}
 use lib.Seq.{length-take-le}
-use borrow.Author.Tests.{eq-eqb, ne-eqb}
+use borrow.Author.Tests.{eq-eqb, ne-eqb, eqb-true}
 use Rattle.reckon.specs.Tests.{Row, pick, every, refusal, _unless_}
-use Rattle.reckon.proofs.TestLaws.{pick-true, pick-false, each-every}
+use Rattle.reckon.proofs.TestLaws.{pick-true, pick-false, each-every, every-each}
 use Rattle.reckon.proofs.ListLaws.{length-filled}
 use Rattle.grid.specs.Squares.{ShapeInRange, squares, shapeFine}
 use Rattle.grid.proofs.SquareLaws.{fine-of-ranges}
@@ -46,17 +46,25 @@ module _ (p : Plan) (g : Given) (end : ℕ) (w : World) (peaks clocks : List ℕ
       go true false c rows = refl
       go false b c rows = refl
 
+  -- where nothing refuses, each room has one number a square
+  pub rooms-long : peakChecks p g end w peaks clocks ≡ 0 → (length peaks ≡ squares (p .shape)) × (length clocks ≡ squares (p .shape))
+  rooms-long z = go roomsFine refl
+    where
+      go : (b : Bool) → roomsFine ≡ b → (length peaks ≡ squares (p .shape)) × (length clocks ≡ squares (p .shape))
+      go true e = let each = every-each _ e in (eqb-true _ _ (each .1 .0), eqb-true _ _ (each .1 .1 .0))
+      go false e = absurd (let one : 0 ≡ 1 = sym z ∙ (checks-are ∙ pick-false _ _ e) in omega arith)
+
   -- nothing is made and nothing written
   module _ {n : ℕ} (e : peakChecks p g end w peaks clocks ≡ n) (d : n ≡ 0 → ⊥) where
-    not-run : ended n 0 w ≡ peakRun p g end w peaks clocks
+    pub not-run : ended n 0 w ≡ peakRun p g end w peaks clocks
     unfolding peakRun
     not-run = sym (ap (λ (k : ℕ). goOn k 0 w (runTo p g end w)) e ∙ stops p g end 0 w _ d)
 
-    peaks-stay : peaks ≡ peaksAfter p g end w peaks clocks
+    pub peaks-stay : peaks ≡ peaksAfter p g end w peaks clocks
     unfolding peaksAfter
     peaks-stay = sym (pick-false _ _ (ne-eqb _ _ (λ z. d (sym e ∙ z))))
 
-    clocks-stay : clocks ≡ clocksAfter p g end w peaks clocks
+    pub clocks-stay : clocks ≡ clocksAfter p g end w peaks clocks
     unfolding clocksAfter
     clocks-stay = sym (pick-false _ _ (ne-eqb _ _ (λ z. d (sym e ∙ z))))
 

@@ -5,7 +5,7 @@ use mathlib.Core.List.{List, _∷_}
 use Prim.Native.Nat.{ℕ}
 use lib.Dec.{eqb}
 use lib.ListN.{length, getD}
-use Rattle.reckon.specs.Tests.{pick, _unless_, refusal}
+use Rattle.reckon.specs.Tests.{Row, pick, _unless_, refusal}
 use Rattle.reckon.specs.Lists.{filled}
 use Rattle.grid.specs.Squares.{squares, shapeFine}
 use Rattle.ledger.specs.Runs.{Plan, World, world}
@@ -39,13 +39,15 @@ module _ (p : Plan) (g : Given) (w : World) where
 -- ---- a run to an end with its peaks: rows 1 to 6 as for any, and two rooms of one number a square among row 1's
 
 module _ (p : Plan) (g : Given) (end : ℕ) (w : World) (peaks clocks : List ℕ) where
-  unfoldable pub peakChecks : ℕ
-  peakChecks =
-      refusal
-      (1 unless shapeFine (p .shape)
+  abbrev pub peakRows : List Row
+  peakRows =
+      1 unless shapeFine (p .shape)
       ∷ 1 unless eqb (length peaks) (squares (p .shape))
       ∷ 1 unless eqb (length clocks) (squares (p .shape))
-      ∷ runChecks p g end w)
+      ∷ runChecks p g end w
+
+  unfoldable pub peakChecks : ℕ
+  peakChecks = refusal peakRows
 
   -- the run itself is `runTo`'s
   unfoldable pub peakRun : Ended
