@@ -1,7 +1,7 @@
 """Document 02, #114: how often each square drowned, as `drowned` prints it in lines of bare numbers, and read back from them."""
 from typing import NamedTuple
 
-from ..sheets.lines import Unreadable
+from ..sheets.lines import REFUSED, Unreadable
 
 
 class Drowned(NamedTuple):
@@ -29,6 +29,11 @@ class Tally:
                 deepest, first = peak.depth, place
             self.squares[square] = Drowned(count + (peak.depth >= depth), deepest, first)
 
+    @property
+    def depths(self):
+        """The deepest water of each square."""
+        return {place: drowned.deepest for place, drowned in self.squares.items()}
+
     def text(self):
         """The lines as they are printed: a square's, then the two counts, then those of the refused."""
         lines = [(*place, *drowned) for place, drowned in sorted(self.squares.items())]
@@ -40,7 +45,9 @@ SQUARE_NUMBERS, PAIR_NUMBERS = 5, 2
 
 
 def tally_of(text):
-    """The tally of what was printed; a text that is no such answer, or a part of one, is none."""
+    """The tally of what was printed; a refusal is none, nor is a text that is no such answer or a part of one."""
+    if text.startswith(REFUSED):
+        raise Unreadable(f"drowned refused this list: {text.strip()}; tools/why.py --drowned says why")
     tally, pairs = Tally(), []
     for line in text.splitlines():
         fields = line.split("\t")
@@ -56,4 +63,6 @@ def tally_of(text):
     (tally.ran, refused), *tally.refused = pairs
     if refused != len(tally.refused) or text != tally.text():
         raise Unreadable("this is not what drowned prints: a line is missing, doubled, out of order or not ended")
+    if any(drowned.count > tally.ran or not 1 <= drowned.first <= tally.ran + refused for drowned in tally.squares.values()):
+        raise Unreadable("this is not what drowned prints: a square has more sheets than were run")
     return tally
