@@ -11,7 +11,7 @@ from ..sheets.reading import MOST_BYTES, read
 from .log_reasons import unopened
 from .reasons import NOT_FOUND, reasons, refusal
 from .slips import number_slip
-from .units import depth, square
+from .units import square
 
 # a depth with its unit, as people write it, and how many µm the unit has
 WITH_UNIT = re.compile(r"(\d+(?:\.\d+)?) ?(mm|cm|m)")
@@ -36,7 +36,7 @@ def list_reasons(wet_depth, names, refused):
     if number == 12:
         return depth_slip(wet_depth)
     if number == 5:
-        return f"the depth, {depth(int(wet_depth))}, is above {depth(MOST_DEPTH)}: depths are in µm, and {MOST_DEPTH} is the most"
+        return f"the depth is {int(wet_depth):,} µm: write 0 to {MOST_DEPTH:,}"
     if number == 16:
         return f"the list has {len(names):,} sheets, and at most {MOST_SHEETS} are taken: make two lists of it"
     return NOT_FOUND
