@@ -13,6 +13,7 @@ import tempfile
 from pathlib import Path
 
 from damaged import A_HATCH, A_SHOWER, after, field, flat_grid, last_gone, unended
+from hatchlog import shortened
 from meadow.counted import Checks
 from meadow.peaks.lists import MOST_SHEETS, listed
 from meadow.peaks.winters import answered, told_of
@@ -374,11 +375,6 @@ def put_sheets():
     for name in ODD_NAMES:
         with open(name, "wb") as file:
             file.write(SHEETS["low"].encode("ascii"))
-
-
-def shortened(text):
-    """A text to be shown, cut where it is long."""
-    return repr(text) if len(text) < 400 else f"{text[:200]!r} .. {text[-200:]!r}, {len(text)} letters"
 
 
 def hold_table(checks):

@@ -11,7 +11,8 @@ from pathlib import Path
 
 import damaged
 from damaged import BASES, answer_of, field, flat_grid, sheet_of
-from drowned import EAST, FAST_SOIL, SHEETS, WEST, drawn, pools, random_plan, random_sheet, shortened
+from drowned import EAST, FAST_SOIL, SHEETS, WEST, drawn, pools, random_plan, random_sheet
+from hatchlog import shortened
 from meadow.counted import Checks
 from meadow.peaks.heights import answered, heights_text, told_of
 from meadow.peaks.runs import Peak

@@ -187,6 +187,7 @@ def hold_heights(checks, room):
     (room / "dry.sheet").write_text("grid\t1\t1\t1\nrun\t10\t500\t10000\t60000\t60000\t0\t1\n" + line_of(SQUARE, DRY) + "\n")
     (room / "walls.sheet").write_text("grid\t1\t1\t1\nrun\t10\t500\t10000\t60000\t60000\t0\t1\n" + line_of(SQUARE, WALL) + "\n")
     (room / "cut.sheet").write_text("grid\t1\t1\n")
+    (room / "heights.out").write_text(heights.answered((SAMPLES / "document-01.sheet").read_bytes()))
     hold_commands(
         checks,
         room,
@@ -195,6 +196,8 @@ def hold_heights(checks, room):
             ("bin/highest walls.sheet", 0, "clock\t60000\n", "every square closed, until 1 min; 6 steps"),
             ("bin/highest cut.sheet", 1, "refused\t12\t1\n", "refused by 12: line 1: it has 2 fields after its word and should have 3"),
             ("bin/highest none", 1, "", "none"),
+            ("python3 tools/sense.py --highest dry.sheet heights.out", 1, "", "it has a depth for square 0 1, which is off the grid"),
+            ("python3 tools/sense.py --highest samples/document-01.sheet dry.sheet", 1, "", "no line of what highest prints"),
             ("bin/highest", 2, "", "usage: bin/highest SHEET"),
         ],
     )
