@@ -14,7 +14,7 @@ from damaged import BASES, answer_of, field, flat_grid, sheet_of
 from drowned import EAST, FAST_SOIL, SHEETS, WEST, drawn, pools, random_plan, random_sheet
 from hatchlog import shortened
 from meadow.counted import Checks
-from meadow.peaks.heights import answered, heights_text, told_of
+from meadow.peaks.heights import answered, heights_text
 from meadow.peaks.runs import Peak
 from meadow.programs import TOP, printed
 from meadow.sheets.lines import DEPTH, SECOND, Answer, refused_text
@@ -58,6 +58,11 @@ def told(peaks, outflow=0, soaked=0, steps=1, clock=None):
     """The answer of (depth, clock) by place and of the totals; steps of one second are as many as its seconds."""
     totals = {"outflow": outflow, "soaked": soaked, "steps": steps, "clock": steps * SECOND if clock is None else clock}
     return heights_text({place: Peak(*peak) for place, peak in peaks.items()}, totals)
+
+
+def told_of(sheet):
+    """What the built program prints of a sheet."""
+    return printed("highest", sheet.encode("latin-1")).decode("ascii")
 
 
 # ---- the table: a name, what is tried, the sheet, and what is printed
@@ -138,7 +143,7 @@ def hold_samples(checks):
     sheets = sorted((TOP / "samples").glob("*.sheet"))
     checks.hold(sheets != [], "samples/ has no sheet")
     for path in sheets:
-        program, answer = printed("highest", path.read_bytes()).decode("ascii"), path.with_suffix(".out").read_text(encoding="ascii")
+        program, answer = told_of(path.read_text(encoding="ascii")), path.with_suffix(".out").read_text(encoding="ascii")
         checks.hold(program == answered(path.read_bytes()), f"{path.name}: by document 02 it is something else")
         checks.hold(totals_in(program) == totals_in(answer), f"{path.name}: the totals are not meadow's")
         heights = [int(line.split("\t")[3]) for line in program.splitlines() if line.startswith(DEPTH)]

@@ -414,6 +414,7 @@ def hold_files(checks, files):
 
 
 # lists of the sheets of tests/drowned.py: a depth, names, and the lines that are said
+ONE_TOO_MANY = "line 1: 25 by 41 are 1,025 squares: at most 1,024 are taken; with twice the side they would be 13 by 21"
 LISTS = [
     ("10cm", ["low"], ["refused by 12, line 1", "the depth: 10cm has a unit: write 100000, which is in µm"]),
     ("2.5 mm", ["low"], ["refused by 12, line 1", "the depth: 2.5 mm has a unit: write 2500, which is in µm"]),
@@ -437,7 +438,7 @@ LISTS = [
             "sheet 5, turned: refused by 14: it has 9 by 4 squares, and low has 4 by 9",
             "sheet 6, third pool: refused by 14: row 0, column 1 is open, and closed in low",
             "sheet 7, with exit: refused by 14: row 3, column 8 is an exit, and open in low",
-            "sheet 8, 1025 squares: refused by 1: line 1: 25 by 41 are 1,025 squares: at most 1,024 are taken; with twice the side they would be 13 by 21",
+            f"sheet 8, 1025 squares: refused by 1: {ONE_TOO_MANY}",
             "sheet 9, overflowing: refused by 8: a square would be more than 100 m deep between 0 min and 1 s: let less in, or give it an exit",
             "1 sheet run, 8 refused; 2.0 cm deep or deeper: most often at row 3, column 8, in 1 of 1 sheet",
         ],

@@ -17,7 +17,7 @@ from meadow.sheets.lines import Answer
 from meadow.sheets.pairs import bytes_as_text, pair_of
 from meadow.sheets.reading import read
 from meadow.words.drownings import tally_sense
-from meadow.words.list_reasons import list_reasons, places_reasons
+from meadow.words.list_reasons import list_reasons, sheets_reasons
 from meadow.words.log_reasons import both_reasons, unopened
 from meadow.words.reasons import reasons, refusal
 from meadow.words.sense import night_sense, sense
@@ -60,7 +60,7 @@ def of_list(wet_depth, names):
     if refused:
         return say(refused, "", [list_reasons(wet_depth, names, refused)])
     tally = tally_of(told)
-    print(*places_reasons(names, tally), tally_sense(tally, int(wet_depth)), sep="\n")
+    print(*sheets_reasons(names, tally), tally_sense(tally, int(wet_depth)), sep="\n")
     return 1 if tally.refused else 0
 
 

@@ -117,8 +117,8 @@ def say_shares(column, tally, side):
 def say_list(column, tally):
     """How many sheets were run, and which were refused."""
     column.say(f"{sheets(tally.ran)} run, {len(tally.refused)} refused", gap=6)
-    for place, number in tally.refused[:MOST_LISTED]:
-        column.say(f"sheet {place} of the list refused by {number}", size=SMALL, gap=-2)
+    for turn, number in tally.refused[:MOST_LISTED]:
+        column.say(f"sheet {turn} of the list refused by {number}", size=SMALL, gap=-2)
     if len(tally.refused) > MOST_LISTED:
         column.say(f"and {len(tally.refused) - MOST_LISTED} more", size=SMALL, gap=-2)
 

@@ -1,5 +1,4 @@
 """What the program `highest` prints of a sheet: how deep each square ever was, and when first; then the totals as `meadow` prints them."""
-from ..programs import printed
 from ..rule.refusals import Refused, check
 from ..sheets.lines import ANSWER_LINES, DEPTH, TOTALS, Field, Unreadable, line_of, refused_text, values_of
 from ..sheets.pairs import hold_squares
@@ -55,8 +54,3 @@ def heights_of(text, told):
     if heights.totals["clock"] != end:
         raise Unreadable(f"the answer is another sheet's: its clock is {heights.totals['clock']}, the sheet's end {end}")
     return heights
-
-
-def told_of(text):
-    """What the built program prints of a sheet's text."""
-    return printed("highest", text.encode("latin-1")).decode("ascii")

@@ -12,7 +12,7 @@ def listed(depth, *names):
 
 
 def list_in(given):
-    """The depth of a list and the name of each place, None where a last one has no newline; or a refusal."""
+    """The depth of a list and its names in their turn, None for a last one without its newline; or a refusal."""
     if len(given) > MOST_BYTES:
         raise Refused(12, 0)
     first, newline, rest = given.partition(b"\n")

@@ -5,8 +5,8 @@ from ..sheets.lines import REFUSED, Unreadable
 
 
 class Drowned(NamedTuple):
-    """Of one square: how many sheets had it as deep as was asked, its deepest water in µm, and the place in the list of the sheet that first
-    gave it."""
+    """Of one square: how many sheets had it as deep as was asked, its deepest water in µm, and the turn of the sheet that first gave it, which is
+    its place in the list from 1."""
 
     count: int
     deepest: int
@@ -14,20 +14,20 @@ class Drowned(NamedTuple):
 
 
 class Tally:
-    """What the sheets of a list came to: each square not closed, by its place; how many sheets were run; and of each refused one its place
-    in the list and its number."""
+    """What the sheets of a list came to: each square not closed, by its place; how many sheets were run; and of each refused one its turn and
+    its number."""
 
     def __init__(self):
         self.squares, self.ran, self.refused = {}, 0, []
 
-    def add(self, depth, place, peaks):
-        """A sheet that ran to its end, at its place in the list, with its peaks; of equal depths the earlier sheet's stands."""
+    def add(self, depth, turn, peaks):
+        """A sheet that ran to its end, with its peaks; of equal depths the earlier sheet's stands."""
         self.ran += 1
-        for square, peak in peaks.items():
-            count, deepest, first = self.squares.get(square, Drowned(0, -1, 0))
+        for place, peak in peaks.items():
+            count, deepest, first = self.squares.get(place, Drowned(0, -1, 0))
             if peak.depth > deepest:
-                deepest, first = peak.depth, place
-            self.squares[square] = Drowned(count + (peak.depth >= depth), deepest, first)
+                deepest, first = peak.depth, turn
+            self.squares[place] = Drowned(count + (peak.depth >= depth), deepest, first)
 
     @property
     def depths(self):

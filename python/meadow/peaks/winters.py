@@ -20,8 +20,8 @@ class Winter:
     def __init__(self, depth):
         self.depth, self.plan, self.tally = depth, None, Tally()
 
-    def take(self, place, text):
-        """The sheet at a place of the list: its bytes, None where it cannot be opened. A refused one adds its place and number alone."""
+    def take(self, turn, text):
+        """A sheet in its turn: its bytes, None where it cannot be opened. A refused one adds its turn and its number alone."""
         try:
             if text is None:
                 raise Refused(12)
@@ -29,10 +29,10 @@ class Winter:
             refuse_if(self.plan not in (None, plan_of(meadow)), 14)
             peaks, _ = peaks_over(meadow, end)
         except Refused as refused:
-            self.tally.refused.append((place, refused.number))
+            self.tally.refused.append((turn, refused.number))
             return
         self.plan = plan_of(meadow)
-        self.tally.add(self.depth, place, peaks)
+        self.tally.add(self.depth, turn, peaks)
 
 
 def answered(given, opens=opened):
@@ -42,8 +42,8 @@ def answered(given, opens=opened):
     except Refused as refused:
         return refused_text(refused.number, refused.line)
     winter = Winter(depth)
-    for place, name in enumerate(names, 1):
-        winter.take(place, None if name is None else opens(name))
+    for turn, name in enumerate(names, 1):
+        winter.take(turn, None if name is None else opens(name))
     return winter.tally.text()
 
 

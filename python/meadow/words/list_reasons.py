@@ -1,5 +1,5 @@
-"""Why `drowned` refused a list, or a sheet of one, in words. Numbers and places are the program's own; what a sheet is refused for is looked up
-as for `meadow`, and of one of another plan it is said what differs. Where nothing is found that fits, that is said."""
+"""Why `drowned` refused a list, or a sheet of one, in words. Numbers and turns are the program's own; what a sheet is refused for is looked up as
+for `meadow`, and of one of another plan it is said what differs. Where nothing is found that fits, that is said."""
 import re
 
 from ..peaks.lists import MOST_SHEETS
@@ -54,7 +54,7 @@ def plan_reason(sheet, first, first_name):
     return f"{square(other[0])} is {here}, and {there} in {first_name}{more}"
 
 
-def place_reason(name, number, first_name):
+def sheet_reason(name, number, first_name):
     """Why a sheet of the list was refused."""
     why = unopened(name)
     if why:
@@ -66,12 +66,13 @@ def place_reason(name, number, first_name):
     return reasons(text, *refused)[0] if refused and refused[0] == number else NOT_FOUND
 
 
-def places_reasons(names, tally):
+def sheets_reasons(names, tally):
     """Each refused sheet of a list with its reason."""
     if any("\n" in name for name in names):
         yield "a name has a newline in it, and is taken for two: give the file another name"
         return
     refused = dict(tally.refused)
-    first_name = next((name for place, name in enumerate(names, 1) if place not in refused), None)
-    for place, number in tally.refused:
-        yield f"sheet {place}, {names[place - 1]}: refused by {number}: {place_reason(names[place - 1], number, first_name)}"
+    first_name = next((name for turn, name in enumerate(names, 1) if turn not in refused), None)
+    for turn, number in tally.refused:
+        name = names[turn - 1]
+        yield f"sheet {turn}, {name}: refused by {number}: {sheet_reason(name, number, first_name)}"
