@@ -42,7 +42,7 @@ use Rattle.reckon.proofs.TestLaws.{pick-true, pick-false, pick-same}
 use borrow.Author.Tests.{eq-eqb, ne-eqb}
 use native.Mathlib.Omega.{arith}
 use Rattle.flood.specs.Run.{stepsOn}
-use Rattle.peaks.specs.Most.{mostOver}
+use Rattle.reckon.specs.Most.{mostOver}
 use Rattle.peaks.specs.Peaks.{peakOf, peaksOver}
 use Rattle.programs.specs.Reading.{sheetWithin}
 use Rattle.lists.specs.Sheets.{File, sameMarks, samePlan, sheetNumber, fileNumber, filePlan, sheetPeaks, filePeaks}
