@@ -63,7 +63,7 @@ cell-short p depths i h g =
           (three-below (10 ^ 10) _ _ _ (omega (arith, div-le-self i (p .shape .columns))) (omega (arith, mod-le i (p .shape .columns))) (omega arith)),
     ))
 
-joined-short : (n k : ℕ) (f : ℕ → List ℕ) → ((i : ℕ) → i < n → length (f i) ≤ k) → length (joined n f) ≤ k * n
+pub joined-short : (n k : ℕ) (f : ℕ → List ℕ) → ((i : ℕ) → i < n → length (f i) ≤ k) → length (joined n f) ≤ k * n
 unfolding joined
 joined-short zero k f h = omega arith
 joined-short (suc n) k f h =
@@ -75,7 +75,7 @@ joined-short (suc n) k f h =
       mul-suc k n,
     )
 
--- ---- squares one after the other
+-- ---- lines one after the other
 
 joined-within : (f : ℕ → List ℕ) (n i : ℕ) → i ≤ n → length (joined i f) ≤ length (joined n f)
 unfolding joined
@@ -84,43 +84,36 @@ joined-within f (suc n) i h =
     by-lt i (suc n) (λ l. omega (arith, length-append (joined n f) (f n), joined-within f n i (omega arith)))
     (λ l. subst (λ (k : ℕ). length (joined k f) ≤ length (joined (suc n) f)) (let e : suc n ≡ i = omega arith in e) (le-refl _))
 
-module _ (p : Plan) (depths : List ℕ) (at : ℕ) (old : List ℕ) (fits : at + length (cellsText p depths) ≤ length old) where
-  so-far-fits : (i : ℕ) → i ≤ squares (p .shape) → at + length (joined i (cellText p depths)) ≤ length old
-  unfolding cellsText
-  so-far-fits i l = omega (arith, fits, joined-within (cellText p depths) (squares (p .shape)) i l)
+module _ (f : ℕ → List ℕ) (n at : ℕ) (old : List ℕ) (fits : at + length (joined n f) ≤ length old) where
+  so-far-fits : (i : ℕ) → i ≤ n → at + length (joined i f) ≤ length old
+  so-far-fits i l = omega (arith, fits, joined-within f n i l)
 
-  next-fits :
-      (i : ℕ) → i < squares (p .shape) → at + length (joined i (cellText p depths)) + length (cellText p depths i) ≤ length old
-  next-fits i l =
-      omega (
-        arith,
-        so-far-fits (i + 1) (omega arith),
-        ap length (joined-more i (cellText p depths)),
-        length-append (joined i (cellText p depths)) (cellText p depths i),
-      )
+  next-fits : (i : ℕ) → i < n → at + length (joined i f) + length (f i) ≤ length old
+  next-fits i l = omega (arith, so-far-fits (i + 1) (omega arith), ap length (joined-more i f), length-append (joined i f) (f i))
 
-  module _ (i : ℕ) {room : List ℕ} {next : ℕ} (w : Wrote (joined i (cellText p depths)) at old room next) where
-    pub squares-length : i ≤ squares (p .shape) → length room ≡ length old
-    squares-length l = wrote-length (so-far-fits i l) w
+  module _ (i : ℕ) {room : List ℕ} {next : ℕ} (w : Wrote (joined i f) at old room next) where
+    pub lines-length : i ≤ n → length room ≡ length old
+    lines-length l = wrote-length (so-far-fits i l) w
 
-    pub square-fits : i < squares (p .shape) → next + length (cellText p depths i) ≤ length room
-    square-fits l = omega (arith, w .next, next-fits i l, squares-length (omega arith))
+    pub line-fits : i < n → next + length (f i) ≤ length room
+    line-fits l = omega (arith, w .next, next-fits i l, lines-length (omega arith))
 
-    pub square-written :
-        {new : List ℕ} {r : ℕ} → i < squares (p .shape) → Wrote (cellText p depths i) next room new r →
-        Wrote (joined (i + 1) (cellText p depths)) at old new r
-    square-written {new} {r} l v =
-        subst (λ (t : List ℕ). Wrote t at old new r) (sym (joined-more i (cellText p depths)))
-        (wrote-both (next-fits i l) w v)
+    pub line-written : {new : List ℕ} {r : ℕ} → i < n → Wrote (f i) next room new r → Wrote (joined (i + 1) f) at old new r
+    line-written {new} {r} l v = subst (λ (t : List ℕ). Wrote t at old new r) (sym (joined-more i f)) (wrote-both (next-fits i l) w v)
+
+pub none-written : (f : ℕ → List ℕ) (at : ℕ) (room : List ℕ) → Wrote (joined 0 f) at room room at
+none-written f at room =
+    record {
+      next = omega (arith, ap length (joined-none f));
+      room = sym (ap (placed room at) (joined-none f) ∙ placed-none room at);
+    }
+
+-- all of them
+pub lines-whole :
+    (f : ℕ → List ℕ) {i n at next : ℕ} {old room : List ℕ} → i ≡ n → Wrote (joined i f) at old room next → Wrote (joined n f) at old room next
+lines-whole f {at = at} {next} {old} {room} e w = subst (λ (k : ℕ). Wrote (joined k f) at old room next) e w
 
 module _ (p : Plan) (depths : List ℕ) where
-  pub none-written : (at : ℕ) (room : List ℕ) → Wrote (joined 0 (cellText p depths)) at room room at
-  none-written at room =
-      record {
-        next = omega (arith, ap length (joined-none (cellText p depths)));
-        room = sym (ap (placed room at) (joined-none (cellText p depths)) ∙ placed-none room at);
-      }
-
   pub closed-written : (i : ℕ) {at : ℕ} {room : List ℕ} → shut p i ≡ true → Wrote (cellText p depths i) at room room at
   unfolding cellText
   closed-written i {at} {room} e =

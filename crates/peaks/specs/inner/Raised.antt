@@ -1,11 +1,11 @@
 -- Peaks raised by one state more, and the steps of a run with its peaks once the checks have passed.
 -- Assumes nothing.
 use mathlib.Core.Path.{_≡_}
-use mathlib.Core.Bool.{Bool, true}
+use mathlib.Core.Bool.{Bool, true, false}
 use mathlib.Core.List.{List}
 use Prim.Native.Nat.{ℕ, _-_}
 use lib.Dec.{ltb}
-use lib.ListN.{length, getD}
+use lib.ListN.{length, getD, set}
 use Rattle.reckon.specs.Tests.{pick}
 use Rattle.reckon.specs.Lists.{filled}
 use Rattle.grid.specs.Marks.{closed}
@@ -15,19 +15,22 @@ use Rattle.flood.specs.Run.{ended, runFrom}
 use Rattle.flood.specs.declared.run.Ran.{Ran}
 use Rattle.peaks.specs.Peaks.{peaksOver, clocksOver}
 
--- at the first state every square takes its depth, later only a deeper one
-abbrev pub rises : Bool → ℕ → ℕ → Bool
-rises first peak depth = pick first true (ltb peak depth)
+-- a square that is not closed rises to its depth: at the first state every one does, later only to a deeper one
+unfoldable pub risesAt : Bool → List ℕ → List ℕ → List ℕ → ℕ → Bool
+risesAt first marks depths peaks i = pick (closed marks i) false (pick first true (ltb (getD peaks i 0) (getD depths i 0)))
 
 module _ (first : Bool) (clock : ℕ) (marks depths peaks clocks : List ℕ) where
-  abbrev pub risesAt : ℕ → Bool
-  risesAt i = rises first (getD peaks i 0) (getD depths i 0)
+  -- one square
+  pub record RaisesOne (i : ℕ) (peaks′ clocks′ : List ℕ) : Type 0 where
+    pub peaks-are : peaks′ ≡ pick (risesAt first marks depths peaks i) (set peaks i (getD depths i 0)) peaks
+    pub clocks-are : clocks′ ≡ pick (risesAt first marks depths peaks i) (set clocks i clock) clocks
 
+  -- all of them
   unfoldable pub peaksRaised : List ℕ
-  peaksRaised = filled (length marks) (closed marks) (λ i. pick (risesAt i) (getD depths i 0) (getD peaks i 0)) peaks
+  peaksRaised = filled (length marks) (closed marks) (λ i. pick (risesAt first marks depths peaks i) (getD depths i 0) (getD peaks i 0)) peaks
 
   unfoldable pub clocksRaised : List ℕ
-  clocksRaised = filled (length marks) (closed marks) (λ i. pick (risesAt i) clock (getD clocks i 0)) clocks
+  clocksRaised = filled (length marks) (closed marks) (λ i. pick (risesAt first marks depths peaks i) clock (getD clocks i 0)) clocks
 
   pub record Raises (peaks′ clocks′ : List ℕ) : Type 0 where
     pub peaks-are : peaks′ ≡ peaksRaised

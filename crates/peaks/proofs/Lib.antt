@@ -1,0 +1,5 @@
+pub mod HighLaws
+pub mod HighestLaws
+pub mod PeakLaws
+pub mod RunPeakLaws
+pub mod RaiseLaws
