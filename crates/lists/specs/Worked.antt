@@ -12,8 +12,9 @@ use Rattle.lists.specs.Names.{listNumber, listed}
 use Rattle.lists.specs.Sheets.{File, samePlan, fileNumber}
 use Rattle.lists.specs.Sheets.File.{notOpened, holds}
 use Rattle.lists.specs.Drowned.{Accepted, accepted, noPlan, drowned, deepestOf, firstGave, drownedText}
-use Rattle.lists.specs.Tally.{squaresText, sheetsText}
+use Rattle.lists.specs.Tally.{Rooms, rooms, tallyAfter, roomsAfter, squaresText, sheetsText, tallyText}
 use Rattle.lists.specs.declared.names.Listed.{Listed}
+use Rattle.lists.specs.declared.tally.Tally.{Tally}
 
 abbrev list : ℕ → ℕ → ℕ → ℕ → Listed
 list number line wet names = record { number = number; line = line; wet = wet; names = names }
@@ -28,6 +29,13 @@ grid rows columns = plan (record { rows = rows; columns = columns }) (0 ∷ 1 �
 -- the sheets at places 2, 4 and 7 were accepted; the deepest values of their squares
 abbrev sheets : List Accepted
 sheets = accepted 2 (40 ∷ 90 ∷ 0 ∷ []) ∷ accepted 4 (70 ∷ 80 ∷ 0 ∷ []) ∷ accepted 7 (70 ∷ 90 ∷ 0 ∷ []) ∷ []
+
+-- a tally after so many names, none accepted, with the number of the newest; and rooms with a number of its own in each
+abbrev tallied : ℕ → ℕ → Tally
+tallied taken number = record { wet = 70; taken = taken; begun = false; shape = record { rows = 0; columns = 0 }; number = number }
+
+abbrev kept : List ℕ → Rooms
+kept numbers = rooms (1 ∷ []) (2 ∷ []) (3 ∷ []) (4 ∷ []) numbers
 
 -- sheets of one square: an exit, an open one that is deeper, and an exit again; and a list of them after a name that can't be opened
 abbrev pub shallow : List ℕ
@@ -91,5 +99,13 @@ pub record ListCases : Type 0 where
   -- with none accepted no square
   pub none-accepted : drownedText 5 (notOpened ∷ notOpened ∷ []) ≡ bytesOf "0\t2\n1\t12\n2\t12\n"
   pub empty-list : drownedText 5 [] ≡ bytesOf "0\t0\n"
+  -- a refused name is noted at its place; where 200 have been taken the next is 16, and nothing is noted
+  pub noted-tally : tallyAfter (tallied 1 8) notOpened (kept (5 ∷ 6 ∷ 7 ∷ [])) ≡ tallied 2 12
+  pub noted-rooms : roomsAfter (tallied 1 8) notOpened (kept (5 ∷ 6 ∷ 7 ∷ [])) ≡ kept (5 ∷ 12 ∷ 7 ∷ [])
+  pub last-name : tallyAfter (tallied 199 8) notOpened (kept []) ≡ tallied 200 12
+  pub full-tally : tallyAfter (tallied 200 8) notOpened (kept []) ≡ tallied 200 16
+  pub full-rooms : roomsAfter (tallied 200 8) notOpened (kept (5 ∷ [])) ≡ kept (5 ∷ [])
+  -- a tally that no list gives
+  pub no-tally : tallyText (tallied 201 8) (kept []) ≡ bytesOf "refused\t1\t0\n"
   -- two of four are run, both at least 10,000 deep in their starting state, the later one deepest; "shape or marks differ" is 14
   pub whole-list : drownedText 10_000 wholeList ≡ bytesOf wholeText
