@@ -44,13 +44,17 @@ numbered s =
     by-number zero (suc check) h = omega arith
     by-number zero zero h = omega arith
 
+pub refused-some : (s : List ℕ) {number line : ℕ} → Refused number line ≡ sheetWithin mostText s programRooms → 1 ≤ number
+unfolding numberIn
+refused-some s e = omega (arith, numbered s, ap numberIn e)
+
 -- what the plan of an accepted sheet has
 pub record PlanFine (p : Plan) : Type 0 where
   pub shape : ShapeInRange (p .shape)
   pub few : squares (p .shape) ≤ programSquares
   pub marks-long : length (p .marks) ≡ squares (p .shape)
 
-never-read : {A : Type 0} {h : Heading} {n l : ℕ} → Read h ≡ Refused n l → A
+pub never-read : {A : Type 0} {h : Heading} {n l : ℕ} → Read h ≡ Refused n l → A
 never-read e = absurd (let z : _≡_ {A = ℕ} 0 1 = cc in omega arith)
 
 read-fine : (s : List ℕ) (h : Heading) → Read h ≡ sheetWithin mostText s programRooms → PlanFine (filePlan (holds s))
@@ -72,13 +76,13 @@ read-fine s h e =
         }
 
 pub accepted-fine : (begun : Bool) (q : Plan) (f : File) → fileNumber begun q f ≡ 0 → PlanFine (filePlan f)
-unfolding fileNumber sheetNumber numberIn
+unfolding fileNumber sheetNumber
 accepted-fine begun q notOpened e = absurd (omega (arith, e))
 accepted-fine begun q (holds s) e = go (sheetWithin mostText s programRooms) refl e
   where
     go : (a : Sheet) → a ≡ sheetWithin mostText s programRooms → sheetNumber begun q s a ≡ 0 → PlanFine (filePlan (holds s))
     go (Read h) same z = read-fine s h same
-    go (Refused number line) same z = absurd (omega (arith, z, numbered s, ap numberIn same))
+    go (Refused number line) same z = absurd (omega (arith, z, refused-some s same))
 
 -- ---- plans that agree in their squares
 

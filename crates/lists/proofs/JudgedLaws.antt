@@ -3,7 +3,7 @@
 use mathlib.Core.Path.{_≡_, refl, sym, ap, subst, _∙_}
 use mathlib.Core.Bool.{Bool, true, false}
 use mathlib.Core.List.{List}
-use Prim.Native.Nat.{ℕ, zero, suc, _≤_}
+use Prim.Native.Nat.{ℕ, _≤_}
 use native.Mathlib.Omega.{arith}
 use lib.Dec.{leb}
 use lib.ListN.{length, replicate, take}
@@ -14,7 +14,7 @@ use Rattle.grid.specs.declared.squares.Shape.{Shape}
 use Rattle.ledger.specs.Runs.{Plan}
 use Rattle.flood.specs.declared.run.Ran.{Ran}
 use Rattle.text.proofs.ReadingLaws.{by-test}
-use Rattle.sheet.specs.Sheet.{Rooms, rooms, planIn, givenIn, startIn, said, shapeOf, lineOne, roomsFine, badLine, checksOf, headingOf, judged, sheetOf}
+use Rattle.sheet.specs.Sheet.{Rooms, rooms, planIn, givenIn, startIn, said, shapeOf, headingOf}
 use Rattle.sheet.specs.declared.reading.Heading.{Heading}
 use Rattle.sheet.specs.declared.reading.Sheet.{Sheet}
 use Rattle.sheet.specs.declared.reading.Sheet.the-variants.{Read, Refused}
@@ -30,34 +30,10 @@ use Rattle.lists.specs.Sheets.{File, fileOf, samePlan, sheetNumber, file
 use Rattle.lists.specs.Sheets.File.{holds}
 use Rattle.lists.specs.inner.Judged.{Judges, RunsJudged, refusedWith}
 use Rattle.lists.specs.declared.judging.Judged.{Judged}
+use Rattle.lists.proofs.FileLaws.{never-read, refused-some}
 use Rattle.lists.proofs.PlanLaws.{same-shape}
 
 -- ---- what an answer of the reader says
-
-never-read : {A : Type 0} {h : Heading} {n l : ℕ} → Read h ≡ Refused n l → A
-never-read e = absurd (let z : _≡_ {A = ℕ} 0 1 = cc in omega arith)
-
--- no sheet is refused with 0
-refused-not-0 : {number line n l : ℕ} → Refused number line ≡ Refused (suc n) l → number ≡ 0 → ⊥
-refused-not-0 {number} {n = n} e z = let q : number ≡ suc n = cc in omega (arith, q, z)
-
-never-0 : (most : ℕ) (s : List ℕ) (lent : Rooms) {number line : ℕ} → Refused number line ≡ sheetWithin most s lent → number ≡ 0 → ⊥
-unfolding sheetWithin sheetOf judged
-never-0 most s lent {number} {line} e z =
-    by-test (leb (length s) most)
-    (λ a.
-    by-test (lineOne s .found)
-    (λ b.
-    by-test (roomsFine (shapeOf s) (lineOne s .side) lent)
-    (λ c. go (badLine s) (checksOf s) (e ∙ (pick-true _ _ a ∙ (pick-true _ _ b ∙ pick-true _ _ c))))
-    (λ c. refused-not-0 (e ∙ (pick-true _ _ a ∙ (pick-true _ _ b ∙ pick-false _ _ c))) z))
-    (λ b. refused-not-0 (e ∙ (pick-true _ _ a ∙ pick-false _ _ b)) z))
-    (λ a. refused-not-0 (e ∙ pick-false _ _ a) z)
-  where
-    go : (bad check : ℕ) → Refused number line ≡ judged bad check (headingOf s) → ⊥
-    go (suc bad) check q = refused-not-0 q z
-    go zero (suc check) q = refused-not-0 q z
-    go zero zero q = never-read (sym q)
 
 -- a sheet that was read has the shape that its first line says
 read-shape : (most : ℕ) (s : List ℕ) (lent : Rooms) {h : Heading} → Read h ≡ sheetWithin most s lent → h .shape ≡ shapeOf s
@@ -117,7 +93,7 @@ module _ {begun : Bool} {q : Plan} (s : List ℕ) {after : Rooms} {peaks : List 
       {marks : List ℕ} {number line : ℕ} → ReadsWithin mostText s programRooms (Refused number line) after → a ≡ refusedWith number →
       Judges begun q (holds s) a marks peaks
   unfolding sheetNumber fileNumber
-  judged-refused f g =
+  judged-refused {number = number} f g =
       record {
         number-is = ap (λ (j : Judged). j .number) g ∙ ap (sheetNumber begun q s) (f .answer);
         shape-is = λ z. never z;
@@ -129,7 +105,7 @@ module _ {begun : Bool} {q : Plan} (s : List ℕ) {after : Rooms} {peaks : List 
       }
     where
       never : {A : Type 0} → a .number ≡ 0 → A
-      never z = absurd (never-0 mostText s programRooms (f .answer) (sym (ap (λ (j : Judged). j .number) g) ∙ z))
+      never z = absurd (let e : a .number ≡ number = ap (λ (j : Judged). j .number) g in omega (arith, refused-some s (f .answer), e, z))
 
   pub judged-read :
       {h : Heading} → ReadsWithin mostText s programRooms (Read h) after → RunsJudged begun q h (partsOf h after) a peaks →
