@@ -89,16 +89,7 @@ pub fn after_take_sheet(
 ) -> Tally
     ensures { λ r. ⌜ (AfterSheet tally (fileOf opened (now (text .entry))) (rooms (now (marks .entry)) (now (counts .entry)) (now (deepest .entry)) (now (places .entry)) (now (numbers .entry))) r (rooms (now (marks .exit)) (now (counts .exit)) (now (deepest .exit)) (now (places .exit)) (now (numbers .exit)))) ⌝ }
 {
-    take_sheet(
-        tally,
-        opened,
-        text,
-        marks,
-        counts,
-        deepest,
-        places,
-        numbers,
-    )
+    take_sheet(tally, opened, text, marks, counts, deepest, places, numbers)
 }
 
 pub fn after_put_drowned(

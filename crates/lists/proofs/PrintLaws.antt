@@ -3,8 +3,8 @@
 use mathlib.Core.Path.{_≡_, refl, sym, ap, subst, _∙_}
 use mathlib.Core.Bool.{Bool, true, false, _&&_}
 use mathlib.Core.List.{List, [], _∷_, _++_}
-use Prim.Native.Nat.{ℕ, zero, suc, _+_, _-_, _*_, _/_, _%_, _^_, _≤_, _<_}
-use native.Mathlib.Nat.{le-refl, div-le-self, mod-le, mul-suc}
+use Prim.Native.Nat.{ℕ, suc, _+_, _-_, _*_, _/_, _%_, _^_, _≤_, _<_}
+use native.Mathlib.Nat.{div-le-self, mod-le}
 use native.Mathlib.Numerals.{add-one}
 use native.Mathlib.Omega.{arith}
 use lib.Dec.{eqb}
@@ -12,18 +12,17 @@ use lib.ListN.{length, getD, take, drop, length-append, drop-of-length-le}
 use lib.Seq.{drop-cons, length-take-le, getD-take}
 use borrow.Author.Tests.{leb-true, eq-eqb, ne-eqb}
 use Rattle.reckon.specs.Tests.{pick, every}
-use Rattle.reckon.specs.Lists.{joined}
 use Rattle.reckon.proofs.TestLaws.{pick-true, pick-false, pick-both, and-true, every-each}
-use Rattle.reckon.proofs.ListLaws.{joined-none, joined-more}
 use Rattle.grid.specs.Squares.{ShapeInRange, squares}
 use Rattle.grid.proofs.SquareLaws.{ranges-of-fine}
 use Rattle.ledger.specs.Runs.{Plan, plan}
 use Rattle.ledger.specs.Flows.{shut}
 use Rattle.text.specs.Reading.{newline}
 use Rattle.text.specs.Writing.{decimal, fieldText, fieldsText, lineText, Wrote}
-use Rattle.text.proofs.ReadingLaws.{by-lt, by-test}
+use Rattle.text.proofs.ReadingLaws.{by-test}
 use Rattle.text.proofs.WritingLaws.{decimal-short, line-text-long, placed-none, wrote-both, wrote-length, wrote-line, Left, left-fits, left-step, left-none}
 use Rattle.answer.specs.Printed.{refusedText}
+use Rattle.answer.proofs.PrintLaws.{joined-short, written-as}
 use Rattle.programs.specs.Program.{Prints, programSquares, mostPrinted}
 use Rattle.programs.proofs.EndedLaws.{prints, refused-printed}
 use Rattle.lists.specs.Names.{mostSheets}
@@ -53,46 +52,9 @@ no-fields : length (fieldsText []) ≡ 0
 unfolding fieldsText
 no-fields = refl
 
--- a text under another name
-pub written-as : {t u : List ℕ} {at r : ℕ} {old new : List ℕ} → t ≡ u → Wrote u at old new r → Wrote t at old new r
-written-as {at = at} {r} {old} {new} e w = subst (λ (k : List ℕ). Wrote k at old new r) (sym e) w
-
 -- nothing is written
 pub nothing-written : {t : List ℕ} {at : ℕ} (room : List ℕ) → t ≡ [] → Wrote t at room room at
 nothing-written {at = at} room e = written-as e (record { next = omega arith; room = sym (placed-none room at) })
-
--- ---- lines one after the other, by a rule
-
-joined-within : (f : ℕ → List ℕ) (n i : ℕ) → i ≤ n → length (joined i f) ≤ length (joined n f)
-unfolding joined
-joined-within f zero i h = subst (λ (k : ℕ). length (joined k f) ≤ length (joined zero f)) (let e : 0 ≡ i = omega arith in e) (le-refl _)
-joined-within f (suc n) i h =
-    by-lt i (suc n) (λ l. omega (arith, length-append (joined n f) (f n), joined-within f n i (omega arith)))
-    (λ l. subst (λ (k : ℕ). length (joined k f) ≤ length (joined (suc n) f)) (let e : suc n ≡ i = omega arith in e) (le-refl _))
-
-joined-short : (n k : ℕ) (f : ℕ → List ℕ) → ((i : ℕ) → i < n → length (f i) ≤ k) → length (joined n f) ≤ k * n
-unfolding joined
-joined-short zero k f h = omega arith
-joined-short (suc n) k f h =
-    omega (arith, length-append (joined n f) (f n), joined-short n k f (λ i l. h i (omega arith)), h n (omega arith), mul-suc k n)
-
-pub none-written : (f : ℕ → List ℕ) (at : ℕ) (room : List ℕ) → Wrote (joined 0 f) at room room at
-none-written f at room = nothing-written room (joined-none f)
-
-module _ (n : ℕ) (f : ℕ → List ℕ) (at : ℕ) (old : List ℕ) (fits : at + length (joined n f) ≤ length old) where
-  next-fits : (i : ℕ) → i < n → at + length (joined i f) + length (f i) ≤ length old
-  next-fits i l =
-      omega (arith, fits, joined-within f n (i + 1) (omega arith), ap length (joined-more i f), length-append (joined i f) (f i))
-
-  module _ (i : ℕ) {room : List ℕ} {next : ℕ} (w : Wrote (joined i f) at old room next) where
-    pub lines-length : i ≤ n → length room ≡ length old
-    lines-length l = wrote-length (omega (arith, fits, joined-within f n i l)) w
-
-    pub line-fits : i < n → next + length (f i) ≤ length room
-    line-fits l = omega (arith, w .next, next-fits i l, lines-length (omega arith))
-
-    pub line-written : {new : List ℕ} {r : ℕ} → i < n → Wrote (f i) next room new r → Wrote (joined (i + 1) f) at old new r
-    line-written l v = written-as (joined-more i f) (wrote-both (next-fits i l) w v)
 
 -- ---- the squares
 

@@ -3,7 +3,8 @@
 use mathlib.Core.Path.{ap}
 use native.Mathlib.Omega.{arith}
 use lib.ListN.{length}
-use Rattle.lists.proofs.PrintLaws.{written-as, nothing-written, accepted-line, refused-line}
+use Rattle.answer.proofs.PrintLaws.{written-as}
+use Rattle.lists.proofs.PrintLaws.{nothing-written, accepted-line, refused-line}
 use borrow.Author.Needs.{needs}
 use Rattle.lists.proofs.printing.put_place.Statement.{statement}
 use Rattle.lists.proofs.printing.put_place.Tie as tie

@@ -8,7 +8,8 @@ use lib.ListN.{length}
 use Rattle.ledger.specs.Runs.{plan}
 use Rattle.lists.specs.Drowned.{numbersText}
 use Rattle.lists.specs.Tally.{squareText}
-use Rattle.lists.proofs.PrintLaws.{written-as, nothing-written, closed-text, square-as}
+use Rattle.answer.proofs.PrintLaws.{written-as}
+use Rattle.lists.proofs.PrintLaws.{nothing-written, closed-text, square-as}
 use borrow.Author.Needs.{needs}
 use Rattle.lists.proofs.printing.put_square.Statement.{statement}
 use Rattle.lists.proofs.printing.put_square.Tie as tie

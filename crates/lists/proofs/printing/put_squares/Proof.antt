@@ -9,7 +9,7 @@ use Rattle.grid.specs.Squares.{squares}
 use Rattle.ledger.specs.Runs.{plan}
 use Rattle.text.specs.Writing.{Wrote}
 use Rattle.lists.specs.Tally.{squareText, squaresText}
-use Rattle.lists.proofs.PrintLaws.{none-written, lines-length, line-fits, line-written}
+use Rattle.answer.proofs.PrintLaws.{none-written, lines-length, line-fits, line-written}
 use Rattle.lists.proofs.printing.put_squares.Statement.{statement}
 use Rattle.lists.proofs.printing.put_squares.Tie as tie
 
@@ -56,7 +56,7 @@ put-square-requires c κs =
     let e = n .squares-of .ensures in
     let h = start n .pre in (
       (h .0 .0, omega (arith, e, h .0 .1), omega (arith, e, h .0 .2), omega (arith, e, h .0 .3), omega (arith, e, h .0 .4)),
-      line-fits (many n) (lines n) 0 (room n) (h .1) (l .loop .square) (l .loop .inv .1) (omega (arith, e)),
+      line-fits (lines n) (many n) 0 (room n) (h .1) (l .loop .square) (l .loop .inv .1) (omega (arith, e)),
     )
 
 add-square : tie.Need-add-square Inv-loop μ-loop
@@ -74,7 +74,7 @@ loop-again c =
     let l = put .before .before .before in
     let n = counted l in (
       omega arith,
-      line-written (many n) (lines n) 0 (room n) (start n .pre .1) (l .loop .square) (l .loop .inv .1) (omega (arith, n .squares-of .ensures))
+      line-written (lines n) (many n) 0 (room n) (start n .pre .1) (l .loop .square) (l .loop .inv .1) (omega (arith, n .squares-of .ensures))
           (put .put-square .ensures),
     )
 
@@ -83,7 +83,7 @@ unfolding squaresText
 same-length c =
     let l = c .before in
     let n = counted l in
-    lines-length (many n) (lines n) 0 (room n) (start n .pre .1) (l .loop .square) (l .loop .inv .1) (omega (arith, n .squares-of .ensures))
+    lines-length (lines n) (many n) 0 (room n) (start n .pre .1) (l .loop .square) (l .loop .inv .1) (omega (arith, n .squares-of .ensures))
 
 returns : tie.Need-returns Inv-loop μ-loop
 unfolding squaresText
