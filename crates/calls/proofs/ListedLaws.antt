@@ -85,16 +85,7 @@ module _ (p : Plan) (g : Given) (end : ℕ) (w : World) (peaks clocks : List ℕ
 
       peak-is : PeakIs p g w (a .steps) i (getD peaks′ i 0) (getD clocks′ i 0)
       unfolding peakClock
-      peak-is =
-          let most : MostIs (a .steps) (depthAfter p g w i) = most-is (a .steps) (depthAfter p g w i) in
-          record {
-            none-deeper = λ k h. omega (arith, peak-at, most .none-greater k h);
-            state = firstMost (a .steps) (depthAfter p g w i);
-            among = most .among;
-            as-deep = most .reached ∙ sym peak-at;
-            first = λ k h. omega (arith, peak-at, most .first k h);
-            clock-is = clock-at;
-          }
+      peak-is = record { most = most-is (a .steps) (depthAfter p g w i); peak-is = peak-at; clock-is = clock-at }
 
   pub after-peaks : AfterPeaks p g end w peaks clocks a (world depths lasts records (a .run)) peaks′ clocks′
   after-peaks = record { exactly-when = refused; same-run = λ none. after-run Wet (plain none); highest = peak-is }
@@ -164,6 +155,10 @@ after-sheet {t} {a} {f} {r} {after} x wet files s =
     }
 
 pub after-drowned : {t : Tally} {r : Rooms} {old new : List ℕ} {long : ℕ} → PutsDrowned t r old new long → AfterDrowned t r new long
-after-drowned {t} {r} x wet files few s =
-    printed (x .wrote) .0
-    ∙ (ap (λ (k : Tally × Rooms). tallyText (k .0) (k .1)) (sym (s .stands)) ∙ drowned-right .of-lists wet files (s .before) (s .long) few .printed)
+after-drowned {t} {r} x =
+    record {
+      printed = λ wet files few s.
+          printed (x .wrote) .0
+          ∙ (ap (λ (k : Tally × Rooms). tallyText (k .0) (k .1)) (sym (s .stands)) ∙ drowned-right wet files (s .before) (s .long) few .printed);
+      right = λ wet files few s. drowned-right wet files (s .before) (s .long) few;
+    }

@@ -6,6 +6,7 @@ use mathlib.Core.List.{List, [], _∷_, _++_}
 use Prim.Native.Nat.{ℕ, _≤_, _<_}
 use lib.ListN.{length, getD, take, drop}
 use Rattle.reckon.specs.Ranges.{mostDepth}
+use Rattle.reckon.specs.Most.{mostOver, firstMost, MostIs}
 use Rattle.grid.specs.Squares.{squares}
 use Rattle.ledger.specs.Runs.{Plan, World}
 use Rattle.ledger.specs.Flows.{shut}
@@ -18,7 +19,7 @@ use Rattle.lists.specs.Names.{mostSheets}
 use Rattle.lists.specs.Sheets.{File}
 use Rattle.lists.specs.Drowned.{drownedText}
 use Rattle.lists.specs.Tally.{Rooms, beginning}
-use Rattle.lists.specs.Right.{RoomsLong, taken}
+use Rattle.lists.specs.Right.{RoomsLong, taken, ListRight}
 use Rattle.lists.specs.declared.names.Listed.{Listed}
 use Rattle.lists.specs.declared.tally.Tally.{Tally}
 use Rattle.demands.specs.Table.{FirstFails}
@@ -26,14 +27,11 @@ use Rattle.calls.specs.Library.{AfterRun}
 
 -- ---- a run with its peaks
 
--- "the deepest value" of square i "at any state of the run", n steps long: no state is deeper, and the clock is that of the first as deep
+-- "the deepest value" of square i "at any state of the run", n steps long, and the clock of the first state that had it
 pub record PeakIs (p : Plan) (g : Given) (w : World) (n i peak clock : ℕ) : Type 0 where
-  pub none-deeper : (k : ℕ) → k ≤ n → depthAfter p g w i k ≤ peak
-  pub state : ℕ
-  pub among : state ≤ n
-  pub as-deep : depthAfter p g w i state ≡ peak
-  pub first : (k : ℕ) → k < state → depthAfter p g w i k < peak
-  pub clock-is : clock ≡ stepsOn p g state w .run .clock
+  pub most : MostIs n (depthAfter p g w i)
+  pub peak-is : peak ≡ mostOver n (depthAfter p g w i)
+  pub clock-is : clock ≡ stepsOn p g (firstMost n (depthAfter p g w i)) w .run .clock
 
 -- v is the world that it left
 pub record AfterPeaks (p : Plan) (g : Given) (end : ℕ) (w : World) (peaks clocks : List ℕ) (a : Ran) (v : World) (peaks′ clocks′ : List ℕ) : Type 0 where
@@ -71,6 +69,7 @@ AfterBeginning wet a = (r : Rooms) → RoomsLong r → Stands wet [] a r
 abbrev pub AfterSheet : Tally → File → Rooms → Tally → Rooms → Type 0
 AfterSheet t f r a after = (wet : ℕ) (files : List File) → Stands wet files t r → Stands wet (files ++ (f ∷ [])) a after
 
--- so what is printed at the end is the document's list, whatever the names came to
-abbrev pub AfterDrowned : Tally → Rooms → List ℕ → ℕ → Type 0
-AfterDrowned t r new long = (wet : ℕ) (files : List File) → length files ≤ mostSheets → Stands wet files t r → take long new ≡ drownedText wet files
+-- so what is printed at the end is the document's list, whatever the names came to, and the rooms hold what it says of each square
+pub record AfterDrowned (t : Tally) (r : Rooms) (new : List ℕ) (long : ℕ) : Type 0 where
+  pub printed : (wet : ℕ) (files : List File) → length files ≤ mostSheets → Stands wet files t r → take long new ≡ drownedText wet files
+  pub right : (wet : ℕ) (files : List File) → length files ≤ mostSheets → (s : Stands wet files t r) → ListRight wet files (s .before)

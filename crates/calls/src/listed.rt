@@ -101,7 +101,7 @@ pub fn after_put_drowned(
     numbers: &[u32; MOST_SHEETS],
     out: &mut [u8; OUT_ROOM],
 ) -> usize
-    ensures { λ r. ⌜ (AfterDrowned tally (rooms (now (marks .entry)) (now (counts .entry)) (now (deepest .entry)) (now (places .entry)) (now (numbers .entry))) (now (out .exit)) r) ⌝ }
+    ensures { λ r. ⌜ AfterDrowned tally (rooms (now (marks .entry)) (now (counts .entry)) (now (deepest .entry)) (now (places .entry)) (now (numbers .entry))) (now (out .exit)) r ⌝ }
 {
     put_drowned(tally, marks, counts, deepest, places, numbers, out)
 }

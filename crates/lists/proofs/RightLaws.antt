@@ -25,7 +25,7 @@ use Rattle.lists.specs.Names.{mostSheets}
 use Rattle.lists.specs.Sheets.{File, fileNumber, filePeaks}
 use Rattle.lists.specs.Drowned.{Accepted, accepted, drowned, deepestOf, firstGave, noPlan, begunWith, planWith, numbersFrom, planFrom, acceptedFrom, numbersText, refusedLines, refusedMany, numbersOf, firstPlan, sheetsRun, drownedLine, drownedText}
 use Rattle.lists.specs.Tally.{Rooms, beginning, tallyAfter, roomsAfter, squareText, squaresText, sheetsText, tallyFine, tallyText}
-use Rattle.lists.specs.Right.{taken, RoomsLong, ending, ListRight, DrownedRight}
+use Rattle.lists.specs.Right.{taken, RoomsLong, ending, ListRight}
 use Rattle.lists.specs.declared.tally.Tally.{Tally}
 use Rattle.lists.proofs.TallyLaws.{Held, Follows, follows-as, follows-one}
 
@@ -169,8 +169,8 @@ module _ (wet : ℕ) (files : List File) (r : Rooms) (long : RoomsLong r) (most 
       (ending wet files r .1)
   at-end = follows-all files [] [] false noPlan (beginning wet) r start (omega (arith, most))
 
-  list-right : ListRight wet files r
-  list-right =
+  pub drowned-right : ListRight wet files r
+  drowned-right =
       record {
         printed = text-is wet files (begunFrom false noPlan files) most at-end;
         counted = λ i low land. let x = at-end .held i low land in record { count-is = x .count-is; deepest-is = x .deepest-is; place-is = x .place-is };
@@ -178,6 +178,3 @@ module _ (wet : ℕ) (files : List File) (r : Rooms) (long : RoomsLong r) (most 
         taken-is = at-end .taken-is ∙ numbers-many false noPlan files;
         long = at-end .told .long;
       }
-
-pub drowned-right : DrownedRight
-drowned-right = record { of-lists = list-right }

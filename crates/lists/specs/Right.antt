@@ -3,7 +3,7 @@
 use mathlib.Core.Path.{_≡_}
 use mathlib.Core.Bool.{false}
 use mathlib.Core.List.{List, [], _∷_}
-use Prim.Native.Nat.{ℕ, _≤_, _<_}
+use Prim.Native.Nat.{ℕ, _<_}
 use lib.ListN.{length, getD}
 use Rattle.grid.specs.Squares.{squares}
 use Rattle.ledger.specs.Flows.{shut}
@@ -45,6 +45,3 @@ module _ (wet : ℕ) (files : List File) (r : Rooms) where
     pub wet-is : ending .0 .wet ≡ wet
     pub taken-is : ending .0 .taken ≡ length files
     pub long : RoomsLong (ending .1)
-
-pub record DrownedRight : Type 0 where
-  pub of-lists : (wet : ℕ) (files : List File) (r : Rooms) → RoomsLong r → length files ≤ mostSheets → ListRight wet files r

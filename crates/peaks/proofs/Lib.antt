@@ -4,3 +4,4 @@ pub mod HighestLaws
 pub mod PeakLaws
 pub mod RaiseLaws
 pub mod RunPeakLaws
+pub mod WorkedLaws

@@ -1,3 +1,4 @@
-pub mod Peaks
 pub mod Highest
+pub mod Peaks
+pub mod Worked
 pub mod inner
