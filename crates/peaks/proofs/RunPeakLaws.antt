@@ -7,7 +7,7 @@ use Prim.Native.Nat.{ℕ}
 use native.Mathlib.Omega.{arith}
 use lib.Dec.{eqb}
 use lib.ListN.{length, take, drop}
-use lib.Seq.{length-take-le}
+use lib.Seq.{length-take-le, drop-at}
 use borrow.Author.Tests.{eq-eqb, ne-eqb, eqb-true}
 use Rattle.reckon.specs.Tests.{Row, pick, every, refusal, _unless_}
 use Rattle.reckon.proofs.TestLaws.{pick-true, pick-false, each-every, every-each}
@@ -30,7 +30,7 @@ use Rattle.programs.specs.inner.Held.{Holds, partsOf}
 use Rattle.programs.proofs.HeldLaws.{partsAt, first-part}
 use Rattle.peaks.specs.Peaks.{peaksOver, clocksOver, peakChecks, peakRun, peaksAfter, clocksAfter, RunsPeaking}
 use Rattle.peaks.specs.inner.Raised.{PeaksOn}
-use Rattle.peaks.specs.inner.Sheets.{SheetPeaks}
+use Rattle.peaks.specs.inner.Sheets.{RunsSheetPeaks}
 
 module _ (p : Plan) (g : Given) (end : ℕ) (w : World) (peaks clocks : List ℕ) where
   abbrev roomsFine : Bool
@@ -158,6 +158,7 @@ module _ (h : Heading) (held : Rooms) where
         × (a .run ≡ sheetRun h held .world .run)
         × (peaks′ ≡ peaksOver P G W (a .steps) peaks)
         × (clocks′ ≡ clocksOver P G W (a .steps) clocks)
+        × (depths ≡ sheetRun h held .world .depths)
     sheet-told f =
         let same = ran-is P G (h .end) W peaks clocks none-refused f in (
           ap (λ (x : Ended). x .number) same,
@@ -165,6 +166,7 @@ module _ (h : Heading) (held : Rooms) where
           ap (λ (x : Ended). x .world .run) same,
           peaks-told P G (h .end) W peaks clocks none-refused f,
           clocks-told P G (h .end) W peaks clocks none-refused f,
+          ap (λ (x : Ended). x .world .depths) same,
         )
 
     pub from-nothing :
@@ -186,36 +188,44 @@ module _ {size : ℕ} (h : Heading) (held : Rooms) (ok : Holds size h held) (pea
       RunsPeaking (planIn (h .shape) (h .rules) (partsAt n h held)) (givenIn (h .shape) (h .rules) (partsAt n h held)) (h .end)
       (startIn (h .shape) (h .rules) (partsAt n h held)) (take n peaks) (take n clocks) a depths lasts records peaks′ clocks′
 
+  abbrev RoomsAfter : ℕ → Ran → List ℕ → List ℕ → List ℕ → Type 0
+  RoomsAfter n a depths′ peaks′ clocks′ =
+      RunsSheetPeaks h (partsOf h held) (held .cells .depths) peaks clocks a (depths′ ++ drop n (held .cells .depths)) (peaks′ ++ drop n peaks)
+      (clocks′ ++ drop n clocks)
+
   told :
       {a : Ran} {depths lasts records peaks′ clocks′ : List ℕ} → SheetRuns (squares (h .shape)) a depths lasts records peaks′ clocks′ →
       length (peaks′ ++ drop (squares (h .shape)) peaks) ≡ length peaks → length (clocks′ ++ drop (squares (h .shape)) clocks) ≡ length clocks →
-      SheetPeaks h (partsOf h held) peaks clocks a (peaks′ ++ drop (squares (h .shape)) peaks) (clocks′ ++ drop (squares (h .shape)) clocks)
+      RoomsAfter (squares (h .shape)) a depths peaks′ clocks′
   unfolding peaksOver clocksOver
-  told {peaks′ = peaks′} {clocks′} f l m =
+  told {depths = depths} {peaks′ = peaks′} {clocks′} f l m =
       let t =
       sheet-told h (partsOf h held) (take (squares (h .shape)) peaks) (take (squares (h .shape)) clocks) (ok .shape) (taken peaks x) (taken clocks y)
       (ok .passes) f in
+      let many : length peaks′ ≡ squares (h .shape) = ap length (t .3) ∙ (length-filled (squares (h .shape)) _ _ (take (squares (h .shape)) peaks) ∙ taken peaks x) in
+      let much : length clocks′ ≡ squares (h .shape) = ap length (t .4) ∙ (length-filled (squares (h .shape)) _ _ (take (squares (h .shape)) clocks) ∙ taken clocks y) in
       record {
-        number-is = t .0;
-        steps-are = t .1;
-        run-is = t .2;
-        peaks-are =
-            first-part peaks′ (drop (squares (h .shape)) peaks)
-            (ap length (t .3) ∙ (length-filled (squares (h .shape)) _ _ (take (squares (h .shape)) peaks) ∙ taken peaks x)) ∙ t .3;
-        clocks-are =
-            first-part clocks′ (drop (squares (h .shape)) clocks)
-            (ap length (t .4) ∙ (length-filled (squares (h .shape)) _ _ (take (squares (h .shape)) clocks) ∙ taken clocks y)) ∙ t .4;
-        peaks-long = l;
-        clocks-long = m;
+        told =
+            record {
+              number-is = t .0;
+              steps-are = t .1;
+              run-is = t .2;
+              peaks-are = first-part peaks′ (drop (squares (h .shape)) peaks) many ∙ t .3;
+              clocks-are = first-part clocks′ (drop (squares (h .shape)) clocks) much ∙ t .4;
+              peaks-long = l;
+              clocks-long = m;
+            };
+        depths-are = ap (λ (d : List ℕ). d ++ drop (squares (h .shape)) (held .cells .depths)) (t .5);
+        peaks-rest = drop-at peaks′ (drop (squares (h .shape)) peaks) (squares (h .shape)) many;
+        clocks-rest = drop-at clocks′ (drop (squares (h .shape)) clocks) (squares (h .shape)) much;
       }
 
   pub sheet-peaks :
       {n : ℕ} {a : Ran} {depths lasts records peaks′ clocks′ : List ℕ} → n ≡ squares (h .shape) → SheetRuns n a depths lasts records peaks′ clocks′ →
-      length (peaks′ ++ drop n peaks) ≡ length peaks → length (clocks′ ++ drop n clocks) ≡ length clocks →
-      SheetPeaks h (partsOf h held) peaks clocks a (peaks′ ++ drop n peaks) (clocks′ ++ drop n clocks)
+      length (peaks′ ++ drop n peaks) ≡ length peaks → length (clocks′ ++ drop n clocks) ≡ length clocks → RoomsAfter n a depths peaks′ clocks′
   sheet-peaks {a = a} {depths} {lasts} {records} {peaks′} {clocks′} e =
       subst
       (λ (k : ℕ).
       SheetRuns k a depths lasts records peaks′ clocks′ → length (peaks′ ++ drop k peaks) ≡ length peaks → length (clocks′ ++ drop k clocks) ≡ length clocks →
-      SheetPeaks h (partsOf h held) peaks clocks a (peaks′ ++ drop k peaks) (clocks′ ++ drop k clocks))
+      RoomsAfter k a depths peaks′ clocks′)
       (sym e) told

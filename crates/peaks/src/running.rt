@@ -38,7 +38,7 @@ ghost use Rattle.programs.specs.Program.{programSquares};
 ghost use Rattle.programs.specs.inner.Held.{Holds, partsOf};
 ghost use Rattle.peaks.specs.Peaks.{RunsPeaking};
 ghost use Rattle.peaks.specs.inner.Raised.{PeaksOn};
-ghost use Rattle.peaks.specs.inner.Sheets.{SheetPeaks};
+ghost use Rattle.peaks.specs.inner.Sheets.{RunsSheetPeaks};
 
 // Steps while the clock is below the end, up to a step that is refused, with the peaks of the first state and of each after a step.
 fn peak_on(
@@ -219,7 +219,7 @@ pub fn run_sheet_peaks(
 ) -> Ran
     requires { ⌜ Holds programSquares heading (rooms (now marks) (now beds) (now roughness) (now rates) (now depths) (now rain) (now inflow)) ⌝ }
     requires { ⌜ (length (now peaks) ≡ programSquares) × (length (now clocks) ≡ programSquares) ⌝ }
-    ensures { λ r. ⌜ SheetPeaks heading (partsOf heading (rooms (now (marks .entry)) (now (beds .entry)) (now (roughness .entry)) (now (rates .entry)) (now (depths .entry)) (now (rain .entry)) (now (inflow .entry)))) (now (peaks .entry)) (now (clocks .entry)) r (now (peaks .exit)) (now (clocks .exit)) ⌝ }
+    ensures { λ r. ⌜ RunsSheetPeaks heading (partsOf heading (rooms (now (marks .entry)) (now (beds .entry)) (now (roughness .entry)) (now (rates .entry)) (now (depths .entry)) (now (rain .entry)) (now (inflow .entry)))) (now (depths .entry)) (now (peaks .entry)) (now (clocks .entry)) r (now (depths .exit)) (now (peaks .exit)) (now (clocks .exit)) ⌝ }
 {
     let mut lasts = [0u32; PROGRAM_SQUARES];
     let mut records = [0u32; RECORD_ROOM];

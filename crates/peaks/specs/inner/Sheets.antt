@@ -1,10 +1,10 @@
 -- The run of a sheet with its peaks, by what the rooms hold that it was read into.
 -- Assumes nothing.
 use mathlib.Core.Path.{_≡_}
-use mathlib.Core.List.{List}
+use mathlib.Core.List.{List, _++_}
 use Prim.Native.Nat.{ℕ}
 use lib.Dec.{eqb}
-use lib.ListN.{length, take}
+use lib.ListN.{length, take, drop}
 use Rattle.reckon.specs.Tests.{pick}
 use Rattle.grid.specs.Squares.{squares}
 use Rattle.sheet.specs.Sheet.{Rooms, planIn, givenIn, startIn}
@@ -31,6 +31,13 @@ pub record SheetPeaks (h : Heading) (held : Rooms) (peaks clocks : List ℕ) (a 
       (take (squares (h .shape)) clocks)
   pub peaks-long : length peaks′ ≡ length peaks
   pub clocks-long : length clocks′ ≡ length clocks
+
+-- and the depths that it leaves lie at the start of theirs; the rest of each room stays
+pub record RunsSheetPeaks (h : Heading) (held : Rooms) (depths peaks clocks : List ℕ) (a : Ran) (depths′ peaks′ clocks′ : List ℕ) : Type 0 where
+  pub told : SheetPeaks h held peaks clocks a peaks′ clocks′
+  pub depths-are : depths′ ≡ sheetRun h held .world .depths ++ drop (squares (h .shape)) depths
+  pub peaks-rest : drop (squares (h .shape)) peaks′ ≡ drop (squares (h .shape)) peaks
+  pub clocks-rest : drop (squares (h .shape)) clocks′ ≡ drop (squares (h .shape)) clocks
 
 -- what is printed of a run by what its answer tells and by the peaks
 abbrev pub highRanText : Plan → List ℕ → List ℕ → Ran → List ℕ

@@ -37,26 +37,26 @@ slice-aggregate-put-highest c =
 
 array-share-prefix-peaks : tie.Need-array-share-prefix-peaks
 array-share-prefix-peaks c =
-    omega (arith, c .before .before .before .before .before .before .before .run-sheet-peaks .ensures .peaks-long, length-replicate {A = ℕ} programSquares 0, c .before .before .squares-of .ensures, c .before .before .before .before .before .before .before .before .before .before .before .before .before .before .before .before .before .before .before .pre .0 .few)
+    omega (arith, c .before .before .before .before .before .before .before .run-sheet-peaks .ensures .told .peaks-long, length-replicate {A = ℕ} programSquares 0, c .before .before .squares-of .ensures, c .before .before .before .before .before .before .before .before .before .before .before .before .before .before .before .before .before .before .before .pre .0 .few)
 
 slice-aggregate-put-highest-2 : tie.Need-slice-aggregate-put-highest-2
 slice-aggregate-put-highest-2 c =
-    part-long _ (omega (arith, c .before .before .before .before .before .before .before .before .run-sheet-peaks .ensures .peaks-long, length-replicate {A = ℕ} programSquares 0, c .before .before .before .squares-of .ensures, c .before .before .before .before .before .before .before .before .before .before .before .before .before .before .before .before .before .before .before .before .pre .0 .few))
+    part-long _ (omega (arith, c .before .before .before .before .before .before .before .before .run-sheet-peaks .ensures .told .peaks-long, length-replicate {A = ℕ} programSquares 0, c .before .before .before .squares-of .ensures, c .before .before .before .before .before .before .before .before .before .before .before .before .before .before .before .before .before .before .before .before .pre .0 .few))
 
 array-share-prefix-clocks : tie.Need-array-share-prefix-clocks
 array-share-prefix-clocks c =
-    omega (arith, c .before .before .before .before .before .before .before .before .run-sheet-peaks .ensures .clocks-long, length-replicate {A = ℕ} programSquares 0, c .before .before .before .squares-of .ensures, c .before .before .before .before .before .before .before .before .before .before .before .before .before .before .before .before .before .before .before .before .pre .0 .few)
+    omega (arith, c .before .before .before .before .before .before .before .before .run-sheet-peaks .ensures .told .clocks-long, length-replicate {A = ℕ} programSquares 0, c .before .before .before .squares-of .ensures, c .before .before .before .before .before .before .before .before .before .before .before .before .before .before .before .before .before .before .before .before .pre .0 .few)
 
 slice-aggregate-put-highest-3 : tie.Need-slice-aggregate-put-highest-3
 slice-aggregate-put-highest-3 c =
-    part-long _ (omega (arith, c .before .before .before .before .before .before .before .before .before .run-sheet-peaks .ensures .clocks-long, length-replicate {A = ℕ} programSquares 0, c .before .before .before .before .squares-of .ensures, c .before .before .before .before .before .before .before .before .before .before .before .before .before .before .before .before .before .before .before .before .before .pre .0 .few))
+    part-long _ (omega (arith, c .before .before .before .before .before .before .before .before .before .run-sheet-peaks .ensures .told .clocks-long, length-replicate {A = ℕ} programSquares 0, c .before .before .before .before .squares-of .ensures, c .before .before .before .before .before .before .before .before .before .before .before .before .before .before .before .before .before .before .before .before .before .pre .0 .few))
 
 put-highest-requires : tie.Need-put-highest-requires
 put-highest-requires c κs =
     let h = c .before .before .before .before .before .before .before .before .before .before .before .before .before .before .before .before .before .before .before .before .before .pre .0 in
     let n = c .before .before .before .before .squares-of .ensures in
     let zeros = length-replicate {A = ℕ} programSquares 0 in
-    let ran = c .before .before .before .before .before .before .before .before .before .run-sheet-peaks .ensures in (
+    let ran = c .before .before .before .before .before .before .before .before .before .run-sheet-peaks .ensures .told in (
       (h .shape, h .few, c .before .before .before .before .before .before .before .before .before .before .before .before .before .before .before .before .before .before .before .before .before .pre .1),
       (
         omega (arith, n, part-long {n = c .before .before .before .before .squares-of .result} (c .before .before .before .before .before .before .before .before .before .before .before .before .before .before .before .before .before .before .before .before .before .args .marks .now) (omega (arith, h .marks-long, n, h .few))),
@@ -74,7 +74,7 @@ same-length-2 c = search needs
 returns : tie.Need-returns
 returns c =
     let s = (c .before .before .before .before .before .before .before .before .before .before .before .before .before .before .before .before .before .before .before .before .before .before .before .before) in
-    highest-printed (s .args .heading) (held s) (c .before .before .before .before .before .before .before .before .before .before .before .before .run-sheet-peaks .ensures) (s .pre .0 .few) (c .before .before .before .before .before .before .before .squares-of .ensures) (c .before .before .put-highest .ensures)
+    highest-printed (s .args .heading) (held s) (c .before .before .before .before .before .before .before .before .before .before .before .before .run-sheet-peaks .ensures .told) (s .pre .0 .few) (c .before .before .before .before .before .before .before .squares-of .ensures) (c .before .before .put-highest .ensures)
 
 pub print-highest-spec : {M : Type 1} → statement M
 print-highest-spec =
