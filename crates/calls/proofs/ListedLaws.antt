@@ -1,7 +1,7 @@
 -- What each call for the highest water and for lists of sheets promises gives what its caller has.
 -- Assumes nothing.
 use mathlib.Core.Path.{_≡_, refl, sym, ap, _∙_, subst}
-use mathlib.Core.Bool.{Bool, true, false}
+use mathlib.Core.Bool.{false}
 use mathlib.Core.List.{List, [], _∷_, _++_}
 use Prim.Native.Nat.{ℕ, _+_, _≤_, _<_}
 use native.Mathlib.Omega.{arith}
@@ -9,10 +9,10 @@ use lib.Dec.{leb}
 use lib.ListN.{length, getD, take, drop}
 use lib.Seq.{take-at, drop-at}
 use borrow.Author.Tests.{leb-true}
-use Rattle.reckon.specs.Tests.{pick, refusal, _unless_}
+use Rattle.reckon.specs.Tests.{pick, _unless_}
 use Rattle.reckon.specs.Ranges.{mostDepth}
 use Rattle.reckon.specs.Lists.{placed}
-use Rattle.reckon.specs.Most.{mostOver, firstMost, MostIs}
+use Rattle.reckon.specs.Most.{mostOver}
 use Rattle.reckon.proofs.TestLaws.{refusal-passed, pick-both}
 use Rattle.reckon.proofs.ListLaws.{filled-in}
 use Rattle.reckon.proofs.MostLaws.{most-is}
@@ -21,7 +21,7 @@ use Rattle.ledger.specs.Runs.{Plan, World, world}
 use Rattle.ledger.specs.Flows.{shut}
 use Rattle.checks.specs.Given.{Given}
 use Rattle.checks.specs.Refusals.{runChecks}
-use Rattle.flood.specs.Run.{Ended, runTo, RunsTo}
+use Rattle.flood.specs.Run.{Ended, RunsTo}
 use Rattle.flood.specs.declared.run.Ran.{Ran}
 use Rattle.grid.specs.declared.walks.Walk.the-variants.{Wet}
 use Rattle.text.specs.Reading.{numberAt, withNumber, isByte, newline}
@@ -29,20 +29,19 @@ use Rattle.text.specs.declared.reading.Number.{Number}
 use Rattle.text.specs.declared.reading.Number.the-variants.{Is, Not}
 use Rattle.text.specs.Writing.{Wrote}
 use Rattle.programs.specs.Program.{Prints, mostText}
-use Rattle.peaks.specs.Peaks.{depthAfter, peakOf, peakClock, peaksOver, clocksOver, peakRows, peakChecks, peakRun, RunsPeaking}
+use Rattle.peaks.specs.Peaks.{depthAfter, peakOf, peakClock, peaksOver, clocksOver, peakRows, peakChecks, RunsPeaking}
 use Rattle.peaks.specs.Highest.{highestText}
 use Rattle.peaks.proofs.RunPeakLaws.{not-run, peaks-stay, clocks-stay, rooms-long, ran-is, peaks-told, clocks-told}
-use Rattle.lists.specs.Names.{mostSheets, listNumber, listOf, listed, listRefused, namesFrom}
+use Rattle.lists.specs.Names.{mostSheets, listNumber, listAfter, listed, listRefused, namesFrom}
 use Rattle.lists.specs.Sheets.{File}
-use Rattle.lists.specs.Drowned.{drownedText}
 use Rattle.lists.specs.Tally.{Rooms, Begins, TakesSheet, PutsDrowned, beginning, tallyAfter, roomsAfter, tallyText}
-use Rattle.lists.specs.Right.{RoomsLong, taken}
+use Rattle.lists.specs.Right.{taken}
 use Rattle.lists.specs.declared.names.Listed.{Listed}
 use Rattle.lists.specs.declared.tally.Tally.{Tally}
 use Rattle.lists.proofs.RightLaws.{drowned-right}
 use Rattle.demands.specs.Table.{FirstFails, TableSays}
 use Rattle.demands.proofs.Table.{table-says}
-use Rattle.calls.specs.Listed.{PeakIs, AfterPeaks, AfterHighest, AfterList, Stands, AfterBeginning, AfterSheet, AfterDrowned}
+use Rattle.calls.specs.Listed.{PeakIs, AfterPeaks, AfterHighest, AfterList, AfterBeginning, AfterSheet, AfterDrowned}
 use Rattle.calls.proofs.LibraryLaws.{after-run}
 
 -- ---- a run with its peaks
@@ -119,10 +118,10 @@ refused-out : (line : ℕ) → InRange (listRefused line)
 refused-out line z = absurd (let e : 12 ≡ 0 = z in omega arith)
 
 list-in-range : (s : List ℕ) → InRange (listed s)
-unfolding listed listOf
+unfolding listed listAfter
 list-in-range s = pick-both InRange (leb (length s) mostText) (go (numberAt s 0)) (refused-out 0)
   where
-    go : (n : Number) → InRange (withNumber n (listRefused 1) (λ wet q. pick (isByte s q newline) (record { number = listNumber wet (namesFrom s (q + 1)); line = 0; wet = wet; names = namesFrom s (q + 1) }) (listRefused 1)))
+    go : (n : Number) → InRange (withNumber n (listRefused 1) (listAfter s))
     go (Is wet q) = pick-both InRange (isByte s q newline) (λ z. number-passes wet (namesFrom s (q + 1)) z) (refused-out 1)
     go Not = refused-out 1
 
