@@ -20,7 +20,7 @@ use Rattle.grid.specs.Squares.{squares}
 use Rattle.ledger.specs.Runs.{Plan, World, world}
 use Rattle.ledger.specs.Flows.{shut}
 use Rattle.checks.specs.Given.{Given}
-use Rattle.checks.specs.Refusals.{runChecks}
+use Rattle.checks.specs.Refusals.{checkRefusals}
 use Rattle.flood.specs.Run.{Ended, RunsTo}
 use Rattle.flood.specs.declared.run.Ran.{Ran}
 use Rattle.grid.specs.declared.walks.Walk.the-variants.{Wet}
@@ -49,7 +49,7 @@ use Rattle.calls.proofs.LibraryLaws.{after-run}
 module _ (p : Plan) (g : Given) (end : ℕ) (w : World) (peaks clocks : List ℕ) {a : Ran} {depths lasts records peaks′ clocks′ : List ℕ} (f : RunsPeaking p g end w peaks clocks a depths lasts records peaks′ clocks′) where
   -- the rows are a table
   says : TableSays (peakRows p g end w peaks clocks) (peakChecks p g end w peaks clocks)
-  unfolding peakChecks runChecks
+  unfolding peakChecks checkRefusals
   says = table-says _ tt
 
   refused :
