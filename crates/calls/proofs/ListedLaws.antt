@@ -9,7 +9,7 @@ use lib.Dec.{leb}
 use lib.ListN.{length, getD, take, drop}
 use lib.Seq.{take-at, drop-at}
 use borrow.Author.Tests.{leb-true}
-use Rattle.reckon.specs.Tests.{pick, _unless_}
+use Rattle.reckon.specs.Tests.{_unless_}
 use Rattle.reckon.specs.Ranges.{mostDepth}
 use Rattle.reckon.specs.Lists.{placed}
 use Rattle.reckon.specs.Most.{mostOver}
