@@ -1,6 +1,6 @@
 #!/usr/bin/env python3
-"""make.py [FOLDER]: makes the sample sheets and the sample log, and the answer to each by documents 01 and 02 in Python, in samples/ or in
-another folder."""
+"""make.py [FOLDER]: makes the sample sheets, the sample log and a winter's sheets with their list, and the answer to each by documents 01 and 02
+in Python, in samples/ or in another folder."""
 import sys
 from pathlib import Path
 
@@ -8,6 +8,8 @@ sys.path.insert(0, str(Path(__file__).resolve().parent.parent / "python"))
 
 from meadow.logs.answers import answered
 from meadow.logs.entries import written
+from meadow.peaks import winters
+from meadow.peaks.lists import listed
 from meadow.programs import ended
 from meadow.sheets.grounds import (
     COARSE_LEAT,
@@ -84,6 +86,17 @@ def evening():
     )
 
 
+def winter_sheet(leat, snow, rain, hatches):
+    """An hour at the coarse meadow: mm of water in the leat, and of melted snow all over; rain as (from, to, mm an hour), and hatches of the
+    leat as (row, from, to, litres a second), both in minutes."""
+    sheet = coarse_meadow(leat * MILLIMETRE, edge=50, longest=20 * SECOND)
+    for place in sheet.ground():
+        sheet.squares[place]["depth"] += snow * MILLIMETRE
+    sheet.rain += [(start * MINUTE, end * MINUTE, rate * MILLIMETRE) for start, end, rate in rain]
+    sheet.inflow += [(row, COARSE_LEAT, start * MINUTE, end * MINUTE, litres) for row, start, end, litres in hatches]
+    return sheet.text(HOUR)
+
+
 SAMPLES = {
     "document-01": document_01,
     "dry-weather": dry_weather,
@@ -94,6 +107,27 @@ SAMPLES = {
 }
 # each over the sheet of its name
 LOGS = {"walled-evening": evening}
+# a winter at one meadow, and how deep a square is that counts as drowned
+WINTER = {
+    "1-november": lambda: winter_sheet(60, 0, [(0, 30, 25)], []),
+    "2-december": lambda: winter_sheet(60, 0, [(0, 60, 6)], [(0, 0, 30, 900), (2, 10, 30, 600)]),
+    "3-christmas": lambda: winter_sheet(100, 0, [(10, 40, 60)], [(0, 0, 30, 600), (4, 0, 40, 5_500)]),
+    "4-january": lambda: winter_sheet(20, 0, [], [(0, 0, 60, 40)]),
+    "5-february": lambda: winter_sheet(60, 30, [(0, 60, 12)], [(2, 20, 40, 500)]),
+    "6-march": lambda: winter_sheet(100, 0, [(0, 20, 10)], [(0, 0, 60, 2_500), (2, 0, 60, 2_000), (4, 0, 60, 2_000)]),
+}
+DROWNED = 100 * MILLIMETRE
+
+
+def make_winter(folder):
+    """The sheets, and their list by the names that they have from the project's folder."""
+    folder.mkdir(exist_ok=True)
+    sheets = {f"samples/winter/{name}.sheet".encode("ascii"): made().encode("ascii") for name, made in WINTER.items()}
+    for name, text in sheets.items():
+        (folder / Path(name.decode("ascii")).name).write_bytes(text)
+    given = listed(DROWNED, *sheets)
+    (folder / "winter.list").write_bytes(given)
+    (folder / "winter.list.out").write_text(winters.answered(given, sheets.get), encoding="ascii")
 
 
 def main():
@@ -108,6 +142,8 @@ def main():
         (folder / f"{name}.log").write_text(log, encoding="ascii")
         (folder / f"{name}.log.out").write_text(answered(sheet.read_bytes(), log.encode("ascii")), encoding="ascii")
         print(f"{name}.log")
+    make_winter(folder / "winter")
+    print("winter")
     return 0
 
 

@@ -1,7 +1,8 @@
 """The map of each sample has a wall for each closed square, an exit for each exit, water just where the answer has it, a sign for each
 hatch and standing square, and the answer's volumes; each square tells its depth; the shades are right in black and white; an answer that
 is not the sheet's, a part of one and a refusal have no map. The map of a log has the water at its end and the log's hatches, with the rates
-that stand; what was not printed of the log has none."""
+that stand; what was not printed of the log has none. The map of a winter has in each square how many sheets drowned it, the more the darker;
+what was not printed of a list of that meadow, or for that depth, has none."""
 import subprocess
 import sys
 import tempfile
@@ -12,7 +13,9 @@ from pathlib import Path
 from meadow.counted import Checks
 from meadow.logs.entries import written
 from meadow.logs.nights import blocks_of
+from meadow.maps.often import SHARES
 from meadow.maps.shades import CLASSES, HIGH_GROUND, LOW_GROUND, grey, ground
+from meadow.peaks.tally import Drowned, Tally, tally_of
 from meadow.programs import TOP
 from meadow.sheets.lines import DEPTH, MINUTE, Answer, Sheet, answer_text, refused_text
 from meadow.sheets.reading import read
@@ -27,6 +30,9 @@ STANDING = {"held-pond": 22}
 HATCHES = {"walled-meadow": (0, 9), "dry-weather": (1, 0)}
 # in grey a class of water differs from the next by at least this much of 255, and dry ground is at least this bright
 CLEAR_STEP, NEARLY_WHITE = 25, 235
+# and a number from the square that it stands on by so much
+CLEAR_NUMBER = 100
+WINTER = SAMPLES / "winter"
 
 
 def drawn(*files):
@@ -322,11 +328,109 @@ def hold_log_pairs(checks, room):
     checks.hold(made.returncode == 1 and "water account is off" in made.stderr, f"a log with a rate changed since is drawn: {made.stderr!r}")
 
 
+def classed(svg, *kinds):
+    """The parts of some classes, in their order."""
+    return [part for part in tree.fromstring(svg).iter() if part.get("class") in kinds]
+
+
+def hold_winter(checks):
+    """The sample winter: each square's number is the answer's, walls and the exit are there, each square tells a pointer; the words by hand."""
+    sheets, answer = sorted(WINTER.glob("*.sheet")), WINTER / "winter.list.out"
+    made = drawn("--often", sheets[0], answer, "--depth", "100000")
+    if not checks.hold(made.returncode == 0, f"the sample winter is not drawn: {made.stderr}"):
+        return
+    tally = tally_of(answer.read_text())
+    counts = [drowned.count for _, drowned in sorted(tally.squares.items())]
+    numbers = [int(part.text) for part in classed(made.stdout, "count")]
+    checks.hold(numbers == [count for count in counts if count > 0], f"the numbers on the winter's map are {numbers}")
+    kinds = [part.get("class") for part in classed(made.stdout, "drowned", "never")]
+    checks.hold(kinds == ["drowned" if count else "never" for count in counts], "the winter's map has not each drowned square in its place")
+    checks.hold((len(classed(made.stdout, "wall")), len(classed(made.stdout, "exit"))) == (2, 1), "the winter's map has not its walls and its exit")
+    told = sum(part.tag.endswith("}title") for part in tree.fromstring(made.stdout).iter())
+    checks.hold(told == len(counts) + 2, f"{told} squares of the winter's map tell a pointer what they are")
+    said = whole_words(made.stdout)
+    for words in (
+        "winter: how often each square was 10 cm deep or deeper",
+        "how many of the 6 sheets had it 10 cm deep or deeper at any time of their run",
+        "most often at row 6, column 1, in 6 of 6 sheets",
+        "deepest of all: 63 cm at row 6, column 1, by sheet 3 of the list",
+        "6 sheets run, 0 refused",
+        "row 0, column 1: drowned in 2 of 6 sheets; deepest 12 cm, by sheet 6; ground 2.92 m",
+        "row 0, column 0: never drowned; deepest 3.0 cm, by sheet 5; ground 3.19 m",
+        "row 3, column 5: closed",
+        "54,400 m²",
+    ):
+        checks.hold(words in said, f"the winter's map does not say: {words}")
+    checks.hold(drawn("--often", sheets[-1], answer, "--depth", "100000").stdout == made.stdout, "by another sheet of the winter it has another map")
+    plain = whole_words(drawn("--often", sheets[0], answer).stdout)
+    checks.hold("winter: how often each square was as deep as was asked" in plain, "without a depth the winter's map says one")
+
+
+def hold_shares(checks, room):
+    """Shares at both ends of each class, by hand; in grey each is clearly darker than the one before, and its number clearly to be read."""
+    wanted = {
+        8: {0: None, 1: 0, 2: 0, 3: 1, 4: 1, 5: 2, 6: 2, 7: 3, 8: 4},
+        1: {0: None, 1: 4},
+        3: {1: 1, 2: 2, 3: 4},
+        200: {1: 0, 50: 0, 51: 1, 100: 1, 101: 2, 150: 2, 151: 3, 199: 3, 200: 4},
+    }
+    path, answer = Path(room) / "shares.sheet", Path(room) / "shares.out"
+    for ran, classes in wanted.items():
+        sheet, tally = Sheet(1, len(classes), 1), Tally()
+        tally.ran = ran
+        for column, count in enumerate(classes):
+            sheet.put((0, column), 0, 300)
+            tally.squares[0, column] = Drowned(count, 5 + count, 1)
+        path.write_text(sheet.text(0))
+        answer.write_text(tally.text())
+        fills = [part.get("fill") for part in classed(drawn("--often", path, answer).stdout, "drowned", "never")]
+        shades = [ground(0, 0, 0) if share is None else SHARES[share][0] for share in classes.values()]
+        checks.hold(fills == shades, f"of {ran} sheets {list(classes)} are drawn as {fills}, not {shades}")
+    for brighter, darker in pairwise([grey(ground(1, 0, 1)), *(grey(fill) for fill, _, _ in SHARES)]):
+        checks.hold(brighter - darker >= CLEAR_STEP, f"in grey {brighter:.0f} and {darker:.0f} are hard to tell apart")
+    for fill, ink, name in SHARES:
+        checks.hold(abs(grey(fill) - grey(ink)) >= CLEAR_NUMBER, f"the number of {name} is hard to read")
+
+
+def hold_often_pairs(checks, room):
+    """What is no answer to a list of this meadow, or not for this depth, is refused in words, and so are a list of which nothing was run and
+    wrong words."""
+    sheet, stored = WINTER / "1-november.sheet", (WINTER / "winter.list.out").read_text()
+    first, rest = stored.split("\n", 1)
+    answer = Path(room) / "often.out"
+    wrong = {
+        "it has no depth for square 0 0": rest,
+        "a depth for square 3 5, which is closed": stored.replace("\n3\t6\t", "\n3\t5\t0\t9\t1\n3\t6\t"),
+        "a depth for square 8 6, which is off the grid": stored.replace("\n6\t0\n", "\n8\t6\t0\t9\t1\n6\t0\n"),
+        "cut off": first + "\n",
+        "doubled": first + "\n" + stored,
+        "not ended": stored[:-1],
+        "more sheets than were run": stored.replace("\n6\t0\n", "\n5\t1\n1\t12\n"),
+        "a line is missing": stored.replace("\n6\t0\n", "\n6\t1\n"),
+        "no line of what drowned prints": (SAMPLES / "walled-evening.out").read_text(),
+        "refused this list": refused_text(12, 1),
+        "no sheet of this list was run": "0\t1\n1\t12\n",
+    }
+    for why, text in wrong.items():
+        answer.write_text(text)
+        made = drawn("--often", sheet, answer)
+        refused = made.returncode == 1 and made.stdout == "" and why in made.stderr and made.stderr.count("\n") == 1
+        checks.hold(refused, f"an answer with {why} is drawn: {made.stderr!r}")
+    answer.write_text(stored)
+    # the deepest square that is not counted had 80,895 µm, the shallowest that is had 123,823
+    for depth, right in ((80_895, False), (80_896, True), (123_823, True), (123_824, False)):
+        made = drawn("--often", sheet, answer, "--depth", str(depth))
+        checks.hold((made.returncode == 0) == right, f"the winter's map for a depth of {depth} µm: {made.stderr!r}")
+    for words in (("--often", sheet), (sheet, answer, "--depth", "1"), ("--often", sheet, answer, "--log", answer)):
+        checks.hold(drawn(*words).returncode == 2, f"map.py takes {words}")
+
+
 def main():
     checks = Checks("map")
     hold_samples(checks)
     hold_evening(checks)
     hold_words(checks)
+    hold_winter(checks)
     hold_grey(checks)
     with tempfile.TemporaryDirectory() as room:
         hold_classes(checks, room)
@@ -336,6 +440,8 @@ def main():
         hold_refused(checks, room)
         hold_log_hatches(checks, room)
         hold_log_pairs(checks, room)
+        hold_shares(checks, room)
+        hold_often_pairs(checks, room)
     checks.end()
 
 

@@ -1,5 +1,5 @@
-"""The samples are what samples/make.py makes, byte for byte; the built `meadow` prints of each sheet the answer beside it, and the built
-`hatchlog` of each log. The sample evening leaves no mark of what was tried and taken back."""
+"""The samples are what samples/make.py makes, byte for byte; the built `meadow` prints of each sheet the answer beside it, the built `hatchlog`
+of each log, and the built `drowned` of the winter's list. The sample evening leaves no mark of what was tried and taken back."""
 import subprocess
 import sys
 import tempfile
@@ -13,8 +13,17 @@ SAMPLES = TOP / "samples"
 
 
 def named(folder):
-    """The sheets, logs and answers of a folder by name."""
-    return {path.name: path.read_bytes() for path in sorted(folder.iterdir()) if path.suffix in (".sheet", ".log", ".out")}
+    """The sheets, logs, lists and answers of a folder by name."""
+    return {path.name: path.read_bytes() for path in sorted(folder.iterdir()) if path.suffix in (".sheet", ".log", ".list", ".out")}
+
+
+def hold_winter(checks, made):
+    """The winter's sheets and list are as made, and what the program prints of the list is stored."""
+    stored = named(SAMPLES / "winter")
+    for name in sorted(made.keys() | stored.keys()):
+        checks.hold(made.get(name) == stored.get(name), f"samples/winter/{name} is not what samples/make.py makes")
+    told = printed("drowned", stored["winter.list"], cwd=TOP)
+    checks.hold(told == stored["winter.list.out"], "drowned does not print samples/winter/winter.list.out")
 
 
 def hold_log(checks, name, stored):
@@ -39,7 +48,7 @@ def main():
     checks = Checks("samples")
     with tempfile.TemporaryDirectory() as room:
         subprocess.run([sys.executable, SAMPLES / "make.py", room], check=True, stdout=subprocess.DEVNULL)
-        made = named(Path(room))
+        made, winter = named(Path(room)), named(Path(room) / "winter")
     stored = named(SAMPLES)
     for name in sorted(made.keys() | stored.keys()):
         checks.hold(made.get(name) == stored.get(name), f"samples/{name} is not what samples/make.py makes")
@@ -53,6 +62,7 @@ def main():
         hold_log(checks, name, stored)
     checks.hold(logs != [], "samples/ has no log")
     hold_no_mark(checks, stored)
+    hold_winter(checks, winter)
     checks.end()
 
 

@@ -12,7 +12,7 @@ from meadow.programs import TOP
 from meadow.sheets.lines import SQUARE
 
 # the lowest first
-PACKAGES = ("rule", "sheets", "logs", "words", "surveys", "maps")
+PACKAGES = ("rule", "sheets", "logs", "peaks", "words", "surveys", "maps")
 FOLDERS = ("python", "samples", "tests", "tools", "validation")
 SAMPLE = [TOP / "samples" / f"walled-meadow.{kind}" for kind in ("sheet", "out")]
 # a tool, and words with which it prints

@@ -1,6 +1,6 @@
 """Every command of docs/TOOLS.md prints what stands below it there, and each tool has an example; README's first command prints the answer
-byte for byte and ends with one line of sense, and its next makes the map; bin/meadow and bin/hatchlog say what is wrong where there is no
-answer."""
+byte for byte and ends with one line of sense, and its next makes the map; bin/meadow, bin/hatchlog, bin/drowned and bin/highest say what is
+wrong where there is no answer."""
 import re
 import shutil
 import subprocess
@@ -10,16 +10,21 @@ from pathlib import Path
 from damaged import CASES, answer_of, sheet_of
 from meadow.counted import Checks
 from meadow.logs.evening import records_kept
+from meadow.peaks import heights
 from meadow.programs import TOP
+from meadow.sheets.lines import SQUARE, line_of
 from meadow.sheets.reading import MOST_SQUARES
 
 PAGE, README = TOP / "docs" / "TOOLS.md", TOP / "README.md"
 SAMPLES = TOP / "samples"
-# what tools begin with, those that look after the project itself, and the one that bin/meadow and bin/hatchlog end with; all others are for the
+# what tools begin with, those that look after the project itself, and the one that the programs' own scripts end with; all others are for the
 # warden and the keeper
 OWN = {"architecture", "begin", "believed", "dev", "edits", "header", "pictures", "places", "sense", "speed", "unused"}
-FOR_PEOPLE = ["bin/meadow", "bin/hatchlog", *(f"tools/{path.name}" for path in sorted((TOP / "tools").glob("*.py")) if path.stem not in OWN)]
+PROGRAMS = [f"bin/{name}" for name in ("meadow", "hatchlog", "drowned", "highest")]
+FOR_PEOPLE = [*PROGRAMS, *(f"tools/{path.name}" for path in sorted((TOP / "tools").glob("*.py")) if path.stem not in OWN)]
 LEFT_OUT = "..."
+# a sheet's only square
+DRY, WALL = {"row": 0, "column": 0, "bed": 0, "roughness": 300}, {"row": 0, "column": 0, "mark": "x"}
 # what the commands of the pages need beside them
 FOLDERS = ("bin", "crates", "docs", "python", "samples", "target", "tools")
 
@@ -135,10 +140,67 @@ def hold_logs(checks, room):
         (f"bin/hatchlog {sheet} 'an evening.log'", 0, "clock\t0\n", "0 steps"),
         (f"bin/hatchlog {sheet}", 2, "", "usage: bin/hatchlog SHEET LOG"),
     ]
+    hold_commands(checks, room, cases)
+
+
+def hold_commands(checks, room, cases):
+    """Each command ends with its status, prints what ends so, and says one line that has these words."""
     for command, wanted, ends, why in cases:
         status, printed, sense = ran(command, room)
         right = status == wanted and printed.endswith(ends) and bool(printed) == bool(ends) and why in sense and sense.count("\n") == 1
         checks.hold(right, f"{command}: status {status}, {printed[-60:]!r}, {sense!r}")
+
+
+def hold_winter(checks, room):
+    """bin/drowned: the sample winter byte for byte and one line; refused lists and sheets, and no sheet at all."""
+    status, printed, sense = ran("bin/drowned 100000 samples/winter/*.sheet", room)
+    checks.hold(status == 0 and printed == (SAMPLES / "winter" / "winter.list.out").read_text(), f"bin/drowned of the winter: status {status}")
+    said = "6 sheets run, none refused; 10 cm deep or deeper: most often at row 6, column 1, in 6 of 6 sheets\n"
+    checks.hold(sense == said, f"bin/drowned of the winter ends with {sense!r}")
+    (room / "a sheet").write_bytes((SAMPLES / "document-01.sheet").read_bytes())
+    one = "samples/winter/1-november.sheet"
+    hold_commands(
+        checks,
+        room,
+        [
+            (f"bin/drowned 10cm {one}", 1, "refused\t12\t1\n", "refused by 12: the depth: 10cm has a unit: write 100000"),
+            (f"bin/drowned 100000001 {one}", 1, "refused\t5\t0\n", "refused by 5: the depth is 100,000,001 µm: write 0 to 100,000,000"),
+            (f"bin/drowned 5 $(yes {one} | head -n 201)", 1, "refused\t16\t0\n", "refused by 16: the list has 201 sheets"),
+            (f"bin/drowned 100000 none {one}", 0, "1\t1\n1\t12\n", "1 sheet run, 1 refused; 10 cm deep or deeper: most often at row 6, column 1"),
+            ("bin/drowned 5 none", 0, "0\t1\n1\t12\n", "0 sheets run, 1 refused; tools/why.py --drowned says why"),
+            ("bin/drowned 1 'a sheet'", 0, "0\t0\t1\t1000\t1\n0\t1\t1\t31\t1\n1\t0\n", "1 sheet run, none refused"),
+            ("bin/drowned 5", 2, "", "usage: bin/drowned DEPTH SHEET.."),
+        ],
+    )
+
+
+def hold_heights(checks, room):
+    """bin/highest: each sample with a line, and refused sheets."""
+    for sheet, said in {
+        "samples/walled-meadow.sheet": "deepest 45 cm at row 27, column 4, after 3 min, of a run of 3 min; 153 steps\n",
+        "samples/winter/3-christmas.sheet": "deepest 63 cm at row 6, column 1, after 30 min 14 s, of a run of 1 h; 435 steps\n",
+        "samples/held-pond.sheet": "deepest 69 cm at row 3, column 1, at the start, of a run of 10 min; 1,200 steps\n",
+    }.items():
+        status, printed, sense = ran(f"bin/highest {sheet}", room)
+        checks.hold(status == 0 and printed == heights.answered((TOP / sheet).read_bytes()), f"bin/highest {sheet}: status {status}")
+        checks.hold(sense == said, f"bin/highest {sheet} ends with {sense!r}")
+    (room / "dry.sheet").write_text("grid\t1\t1\t1\nrun\t10\t500\t10000\t60000\t60000\t0\t1\n" + line_of(SQUARE, DRY) + "\n")
+    (room / "walls.sheet").write_text("grid\t1\t1\t1\nrun\t10\t500\t10000\t60000\t60000\t0\t1\n" + line_of(SQUARE, WALL) + "\n")
+    (room / "cut.sheet").write_text("grid\t1\t1\n")
+    (room / "heights.out").write_text(heights.answered((SAMPLES / "document-01.sheet").read_bytes()))
+    hold_commands(
+        checks,
+        room,
+        [
+            ("bin/highest dry.sheet", 0, "clock\t60000\n", "all dry from the start until 1 min; 6 steps"),
+            ("bin/highest walls.sheet", 0, "clock\t60000\n", "every square closed, until 1 min; 6 steps"),
+            ("bin/highest cut.sheet", 1, "refused\t12\t1\n", "refused by 12: line 1: it has 2 fields after its word and should have 3"),
+            ("bin/highest none", 1, "", "none"),
+            ("python3 tools/sense.py --highest dry.sheet heights.out", 1, "", "it has a depth for square 0 1, which is off the grid"),
+            ("python3 tools/sense.py --highest samples/document-01.sheet dry.sheet", 1, "", "no line of what highest prints"),
+            ("bin/highest", 2, "", "usage: bin/highest SHEET"),
+        ],
+    )
 
 
 def hold_kept(checks):
@@ -156,7 +218,7 @@ def main():
     checks = Checks("tools")
     with tempfile.TemporaryDirectory() as folder:
         room = room_in(folder)
-        for part in (hold_page, hold_readme, hold_samples, hold_refusals, hold_logs):
+        for part in (hold_page, hold_readme, hold_samples, hold_refusals, hold_logs, hold_winter, hold_heights):
             part(checks, room)
     hold_kept(checks)
     checks.end()

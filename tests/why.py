@@ -1,11 +1,13 @@
-"""tools/why.py over the tables of damaged sheets and damaged logs, and over slips of its own: the number and the line are the program's, and
-the words name the right file, the right place and what to write there."""
+"""tools/why.py over the tables of damaged sheets and damaged logs, over lists of sheets, and over slips of its own: the number and the line are
+the program's, and the words name the right file, the right place and what to write there."""
+import os
 import random
 import subprocess
 import sys
 import tempfile
 from pathlib import Path
 
+import drowned
 import hatchlog
 from damaged import A_HATCH, A_SHOWER, BASES, CASES, after, answer_of, before, field, on_line, sheet_of, spaces, word
 from meadow.counted import Checks
@@ -411,8 +413,67 @@ def hold_files(checks, files):
         checks.hold(right, f"no {kind}: {said.stdout!r}{said.stderr!r}")
 
 
+# lists of the sheets of tests/drowned.py: a depth, names, and the lines that are said
+ONE_TOO_MANY = "line 1: 25 by 41 are 1,025 squares: at most 1,024 are taken; with twice the side they would be 13 by 21"
+LISTS = [
+    ("10cm", ["low"], ["refused by 12, line 1", "the depth: 10cm has a unit: write 100000, which is in µm"]),
+    ("2.5 mm", ["low"], ["refused by 12, line 1", "the depth: 2.5 mm has a unit: write 2500, which is in µm"]),
+    ("0.1", ["low"], ["refused by 12, line 1", "the depth: 0.1 is a decimal: write 100000, which is 0.1 times 1,000,000"]),
+    ("007", ["low"], ["refused by 12, line 1", "the depth: 007 has a needless zero before it: write 7"]),
+    ("low", ["high"], ["refused by 12, line 1", "the depth: low is no number"]),
+    ("4294967296", ["low"], ["refused by 12, line 1", "the depth: 4294967296 is above 4,294,967,295, the largest number that is read"]),
+    ("100000001", ["low"], ["refused by 5", "the depth is 100,000,001 µm: write 0 to 100,000,000"]),
+    ("5", ["low"] * 201, ["refused by 16", "the list has 201 sheets, and at most 200 are taken: make two lists of it"]),
+    ("5", [drowned.padded("low", 4_095)] * 17, ["refused by 12", "the list has 69,634 bytes, and at most 65,536 are read: give fewer sheets, or shorter names"]),
+    ("1101", ["low", "high"], ["2 sheets run, none refused; 1.1 mm deep or deeper: most often at row 3, column 8, in 2 of 2 sheets"]),
+    ("1100", ["low"], ["1 sheet run, none refused; 1.1 mm deep or deeper: most often at row 2, column 5, in 1 of 1 sheet, and 1 other as often"]),
+    ("1", ["dry"], ["1 sheet run, none refused; under 0.1 mm deep or deeper: no square in any sheet"]),
+    (
+        "20000",
+        ["none", "low", ".", "cut line", "turned", "third pool", "with exit", "1025 squares", "overflowing"],
+        [
+            "sheet 1, none: refused by 12: it cannot be opened: No such file or directory",
+            "sheet 3, .: refused by 12: it cannot be opened: Is a directory",
+            "sheet 4, cut line: refused by 12: line 2: it has 6 fields after its word and should have 7: say the edition",
+            "sheet 5, turned: refused by 14: it has 9 by 4 squares, and low has 4 by 9",
+            "sheet 6, third pool: refused by 14: row 0, column 1 is open, and closed in low",
+            "sheet 7, with exit: refused by 14: row 3, column 8 is an exit, and open in low",
+            f"sheet 8, 1025 squares: refused by 1: {ONE_TOO_MANY}",
+            "sheet 9, overflowing: refused by 8: a square would be more than 100 m deep between 0 min and 1 s: let less in, or give it an exit",
+            "1 sheet run, 8 refused; 2.0 cm deep or deeper: most often at row 3, column 8, in 1 of 1 sheet",
+        ],
+    ),
+    (
+        "0",
+        ["longer"],
+        [
+            "sheet 1, longer: refused by 12: it has 65,537 bytes, and at most 65,536 are read: fewer squares, or fewer rain and inflow lines",
+            "0 sheets run, 1 refused",
+        ],
+    ),
+    ("0", ["lo\nw"], ["a name has a newline in it, and is taken for two: give the file another name", "0 sheets run, 2 refused"]),
+]
+
+
+def hold_lists(checks, room):
+    """What is said of a list, line by line; it ends with 1 where the list or a sheet of it is refused."""
+    os.chdir(room)
+    drowned.put_sheets()
+    for depth, names, wanted in LISTS:
+        said = subprocess.run([sys.executable, TOOL, "--drowned", depth, *names], capture_output=True, text=True)
+        status = 0 if "none refused" in wanted[-1] else 1
+        right = (said.returncode, said.stdout.splitlines(), said.stderr) == (status, wanted, "")
+        checks.hold(right, f"{depth} and {[name[-20:] for name in names[:9]]}: {said.returncode}, {said.stdout!r}{said.stderr!r}")
+    for words in (("low", "high"), ("--drowned", "5"), ("--drowned", "5", "low", "--log", "low")):
+        said = subprocess.run([sys.executable, TOOL, *words], capture_output=True, text=True)
+        checks.hold(said.returncode == 2 and "usage: why.py" in said.stderr, f"why.py takes {words}")
+    os.chdir(TOP)
+
+
 def main():
     checks = Checks("why")
+    with tempfile.TemporaryDirectory() as room:
+        hold_lists(checks, room)
     with tempfile.TemporaryDirectory() as room:
         hold_table(checks, room)
         hold_slips(checks, room)

@@ -3,6 +3,8 @@
 map.py SHEET ANSWER > MAP.svg: draws an answer that is there already; what was answered to another sheet is refused.
 map.py SHEET --log LOG > MAP.svg: runs `hatchlog` on a sheet and a log and draws the water at the log's end, with the log's hatches.
 map.py SHEET ANSWER --log LOG > MAP.svg: draws the end of what `hatchlog` has printed already.
+map.py --often SHEET ANSWER [--depth DEPTH] > MAP.svg: draws how often each square drowned, by what `drowned` printed of a list that SHEET is
+of; the depth that was asked stands on the map where it is said. python/meadow/maps/often.py says what it shows.
 """
 import argparse
 import sys
@@ -11,7 +13,10 @@ from pathlib import Path
 from begin import ended
 from meadow.logs.nights import night_in
 from meadow.maps.drawing import svg
-from meadow.sheets.pairs import balanced, pair_in
+from meadow.maps.often import often_svg
+from meadow.peaks.tally import tally_of
+from meadow.sheets.pairs import balanced, bytes_as_text, pair_in
+from meadow.sheets.reading import read
 
 
 def main():
@@ -19,7 +24,14 @@ def main():
     words.add_argument("sheet", metavar="SHEET")
     words.add_argument("answer", metavar="ANSWER", nargs="?", help="what the program has printed already")
     words.add_argument("--log", metavar="LOG", help="a hatch log over the sheet: the water at its end is drawn")
+    words.add_argument("--often", action="store_true", help="the answer is what drowned printed of a list: how often each square drowned is drawn")
+    words.add_argument("--depth", metavar="DEPTH", type=int, help="with --often: the depth that was asked, in µm")
     said = words.parse_args()
+    if said.often and (said.log or not said.answer) or said.depth is not None and not said.often:
+        words.error("--often needs SHEET and ANSWER, and no log; --depth goes with it")
+    if said.often:
+        sys.stdout.write(often_svg(read(bytes_as_text(said.sheet))[0], tally_of(bytes_as_text(said.answer)), Path(said.answer).name.split(".")[0], said.depth))
+        return 0
     pair = night_in(said.sheet, said.log, said.answer).whole() if said.log else pair_in(said.sheet, said.answer)
     sys.stdout.write(svg(balanced(pair), Path(said.log or said.sheet).stem))
     return 0

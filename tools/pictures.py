@@ -1,14 +1,18 @@
 #!/usr/bin/env python3
-"""pictures.py: makes the pictures of README, docs/METHOD.md and docs/SPEED.md in docs/pictures/.
+"""pictures.py: makes the pictures of README, docs/METHOD.md, docs/SPEED.md and docs/TOOLS.md in docs/pictures/.
 
 The map is that of the sample `walled-meadow`, the square is the one worked in docs/METHOD.md, the times are those of the table in
-docs/SPEED.md.
+docs/SPEED.md, the winter is the sample list.
 """
 from begin import ended
 from meadow.maps.drawing import svg
+from meadow.maps.often import often_svg
+from meadow.peaks.lists import list_in
+from meadow.peaks.tally import tally_of
 from meadow.programs import TOP
 from meadow.rule.worked_square import AMOUNTS, DROPS
-from meadow.sheets.pairs import balanced, pair_in
+from meadow.sheets.pairs import balanced, bytes_as_text, pair_in
+from meadow.sheets.reading import read
 
 WATER, WALL, GROUND, INK, PALE = "#9ecae1", "#4a4a4a", "#e9ddb8", "#222222", "#777777"
 COLOURS = ("#08519c", "#31a354", "#8c6d31", "#d94801", "#6a51a3")
@@ -140,7 +144,21 @@ def walled_meadow():
     return svg(balanced(pair_in(sheet, answer)), sheet.stem)
 
 
-PICTURES = {"walled-meadow.svg": walled_meadow, "square.svg": one_square, "ring.svg": ring, "wet-shares.svg": wet_shares}
+def winter():
+    """The map of how often each square drowned in the sample winter."""
+    folder = TOP / "samples" / "winter"
+    depth, names = list_in((folder / "winter.list").read_bytes())
+    sheet, _ = read(bytes_as_text(TOP / names[0].decode("ascii")))
+    return often_svg(sheet, tally_of(bytes_as_text(folder / "winter.list.out")), "winter", depth)
+
+
+PICTURES = {
+    "walled-meadow.svg": walled_meadow,
+    "square.svg": one_square,
+    "ring.svg": ring,
+    "wet-shares.svg": wet_shares,
+    "winter.svg": winter,
+}
 FOLDER = TOP / "docs" / "pictures"
 
 

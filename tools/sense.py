@@ -1,27 +1,43 @@
 #!/usr/bin/env python3
 """sense.py SHEET ANSWER: one line of sense about what `meadow` printed of a sheet: how much water is where, the deepest place, the clock
 and the steps; or, of a refusal, the likeliest reason. bin/meadow ends with it.
-sense.py SHEET ANSWER LOG: the same about what `hatchlog` printed of a sheet and a log. bin/hatchlog ends with it."""
+sense.py SHEET ANSWER LOG: the same about what `hatchlog` printed of a sheet and a log. bin/hatchlog ends with it.
+sense.py --highest SHEET ANSWER: how deep the water of a sheet ever was, and when, by what `highest` printed. bin/highest ends with it.
+sense.py --drowned ANSWER DEPTH SHEET..: which square drowned most often, by what `drowned` printed of a list. bin/drowned ends with it."""
 import sys
 
 from begin import ended
 from meadow.logs.nights import Night, blocks_of
+from meadow.peaks.heights import heights_of
+from meadow.peaks.tally import tally_of
 from meadow.sheets.lines import Answer
 from meadow.sheets.pairs import balanced, bytes_as_text, pair_of
 from meadow.sheets.reading import read
+from meadow.words.drownings import heights_sense, tally_sense
+from meadow.words.list_reasons import list_reasons
 from meadow.words.log_reasons import both_reasons, unopened
 from meadow.words.reasons import reasons, refusal
 from meadow.words.sense import night_sense, sense
 
 
-def of_sheet(text, told):
-    """About `meadow`'s answer."""
+def of_sheet(text, told, said):
+    """About what was printed of a sheet, `said` being the line about an answer that is no refusal."""
     refused = refusal(told)
     if refused:
         print(f"refused by {refused[0]}: {reasons(text, *refused)[0]}")
         return 1
-    print(sense(balanced(pair_of(*read(text), Answer(told)))))
+    print(said(text, told))
     return 0
+
+
+def answer_line(text, told):
+    """About `meadow`'s answer."""
+    return sense(balanced(pair_of(*read(text), Answer(told))))
+
+
+def heights_line(text, told):
+    """About what `highest` printed."""
+    return heights_sense(heights_of(text, told))
 
 
 def of_log(files, told):
@@ -37,12 +53,29 @@ def of_log(files, told):
     return 0
 
 
+def of_list(told, wet_depth, *names):
+    """About what `drowned` printed."""
+    refused = refusal(told)
+    if refused:
+        print(f"refused by {refused[0]}: {list_reasons(wet_depth, names, refused)}")
+        return 1
+    tally = tally_of(told)
+    print(tally_sense(tally, int(wet_depth)) + ("; tools/why.py --drowned says why" if tally.refused else ""))
+    return 0
+
+
 def main():
-    if len(sys.argv) not in (3, 4):
-        print("usage: sense.py SHEET ANSWER [LOG]", file=sys.stderr)
-        return 2
-    sheet, answer, *log = sys.argv[1:]
-    return of_log((sheet, *log), bytes_as_text(answer)) if log else of_sheet(bytes_as_text(sheet), bytes_as_text(answer))
+    kind, *files = sys.argv[1:] or [""]
+    if kind == "--drowned" and len(files) > 2:
+        return of_list(bytes_as_text(files[0]), *files[1:])
+    if kind == "--highest" and len(files) == 2:
+        return of_sheet(*map(bytes_as_text, files), heights_line)
+    if len(files) == 1:
+        return of_sheet(bytes_as_text(kind), bytes_as_text(files[0]), answer_line)
+    if len(files) == 2:
+        return of_log((kind, files[1]), bytes_as_text(files[0]))
+    print("usage: sense.py SHEET ANSWER [LOG], sense.py --highest SHEET ANSWER or sense.py --drowned ANSWER DEPTH SHEET..", file=sys.stderr)
+    return 2
 
 
 if __name__ == "__main__":

@@ -1,6 +1,7 @@
 #!/usr/bin/env python3
 """why.py SHEET: runs `meadow` on a sheet and, where it refuses, says in words what is wrong, where, and what to write there.
 why.py SHEET --log LOG: runs `hatchlog` on a sheet and a log likewise, and says which of the two files it is about.
+why.py --drowned DEPTH SHEET..: runs `drowned` on a list of sheets, and says why the list is refused, or which of its sheets are and why.
 
 The number and the line are the program's own. Ends with status 1 where it refuses; of what is taken it says what came of it.
 """
@@ -8,10 +9,15 @@ import argparse
 
 from begin import ended
 from meadow.logs.nights import Night, blocks_of, told_of
+from meadow.peaks import winters
+from meadow.peaks.lists import listed
+from meadow.peaks.tally import tally_of
 from meadow.programs import printed
 from meadow.sheets.lines import Answer
 from meadow.sheets.pairs import bytes_as_text, pair_of
 from meadow.sheets.reading import read
+from meadow.words.drownings import tally_sense
+from meadow.words.list_reasons import list_reasons, sheets_reasons
 from meadow.words.log_reasons import both_reasons, unopened
 from meadow.words.reasons import reasons, refusal
 from meadow.words.sense import night_sense, sense
@@ -47,12 +53,29 @@ def of_log(*files):
     return 0
 
 
+def of_list(wet_depth, names):
+    """What `drowned` makes of a list of sheets."""
+    told = winters.told_of(listed(wet_depth, *(name.encode("utf-8", "surrogateescape") for name in names)))
+    refused = refusal(told)
+    if refused:
+        return say(refused, "", [list_reasons(wet_depth, names, refused)])
+    tally = tally_of(told)
+    print(*sheets_reasons(names, tally), tally_sense(tally, int(wet_depth)), sep="\n")
+    return 1 if tally.refused else 0
+
+
 def main():
-    words = argparse.ArgumentParser(prog="why.py", description="says in words why a sheet, or a sheet and a log, are refused")
-    words.add_argument("sheet", metavar="SHEET")
-    words.add_argument("--log", metavar="LOG", help="a hatch log over the sheet")
+    words = argparse.ArgumentParser(prog="why.py", description="says in words why a sheet, a sheet and a log, or a list of sheets are refused")
+    words.add_argument("sheets", metavar="SHEET", nargs="+")
+    kinds = words.add_mutually_exclusive_group()
+    kinds.add_argument("--log", metavar="LOG", help="a hatch log over the sheet")
+    kinds.add_argument("--drowned", metavar="DEPTH", help="the sheets are a list, and squares so deep, in µm, are counted as drowned")
     said = words.parse_args()
-    return of_log(said.sheet, said.log) if said.log else of_sheet(said.sheet)
+    if said.drowned is not None:
+        return of_list(said.drowned, said.sheets)
+    if len(said.sheets) > 1:
+        words.error("only a list has several sheets: --drowned DEPTH SHEET..")
+    return of_log(*said.sheets, said.log) if said.log else of_sheet(*said.sheets)
 
 
 if __name__ == "__main__":

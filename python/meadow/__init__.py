@@ -3,6 +3,7 @@
     rule         document 01, a module for each of its rules
     sheets       sheets and answers: their lines, written, read and judged
     logs         the hatch log: its lines, what they do, and what is printed of them
+    peaks        how deep each square ever was, in one run and in a winter's sheets
     words        what people are told of them
     surveys      from what people have measured to a sheet, and back
     maps         the map of an answer

@@ -18,7 +18,7 @@ use Rattle.text.specs.Writing.{lineText}
 use Rattle.text.proofs.ReadingLaws.{by-test}
 use Rattle.text.proofs.ApartLaws.{line-apart}
 use Rattle.sheet.specs.Lines.{cellWord}
-use Rattle.answer.specs.Printed.{outWord, soakWord, stepsWord, clockWord, refusedWord, refusedText, cellText, cellsText, madeText}
+use Rattle.answer.specs.Printed.{outWord, soakWord, stepsWord, clockWord, refusedWord, refusedText, cellText, cellsText, totalsText, madeText}
 use Rattle.answer.proofs.PrintLaws.{open-text}
 
 -- ---- the squares
@@ -67,7 +67,7 @@ total-apart word a b t u q =
 pub made-apart :
     (p : Plan) (d e : List ℕ) (u v : Run) (k m : ℕ) → madeText p d u k ≡ madeText p e v m →
     ((i : ℕ) → i < squares (p .shape) → SameAt p d e i) × (u .outflow ≡ v .outflow) × (u .soaked ≡ v .soaked) × (k ≡ m) × (u .clock ≡ v .clock)
-unfolding madeText cellsText
+unfolding madeText cellsText totalsText
 made-apart p d e u v k m q =
     let cells = cells-apart p d e (squares (p .shape)) _ _ q in
     let out = total-apart outWord (u .outflow) (v .outflow) _ _ (cells .1) in
@@ -105,7 +105,7 @@ unfolding lineText
 out-other total t = omega arith
 
 made-other : (p : Plan) (d : List ℕ) (u : Run) (steps : ℕ) → Other (madeText p d u steps)
-unfolding madeText cellsText
+unfolding madeText cellsText totalsText
 made-other p d u steps = cells-other p d (squares (p .shape)) _ (out-other (u .outflow) _)
 
 pub made-not-refused : (p : Plan) (d : List ℕ) (u : Run) (steps number line : ℕ) → madeText p d u steps ≡ refusedText number line → ⊥

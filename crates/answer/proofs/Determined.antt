@@ -7,5 +7,6 @@ pub answer-determined : AnswerDetermined
 answer-determined =
     record {
       put-refused = λ number line at room. written;
+      put-totals = λ u steps at room. written;
       put-world = λ p depths u steps at room. written;
     }

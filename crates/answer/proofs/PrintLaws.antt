@@ -18,7 +18,7 @@ use Rattle.text.specs.Writing.{lineText, Wrote}
 use Rattle.text.proofs.ReadingLaws.{by-lt}
 use Rattle.text.proofs.WritingLaws.{fields-text-short, line-text-long, placed-none, wrote-both, wrote-length}
 use Rattle.sheet.specs.Lines.{cellWord}
-use Rattle.answer.specs.Printed.{mostRefused, refusedWord, outWord, soakWord, stepsWord, clockWord, refusedText, cellText, cellsText, madeText}
+use Rattle.answer.specs.Printed.{mostRefused, refusedWord, outWord, soakWord, stepsWord, clockWord, refusedText, cellText, cellsText, totalsText, madeText}
 
 -- ---- how long a line can get
 
@@ -63,7 +63,7 @@ cell-short p depths i h g =
           (three-below (10 ^ 10) _ _ _ (omega (arith, div-le-self i (p .shape .columns))) (omega (arith, mod-le i (p .shape .columns))) (omega arith)),
     ))
 
-joined-short : (n k : ℕ) (f : ℕ → List ℕ) → ((i : ℕ) → i < n → length (f i) ≤ k) → length (joined n f) ≤ k * n
+pub joined-short : (n k : ℕ) (f : ℕ → List ℕ) → ((i : ℕ) → i < n → length (f i) ≤ k) → length (joined n f) ≤ k * n
 unfolding joined
 joined-short zero k f h = omega arith
 joined-short (suc n) k f h =
@@ -75,7 +75,7 @@ joined-short (suc n) k f h =
       mul-suc k n,
     )
 
--- ---- squares one after the other
+-- ---- lines one after the other
 
 joined-within : (f : ℕ → List ℕ) (n i : ℕ) → i ≤ n → length (joined i f) ≤ length (joined n f)
 unfolding joined
@@ -84,43 +84,36 @@ joined-within f (suc n) i h =
     by-lt i (suc n) (λ l. omega (arith, length-append (joined n f) (f n), joined-within f n i (omega arith)))
     (λ l. subst (λ (k : ℕ). length (joined k f) ≤ length (joined (suc n) f)) (let e : suc n ≡ i = omega arith in e) (le-refl _))
 
-module _ (p : Plan) (depths : List ℕ) (at : ℕ) (old : List ℕ) (fits : at + length (cellsText p depths) ≤ length old) where
-  so-far-fits : (i : ℕ) → i ≤ squares (p .shape) → at + length (joined i (cellText p depths)) ≤ length old
-  unfolding cellsText
-  so-far-fits i l = omega (arith, fits, joined-within (cellText p depths) (squares (p .shape)) i l)
+module _ (f : ℕ → List ℕ) (n at : ℕ) (old : List ℕ) (fits : at + length (joined n f) ≤ length old) where
+  so-far-fits : (i : ℕ) → i ≤ n → at + length (joined i f) ≤ length old
+  so-far-fits i l = omega (arith, fits, joined-within f n i l)
 
-  next-fits :
-      (i : ℕ) → i < squares (p .shape) → at + length (joined i (cellText p depths)) + length (cellText p depths i) ≤ length old
-  next-fits i l =
-      omega (
-        arith,
-        so-far-fits (i + 1) (omega arith),
-        ap length (joined-more i (cellText p depths)),
-        length-append (joined i (cellText p depths)) (cellText p depths i),
-      )
+  next-fits : (i : ℕ) → i < n → at + length (joined i f) + length (f i) ≤ length old
+  next-fits i l = omega (arith, so-far-fits (i + 1) (omega arith), ap length (joined-more i f), length-append (joined i f) (f i))
 
-  module _ (i : ℕ) {room : List ℕ} {next : ℕ} (w : Wrote (joined i (cellText p depths)) at old room next) where
-    pub squares-length : i ≤ squares (p .shape) → length room ≡ length old
-    squares-length l = wrote-length (so-far-fits i l) w
+  module _ (i : ℕ) {room : List ℕ} {next : ℕ} (w : Wrote (joined i f) at old room next) where
+    pub lines-length : i ≤ n → length room ≡ length old
+    lines-length l = wrote-length (so-far-fits i l) w
 
-    pub square-fits : i < squares (p .shape) → next + length (cellText p depths i) ≤ length room
-    square-fits l = omega (arith, w .next, next-fits i l, squares-length (omega arith))
+    pub line-fits : i < n → next + length (f i) ≤ length room
+    line-fits l = omega (arith, w .next, next-fits i l, lines-length (omega arith))
 
-    pub square-written :
-        {new : List ℕ} {r : ℕ} → i < squares (p .shape) → Wrote (cellText p depths i) next room new r →
-        Wrote (joined (i + 1) (cellText p depths)) at old new r
-    square-written {new} {r} l v =
-        subst (λ (t : List ℕ). Wrote t at old new r) (sym (joined-more i (cellText p depths)))
-        (wrote-both (next-fits i l) w v)
+    pub line-written : {new : List ℕ} {r : ℕ} → i < n → Wrote (f i) next room new r → Wrote (joined (i + 1) f) at old new r
+    line-written {new} {r} l v = subst (λ (t : List ℕ). Wrote t at old new r) (sym (joined-more i f)) (wrote-both (next-fits i l) w v)
+
+pub none-written : (f : ℕ → List ℕ) (at : ℕ) (room : List ℕ) → Wrote (joined 0 f) at room room at
+none-written f at room =
+    record {
+      next = omega (arith, ap length (joined-none f));
+      room = sym (ap (placed room at) (joined-none f) ∙ placed-none room at);
+    }
+
+-- all of them
+pub lines-whole :
+    (f : ℕ → List ℕ) {i n at next : ℕ} {old room : List ℕ} → i ≡ n → Wrote (joined i f) at old room next → Wrote (joined n f) at old room next
+lines-whole f {at = at} {next} {old} {room} e w = subst (λ (k : ℕ). Wrote (joined k f) at old room next) e w
 
 module _ (p : Plan) (depths : List ℕ) where
-  pub none-written : (at : ℕ) (room : List ℕ) → Wrote (joined 0 (cellText p depths)) at room room at
-  none-written at room =
-      record {
-        next = omega (arith, ap length (joined-none (cellText p depths)));
-        room = sym (ap (placed room at) (joined-none (cellText p depths)) ∙ placed-none room at);
-      }
-
   pub closed-written : (i : ℕ) {at : ℕ} {room : List ℕ} → shut p i ≡ true → Wrote (cellText p depths i) at room room at
   unfolding cellText
   closed-written i {at} {room} e =
@@ -141,9 +134,9 @@ pub line-as :
     {t : List ℕ} (word : List ℕ) (a b : ℕ) {d depth : ℕ} → d ≡ depth → t ≡ lineText word (a ∷ b ∷ depth ∷ []) → t ≡ lineText word (a ∷ b ∷ d ∷ [])
 line-as word a b e f = f ∙ ap (λ (k : ℕ). lineText word (a ∷ b ∷ k ∷ [])) (sym e)
 
--- ---- a world
+-- ---- the totals of a run
 
-module _ (p : Plan) (depths : List ℕ) (u : Run) (steps : ℕ) where
+module _ (u : Run) (steps : ℕ) where
   abbrev outText : List ℕ
   outText = lineText outWord (u .outflow ∷ [])
 
@@ -156,17 +149,69 @@ module _ (p : Plan) (depths : List ℕ) (u : Run) (steps : ℕ) where
   abbrev clockText : List ℕ
   clockText = lineText clockWord (u .clock ∷ [])
 
-  made-length :
-      length (madeText p depths u steps) ≡ length (cellsText p depths) + (length outText + (length soakText + (length stepsText + length clockText)))
-  unfolding madeText
-  made-length =
+  totals-length : length (totalsText u steps) ≡ length outText + (length soakText + (length stepsText + length clockText))
+  unfolding totalsText
+  totals-length =
       omega (
         arith,
-        length-append (cellsText p depths) (outText ++ (soakText ++ (stepsText ++ clockText))),
         length-append outText (soakText ++ (stepsText ++ clockText)),
         length-append soakText (stepsText ++ clockText),
         length-append stepsText clockText,
       )
+
+  -- the most bytes of them
+  pub totals-short :
+      u .outflow < 2 ^ 64 → u .soaked < 2 ^ 64 → steps < 2 ^ 64 → u .clock < 2 ^ 64 → length (totalsText u steps) ≤ 105
+  totals-short hu hk hs hc =
+      omega (
+        arith,
+        totals-length,
+        total-short outWord (u .outflow) hu,
+        total-short soakWord (u .soaked) hk,
+        total-short stepsWord steps hs,
+        total-short clockWord (u .clock) hc,
+      )
+
+  module _ (at : ℕ) (old : List ℕ) (fits : at + length (totalsText u steps) ≤ length old) where
+    pub out-fits : at + length outText ≤ length old
+    out-fits = omega (arith, fits, totals-length)
+
+    module _ {b : List ℕ} {j : ℕ} (x : Wrote outText at old b j) where
+      long-b : length b ≡ length old
+      long-b = wrote-length out-fits x
+
+      pub soak-fits : j + length soakText ≤ length b
+      soak-fits = omega (arith, x .next, long-b, fits, totals-length)
+
+      module _ {c : List ℕ} {k : ℕ} (s : Wrote soakText j b c k) where
+        long-c : length c ≡ length old
+        long-c = wrote-length soak-fits s ∙ long-b
+
+        pub steps-fit : k + length stepsText ≤ length c
+        steps-fit = omega (arith, x .next, s .next, long-c, fits, totals-length)
+
+        module _ {d : List ℕ} {l : ℕ} (y : Wrote stepsText k c d l) where
+          long-d : length d ≡ length old
+          long-d = wrote-length steps-fit y ∙ long-c
+
+          pub clock-fits : l + length clockText ≤ length d
+          clock-fits = omega (arith, x .next, s .next, y .next, long-d, fits, totals-length)
+
+          pub totals-written : {e : List ℕ} {r : ℕ} → Wrote clockText l d e r → Wrote (totalsText u steps) at old e r
+          unfolding totalsText
+          totals-written v =
+              let three = length-append soakText (stepsText ++ clockText) in
+              let two = length-append stepsText clockText in
+              wrote-both (omega (arith, fits, totals-length, three, two)) x
+              (wrote-both (omega (arith, x .next, long-b, fits, totals-length, two)) s
+              (wrote-both (omega (arith, x .next, s .next, long-c, fits, totals-length)) y v))
+
+-- ---- a world
+
+module _ (p : Plan) (depths : List ℕ) (u : Run) (steps : ℕ) where
+  made-length : length (madeText p depths u steps) ≡ length (cellsText p depths) + length (totalsText u steps)
+  unfolding madeText
+  made-length = length-append (cellsText p depths) (totalsText u steps)
 
   -- the most bytes of so many squares and the totals
   pub made-short :
@@ -178,10 +223,7 @@ module _ (p : Plan) (depths : List ℕ) (u : Run) (steps : ℕ) where
         arith,
         made-length,
         joined-short (squares (p .shape)) cellMost (cellText p depths) (λ i l. cell-short p depths i (omega (arith, l, few)) (words i)),
-        total-short outWord (u .outflow) hu,
-        total-short soakWord (u .soaked) hk,
-        total-short stepsWord steps hs,
-        total-short clockWord (u .clock) hc,
+        totals-short u steps hu hk hs hc,
       )
 
   module _ (at : ℕ) (old : List ℕ) (fits : at + length (madeText p depths u steps) ≤ length old) where
@@ -189,39 +231,9 @@ module _ (p : Plan) (depths : List ℕ) (u : Run) (steps : ℕ) where
     cells-fit = omega (arith, fits, made-length)
 
     module _ {a : List ℕ} {i : ℕ} (w : Wrote (cellsText p depths) at old a i) where
-      long-a : length a ≡ length old
-      long-a = wrote-length cells-fit w
+      pub totals-fit : i + length (totalsText u steps) ≤ length a
+      totals-fit = omega (arith, w .next, wrote-length cells-fit w, fits, made-length)
 
-      pub out-fits : i + length outText ≤ length a
-      out-fits = omega (arith, w .next, long-a, fits, made-length)
-
-      module _ {b : List ℕ} {j : ℕ} (x : Wrote outText i a b j) where
-        long-b : length b ≡ length old
-        long-b = wrote-length out-fits x ∙ long-a
-
-        pub soak-fits : j + length soakText ≤ length b
-        soak-fits = omega (arith, w .next, x .next, long-b, fits, made-length)
-
-        module _ {c : List ℕ} {k : ℕ} (s : Wrote soakText j b c k) where
-          long-c : length c ≡ length old
-          long-c = wrote-length soak-fits s ∙ long-b
-
-          pub steps-fit : k + length stepsText ≤ length c
-          steps-fit = omega (arith, w .next, x .next, s .next, long-c, fits, made-length)
-
-          module _ {d : List ℕ} {l : ℕ} (y : Wrote stepsText k c d l) where
-            long-d : length d ≡ length old
-            long-d = wrote-length steps-fit y ∙ long-c
-
-            pub clock-fits : l + length clockText ≤ length d
-            clock-fits = omega (arith, w .next, x .next, s .next, y .next, long-d, fits, made-length)
-
-            pub made-written : {e : List ℕ} {r : ℕ} → Wrote clockText l d e r → Wrote (madeText p depths u steps) at old e r
-            unfolding madeText
-            made-written v =
-                let three = length-append soakText (stepsText ++ clockText) in
-                let two = length-append stepsText clockText in
-                wrote-both (omega (arith, fits, made-length, length-append outText (soakText ++ (stepsText ++ clockText)), three, two)) w
-                (wrote-both (omega (arith, w .next, long-a, fits, made-length, three, two)) x
-                (wrote-both (omega (arith, w .next, x .next, long-b, fits, made-length, two)) s
-                (wrote-both (omega (arith, w .next, x .next, s .next, long-c, fits, made-length)) y v)))
+      pub made-written : {b : List ℕ} {r : ℕ} → Wrote (totalsText u steps) i a b r → Wrote (madeText p depths u steps) at old b r
+      unfolding madeText
+      made-written v = wrote-both (omega (arith, fits, made-length)) w v

@@ -45,11 +45,13 @@ unfoldable pub cellsText : Plan → List ℕ → List ℕ
 cellsText p depths = joined (squares (p .shape)) (cellText p depths)
 
 -- "then outflow, steps made, clock", and "`soak` and the total on a line after `out`" (document 02, #106)
+unfoldable pub totalsText : Run → ℕ → List ℕ
+totalsText u steps =
+    lineText outWord (u .outflow ∷ [])
+    ++ (lineText soakWord (u .soaked ∷ []) ++ (lineText stepsWord (steps ∷ []) ++ lineText clockWord (u .clock ∷ [])))
+
 unfoldable pub madeText : Plan → List ℕ → Run → ℕ → List ℕ
-madeText p depths u steps =
-    cellsText p depths
-    ++ (lineText outWord (u .outflow ∷ [])
-    ++ (lineText soakWord (u .soaked ∷ []) ++ (lineText stepsWord (steps ∷ []) ++ lineText clockWord (u .clock ∷ []))))
+madeText p depths u steps = cellsText p depths ++ totalsText u steps
 
 -- ---- what the public functions give
 
@@ -58,3 +60,6 @@ PutRefused number line at old new r = Wrote (refusedText number line) at old new
 
 abbrev pub PutWorld : Plan → List ℕ → Run → ℕ → ℕ → List ℕ → List ℕ → ℕ → Type 0
 PutWorld p depths u steps at old new r = Wrote (madeText p depths u steps) at old new r
+
+abbrev pub PutTotals : Run → ℕ → ℕ → List ℕ → List ℕ → ℕ → Type 0
+PutTotals u steps at old new r = Wrote (totalsText u steps) at old new r

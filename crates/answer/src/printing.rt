@@ -12,7 +12,7 @@ ghost use lib.ListN.{length};
 ghost use Rattle.grid.specs.Squares.{ShapeInRange, squares};
 ghost use Rattle.ledger.specs.Runs.{plan};
 ghost use Rattle.text.specs.Writing.{Wrote, lineText};
-ghost use Rattle.answer.specs.Printed.{PutRefused, PutWorld, cellText, cellsText, madeText, mostRefused};
+ghost use Rattle.answer.specs.Printed.{PutRefused, PutTotals, PutWorld, cellText, cellsText, madeText, mostRefused, totalsText};
 
 // The line of a refusal.
 pub fn put_refused(out: &mut [u8], at: usize, refusal: u32, line: usize) -> usize
@@ -73,7 +73,18 @@ fn put_total(out: &mut [u8], at: usize, word: &[u8], total: u64) -> usize
     put_line(out, at, word, &values)
 }
 
-// A world after so many steps: each square not closed with its depth, then outflow, what soaked, steps made and clock.
+// Outflow, what soaked, steps made and clock.
+pub fn put_totals(out: &mut [u8], at: usize, run: Run, steps: u64) -> usize
+    requires { ⌜ at + length (totalsText run steps) ≤ length (now out) ⌝ }
+    ensures { λ r. ⌜ PutTotals run steps at (now (out .entry)) (now (out .exit)) r ⌝ }
+{
+    let first = put_total(out, at, b"out", run.outflow);
+    let second = put_total(out, first, b"soak", run.soaked);
+    let third = put_total(out, second, b"steps", steps);
+    put_total(out, third, b"clock", run.clock)
+}
+
+// A world after so many steps: each square not closed with its depth, then the totals.
 pub fn put_world(
     out: &mut [u8],
     at: usize,
@@ -87,9 +98,6 @@ pub fn put_world(
     requires { ⌜ at + length (madeText (plan shape (now marks)) (now depths) run steps) ≤ length (now out) ⌝ }
     ensures { λ r. ⌜ PutWorld (plan shape (now (marks .entry))) (now (depths .entry)) run steps at (now (out .entry)) (now (out .exit)) r ⌝ }
 {
-    let first = put_squares(out, at, shape, marks, depths);
-    let second = put_total(out, first, b"out", run.outflow);
-    let third = put_total(out, second, b"soak", run.soaked);
-    let fourth = put_total(out, third, b"steps", steps);
-    put_total(out, fourth, b"clock", run.clock)
+    let next = put_squares(out, at, shape, marks, depths);
+    put_totals(out, next, run, steps)
 }

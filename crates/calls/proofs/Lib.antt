@@ -1,3 +1,4 @@
 pub mod EveningLaws
 pub mod ExportedLaws
 pub mod LibraryLaws
+pub mod ListedLaws

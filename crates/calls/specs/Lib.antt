@@ -1,3 +1,4 @@
 pub mod Evenings
 pub mod Exported
 pub mod Library
+pub mod Listed

@@ -2,3 +2,4 @@
 pub mod exported;
 pub mod hatch_log;
 pub mod library;
+pub mod listed;

@@ -21,7 +21,12 @@ use Rattle.text.proofs.Determined.{written}
 use Rattle.sheet.specs.Sheet.{Rooms, Reads, roomsAfter}
 use Rattle.sheet.specs.declared.reading.Sheet.{Sheet}
 use Rattle.exports.specs.Steps.{ExportsStep, ExportsRun}
-use Rattle.demands.specs.Determined.{LedgerDetermined, ChecksDetermined, FloodDetermined, SightDetermined, SheetDetermined, ProgramsDetermined, EveningsDetermined, ExportsDetermined, Determined}
+use Rattle.demands.specs.Determined.{LedgerDetermined, ChecksDetermined, FloodDetermined, SightDetermined, SheetDetermined, ProgramsDetermined, PeaksDetermined, ListsDetermined, EveningsDetermined, ExportsDetermined, Determined}
+use Rattle.peaks.specs.Peaks.{RunsPeaking}
+use Rattle.lists.specs.Sheets.{File}
+use Rattle.lists.specs.Tally as Lists
+use Rattle.lists.specs.Tally.{TakesSheet}
+use Rattle.lists.specs.declared.tally.Tally.{Tally}
 use Rattle.hatches.specs.Log.{Evening, evening}
 use Rattle.evenings.specs.Taking.{TakesEntry}
 use Rattle.evenings.specs.Shown.{TakesLine}
@@ -58,6 +63,22 @@ run-one a b x y =
     let e = x .ends ∙ sym (y .ends) in
     λ j. (record { refused = e j .number; steps = e j .steps; run = e j .world .run }, (e j .world .depths, (e j .world .lasts, e j .world .records)))
 
+peaks-one : {p : Plan} {g : Given} {end : ℕ} {w : World} {peaks clocks : List ℕ} →
+    One {Out = Ran × (List ℕ × (List ℕ × (List ℕ × (List ℕ × List ℕ))))}
+    (λ o. RunsPeaking p g end w peaks clocks (o .0) (o .1 .0) (o .1 .1 .0) (o .1 .1 .1 .0) (o .1 .1 .1 .1 .0) (o .1 .1 .1 .1 .1))
+peaks-one a b x y =
+    let e = x .ends ∙ sym (y .ends) in
+    λ j. (
+      record { refused = e j .number; steps = e j .steps; run = e j .world .run },
+      (
+        e j .world .depths,
+        (e j .world .lasts, (e j .world .records, ((x .peaks-are ∙ sym (y .peaks-are)) j, (x .clocks-are ∙ sym (y .clocks-are)) j))),
+      ),
+    )
+
+sheet-one : {t : Tally} {f : File} {r : Lists.Rooms} → One {Out = Tally × Lists.Rooms} (λ o. TakesSheet t f r (o .0) (o .1))
+sheet-one a b x y = λ j. ((x .tally-is ∙ sym (y .tally-is)) j, (x .rooms-are ∙ sym (y .rooms-are)) j)
+
 wet-one : {p : Plan} {depths : List ℕ} {least : ℕ} {old : List ℕ} → One {Out = Wet × List ℕ} (λ o. WetRowed p depths least old (o .0) (o .1))
 wet-one a b x y = λ j. ((x .answer ∙ sym (y .answer)) j, (x .rows-are ∙ sym (y .rows-are)) j)
 
@@ -92,6 +113,22 @@ sheet-determined = record { read = λ text before. read-one }
 
 programs-determined : ProgramsDetermined
 programs-determined = record { meadow-of = λ text old a b x y. written a b (x .wrote) (y .wrote) }
+
+peaks-determined : PeaksDetermined
+peaks-determined =
+    record {
+      run-peaks = λ p g end w peaks clocks. peaks-one;
+      highest-of = λ text old a b x y. written a b (x .wrote) (y .wrote);
+    }
+
+lists-determined : ListsDetermined
+lists-determined =
+    record {
+      read-list = λ text a b x y. x ∙ sym y;
+      begin-tally = λ wet a b x y. x ∙ sym y;
+      take-sheet = λ t f r. sheet-one;
+      put-drowned = λ t r old a b x y. written a b (x .wrote) (y .wrote);
+    }
 
 -- a room of which the first numbers and the rest are known
 held-one : {n : ℕ} {part old a b : List ℕ} → Holds n part old a → Holds n part old b → a ≡ b
@@ -218,6 +255,8 @@ determined =
       sight = sight-determined;
       sheet = sheet-determined;
       programs = programs-determined;
+      peaks = peaks-determined;
+      lists = lists-determined;
       evenings = evenings-determined;
       exports = exports-determined;
     }

@@ -26,7 +26,7 @@ use Rattle.sheet.specs.Sheet.{Rooms}
 use Rattle.sheet.specs.Written.{gridWritten, runWritten, groundAt, cellWritten, rowWritten, sheetWritten}
 use Rattle.sheet.specs.declared.reading.Heading.{Heading}
 use Rattle.sheet.proofs.WrittenLaws.{SheetStands, said-stands, read-stands, stands-written}
-use Rattle.answer.specs.Printed.{refusedText, cellText, cellsText, madeText}
+use Rattle.answer.specs.Printed.{refusedText, cellText, cellsText, totalsText, madeText}
 use Rattle.answer.proofs.ApartLaws.{made-apart, refused-apart, made-not-refused}
 use Rattle.demands.specs.Fields.{LineIs, placeOf, groundIn, SheetFields, SaysSame, SheetTold, AnswerTold}
 
@@ -153,7 +153,7 @@ sheet-told =
 -- ---- what is printed
 
 pub answer-told : AnswerTold
-unfolding madeText cellsText refusedText cellText bytesOf
+unfolding madeText totalsText cellsText refusedText cellText bytesOf
 answer-told =
     record {
       world = λ p depths u steps. refl;

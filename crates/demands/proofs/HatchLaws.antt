@@ -21,7 +21,7 @@ use Rattle.ledger.specs.TakeBack.{backNumber, takenBack}
 use Rattle.ledger.specs.declared.runs.Run.{Run}
 use Rattle.checks.specs.Given.{Given}
 use Rattle.flood.specs.Run.{Ended, goOn, runTo}
-use Rattle.answer.specs.Printed.{madeText}
+use Rattle.answer.specs.Printed.{totalsText, madeText}
 use Rattle.hatches.specs.Log.{Evening, evening, mostHatches, ratesKept, lineFine, entryRefusals, ratesBack}
 use Rattle.evenings.specs.Taking.{worldOf, drawn, entryNumber, stepsNumber, lineRun, further, backFrom, afterHatch, afterRate, afterBack, entered, afterEntry}
 use Rattle.evenings.specs.Shown.{standsText}
@@ -64,7 +64,7 @@ beside-same {K} {kept} {kept′} {newest} {newest′} {began} {began′} {s} {s�
 
 made-same : (p : Plan) {d d′ : List ℕ} (u u′ : Run) {s s′ : ℕ} → d ≡ d′ → u .outflow ≡ u′ .outflow → u .soaked ≡ u′ .soaked → u .clock ≡ u′ .clock → s ≡ s′ →
     madeText p d u s ≡ madeText p d′ u′ s′
-unfolding madeText
+unfolding madeText totalsText
 made-same p u u′ a b c e f = rw (a, b, c, e, f)
 
 module _ (p : Plan) where

@@ -34,7 +34,7 @@ use Rattle.text.specs.Reading.{isByte, wordAt, isDigit, digitsOf, valueFrom, we
 use Rattle.text.specs.Writing.{digitsIn, decimal, fieldText, fieldsText, restText, lineText}
 use Rattle.sheet.specs.Lines.{asGrid, gridLine, asRun, runLine, noCell, closedCell, asOpen, openCell, markedCell, placedCell, cellLine}
 use Rattle.sheet.specs.Sheet.{rooms, cellsRooms, shapeOf, lineTwo, rainTable, inflowTable, said, cellsRead, rowsRead, tableRows, badLine, cellsFilled, roomsFilled, roomsFine, checksIn, headingOf, judged, sheetOf}
-use Rattle.answer.specs.Printed.{refusedText, cellText, cellsText, madeText}
+use Rattle.answer.specs.Printed.{refusedText, cellText, cellsText, totalsText, madeText}
 use Rattle.programs.specs.Program.{endedText, runText, meadowText}
 use Rattle.programs.specs.Program.{sheetText}
 use Rattle.sight.specs.Refusals.{depthsFine, sharedRefusals}
@@ -176,45 +176,45 @@ number-cases =
 -- ---- what `meadow` prints
 
 printed : meadowText (bytesOf documentSheet) ≡ bytesOf documentOutput
-unfolding pick every allBelow firstFailing refusal tabulate filled joined placed sumBelow waterFine rootFrom rootOf rowGives tableGives rainBy onSquare inflowBy rowFine tableFine slotAfter slotBefore ringFine recordIn beside opposite onRim shapeFine closed exit markFine marksFine inflowSquareFine inflowSquaresFine dropOff candidate counts sideCandidates candidatesOf leastFrom heldBetween freshLength isUpdate lengthAt durationFor sideFine rateFine groundFine rulesFine lesserPositive leastDrop greatestDrop dropSum heightOf slopeOf criticalSpeed manningSpeed speedOf mostThrough totalOf throughSides nothingUnless weightedSides weighed runValuesFine runFine gone sent came offSide offSquare offGrid soakedSquare soakedGrid leavesIn lastIn addedIn soakedIn squareRecord recordOf roomSlots newestRecord remains newDepth depthsFit newOutflow newSoaked lateRefusals stepRecord worldAfter oneEach watersFine timesFine heldAndGone cameAndAdded depthBefore squareRestorable restorable worldBefore earlyRefusals backRefusals backNumber takenBack sideDrop dropsOf squareCandidates candidates leavesFor soakedFor soakBy soakDue addedFor stepLength stepDuration squareGroundFine groundsFine endFine checkRefusals stepNumber stepped goOn runFrom runTo freshRun isByte wordAt isDigit digitsOf valueFrom wellFormed numberFrom numberAt fieldAt before readFields lineEnded readRest readLine padded asFields lineLength nextLine lineFrom digitsIn decimal fieldText fieldsText restText lineText asGrid gridLine asRun runLine noCell closedCell asOpen openCell markedCell placedCell cellLine cellsRead rowsRead tableRows badLine cellsFilled roomsFilled roomsFine checksIn headingOf judged sheetOf refusedText cellText cellsText madeText endedText runText sheetText meadowText depthsFine sharedRefusals quotientOf Speeds.sideSpeed outThrough nearDepth throughSide allStill arrowBy sighted seenBy askedFine arrowEarlyRefusals arrowRefusals arrowNumber seenAt Ieee.sub bytesOf
+unfolding pick every allBelow firstFailing refusal tabulate filled joined placed sumBelow waterFine rootFrom rootOf rowGives tableGives rainBy onSquare inflowBy rowFine tableFine slotAfter slotBefore ringFine recordIn beside opposite onRim shapeFine closed exit markFine marksFine inflowSquareFine inflowSquaresFine dropOff candidate counts sideCandidates candidatesOf leastFrom heldBetween freshLength isUpdate lengthAt durationFor sideFine rateFine groundFine rulesFine lesserPositive leastDrop greatestDrop dropSum heightOf slopeOf criticalSpeed manningSpeed speedOf mostThrough totalOf throughSides nothingUnless weightedSides weighed runValuesFine runFine gone sent came offSide offSquare offGrid soakedSquare soakedGrid leavesIn lastIn addedIn soakedIn squareRecord recordOf roomSlots newestRecord remains newDepth depthsFit newOutflow newSoaked lateRefusals stepRecord worldAfter oneEach watersFine timesFine heldAndGone cameAndAdded depthBefore squareRestorable restorable worldBefore earlyRefusals backRefusals backNumber takenBack sideDrop dropsOf squareCandidates candidates leavesFor soakedFor soakBy soakDue addedFor stepLength stepDuration squareGroundFine groundsFine endFine checkRefusals stepNumber stepped goOn runFrom runTo freshRun isByte wordAt isDigit digitsOf valueFrom wellFormed numberFrom numberAt fieldAt before readFields lineEnded readRest readLine padded asFields lineLength nextLine lineFrom digitsIn decimal fieldText fieldsText restText lineText asGrid gridLine asRun runLine noCell closedCell asOpen openCell markedCell placedCell cellLine cellsRead rowsRead tableRows badLine cellsFilled roomsFilled roomsFine checksIn headingOf judged sheetOf refusedText cellText cellsText madeText totalsText endedText runText sheetText meadowText depthsFine sharedRefusals quotientOf Speeds.sideSpeed outThrough nearDepth throughSide allStill arrowBy sighted seenBy askedFine arrowEarlyRefusals arrowRefusals arrowNumber seenAt Ieee.sub bytesOf
 printed = refl
 
 text-shape : shapeOf (bytesOf wholeSheet) ≡ record { rows = 2; columns = 1 }
-unfolding pick every allBelow firstFailing refusal tabulate filled joined placed sumBelow waterFine rootFrom rootOf rowGives tableGives rainBy onSquare inflowBy rowFine tableFine slotAfter slotBefore ringFine recordIn beside opposite onRim shapeFine closed exit markFine marksFine inflowSquareFine inflowSquaresFine dropOff candidate counts sideCandidates candidatesOf leastFrom heldBetween freshLength isUpdate lengthAt durationFor sideFine rateFine groundFine rulesFine lesserPositive leastDrop greatestDrop dropSum heightOf slopeOf criticalSpeed manningSpeed speedOf mostThrough totalOf throughSides nothingUnless weightedSides weighed runValuesFine runFine gone sent came offSide offSquare offGrid soakedSquare soakedGrid leavesIn lastIn addedIn soakedIn squareRecord recordOf roomSlots newestRecord remains newDepth depthsFit newOutflow newSoaked lateRefusals stepRecord worldAfter oneEach watersFine timesFine heldAndGone cameAndAdded depthBefore squareRestorable restorable worldBefore earlyRefusals backRefusals backNumber takenBack sideDrop dropsOf squareCandidates candidates leavesFor soakedFor soakBy soakDue addedFor stepLength stepDuration squareGroundFine groundsFine endFine checkRefusals stepNumber stepped goOn runFrom runTo freshRun isByte wordAt isDigit digitsOf valueFrom wellFormed numberFrom numberAt fieldAt before readFields lineEnded readRest readLine padded asFields lineLength nextLine lineFrom digitsIn decimal fieldText fieldsText restText lineText asGrid gridLine asRun runLine noCell closedCell asOpen openCell markedCell placedCell cellLine cellsRead rowsRead tableRows badLine cellsFilled roomsFilled roomsFine checksIn headingOf judged sheetOf refusedText cellText cellsText madeText endedText runText sheetText meadowText depthsFine sharedRefusals quotientOf Speeds.sideSpeed outThrough nearDepth throughSide allStill arrowBy sighted seenBy askedFine arrowEarlyRefusals arrowRefusals arrowNumber seenAt Ieee.sub bytesOf
+unfolding pick every allBelow firstFailing refusal tabulate filled joined placed sumBelow waterFine rootFrom rootOf rowGives tableGives rainBy onSquare inflowBy rowFine tableFine slotAfter slotBefore ringFine recordIn beside opposite onRim shapeFine closed exit markFine marksFine inflowSquareFine inflowSquaresFine dropOff candidate counts sideCandidates candidatesOf leastFrom heldBetween freshLength isUpdate lengthAt durationFor sideFine rateFine groundFine rulesFine lesserPositive leastDrop greatestDrop dropSum heightOf slopeOf criticalSpeed manningSpeed speedOf mostThrough totalOf throughSides nothingUnless weightedSides weighed runValuesFine runFine gone sent came offSide offSquare offGrid soakedSquare soakedGrid leavesIn lastIn addedIn soakedIn squareRecord recordOf roomSlots newestRecord remains newDepth depthsFit newOutflow newSoaked lateRefusals stepRecord worldAfter oneEach watersFine timesFine heldAndGone cameAndAdded depthBefore squareRestorable restorable worldBefore earlyRefusals backRefusals backNumber takenBack sideDrop dropsOf squareCandidates candidates leavesFor soakedFor soakBy soakDue addedFor stepLength stepDuration squareGroundFine groundsFine endFine checkRefusals stepNumber stepped goOn runFrom runTo freshRun isByte wordAt isDigit digitsOf valueFrom wellFormed numberFrom numberAt fieldAt before readFields lineEnded readRest readLine padded asFields lineLength nextLine lineFrom digitsIn decimal fieldText fieldsText restText lineText asGrid gridLine asRun runLine noCell closedCell asOpen openCell markedCell placedCell cellLine cellsRead rowsRead tableRows badLine cellsFilled roomsFilled roomsFine checksIn headingOf judged sheetOf refusedText cellText cellsText madeText totalsText endedText runText sheetText meadowText depthsFine sharedRefusals quotientOf Speeds.sideSpeed outThrough nearDepth throughSide allStill arrowBy sighted seenBy askedFine arrowEarlyRefusals arrowRefusals arrowNumber seenAt Ieee.sub bytesOf
 text-shape = refl
 
 text-rules : lineTwo (bytesOf wholeSheet) .rules ≡ record { «square_side» = 3; tolerance = 10; shortest = 300; longest = 700; update = 1_000; edge = 5; edition = 2 }
-unfolding pick every allBelow firstFailing refusal tabulate filled joined placed sumBelow waterFine rootFrom rootOf rowGives tableGives rainBy onSquare inflowBy rowFine tableFine slotAfter slotBefore ringFine recordIn beside opposite onRim shapeFine closed exit markFine marksFine inflowSquareFine inflowSquaresFine dropOff candidate counts sideCandidates candidatesOf leastFrom heldBetween freshLength isUpdate lengthAt durationFor sideFine rateFine groundFine rulesFine lesserPositive leastDrop greatestDrop dropSum heightOf slopeOf criticalSpeed manningSpeed speedOf mostThrough totalOf throughSides nothingUnless weightedSides weighed runValuesFine runFine gone sent came offSide offSquare offGrid soakedSquare soakedGrid leavesIn lastIn addedIn soakedIn squareRecord recordOf roomSlots newestRecord remains newDepth depthsFit newOutflow newSoaked lateRefusals stepRecord worldAfter oneEach watersFine timesFine heldAndGone cameAndAdded depthBefore squareRestorable restorable worldBefore earlyRefusals backRefusals backNumber takenBack sideDrop dropsOf squareCandidates candidates leavesFor soakedFor soakBy soakDue addedFor stepLength stepDuration squareGroundFine groundsFine endFine checkRefusals stepNumber stepped goOn runFrom runTo freshRun isByte wordAt isDigit digitsOf valueFrom wellFormed numberFrom numberAt fieldAt before readFields lineEnded readRest readLine padded asFields lineLength nextLine lineFrom digitsIn decimal fieldText fieldsText restText lineText asGrid gridLine asRun runLine noCell closedCell asOpen openCell markedCell placedCell cellLine cellsRead rowsRead tableRows badLine cellsFilled roomsFilled roomsFine checksIn headingOf judged sheetOf refusedText cellText cellsText madeText endedText runText sheetText meadowText depthsFine sharedRefusals quotientOf Speeds.sideSpeed outThrough nearDepth throughSide allStill arrowBy sighted seenBy askedFine arrowEarlyRefusals arrowRefusals arrowNumber seenAt Ieee.sub bytesOf
+unfolding pick every allBelow firstFailing refusal tabulate filled joined placed sumBelow waterFine rootFrom rootOf rowGives tableGives rainBy onSquare inflowBy rowFine tableFine slotAfter slotBefore ringFine recordIn beside opposite onRim shapeFine closed exit markFine marksFine inflowSquareFine inflowSquaresFine dropOff candidate counts sideCandidates candidatesOf leastFrom heldBetween freshLength isUpdate lengthAt durationFor sideFine rateFine groundFine rulesFine lesserPositive leastDrop greatestDrop dropSum heightOf slopeOf criticalSpeed manningSpeed speedOf mostThrough totalOf throughSides nothingUnless weightedSides weighed runValuesFine runFine gone sent came offSide offSquare offGrid soakedSquare soakedGrid leavesIn lastIn addedIn soakedIn squareRecord recordOf roomSlots newestRecord remains newDepth depthsFit newOutflow newSoaked lateRefusals stepRecord worldAfter oneEach watersFine timesFine heldAndGone cameAndAdded depthBefore squareRestorable restorable worldBefore earlyRefusals backRefusals backNumber takenBack sideDrop dropsOf squareCandidates candidates leavesFor soakedFor soakBy soakDue addedFor stepLength stepDuration squareGroundFine groundsFine endFine checkRefusals stepNumber stepped goOn runFrom runTo freshRun isByte wordAt isDigit digitsOf valueFrom wellFormed numberFrom numberAt fieldAt before readFields lineEnded readRest readLine padded asFields lineLength nextLine lineFrom digitsIn decimal fieldText fieldsText restText lineText asGrid gridLine asRun runLine noCell closedCell asOpen openCell markedCell placedCell cellLine cellsRead rowsRead tableRows badLine cellsFilled roomsFilled roomsFine checksIn headingOf judged sheetOf refusedText cellText cellsText madeText totalsText endedText runText sheetText meadowText depthsFine sharedRefusals quotientOf Speeds.sideSpeed outThrough nearDepth throughSide allStill arrowBy sighted seenBy askedFine arrowEarlyRefusals arrowRefusals arrowNumber seenAt Ieee.sub bytesOf
 text-rules = refl
 
 text-end : lineTwo (bytesOf wholeSheet) .end ≡ 2_000
-unfolding pick every allBelow firstFailing refusal tabulate filled joined placed sumBelow waterFine rootFrom rootOf rowGives tableGives rainBy onSquare inflowBy rowFine tableFine slotAfter slotBefore ringFine recordIn beside opposite onRim shapeFine closed exit markFine marksFine inflowSquareFine inflowSquaresFine dropOff candidate counts sideCandidates candidatesOf leastFrom heldBetween freshLength isUpdate lengthAt durationFor sideFine rateFine groundFine rulesFine lesserPositive leastDrop greatestDrop dropSum heightOf slopeOf criticalSpeed manningSpeed speedOf mostThrough totalOf throughSides nothingUnless weightedSides weighed runValuesFine runFine gone sent came offSide offSquare offGrid soakedSquare soakedGrid leavesIn lastIn addedIn soakedIn squareRecord recordOf roomSlots newestRecord remains newDepth depthsFit newOutflow newSoaked lateRefusals stepRecord worldAfter oneEach watersFine timesFine heldAndGone cameAndAdded depthBefore squareRestorable restorable worldBefore earlyRefusals backRefusals backNumber takenBack sideDrop dropsOf squareCandidates candidates leavesFor soakedFor soakBy soakDue addedFor stepLength stepDuration squareGroundFine groundsFine endFine checkRefusals stepNumber stepped goOn runFrom runTo freshRun isByte wordAt isDigit digitsOf valueFrom wellFormed numberFrom numberAt fieldAt before readFields lineEnded readRest readLine padded asFields lineLength nextLine lineFrom digitsIn decimal fieldText fieldsText restText lineText asGrid gridLine asRun runLine noCell closedCell asOpen openCell markedCell placedCell cellLine cellsRead rowsRead tableRows badLine cellsFilled roomsFilled roomsFine checksIn headingOf judged sheetOf refusedText cellText cellsText madeText endedText runText sheetText meadowText depthsFine sharedRefusals quotientOf Speeds.sideSpeed outThrough nearDepth throughSide allStill arrowBy sighted seenBy askedFine arrowEarlyRefusals arrowRefusals arrowNumber seenAt Ieee.sub bytesOf
+unfolding pick every allBelow firstFailing refusal tabulate filled joined placed sumBelow waterFine rootFrom rootOf rowGives tableGives rainBy onSquare inflowBy rowFine tableFine slotAfter slotBefore ringFine recordIn beside opposite onRim shapeFine closed exit markFine marksFine inflowSquareFine inflowSquaresFine dropOff candidate counts sideCandidates candidatesOf leastFrom heldBetween freshLength isUpdate lengthAt durationFor sideFine rateFine groundFine rulesFine lesserPositive leastDrop greatestDrop dropSum heightOf slopeOf criticalSpeed manningSpeed speedOf mostThrough totalOf throughSides nothingUnless weightedSides weighed runValuesFine runFine gone sent came offSide offSquare offGrid soakedSquare soakedGrid leavesIn lastIn addedIn soakedIn squareRecord recordOf roomSlots newestRecord remains newDepth depthsFit newOutflow newSoaked lateRefusals stepRecord worldAfter oneEach watersFine timesFine heldAndGone cameAndAdded depthBefore squareRestorable restorable worldBefore earlyRefusals backRefusals backNumber takenBack sideDrop dropsOf squareCandidates candidates leavesFor soakedFor soakBy soakDue addedFor stepLength stepDuration squareGroundFine groundsFine endFine checkRefusals stepNumber stepped goOn runFrom runTo freshRun isByte wordAt isDigit digitsOf valueFrom wellFormed numberFrom numberAt fieldAt before readFields lineEnded readRest readLine padded asFields lineLength nextLine lineFrom digitsIn decimal fieldText fieldsText restText lineText asGrid gridLine asRun runLine noCell closedCell asOpen openCell markedCell placedCell cellLine cellsRead rowsRead tableRows badLine cellsFilled roomsFilled roomsFine checksIn headingOf judged sheetOf refusedText cellText cellsText madeText totalsText endedText runText sheetText meadowText depthsFine sharedRefusals quotientOf Speeds.sideSpeed outThrough nearDepth throughSide allStill arrowBy sighted seenBy askedFine arrowEarlyRefusals arrowRefusals arrowNumber seenAt Ieee.sub bytesOf
 text-end = refl
 
 text-cells : said (bytesOf wholeSheet) .cells ≡ cellsRooms (1 ∷ 0 ∷ []) (60 ∷ 0 ∷ []) (100 ∷ 0 ∷ []) (36 ∷ 0 ∷ []) (50 ∷ 0 ∷ [])
-unfolding pick every allBelow firstFailing refusal tabulate filled joined placed sumBelow waterFine rootFrom rootOf rowGives tableGives rainBy onSquare inflowBy rowFine tableFine slotAfter slotBefore ringFine recordIn beside opposite onRim shapeFine closed exit markFine marksFine inflowSquareFine inflowSquaresFine dropOff candidate counts sideCandidates candidatesOf leastFrom heldBetween freshLength isUpdate lengthAt durationFor sideFine rateFine groundFine rulesFine lesserPositive leastDrop greatestDrop dropSum heightOf slopeOf criticalSpeed manningSpeed speedOf mostThrough totalOf throughSides nothingUnless weightedSides weighed runValuesFine runFine gone sent came offSide offSquare offGrid soakedSquare soakedGrid leavesIn lastIn addedIn soakedIn squareRecord recordOf roomSlots newestRecord remains newDepth depthsFit newOutflow newSoaked lateRefusals stepRecord worldAfter oneEach watersFine timesFine heldAndGone cameAndAdded depthBefore squareRestorable restorable worldBefore earlyRefusals backRefusals backNumber takenBack sideDrop dropsOf squareCandidates candidates leavesFor soakedFor soakBy soakDue addedFor stepLength stepDuration squareGroundFine groundsFine endFine checkRefusals stepNumber stepped goOn runFrom runTo freshRun isByte wordAt isDigit digitsOf valueFrom wellFormed numberFrom numberAt fieldAt before readFields lineEnded readRest readLine padded asFields lineLength nextLine lineFrom digitsIn decimal fieldText fieldsText restText lineText asGrid gridLine asRun runLine noCell closedCell asOpen openCell markedCell placedCell cellLine cellsRead rowsRead tableRows badLine cellsFilled roomsFilled roomsFine checksIn headingOf judged sheetOf refusedText cellText cellsText madeText endedText runText sheetText meadowText depthsFine sharedRefusals quotientOf Speeds.sideSpeed outThrough nearDepth throughSide allStill arrowBy sighted seenBy askedFine arrowEarlyRefusals arrowRefusals arrowNumber seenAt Ieee.sub bytesOf
+unfolding pick every allBelow firstFailing refusal tabulate filled joined placed sumBelow waterFine rootFrom rootOf rowGives tableGives rainBy onSquare inflowBy rowFine tableFine slotAfter slotBefore ringFine recordIn beside opposite onRim shapeFine closed exit markFine marksFine inflowSquareFine inflowSquaresFine dropOff candidate counts sideCandidates candidatesOf leastFrom heldBetween freshLength isUpdate lengthAt durationFor sideFine rateFine groundFine rulesFine lesserPositive leastDrop greatestDrop dropSum heightOf slopeOf criticalSpeed manningSpeed speedOf mostThrough totalOf throughSides nothingUnless weightedSides weighed runValuesFine runFine gone sent came offSide offSquare offGrid soakedSquare soakedGrid leavesIn lastIn addedIn soakedIn squareRecord recordOf roomSlots newestRecord remains newDepth depthsFit newOutflow newSoaked lateRefusals stepRecord worldAfter oneEach watersFine timesFine heldAndGone cameAndAdded depthBefore squareRestorable restorable worldBefore earlyRefusals backRefusals backNumber takenBack sideDrop dropsOf squareCandidates candidates leavesFor soakedFor soakBy soakDue addedFor stepLength stepDuration squareGroundFine groundsFine endFine checkRefusals stepNumber stepped goOn runFrom runTo freshRun isByte wordAt isDigit digitsOf valueFrom wellFormed numberFrom numberAt fieldAt before readFields lineEnded readRest readLine padded asFields lineLength nextLine lineFrom digitsIn decimal fieldText fieldsText restText lineText asGrid gridLine asRun runLine noCell closedCell asOpen openCell markedCell placedCell cellLine cellsRead rowsRead tableRows badLine cellsFilled roomsFilled roomsFine checksIn headingOf judged sheetOf refusedText cellText cellsText madeText totalsText endedText runText sheetText meadowText depthsFine sharedRefusals quotientOf Speeds.sideSpeed outThrough nearDepth throughSide allStill arrowBy sighted seenBy askedFine arrowEarlyRefusals arrowRefusals arrowNumber seenAt Ieee.sub bytesOf
 text-cells = refl
 
 text-rain : rainTable (bytesOf wholeSheet) ≡ 51 ∷ 150 ∷ 90 ∷ []
-unfolding pick every allBelow firstFailing refusal tabulate filled joined placed sumBelow waterFine rootFrom rootOf rowGives tableGives rainBy onSquare inflowBy rowFine tableFine slotAfter slotBefore ringFine recordIn beside opposite onRim shapeFine closed exit markFine marksFine inflowSquareFine inflowSquaresFine dropOff candidate counts sideCandidates candidatesOf leastFrom heldBetween freshLength isUpdate lengthAt durationFor sideFine rateFine groundFine rulesFine lesserPositive leastDrop greatestDrop dropSum heightOf slopeOf criticalSpeed manningSpeed speedOf mostThrough totalOf throughSides nothingUnless weightedSides weighed runValuesFine runFine gone sent came offSide offSquare offGrid soakedSquare soakedGrid leavesIn lastIn addedIn soakedIn squareRecord recordOf roomSlots newestRecord remains newDepth depthsFit newOutflow newSoaked lateRefusals stepRecord worldAfter oneEach watersFine timesFine heldAndGone cameAndAdded depthBefore squareRestorable restorable worldBefore earlyRefusals backRefusals backNumber takenBack sideDrop dropsOf squareCandidates candidates leavesFor soakedFor soakBy soakDue addedFor stepLength stepDuration squareGroundFine groundsFine endFine checkRefusals stepNumber stepped goOn runFrom runTo freshRun isByte wordAt isDigit digitsOf valueFrom wellFormed numberFrom numberAt fieldAt before readFields lineEnded readRest readLine padded asFields lineLength nextLine lineFrom digitsIn decimal fieldText fieldsText restText lineText asGrid gridLine asRun runLine noCell closedCell asOpen openCell markedCell placedCell cellLine cellsRead rowsRead tableRows badLine cellsFilled roomsFilled roomsFine checksIn headingOf judged sheetOf refusedText cellText cellsText madeText endedText runText sheetText meadowText depthsFine sharedRefusals quotientOf Speeds.sideSpeed outThrough nearDepth throughSide allStill arrowBy sighted seenBy askedFine arrowEarlyRefusals arrowRefusals arrowNumber seenAt Ieee.sub bytesOf
+unfolding pick every allBelow firstFailing refusal tabulate filled joined placed sumBelow waterFine rootFrom rootOf rowGives tableGives rainBy onSquare inflowBy rowFine tableFine slotAfter slotBefore ringFine recordIn beside opposite onRim shapeFine closed exit markFine marksFine inflowSquareFine inflowSquaresFine dropOff candidate counts sideCandidates candidatesOf leastFrom heldBetween freshLength isUpdate lengthAt durationFor sideFine rateFine groundFine rulesFine lesserPositive leastDrop greatestDrop dropSum heightOf slopeOf criticalSpeed manningSpeed speedOf mostThrough totalOf throughSides nothingUnless weightedSides weighed runValuesFine runFine gone sent came offSide offSquare offGrid soakedSquare soakedGrid leavesIn lastIn addedIn soakedIn squareRecord recordOf roomSlots newestRecord remains newDepth depthsFit newOutflow newSoaked lateRefusals stepRecord worldAfter oneEach watersFine timesFine heldAndGone cameAndAdded depthBefore squareRestorable restorable worldBefore earlyRefusals backRefusals backNumber takenBack sideDrop dropsOf squareCandidates candidates leavesFor soakedFor soakBy soakDue addedFor stepLength stepDuration squareGroundFine groundsFine endFine checkRefusals stepNumber stepped goOn runFrom runTo freshRun isByte wordAt isDigit digitsOf valueFrom wellFormed numberFrom numberAt fieldAt before readFields lineEnded readRest readLine padded asFields lineLength nextLine lineFrom digitsIn decimal fieldText fieldsText restText lineText asGrid gridLine asRun runLine noCell closedCell asOpen openCell markedCell placedCell cellLine cellsRead rowsRead tableRows badLine cellsFilled roomsFilled roomsFine checksIn headingOf judged sheetOf refusedText cellText cellsText madeText totalsText endedText runText sheetText meadowText depthsFine sharedRefusals quotientOf Speeds.sideSpeed outThrough nearDepth throughSide allStill arrowBy sighted seenBy askedFine arrowEarlyRefusals arrowRefusals arrowNumber seenAt Ieee.sub bytesOf
 text-rain = refl
 
 text-inflow : inflowTable (bytesOf wholeSheet) ≡ 0 ∷ 0 ∷ 7 ∷ 101 ∷ 8 ∷ []
-unfolding pick every allBelow firstFailing refusal tabulate filled joined placed sumBelow waterFine rootFrom rootOf rowGives tableGives rainBy onSquare inflowBy rowFine tableFine slotAfter slotBefore ringFine recordIn beside opposite onRim shapeFine closed exit markFine marksFine inflowSquareFine inflowSquaresFine dropOff candidate counts sideCandidates candidatesOf leastFrom heldBetween freshLength isUpdate lengthAt durationFor sideFine rateFine groundFine rulesFine lesserPositive leastDrop greatestDrop dropSum heightOf slopeOf criticalSpeed manningSpeed speedOf mostThrough totalOf throughSides nothingUnless weightedSides weighed runValuesFine runFine gone sent came offSide offSquare offGrid soakedSquare soakedGrid leavesIn lastIn addedIn soakedIn squareRecord recordOf roomSlots newestRecord remains newDepth depthsFit newOutflow newSoaked lateRefusals stepRecord worldAfter oneEach watersFine timesFine heldAndGone cameAndAdded depthBefore squareRestorable restorable worldBefore earlyRefusals backRefusals backNumber takenBack sideDrop dropsOf squareCandidates candidates leavesFor soakedFor soakBy soakDue addedFor stepLength stepDuration squareGroundFine groundsFine endFine checkRefusals stepNumber stepped goOn runFrom runTo freshRun isByte wordAt isDigit digitsOf valueFrom wellFormed numberFrom numberAt fieldAt before readFields lineEnded readRest readLine padded asFields lineLength nextLine lineFrom digitsIn decimal fieldText fieldsText restText lineText asGrid gridLine asRun runLine noCell closedCell asOpen openCell markedCell placedCell cellLine cellsRead rowsRead tableRows badLine cellsFilled roomsFilled roomsFine checksIn headingOf judged sheetOf refusedText cellText cellsText madeText endedText runText sheetText meadowText depthsFine sharedRefusals quotientOf Speeds.sideSpeed outThrough nearDepth throughSide allStill arrowBy sighted seenBy askedFine arrowEarlyRefusals arrowRefusals arrowNumber seenAt Ieee.sub bytesOf
+unfolding pick every allBelow firstFailing refusal tabulate filled joined placed sumBelow waterFine rootFrom rootOf rowGives tableGives rainBy onSquare inflowBy rowFine tableFine slotAfter slotBefore ringFine recordIn beside opposite onRim shapeFine closed exit markFine marksFine inflowSquareFine inflowSquaresFine dropOff candidate counts sideCandidates candidatesOf leastFrom heldBetween freshLength isUpdate lengthAt durationFor sideFine rateFine groundFine rulesFine lesserPositive leastDrop greatestDrop dropSum heightOf slopeOf criticalSpeed manningSpeed speedOf mostThrough totalOf throughSides nothingUnless weightedSides weighed runValuesFine runFine gone sent came offSide offSquare offGrid soakedSquare soakedGrid leavesIn lastIn addedIn soakedIn squareRecord recordOf roomSlots newestRecord remains newDepth depthsFit newOutflow newSoaked lateRefusals stepRecord worldAfter oneEach watersFine timesFine heldAndGone cameAndAdded depthBefore squareRestorable restorable worldBefore earlyRefusals backRefusals backNumber takenBack sideDrop dropsOf squareCandidates candidates leavesFor soakedFor soakBy soakDue addedFor stepLength stepDuration squareGroundFine groundsFine endFine checkRefusals stepNumber stepped goOn runFrom runTo freshRun isByte wordAt isDigit digitsOf valueFrom wellFormed numberFrom numberAt fieldAt before readFields lineEnded readRest readLine padded asFields lineLength nextLine lineFrom digitsIn decimal fieldText fieldsText restText lineText asGrid gridLine asRun runLine noCell closedCell asOpen openCell markedCell placedCell cellLine cellsRead rowsRead tableRows badLine cellsFilled roomsFilled roomsFine checksIn headingOf judged sheetOf refusedText cellText cellsText madeText totalsText endedText runText sheetText meadowText depthsFine sharedRefusals quotientOf Speeds.sideSpeed outThrough nearDepth throughSide allStill arrowBy sighted seenBy askedFine arrowEarlyRefusals arrowRefusals arrowNumber seenAt Ieee.sub bytesOf
 text-inflow = refl
 
 text-printed :
     madeText (plan (record { rows = 1; columns = 3 }) (1 ∷ 0 ∷ 2 ∷ [])) (7 ∷ 8 ∷ 9 ∷ [])
     (record { clock = 4; length = 5; outflow = 1; kept = 6; newest = 10; soaked = 2 }) 3
     ≡ bytesOf printedWorld
-unfolding pick every allBelow firstFailing refusal tabulate filled joined placed sumBelow waterFine rootFrom rootOf rowGives tableGives rainBy onSquare inflowBy rowFine tableFine slotAfter slotBefore ringFine recordIn beside opposite onRim shapeFine closed exit markFine marksFine inflowSquareFine inflowSquaresFine dropOff candidate counts sideCandidates candidatesOf leastFrom heldBetween freshLength isUpdate lengthAt durationFor sideFine rateFine groundFine rulesFine lesserPositive leastDrop greatestDrop dropSum heightOf slopeOf criticalSpeed manningSpeed speedOf mostThrough totalOf throughSides nothingUnless weightedSides weighed runValuesFine runFine gone sent came offSide offSquare offGrid soakedSquare soakedGrid leavesIn lastIn addedIn soakedIn squareRecord recordOf roomSlots newestRecord remains newDepth depthsFit newOutflow newSoaked lateRefusals stepRecord worldAfter oneEach watersFine timesFine heldAndGone cameAndAdded depthBefore squareRestorable restorable worldBefore earlyRefusals backRefusals backNumber takenBack sideDrop dropsOf squareCandidates candidates leavesFor soakedFor soakBy soakDue addedFor stepLength stepDuration squareGroundFine groundsFine endFine checkRefusals stepNumber stepped goOn runFrom runTo freshRun isByte wordAt isDigit digitsOf valueFrom wellFormed numberFrom numberAt fieldAt before readFields lineEnded readRest readLine padded asFields lineLength nextLine lineFrom digitsIn decimal fieldText fieldsText restText lineText asGrid gridLine asRun runLine noCell closedCell asOpen openCell markedCell placedCell cellLine cellsRead rowsRead tableRows badLine cellsFilled roomsFilled roomsFine checksIn headingOf judged sheetOf refusedText cellText cellsText madeText endedText runText sheetText meadowText depthsFine sharedRefusals quotientOf Speeds.sideSpeed outThrough nearDepth throughSide allStill arrowBy sighted seenBy askedFine arrowEarlyRefusals arrowRefusals arrowNumber seenAt Ieee.sub bytesOf
+unfolding pick every allBelow firstFailing refusal tabulate filled joined placed sumBelow waterFine rootFrom rootOf rowGives tableGives rainBy onSquare inflowBy rowFine tableFine slotAfter slotBefore ringFine recordIn beside opposite onRim shapeFine closed exit markFine marksFine inflowSquareFine inflowSquaresFine dropOff candidate counts sideCandidates candidatesOf leastFrom heldBetween freshLength isUpdate lengthAt durationFor sideFine rateFine groundFine rulesFine lesserPositive leastDrop greatestDrop dropSum heightOf slopeOf criticalSpeed manningSpeed speedOf mostThrough totalOf throughSides nothingUnless weightedSides weighed runValuesFine runFine gone sent came offSide offSquare offGrid soakedSquare soakedGrid leavesIn lastIn addedIn soakedIn squareRecord recordOf roomSlots newestRecord remains newDepth depthsFit newOutflow newSoaked lateRefusals stepRecord worldAfter oneEach watersFine timesFine heldAndGone cameAndAdded depthBefore squareRestorable restorable worldBefore earlyRefusals backRefusals backNumber takenBack sideDrop dropsOf squareCandidates candidates leavesFor soakedFor soakBy soakDue addedFor stepLength stepDuration squareGroundFine groundsFine endFine checkRefusals stepNumber stepped goOn runFrom runTo freshRun isByte wordAt isDigit digitsOf valueFrom wellFormed numberFrom numberAt fieldAt before readFields lineEnded readRest readLine padded asFields lineLength nextLine lineFrom digitsIn decimal fieldText fieldsText restText lineText asGrid gridLine asRun runLine noCell closedCell asOpen openCell markedCell placedCell cellLine cellsRead rowsRead tableRows badLine cellsFilled roomsFilled roomsFine checksIn headingOf judged sheetOf refusedText cellText cellsText madeText totalsText endedText runText sheetText meadowText depthsFine sharedRefusals quotientOf Speeds.sideSpeed outThrough nearDepth throughSide allStill arrowBy sighted seenBy askedFine arrowEarlyRefusals arrowRefusals arrowNumber seenAt Ieee.sub bytesOf
 text-printed = refl
 
 text-cases : TextCases
 text-cases = record { shape = text-shape; rules = text-rules; end = text-end; cells = text-cells; rain = text-rain; inflow = text-inflow; printed = text-printed }
 
 ditch-cases : DitchCases
-unfolding pick every allBelow firstFailing refusal tabulate filled joined placed sumBelow waterFine rootFrom rootOf rowGives tableGives rainBy onSquare inflowBy rowFine tableFine slotAfter slotBefore ringFine recordIn beside opposite onRim shapeFine closed exit markFine marksFine inflowSquareFine inflowSquaresFine dropOff candidate counts sideCandidates candidatesOf leastFrom heldBetween freshLength isUpdate lengthAt durationFor sideFine rateFine groundFine rulesFine lesserPositive leastDrop greatestDrop dropSum heightOf slopeOf criticalSpeed manningSpeed speedOf mostThrough totalOf throughSides nothingUnless weightedSides weighed runValuesFine runFine gone sent came offSide offSquare offGrid soakedSquare soakedGrid leavesIn lastIn addedIn soakedIn squareRecord recordOf roomSlots newestRecord remains newDepth depthsFit newOutflow newSoaked lateRefusals stepRecord worldAfter oneEach watersFine timesFine heldAndGone cameAndAdded depthBefore squareRestorable restorable worldBefore earlyRefusals backRefusals backNumber takenBack sideDrop dropsOf squareCandidates candidates leavesFor soakedFor soakBy soakDue addedFor stepLength stepDuration squareGroundFine groundsFine endFine checkRefusals stepNumber stepped goOn runFrom runTo freshRun isByte wordAt isDigit digitsOf valueFrom wellFormed numberFrom numberAt fieldAt before readFields lineEnded readRest readLine padded asFields lineLength nextLine lineFrom digitsIn decimal fieldText fieldsText restText lineText asGrid gridLine asRun runLine noCell closedCell asOpen openCell markedCell placedCell cellLine cellsRead rowsRead tableRows badLine cellsFilled roomsFilled roomsFine checksIn headingOf judged sheetOf refusedText cellText cellsText madeText endedText runText sheetText meadowText depthsFine sharedRefusals quotientOf Speeds.sideSpeed outThrough nearDepth throughSide allStill arrowBy sighted seenBy askedFine arrowEarlyRefusals arrowRefusals arrowNumber seenAt Ieee.sub bytesOf
+unfolding pick every allBelow firstFailing refusal tabulate filled joined placed sumBelow waterFine rootFrom rootOf rowGives tableGives rainBy onSquare inflowBy rowFine tableFine slotAfter slotBefore ringFine recordIn beside opposite onRim shapeFine closed exit markFine marksFine inflowSquareFine inflowSquaresFine dropOff candidate counts sideCandidates candidatesOf leastFrom heldBetween freshLength isUpdate lengthAt durationFor sideFine rateFine groundFine rulesFine lesserPositive leastDrop greatestDrop dropSum heightOf slopeOf criticalSpeed manningSpeed speedOf mostThrough totalOf throughSides nothingUnless weightedSides weighed runValuesFine runFine gone sent came offSide offSquare offGrid soakedSquare soakedGrid leavesIn lastIn addedIn soakedIn squareRecord recordOf roomSlots newestRecord remains newDepth depthsFit newOutflow newSoaked lateRefusals stepRecord worldAfter oneEach watersFine timesFine heldAndGone cameAndAdded depthBefore squareRestorable restorable worldBefore earlyRefusals backRefusals backNumber takenBack sideDrop dropsOf squareCandidates candidates leavesFor soakedFor soakBy soakDue addedFor stepLength stepDuration squareGroundFine groundsFine endFine checkRefusals stepNumber stepped goOn runFrom runTo freshRun isByte wordAt isDigit digitsOf valueFrom wellFormed numberFrom numberAt fieldAt before readFields lineEnded readRest readLine padded asFields lineLength nextLine lineFrom digitsIn decimal fieldText fieldsText restText lineText asGrid gridLine asRun runLine noCell closedCell asOpen openCell markedCell placedCell cellLine cellsRead rowsRead tableRows badLine cellsFilled roomsFilled roomsFine checksIn headingOf judged sheetOf refusedText cellText cellsText madeText totalsText endedText runText sheetText meadowText depthsFine sharedRefusals quotientOf Speeds.sideSpeed outThrough nearDepth throughSide allStill arrowBy sighted seenBy askedFine arrowEarlyRefusals arrowRefusals arrowNumber seenAt Ieee.sub bytesOf
 ditch-cases =
     record {
       edge-binds = refl;

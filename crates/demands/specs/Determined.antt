@@ -27,6 +27,13 @@ use Rattle.exports.specs.Steps.{ExportsFresh, ExportsStep, ExportsRun, ExportsB
 use Rattle.exports.specs.Bounds.{ExportsBounds}
 use Rattle.exports.specs.Sights.{ExportsArrow, ExportsWet}
 use Rattle.exports.specs.Sheets.{ExportsRead, ExportsMeadow}
+use Rattle.peaks.specs.Peaks.{RunsPeaking}
+use Rattle.peaks.specs.Highest.{highestText}
+use Rattle.lists.specs.Names.{ListRead}
+use Rattle.lists.specs.Sheets.{File}
+use Rattle.lists.specs.Tally as Lists
+use Rattle.lists.specs.Tally.{TakesSheet, PutsDrowned}
+use Rattle.lists.specs.declared.tally.Tally.{Tally}
 use Rattle.hatches.specs.Log.{Evening, evening}
 use Rattle.evenings.specs.Taking.{TakesEntry}
 use Rattle.evenings.specs.Shown.{TakesLine}
@@ -61,6 +68,19 @@ pub record SheetDetermined : Type 0 where
 
 pub record ProgramsDetermined : Type 0 where
   pub meadow-of : (text old : List ℕ) → One {Out = ℕ × List ℕ} (λ o. Prints (meadowText text) old (o .1) (o .0))
+
+pub record PeaksDetermined : Type 0 where
+  pub run-peaks : (p : Plan) (g : Given) (end : ℕ) (w : World) (peaks clocks : List ℕ) →
+      One {Out = Ran × (List ℕ × (List ℕ × (List ℕ × (List ℕ × List ℕ))))}
+      (λ o. RunsPeaking p g end w peaks clocks (o .0) (o .1 .0) (o .1 .1 .0) (o .1 .1 .1 .0) (o .1 .1 .1 .1 .0) (o .1 .1 .1 .1 .1))
+  pub highest-of : (text old : List ℕ) → One {Out = ℕ × List ℕ} (λ o. Prints (highestText text) old (o .1) (o .0))
+
+-- what a list keeps in its five rooms stands together
+pub record ListsDetermined : Type 0 where
+  pub read-list : (text : List ℕ) → One (ListRead text)
+  pub begin-tally : (wet : ℕ) → One (Lists.Begins wet)
+  pub take-sheet : (t : Tally) (f : File) (r : Lists.Rooms) → One {Out = Tally × Lists.Rooms} (λ o. TakesSheet t f r (o .0) (o .1))
+  pub put-drowned : (t : Tally) (r : Lists.Rooms) (old : List ℕ) → One {Out = ℕ × List ℕ} (λ o. PutsDrowned t r old (o .1) (o .0))
 
 -- `take_entry` and `take_line` tell the log's own value beside the rooms
 pub record EveningsDetermined : Type 0 where
@@ -109,5 +129,7 @@ pub record Determined : Type 0 where
   pub sight : SightDetermined
   pub sheet : SheetDetermined
   pub programs : ProgramsDetermined
+  pub peaks : PeaksDetermined
+  pub lists : ListsDetermined
   pub evenings : EveningsDetermined
   pub exports : ExportsDetermined

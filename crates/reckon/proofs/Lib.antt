@@ -1,6 +1,7 @@
 pub mod CopyLaws
 pub mod Determined
 pub mod ListLaws
+pub mod MostLaws
 pub mod OutcomeLaws
 pub mod PlaceLaws
 pub mod QuotientLaws

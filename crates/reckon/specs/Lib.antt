@@ -1,5 +1,6 @@
 pub mod Copying
 pub mod Lists
+pub mod Most
 pub mod Numbers
 pub mod Outcomes
 pub mod Ranges

@@ -1,14 +1,10 @@
 """Document 02, #107: what the program `hatchlog` prints, of the texts of a sheet and a log and of the two names at its standard input."""
-from pathlib import Path
-
 from ..rule.refusals import Refused, check
+from ..sheets.files import opened
 from ..sheets.lines import refused_text
 from ..sheets.reading import MOST_BYTES, meadow_of, read
 from .entries import entries_in
 from .evening import Evening
-
-# the most bytes of a name that the system opens
-MOST_NAME = 4_095
 
 
 def evening_of(sheet_text):
@@ -36,16 +32,6 @@ def names_in(given):
     """The two names at the standard input, each ended by a newline; None where there are not exactly two."""
     *names, rest = given.split(b"\n")
     return names if len(names) == 2 and rest == b"" else None
-
-
-def opened(name):
-    """The bytes of the file of a name; None where it cannot be opened, or not be read."""
-    if len(name) > MOST_NAME or b"\0" in name:
-        return None
-    try:
-        return Path(name.decode("utf-8", "surrogateescape")).read_bytes() if name else None
-    except OSError:
-        return None
 
 
 def named(given):

@@ -154,15 +154,24 @@ def ground_and_water(paper, pair, standing):
     yield from hatch_signs(paper, pair)
 
 
+def beside_it(paper):
+    """Where the legend begins, right of the map."""
+    return paper.corner((0, paper.sheet.columns))[0] + GAP, TOP
+
+
+def framed(paper, title, drawn, beside, needed):
+    """The text of a map: its title, what is drawn on the grid, the grid's numbers, a scale, and the legend, which reaches down so far."""
+    right, bottom = paper.corner((paper.sheet.rows, paper.sheet.columns))
+    width, tall = right + GAP + LEGEND, max(bottom + FOOT, needed + FOOT // 2)
+    shape = f'width="{width}" height="{tall}" viewBox="0 0 {width} {tall}"'
+    parts = [f'<svg xmlns="http://www.w3.org/2000/svg" {shape} font-family="sans-serif" font-size="12">', DEFINITIONS]
+    parts += [box(0, 0, width, tall, "#ffffff"), words(LEFT, 22, escape(title), ' font-size="16" font-weight="bold"')]
+    parts += [*drawn, *numbers(paper), *scale_bar(paper), *beside, "</svg>"]
+    return "\n".join(parts) + "\n"
+
+
 def svg(pair, name):
     """The map's text; `name` stands in its title."""
     paper, standing = Paper(pair.sheet), standing_squares(pair.sheet, pair.answer)
-    right, bottom = paper.corner((pair.sheet.rows, pair.sheet.columns))
-    beside, needed = legend(right + GAP, TOP, pair, standing)
-    width, tall = right + GAP + LEGEND, max(bottom + FOOT, needed + FOOT // 2)
-    shape = f'width="{width}" height="{tall}" viewBox="0 0 {width} {tall}"'
-    drawn = [f'<svg xmlns="http://www.w3.org/2000/svg" {shape} font-family="sans-serif" font-size="12">', DEFINITIONS]
-    drawn.append(box(0, 0, width, tall, "#ffffff"))
-    drawn.append(words(LEFT, 22, f"{escape(name)}: water after {time(pair.end)}", ' font-size="16" font-weight="bold"'))
-    drawn += [*ground_and_water(paper, pair, standing), *numbers(paper), *scale_bar(paper), *beside, "</svg>"]
-    return "\n".join(drawn) + "\n"
+    beside, needed = legend(*beside_it(paper), pair, standing)
+    return framed(paper, f"{name}: water after {time(pair.end)}", ground_and_water(paper, pair, standing), beside, needed)

@@ -2,6 +2,7 @@
 
     lines        the fields of each kind of line, in one table; sheets and answers written and read
     reading      a sheet's text judged, and what the program `meadow` answers to it
+    files        files by their names, as programs open them
     pairs        a sheet and its answer, held together
     account      the water account of an answer
     standing     the standing squares of an answer

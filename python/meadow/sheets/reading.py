@@ -99,15 +99,21 @@ def with_answer(sheet, answer):
     return meadow
 
 
+def begun(text):
+    """The fresh run of a sheet's bytes, and the end that it is to come to; or a refusal, before any step."""
+    if len(text) > MOST_BYTES:
+        raise Refused(12, 0)
+    sheet, end = read(text.decode("latin-1"))
+    meadow = meadow_of(sheet)
+    check(meadow, end)
+    fresh(meadow)
+    return meadow, end
+
+
 def answered(text):
     """What `meadow` prints of a text of bytes."""
     try:
-        if len(text) > MOST_BYTES:
-            raise Refused(12, 0)
-        sheet, end = read(text.decode("latin-1"))
-        meadow = meadow_of(sheet)
-        check(meadow, end)
-        fresh(meadow)
+        meadow, end = begun(text)
         number, steps = run_to(meadow, end)
         refuse_if(number != 0, number)
     except Refused as refused:

@@ -1,15 +1,15 @@
 -- `answer::printing::put_squares` meets its contract: the lines so far stand at the place.
 -- Assumes nothing.
 use mathlib.Core.List.{List}
-use mathlib.Core.Path.{_≡_, subst}
-use Prim.Native.Nat.{ℕ, _-_, _≤_}
+use Prim.Native.Nat.{ℕ, _+_, _-_, _≤_}
 use native.Mathlib.Omega.{arith}
+use lib.ListN.{length}
 use Rattle.reckon.specs.Lists.{joined}
 use Rattle.grid.specs.Squares.{squares}
 use Rattle.ledger.specs.Runs.{Plan, plan}
 use Rattle.text.specs.Writing.{Wrote}
 use Rattle.answer.specs.Printed.{cellText, cellsText}
-use Rattle.answer.proofs.PrintLaws.{none-written, squares-length, square-fits, square-written}
+use Rattle.answer.proofs.PrintLaws.{none-written, lines-length, line-fits, line-written, lines-whole}
 use Rattle.answer.proofs.printing.put_squares.Statement.{statement}
 use Rattle.answer.proofs.printing.put_squares.Tie as tie
 
@@ -37,17 +37,22 @@ P c = plan (start c .args .shape) (start c .args .marks .now)
 abbrev D : tie.After-squares-of Inv-loop μ-loop → List ℕ
 D c = start c .args .depths .now
 
+-- all of it fits
+fits : (c : tie.After-squares-of Inv-loop μ-loop) → start c .args .at + length (joined (squares (start c .args .shape)) (cellText (P c) (D c))) ≤ length (start c .args .out .now)
+unfolding cellsText
+fits c = start c .pre .1
+
 squares-of-requires : tie.Need-squares-of-requires Inv-loop μ-loop
 squares-of-requires c κs = c .before .before .before .pre .0 .0
 
 loop-holds : tie.Need-loop-holds Inv-loop μ-loop
-loop-holds c = (omega arith, none-written _ _ _ _)
+loop-holds c = (omega arith, none-written _ _ _)
 
 put-square-requires : tie.Need-put-square-requires Inv-loop μ-loop
 put-square-requires c κs =
     let l = c .before .before in
     let n = counted l in
-    ((start n .pre .0 .0, omega (arith, n .squares-of .ensures, start n .pre .0 .1), omega (arith, n .squares-of .ensures, start n .pre .0 .2)), square-fits (P n) (D n) (start n .args .at) (start n .args .out .now) (start n .pre .1) (l .loop .square) (l .loop .inv .1) (omega (arith, n .squares-of .ensures)))
+    ((start n .pre .0 .0, omega (arith, n .squares-of .ensures, start n .pre .0 .1), omega (arith, n .squares-of .ensures, start n .pre .0 .2)), line-fits (cellText (P n) (D n)) (squares (start n .args .shape)) (start n .args .at) (start n .args .out .now) (fits n) (l .loop .square) (l .loop .inv .1) (omega (arith, n .squares-of .ensures)))
 
 add-square : tie.Need-add-square Inv-loop μ-loop
 add-square c = omega arith
@@ -60,21 +65,19 @@ loop-again c =
     let put = c .before .before in
     let l = turn put in
     let n = counted l in
-    (omega arith, square-written (P n) (D n) (start n .args .at) (start n .args .out .now) (start n .pre .1) (l .loop .square) (l .loop .inv .1) (omega (arith, n .squares-of .ensures)) (put .put-square .ensures))
+    (omega arith, line-written (cellText (P n) (D n)) (squares (start n .args .shape)) (start n .args .at) (start n .args .out .now) (fits n) (l .loop .square) (l .loop .inv .1) (omega (arith, n .squares-of .ensures)) (put .put-square .ensures))
 
 same-length : tie.Need-same-length Inv-loop μ-loop
 same-length c =
     let n = c .before .before in
-    squares-length (P n) (D n) (start n .args .at) (start n .args .out .now) (start n .pre .1) (c .before .loop .square) (c .before .loop .inv .1)
+    lines-length (cellText (P n) (D n)) (squares (start n .args .shape)) (start n .args .at) (start n .args .out .now) (fits n) (c .before .loop .square) (c .before .loop .inv .1)
     (omega (arith, n .squares-of .ensures))
 
 returns : tie.Need-returns Inv-loop μ-loop
 unfolding cellsText
 returns c =
     let n = c .before .before in
-    let end : c .before .loop .square ≡ squares (start n .args .shape) = omega (arith, n .squares-of .ensures) in subst
-    (λ (k : ℕ). Wrote (joined k (cellText (P n) (D n))) (start n .args .at) (start n .args .out .now) (c .before .loop .out) (c .before .loop .next))
-    end (c .before .loop .inv .1)
+    lines-whole (cellText (P n) (D n)) (omega (arith, n .squares-of .ensures)) (c .before .loop .inv .1)
 
 pub put-squares-spec : {M : Type 1} → statement M
 put-squares-spec =

@@ -1,0 +1,12 @@
+pub mod AcceptedLaws
+pub mod FileLaws
+pub mod JudgedLaws
+pub mod MergeLaws
+pub mod NameLaws
+pub mod PlanLaws
+pub mod PrintLaws
+pub mod RightLaws
+pub mod TakenLaws
+pub mod TallyLaws
+pub mod WholeLaws
+pub mod WorkedLaws

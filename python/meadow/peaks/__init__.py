@@ -1,0 +1,8 @@
+"""Document 02, #114, which squares drown and how deep each ever was, written from the document alone:
+
+    runs         the highest depth of each square over all states of a run, and the clock of the first state that had it
+    heights      what the program `highest` prints of a sheet, written and read back
+    lists        the list at the standard input of `drowned`: a depth and sheets' names
+    tally        how often each square drowned in the sheets of a list, how deep, and by which sheet; what `drowned` prints of it, and read back
+    winters      a list's sheets one after the other, accepted or refused
+"""
