@@ -1,5 +1,7 @@
 // A run to an end with the peaks of its states.
 use crate::raising::raise;
+use adding::added::rows_apart;
+use adding::way::Way;
 use checks::fresh::fresh_run;
 use checks::refusals::check;
 use flood::run::Ran;
@@ -12,8 +14,6 @@ use grid::squares::squares_of;
 use grid::walks::Walk;
 use ledger::record::record_size;
 use ledger::runs::Run;
-use moves::added::rows_apart;
-use moves::way::Way;
 use programs::limits::PROGRAM_SQUARES;
 use programs::limits::RECORD_ROOM;
 use reckon::tables::INFLOW_WIDTH;
@@ -30,7 +30,7 @@ ghost use Rattle.reckon.specs.Tests.{every};
 ghost use Rattle.grid.specs.Squares.{squares, shapeFine};
 ghost use Rattle.ledger.specs.Runs.{plan, world};
 ghost use Rattle.checks.specs.Given.{given, ground};
-ghost use Rattle.moves.specs.inner.Added.{rowsApart};
+ghost use Rattle.adding.specs.inner.Added.{rowsApart};
 ghost use Rattle.flood.specs.Step.{Passes};
 ghost use Rattle.flood.specs.inner.Step.{RoomsLent};
 ghost use Rattle.sheet.specs.Sheet.{rooms};
