@@ -23,7 +23,7 @@ NOT_SAID = {(crate, name, slice) for crate, name in (("settling", "settle::settl
 OF_THE_SYSTEM = ("files",)
 # what a field says of its relation; of these two, which leave parts of a room open, it says the rest in full
 ONE = ("reckon", "Outcomes", "One")
-IN_PART = {("moves", "add-water"), ("moves", "fill")}
+IN_PART = {("adding", "add-water"), ("moves", "fill")}
 
 
 def claim(clause):

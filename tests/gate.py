@@ -50,7 +50,7 @@ class Room:
 
     def ran(self, *words, **more):
         """The status of a command in the folder, and all that it printed."""
-        kept = {name: value for name, value in os.environ.items() if name != "CI_ALLOW_SKIP"}
+        kept = {name: value for name, value in os.environ.items() if name not in ("CI_ALLOW_SKIP", "RT_JOBS")}
         around = {**kept, "PATH": f"{self.stand_ins}:{os.environ['PATH']}", **more}
         pipes = {"stdin": subprocess.DEVNULL, "stdout": subprocess.PIPE, "stderr": subprocess.STDOUT}
         done = subprocess.run(words, cwd=self.top, env=around, text=True, **pipes)
@@ -125,6 +125,21 @@ def two_at_a_time(checks, room):
     hold_gate(checks, room, "one core", True, ["gate: 3 tests, 4 checks, 0 skipped", VERDICT])
 
 
+def three_crates_at_once(checks, room):
+    """What rt ci is told of how many crates to take at once: three on two cores with memory for them, else nothing."""
+    room.stand_in("rt", f'echo "jobs: ${{RT_JOBS:-}}"; echo "{VERDICT}"')
+    room.write("bin/setup", "exit 0")
+    room.write("tests/outside/build.sh", "tools() { :; }; archive() { :; }")
+    room.write("tests/linters.py", LINTED)
+    room.write("tests/one.py", PASSES)
+    for cores, kilobytes, jobs in ((2, 8000000, "3"), (2, 4000000, ""), (1, 8000000, ""), (8, 64000000, "")):
+        room.stand_in("nproc", f"echo {cores}")
+        room.stand_in("awk", f"echo {kilobytes}")
+        printed = room.ran("bash", ".ci/run")[1].splitlines()
+        checks.hold(f"jobs: {jobs}" in printed, f"{cores} cores and {kilobytes} kB: rt ci is told {printed[:4]}")
+    checks.hold("jobs: 5" in room.ran("bash", ".ci/run", RT_JOBS="5")[1].splitlines(), "the gate does not leave RT_JOBS as it is set")
+
+
 def setup(checks, room):
     """The installer where nothing is installed and nothing can be."""
     for name, body in {"dpkg-query": "exit 1", "dpkg": "exit 0", "apt-get": 'echo "E: no package rustc"; exit 100'}.items():
@@ -163,7 +178,7 @@ def runner(checks, room):
 
 def main():
     checks = Checks("gate")
-    for part in (gate, two_at_a_time, setup, runner):
+    for part in (gate, two_at_a_time, three_crates_at_once, setup, runner):
         with tempfile.TemporaryDirectory() as folder:
             part(checks, Room(folder))
     checks.end()

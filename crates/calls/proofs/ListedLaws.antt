@@ -8,12 +8,12 @@ use native.Mathlib.Omega.{arith}
 use lib.Dec.{leb}
 use lib.ListN.{length, getD, take, drop}
 use lib.Seq.{take-at, drop-at}
-use borrow.Author.Tests.{leb-true}
+use borrow.Author.Tests.{leb-true, le-leb, lt-leb}
 use Rattle.reckon.specs.Tests.{_unless_}
 use Rattle.reckon.specs.Ranges.{mostDepth}
 use Rattle.reckon.specs.Lists.{placed}
 use Rattle.reckon.specs.Most.{mostOver}
-use Rattle.reckon.proofs.TestLaws.{refusal-passed, pick-both}
+use Rattle.reckon.proofs.TestLaws.{refusal-passed, pick-true, pick-false, pick-both, no-more}
 use Rattle.reckon.proofs.ListLaws.{filled-in}
 use Rattle.reckon.proofs.MostLaws.{most-is}
 use Rattle.grid.specs.Squares.{squares}
@@ -41,7 +41,7 @@ use Rattle.lists.specs.declared.tally.Tally.{Tally}
 use Rattle.lists.proofs.RightLaws.{drowned-right}
 use Rattle.demands.specs.Table.{FirstFails, TableSays}
 use Rattle.demands.proofs.Table.{table-says}
-use Rattle.calls.specs.Listed.{PeakIs, AfterPeaks, AfterHighest, AfterList, AfterBeginning, AfterSheet, AfterDrowned}
+use Rattle.calls.specs.Listed.{PeakIs, AfterPeaks, AfterHighest, FirstLine, ListTold, AfterList, AfterBeginning, AfterSheet, AfterDrowned}
 use Rattle.calls.proofs.LibraryLaws.{after-run}
 
 -- ---- a run with its peaks
@@ -54,12 +54,13 @@ module _ (p : Plan) (g : Given) (end : ℕ) (w : World) (peaks clocks : List ℕ
 
   refused :
       (n : ℕ) → FirstFails (peakRows p g end w peaks clocks) n →
-      (a .refused ≡ n) × (world depths lasts records (a .run) ≡ w) × (peaks′ ≡ peaks) × (clocks′ ≡ clocks)
+      (a .refused ≡ n) × (a .steps ≡ 0) × (world depths lasts records (a .run) ≡ w) × (peaks′ ≡ peaks) × (clocks′ ≡ clocks)
   refused n first =
       let e : peakChecks p g end w peaks clocks ≡ n = says .applies n first in
       let d : n ≡ 0 → ⊥ = λ z. says .never-none (subst (FirstFails (peakRows p g end w peaks clocks)) z first) in
       let as-was = f .ends ∙ sym (not-run p g end w peaks clocks e d) in (
         ap (λ (x : Ended). x .number) as-was,
+        ap (λ (x : Ended). x .steps) as-was,
         ap (λ (x : Ended). x .world) as-was,
         f .peaks-are ∙ sym (peaks-stay p g end w peaks clocks e d),
         f .clocks-are ∙ sym (clocks-stay p g end w peaks clocks e d),
@@ -125,10 +126,46 @@ list-in-range s = pick-both InRange (leb (length s) mostText) (go (numberAt s 0)
     go (Is wet q) = pick-both InRange (isByte s q newline) (λ z. number-passes wet (namesFrom s (q + 1)) z) (refused-out 1)
     go Not = refused-out 1
 
-pub after-list : (s : List ℕ) {a : Listed} → a ≡ listed s → AfterList a
-after-list s {a} e =
-    let known : InRange a = subst InRange (sym e) (list-in-range s) in
-    record { depth-in-range = λ z. known z .0; names-few = λ z. known z .1 }
+module _ (s : List ℕ) {a : Listed} (e : a ≡ listed s) where
+  list-too-long : mostText < length s → a ≡ listRefused 0
+  unfolding listed
+  list-too-long h = e ∙ pick-false _ _ (lt-leb (length s) mostText h)
+
+  module _ (short : length s ≤ mostText) where
+    by-first : a ≡ withNumber (numberAt s 0) (listRefused 1) (listAfter s)
+    unfolding listed
+    by-first = e ∙ pick-true _ _ (le-leb (length s) mostText short)
+
+    list-not-read : ((wet q : ℕ) → FirstLine s wet q → ⊥) → a ≡ listRefused 1
+    unfolding listAfter
+    list-not-read none = by-first ∙ go (numberAt s 0) refl
+      where
+        go : (n : Number) → numberAt s 0 ≡ n → withNumber n (listRefused 1) (listAfter s) ≡ listRefused 1
+        go (Is wet q) z = pick-false _ _ (no-more (isByte s q newline) (λ t. none wet q (record { read = z; ended = t })))
+        go Not z = refl
+
+    list-told : (wet q : ℕ) → FirstLine s wet q → ListTold wet (namesFrom s (q + 1)) a
+    unfolding listAfter listNumber
+    list-told wet q h =
+        let z : a ≡ record { number = listNumber wet (namesFrom s (q + 1)); line = 0; wet = wet; names = namesFrom s (q + 1) }
+        = by-first ∙ (ap (λ (n : Number). withNumber n (listRefused 1) (listAfter s)) (h .read) ∙ pick-true _ _ (h .ended)) in
+        record {
+          depth-is = ap (λ (x : Listed). x .wet) z;
+          names-are = ap (λ (x : Listed). x .names) z;
+          no-line = ap (λ (x : Listed). x .line) z;
+          exactly-when = subst (TableSays _) (sym (ap (λ (x : Listed). x .number) z)) (table-says _ tt);
+        }
+
+  pub after-list : AfterList s a
+  after-list =
+      let known : InRange a = subst InRange (sym e) (list-in-range s) in
+      record {
+        too-long = list-too-long;
+        not-read = list-not-read;
+        told = list-told;
+        depth-in-range = λ z. known z .0;
+        names-few = λ z. known z .1;
+      }
 
 -- one name more at the end of a list
 taken-more :

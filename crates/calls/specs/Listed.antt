@@ -1,10 +1,12 @@
 -- What the caller of the calls for the highest water and for lists of sheets has, in document 02's words (#114).
 -- Assumes nothing.
 use mathlib.Core.Path.{_≡_}
-use mathlib.Core.Bool.{false}
+use mathlib.Core.Bool.{true, false}
 use mathlib.Core.List.{List, [], _∷_, _++_}
-use Prim.Native.Nat.{ℕ, _≤_, _<_}
+use Prim.Native.Nat.{ℕ, _+_, _≤_, _<_}
+use lib.Dec.{leb}
 use lib.ListN.{length, getD, take, drop}
+use Rattle.reckon.specs.Tests.{_unless_}
 use Rattle.reckon.specs.Ranges.{mostDepth}
 use Rattle.reckon.specs.Most.{mostOver, firstMost, MostIs}
 use Rattle.grid.specs.Squares.{squares}
@@ -13,16 +15,19 @@ use Rattle.ledger.specs.Flows.{shut}
 use Rattle.checks.specs.Given.{Given}
 use Rattle.flood.specs.Run.{stepsOn}
 use Rattle.flood.specs.declared.run.Ran.{Ran}
+use Rattle.text.specs.Reading.{numberAt, isByte, newline}
+use Rattle.text.specs.declared.reading.Number.the-variants.{Is}
+use Rattle.programs.specs.Program.{mostText}
 use Rattle.peaks.specs.Peaks.{depthAfter, peakRows, peakChecks}
 use Rattle.peaks.specs.Highest.{highestText}
-use Rattle.lists.specs.Names.{mostSheets}
+use Rattle.lists.specs.Names.{mostSheets, listRefused, namesFrom}
 use Rattle.lists.specs.Sheets.{File}
 use Rattle.lists.specs.Drowned.{drownedText}
 use Rattle.lists.specs.Tally.{Rooms, beginning}
 use Rattle.lists.specs.Right.{RoomsLong, taken, ListRight}
 use Rattle.lists.specs.declared.names.Listed.{Listed}
 use Rattle.lists.specs.declared.tally.Tally.{Tally}
-use Rattle.demands.specs.Table.{FirstFails}
+use Rattle.demands.specs.Table.{FirstFails, TableSays}
 use Rattle.calls.specs.Library.{AfterRun}
 
 -- ---- a run with its peaks
@@ -35,9 +40,10 @@ pub record PeakIs (p : Plan) (g : Given) (w : World) (n i peak clock : ℕ) : Ty
 
 -- v is the world that it left
 pub record AfterPeaks (p : Plan) (g : Given) (end : ℕ) (w : World) (peaks clocks : List ℕ) (a : Ran) (v : World) (peaks′ clocks′ : List ℕ) : Type 0 where
-  -- the first row that applies refuses it, and all is as it was
+  -- the first row that applies refuses it with no step made, and all is as it was
   pub exactly-when :
-      (n : ℕ) → FirstFails (peakRows p g end w peaks clocks) n → (a .refused ≡ n) × (v ≡ w) × (peaks′ ≡ peaks) × (clocks′ ≡ clocks)
+      (n : ℕ) → FirstFails (peakRows p g end w peaks clocks) n →
+      (a .refused ≡ n) × (a .steps ≡ 0) × (v ≡ w) × (peaks′ ≡ peaks) × (clocks′ ≡ clocks)
   -- else it is the plain run
   pub same-run : peakChecks p g end w peaks clocks ≡ 0 → AfterRun p g end w a v
   -- and each square not closed has the deepest value of the states that it came to
@@ -52,8 +58,26 @@ pub record AfterHighest (s old new : List ℕ) (long : ℕ) : Type 0 where
 
 -- ---- a list
 
--- one that is not refused has "a depth" in range and "up to 200 sheets"
-pub record AfterList (a : Listed) : Type 0 where
+-- "a depth on its first line": the number that a text begins with, and its newline at q
+pub record FirstLine (s : List ℕ) (wet q : ℕ) : Type 0 where
+  pub read : numberAt s 0 ≡ Is wet q
+  pub ended : isByte s q newline ≡ true
+
+-- what is told of a list whose first line was read: the depth, the names after it, and "a depth out of range is 5; over 200 sheets is 16"
+pub record ListTold (wet names : ℕ) (a : Listed) : Type 0 where
+  pub depth-is : a .wet ≡ wet
+  pub names-are : a .names ≡ names
+  pub no-line : a .line ≡ 0
+  pub exactly-when : TableSays (5 unless leb wet mostDepth ∷ 16 unless leb names mostSheets ∷ []) (a .number)
+
+pub record AfterList (s : List ℕ) (a : Listed) : Type 0 where
+  -- a list of too many bytes is 12, line 0
+  pub too-long : mostText < length s → a ≡ listRefused 0
+  -- "a first line that can't be read is 12, line 1"
+  pub not-read : length s ≤ mostText → ((wet q : ℕ) → FirstLine s wet q → ⊥) → a ≡ listRefused 1
+  -- any other list is told
+  pub told : length s ≤ mostText → (wet q : ℕ) → FirstLine s wet q → ListTold wet (namesFrom s (q + 1)) a
+  -- so that one with number 0 has "a depth" in range and "up to 200 sheets"
   pub depth-in-range : a .number ≡ 0 → a .wet ≤ mostDepth
   pub names-few : a .number ≡ 0 → a .names ≤ mostSheets
 

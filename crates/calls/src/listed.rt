@@ -66,7 +66,7 @@ pub fn after_highest_of(text: &[u8], out: &mut [u8; OUT_ROOM]) -> usize
 }
 
 pub fn after_read_list(text: &[u8]) -> Listed
-    ensures { λ r. ⌜ AfterList r ⌝ }
+    ensures { λ r. ⌜ AfterList (now (text .entry)) r ⌝ }
 {
     read_list(text)
 }

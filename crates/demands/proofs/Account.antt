@@ -12,8 +12,8 @@ use Rattle.ledger.specs.Account.{water, held}
 use Rattle.ledger.specs.declared.runs.Run.{Run}
 use Rattle.ledger.specs.declared.runs.Answer.the-variants.{Done}
 use Rattle.checks.specs.Given.{Given}
-use Rattle.moves.specs.Account.{tablesBy}
-use Rattle.moves.proofs.AccountLaws.{tables-start, tables-go-on, tables-alike}
+use Rattle.adding.specs.Account.{tablesBy}
+use Rattle.adding.proofs.AccountLaws.{tables-start, tables-go-on, tables-alike}
 use Rattle.flood.specs.Step.{stepped}
 use Rattle.checks.specs.Fresh.{freshRun, Freshens}
 use Rattle.flood.proofs.AccountLaws.{step-accounts}

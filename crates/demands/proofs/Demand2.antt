@@ -38,8 +38,9 @@ use Rattle.ledger.proofs.ReadBack.{leaves-read, closed-read, step-long, step-he
 use Rattle.ledger.proofs.Walls.{goes-where, walls-stay-dry, after-untouched, back-untouched}
 use Rattle.ledger.specs.declared.runs.Run.{Run}
 use Rattle.checks.specs.Given.{Given, ground, given}
+use Rattle.adding.specs.Added.{addedFor}
 use Rattle.moves.specs.Drops.{sideDrop, dropsOf}
-use Rattle.moves.specs.Moves.{squareCandidates, candidates, leavesFor, soakedFor, addedFor, stepLength, stepDuration, stepMoves}
+use Rattle.moves.specs.Moves.{squareCandidates, candidates, leavesFor, soakedFor, stepLength, stepDuration, stepMoves}
 use Rattle.checks.specs.Refusals.{groundsFine, checkRefusals, runChecks}
 use Rattle.flood.specs.Step.{stepNumber, stepped}
 use Rattle.checks.specs.Fresh.{freshRefusals, freshNumber, freshRun, freshLasts}

@@ -24,8 +24,9 @@ use Rattle.ledger.specs.Record.{leavesIn, lastIn, addedIn, soakedIn, squareReco
 use Rattle.ledger.specs.After.{remains, newDepth, depthsFit, newOutflow, newSoaked, lateRefusals, stepRecord, worldAfter}
 use Rattle.ledger.specs.Checks.{oneEach, watersFine, timesFine}
 use Rattle.ledger.specs.TakeBack.{heldAndGone, cameAndAdded, depthBefore, squareRestorable, restorable, worldBefore, backRefusals, backNumber, takenBack, earlyRefusals}
+use Rattle.adding.specs.Added.{addedFor}
 use Rattle.moves.specs.Drops.{sideDrop, dropsOf}
-use Rattle.moves.specs.Moves.{squareCandidates, candidates, leavesFor, soakedFor, addedFor, stepLength, stepDuration}
+use Rattle.moves.specs.Moves.{squareCandidates, candidates, leavesFor, soakedFor, stepLength, stepDuration}
 use Rattle.checks.specs.Refusals.{squareGroundFine, groundsFine, endFine, checkRefusals}
 use Rattle.flood.specs.Step.{stepNumber, stepped}
 use Rattle.checks.specs.Fresh.{freshRun}

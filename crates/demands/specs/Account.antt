@@ -10,7 +10,7 @@ use Rattle.ledger.specs.Account.{water, held}
 use Rattle.ledger.specs.declared.runs.Run.{Run}
 use Rattle.ledger.specs.declared.runs.Answer.the-variants.{Done}
 use Rattle.checks.specs.Given.{Given}
-use Rattle.moves.specs.Account.{tablesGive, tablesBy, SameTables}
+use Rattle.adding.specs.Account.{tablesGive, tablesBy, SameTables}
 use Rattle.checks.specs.Fresh.{Freshens}
 use Rattle.demands.specs.Demand3.{Call, Trail, start, series, alone}
 

@@ -22,8 +22,9 @@ use Rattle.ledger.specs.TakeBack.{backNumber, takenBack}
 use Rattle.ledger.specs.Walls.{Walled, reaches, drains, intoWalls, Untouched}
 use Rattle.ledger.specs.declared.runs.Run.{Run}
 use Rattle.checks.specs.Given.{Given}
+use Rattle.adding.specs.Added.{addedFor}
 use Rattle.moves.specs.Drops.{dropsOf}
-use Rattle.moves.specs.Moves.{candidates, addedFor, stepMoves}
+use Rattle.moves.specs.Moves.{candidates, stepMoves}
 use Rattle.checks.specs.Refusals.{runChecks}
 use Rattle.flood.specs.Step.{stepNumber, stepped}
 use Rattle.sight.specs.Arrows.{view, seenAt}

@@ -198,7 +198,7 @@ night-first h long a b c =
 
 module _ (s : List ℕ) (n : Night) (r : Stores) where
   module _ {a : Night} {old new : List ℕ} (night : a ≡ nightAfter s n r) (held : eveningAfter s n r ≡ eveningHeld (n .heading) r (n .log)) (prints : Prints (textAfter s n r) old new (a .length)) where
-    pub night-stays : GoesOn s n r a (r .sheet .cells .depths) (r .lasts) (r .records) (r .began) old new
+    night-stays : GoesOn s n r a (r .sheet .cells .depths) (r .lasts) (r .records) (r .began) old new
     night-stays =
         record {
           night-is = night;

@@ -10,7 +10,7 @@ use Rattle.ledger.specs.Account.{held}
 use Rattle.ledger.proofs.Account.{Balanced, step-balance}
 use Rattle.checks.specs.Given.{Given}
 use Rattle.moves.specs.Moves.{stepMoves, stepDuration}
-use Rattle.moves.specs.Account.{tablesGive}
+use Rattle.adding.specs.Account.{tablesGive}
 use Rattle.moves.proofs.MoveLaws.{flood-walled, lost-covered}
 use Rattle.flood.specs.Step.{stepNumber, stepped}
 use Rattle.checks.proofs.CheckLaws.{ready}

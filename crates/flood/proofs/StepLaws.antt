@@ -8,7 +8,7 @@ use Prim.Native.Nat.{ℕ, _+_, _-_, _≤_, _<_}
 use native.Mathlib.Nat.{le-trans}
 use native.Mathlib.Omega.{arith}
 use lib.Dec.{eqb}
-use lib.ListN.{length, getD, take, drop, replicate, length-replicate, length-drop}
+use lib.ListN.{length, getD, take, drop, replicate, length-append, length-replicate, length-drop}
 use lib.Seq.{length-take-le, take-at}
 use borrow.Author.Tests.{le-leb, lt-leb, leb-true, ne-eqb}
 use Rattle.reckon.specs.Tests.{pick, refusal}
@@ -33,8 +33,8 @@ use Rattle.ledger.proofs.ReadBack.{lasted-read, gone-read, added-read, soaked-r
 use Rattle.settling.proofs.ByRecord.{settled-is, late-settled}
 use Rattle.settling.proofs.SureLaws.{surely-settled, next-read, stored-settles, stored-number, stored-made, stored-left}
 use Rattle.checks.specs.Given.{Ground, Given}
+use Rattle.adding.specs.inner.Added.{addedFits}
 use Rattle.moves.specs.Moves.{leavesFor, soakedFor, stepLength, stepDuration, stepMoves}
-use Rattle.moves.specs.inner.Added.{addedFits}
 use Rattle.moves.specs.inner.Fill.{isWorked, workedRows, senderRows, LeftKept}
 use Rattle.checks.specs.inner.Ready.{Ready}
 use Rattle.ledger.specs.declared.runs.Answer.the-variants.{Done, Refused}
@@ -336,8 +336,16 @@ module _ (p : Plan) (w : World) (rec : List ℕ) {held : ℕ} (s : Settles p rec
 pub passed-fine : {p : Plan} {g : Given} {w : World} → Passes p g w → ShapeInRange (p .shape)
 passed-fine {p} {g} {w} passes = is-ready p g w (passes .checked) .waters .fine
 
+-- a part of a room is as long as it should be
+pub part : {n most : ℕ} (room : List ℕ) → length room ≡ most → n ≤ most → length (take n room) ≡ n
+part room long h = length-take-le _ room (omega (arith, long, h))
+
+-- a room with a part of it written is as long as it was
+pub refilled : {n most : ℕ} (new old : List ℕ) → length new ≡ length (take n old) → length old ≡ most → n ≤ most → length (new ++ drop n old) ≡ most
+refilled {n} new old kept long h = length-append new (drop n old) ∙ omega (arith, kept, part old long h, length-drop n old, long, h)
+
 pub part-long : {n : ℕ} (most : ℕ) → n ≤ most → length (take {A = ℕ} n (replicate most 0)) ≡ n
-part-long {n} most h = length-take-le n (replicate most 0) (omega (arith, h, length-replicate {A = ℕ} most 0))
+part-long most h = part (replicate most 0) (length-replicate {A = ℕ} most 0) h
 
 pub parts-lent :
     {s : Shape} {count : ℕ} → SquaresOf s count → ShapeInRange s →

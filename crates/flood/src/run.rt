@@ -1,5 +1,7 @@
 // A run to an end: the checks once, then steps while the clock is below the end.
 use crate::step::step_on;
+use adding::added::rows_apart;
+use adding::way::Way;
 use checks::refusals::check;
 use grid::squares::MOST_ALONG;
 use grid::squares::MOST_SQUARES;
@@ -7,15 +9,13 @@ use grid::squares::Shape;
 use grid::squares::squares_of;
 use grid::walks::Walk;
 use ledger::runs::Run;
-use moves::added::rows_apart;
-use moves::way::Way;
 use rule::rules::Rules;
 ghost use mathlib.Core.Path.{_≡_};
 ghost use Prim.Native.Nat.{_≤_};
 ghost use Rattle.reckon.specs.Ranges.{lastClock};
 ghost use Rattle.ledger.specs.Runs.{plan, world};
 ghost use Rattle.checks.specs.Given.{given, ground};
-ghost use Rattle.moves.specs.inner.Added.{rowsApart};
+ghost use Rattle.adding.specs.inner.Added.{rowsApart};
 ghost use Rattle.flood.specs.Step.{Passes};
 ghost use Rattle.flood.specs.Run.{RunsTo};
 ghost use Rattle.flood.specs.inner.Run.{RunsOn};

@@ -1,5 +1,8 @@
 // One step: the checks, the length, the water added, the record filled in its slot, and the step settled. Where a refusal may still follow, the
 // words of the slot are saved first and put back.
+use adding::added::add_water;
+use adding::added::rows_apart;
+use adding::way::Way;
 use checks::refusals::check_step;
 use grid::squares::MOST_ALONG;
 use grid::squares::MOST_SQUARES;
@@ -10,12 +13,9 @@ use ledger::record::MOST_RECORD;
 use ledger::record::record_size;
 use ledger::runs::Answer;
 use ledger::runs::Run;
-use moves::added::add_water;
-use moves::added::rows_apart;
 use moves::fill::fill;
 use moves::length::step_length;
 use moves::way::Span;
-use moves::way::Way;
 use reckon::copying::copy_into;
 use reckon::ranges::LAST_CLOCK;
 use rule::length::duration_for;
@@ -33,7 +33,7 @@ ghost use Rattle.ledger.specs.Runs.{plan, world};
 ghost use Rattle.ledger.specs.Record.{recordSize, roomSlots};
 ghost use Rattle.settling.specs.inner.Settle.{SettlesTo, nextRecord};
 ghost use Rattle.checks.specs.Given.{given, ground};
-ghost use Rattle.moves.specs.inner.Added.{rowsApart};
+ghost use Rattle.adding.specs.inner.Added.{rowsApart};
 ghost use Rattle.moves.specs.inner.Fill.{Fills};
 ghost use Rattle.flood.specs.Step.{MakesStep, Passes, Steps};
 ghost use Rattle.flood.specs.inner.Step.{Decides, RoomsLent, SlotFilled, SlotSettled, filledRecord};

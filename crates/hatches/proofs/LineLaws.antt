@@ -22,19 +22,19 @@ line entry next = record { entry = entry; next = next }
 
 -- ---- a reading as it is handed back
 
-pub hatch-read : (p : ℕ) (r : Reading) (other : LogLine) {f : Fields} → f ≡ asFields p r → f .found ≡ true →
+hatch-read : (p : ℕ) (r : Reading) (other : LogLine) {f : Fields} → f ≡ asFields p r → f .found ≡ true →
     line (Hatch (getD (f .values) 0 0) (getD (f .values) 1 0) (getD (f .values) 2 0)) (f .next) ≡ entryFrom r asHatch other
 unfolding asFields padded tabulate
 hatch-read p (read vs q) other e t = rw e
 hatch-read p unread other e t = not-both t (ap (λ (z : Fields). z .found) e)
 
-pub back-read : (p : ℕ) (r : Reading) (other : LogLine) {f : Fields} → f ≡ asFields p r → f .found ≡ true →
+back-read : (p : ℕ) (r : Reading) (other : LogLine) {f : Fields} → f ≡ asFields p r → f .found ≡ true →
     line (Back (getD (f .values) 0 0)) (f .next) ≡ entryFrom r asBack other
 unfolding asFields padded tabulate
 back-read p (read vs q) other e t = rw e
 back-read p unread other e t = not-both t (ap (λ (z : Fields). z .found) e)
 
-pub not-read : (p : ℕ) (r : Reading) (make : List ℕ → Entry) (other : LogLine) {f : Fields} → f ≡ asFields p r → f .found ≡ false → entryFrom r make other ≡ other
+not-read : (p : ℕ) (r : Reading) (make : List ℕ → Entry) (other : LogLine) {f : Fields} → f ≡ asFields p r → f .found ≡ false → entryFrom r make other ≡ other
 unfolding asFields
 not-read p (read vs q) make other e t = not-both (ap (λ (z : Fields). z .found) e) t
 not-read p unread make other e t = refl

@@ -52,11 +52,6 @@ module _ {K kept newest : ℕ} {began : List ℕ} {standing : List (List ℕ)} (
           rates = rates-after;
         }
 
-  -- ---- the rates that a `back` returns to
-
-  pub rates-then : (n : ℕ) → n < kept → recordIn mostHatches began (slotAgo K newest n) ≡ getD standing n []
-  rates-then n h = b .rates n h
-
 -- ---- a run's steps, all at the same rates
 
 prepend : (n : ℕ) (litres : List ℕ) (standing : List (List ℕ)) → replicate {A = List ℕ} n litres ++ (litres ∷ standing) ≡ litres ∷ (replicate {A = List ℕ} n litres ++ standing)

@@ -96,7 +96,6 @@ module _ (p : Plan) (g : Given) (e : Evening) where
     pub line : lineFine (g .lie .rules) (e .log) entry ≡ true
     pub lent : Lent p (e .depths) (e .records) (e .began)
     pub draw : drawFine p (g .inflow) (e .log) entry ≡ true
-    pub kept-stand : e .log .run .kept ≤ e .log .steps
     pub steps-few : e .log .steps ≤ e .log .run .clock
     pub kept : keptFine (e .log) entry ≡ true
 
@@ -109,7 +108,6 @@ module _ (p : Plan) (g : Given) (e : Evening) where
         line = rows .0;
         lent = lent-is _ _ _ _ (rows .1 .0);
         draw = rows .1 .1 .0;
-        kept-stand = leb-true _ _ (stands .0);
         steps-few = leb-true _ _ (stands .1 .0);
         kept = rows .1 .1 .1 .1 .0;
       }

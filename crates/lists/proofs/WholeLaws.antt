@@ -25,8 +25,9 @@ use Rattle.ledger.specs.Flows.{gone, sent, came, offSide, offSquare, offGrid, s
 use Rattle.ledger.specs.Record.{leavesIn, lastIn, addedIn, soakedIn, squareRecord, recordOf, roomSlots, newestRecord}
 use Rattle.ledger.specs.After.{remains, newDepth, depthsFit, newOutflow, newSoaked, lateRefusals, stepRecord, worldAfter}
 use Rattle.ledger.specs.Checks.{oneEach, watersFine, timesFine}
+use Rattle.adding.specs.Added.{addedFor}
 use Rattle.moves.specs.Drops.{sideDrop, dropsOf}
-use Rattle.moves.specs.Moves.{squareCandidates, candidates, leavesFor, soakedFor, addedFor, stepLength, stepDuration}
+use Rattle.moves.specs.Moves.{squareCandidates, candidates, leavesFor, soakedFor, stepLength, stepDuration}
 use Rattle.checks.specs.Refusals.{squareGroundFine, groundsFine, endFine, checkRefusals}
 use Rattle.flood.specs.Step.{stepNumber, stepped}
 use Rattle.checks.specs.Fresh.{freshRun}

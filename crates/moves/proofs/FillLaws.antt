@@ -30,9 +30,11 @@ use Rattle.ledger.specs.After.{stepRecord}
 use Rattle.ledger.specs.inner.Walks.{RecordedTo, sends}
 use Rattle.ledger.proofs.RecordLaws.{recorded-none, recorded-open, recorded-closed, recorded-whole}
 use Rattle.checks.specs.Given.{Ground, Given}
+use Rattle.adding.specs.Added.{addedFor}
+use Rattle.adding.specs.inner.Added.{tables, WaterAdded}
+use Rattle.adding.proofs.AddedLaws.{room-made}
 use Rattle.moves.specs.Drops.{dropsOf}
-use Rattle.moves.specs.Moves.{squareCandidates, candidates, leavesFor, soakedFor, addedFor, stepLength, stepDuration, stepMoves}
-use Rattle.moves.specs.inner.Added.{tables, addedFits, WaterAdded}
+use Rattle.moves.specs.Moves.{squareCandidates, candidates, leavesFor, soakedFor, stepLength, stepDuration, stepMoves}
 use Rattle.moves.specs.inner.Fill.{firm, LengthWorked, Fills, Cleared, FilledOne, FilledTo, FilledOn, RecordFilled, UnstirredAt}
 use Rattle.checks.specs.inner.Ready.{MeadowInRange}
 use Rattle.moves.proofs.MoveLaws.{weights, leaves-open, covered, soaked-open}
@@ -299,22 +301,6 @@ module _ (p : Plan) (g : Given) (w : World) where
   unfolding stepDuration
   lasts-made l e = e ∙ ap (durationFor (g .lie .rules) (w .run .clock)) (length-made l)
 
-  -- what is added goes by rules and tables alone
-  pub same-fits : (start end : ℕ) → addedFits p (tables (g .lie .rules) (g .rain) (g .inflow)) start end ≡ addedFits p g start end
-  unfolding addedFits addedFor
-  same-fits start end = refl
-
-  same-added : (start end i : ℕ) → addedFor p (tables (g .lie .rules) (g .rain) (g .inflow)) start end i ≡ addedFor p g start end i
-  unfolding addedFor
-  same-added start end i = refl
-
-  -- what stands in the room is what the step adds
-  pub room-made :
-      (ms : ℕ) {end : ℕ} {old room : List ℕ} {fits : Bool} → end ≡ w .run .clock + ms →
-      WaterAdded p (tables (g .lie .rules) (g .rain) (g .inflow)) (w .run .clock) end old fits room → fits ≡ true →
-      (i : ℕ) → i < squares (p .shape) → shut p i ≡ false → getD room i 0 ≡ addedFor p g (w .run .clock) (w .run .clock + ms) i
-  room-made ms {end} n t f i h c = t .stored f i h c ∙ (same-added (w .run .clock) end i ∙ ap (λ (x : ℕ). addedFor p g (w .run .clock) x i) n)
-
   pub record-made :
       {ms end : ℕ} {old room rec : List ℕ} {fits : Bool} → ms ≡ stepDuration p g (seenOf w) → end ≡ w .run .clock + ms →
       WaterAdded p (tables (g .lie .rules) (g .rain) (g .inflow)) (w .run .clock) end old fits room → fits ≡ true →
@@ -325,7 +311,7 @@ module _ (p : Plan) (g : Given) (w : World) where
   record-made {ms} {room = room} e n t f q =
       q
       ∙ (record-same p (w .run .length) ms (leavesFor p (g .lie) (w .depths) (w .lasts) ms) (λ i. getD (w .lasts) i 0) (λ i. getD room i 0)
-      (addedFor p g (w .run .clock) (w .run .clock + ms)) (soakedFor p (g .lie) (w .depths) (w .lasts) (w .run .clock) ms) (room-made ms n t f)
+      (addedFor p g (w .run .clock) (w .run .clock + ms)) (soakedFor p (g .lie) (w .depths) (w .lasts) (w .run .clock) ms) (room-made p g (w .run .clock) ms n t f)
       ∙ ap
       (λ (x : ℕ).
       recordOf p (w .run .length) x (leavesFor p (g .lie) (w .depths) (w .lasts) x) (λ i. getD (w .lasts) i 0) (addedFor p g (w .run .clock) (w .run .clock + x))

@@ -1,5 +1,3 @@
-pub mod AccountLaws
-pub mod AddedLaws
 pub mod Determined
 pub mod DropLaws
 pub mod FillLaws

@@ -1,4 +1,3 @@
-pub mod Account
 pub mod Drops
 pub mod inner
 pub mod Moves

@@ -1,12 +1,11 @@
 -- Document 01, "The step": what a step moves. "All amounts are worked from the state before the step."
 -- Assumes nothing.
 use mathlib.Core.List.{List, []}
-use Prim.Native.Nat.{ℕ, _+_, _-_, _/_, _%_, min}
+use Prim.Native.Nat.{ℕ, _+_, _-_, min}
 use lib.ListN.{getD}
 use Rattle.reckon.specs.Tests.{pick}
 use Rattle.reckon.specs.Lists.{joined}
 use Rattle.reckon.specs.Soaking.{soakDue}
-use Rattle.reckon.specs.Tables.{rainAdded, inflowAdded}
 use Rattle.grid.specs.Squares.{squares}
 use Rattle.rule.specs.Weighing.{weighed}
 use Rattle.rule.specs.Length.{candidatesOf, lengthAt, durationFor}
@@ -14,6 +13,7 @@ use Rattle.ledger.specs.Runs.{Plan, Seen}
 use Rattle.ledger.specs.Flows.{Leaves, shut, gone}
 use Rattle.ledger.specs.After.{Moves}
 use Rattle.checks.specs.Given.{Ground, Given}
+use Rattle.adding.specs.Added.{addedFor}
 use Rattle.moves.specs.Drops.{dropsOf}
 
 -- ---- amounts, by how long the step lasts
@@ -36,12 +36,6 @@ module _ (p : Plan) (o : Ground) (depths : List ℕ) where
   unfoldable pub soakedFor : List ℕ → ℕ → ℕ → ℕ → ℕ
   soakedFor lasts start ms i =
       pick (shut p i) 0 (min (soakDue (getD (o .rates) i 0) start (start + ms)) (getD depths i 0 - gone (leavesFor lasts ms) i))
-
--- "What a step adds is the amount by its end less the amount by its start": rain on every square, inflow on the square's own rows
-unfoldable pub addedFor : Plan → Given → ℕ → ℕ → ℕ → ℕ
-addedFor p g start end i =
-    rainAdded (g .rain) start end
-    + inflowAdded (g .inflow) (i / p .shape .columns) (i % p .shape .columns) (g .lie .rules .«square_side») start end
 
 -- ---- the step
 

@@ -1,3 +1,2 @@
-pub mod Added
 pub mod Determined
 pub mod Fill

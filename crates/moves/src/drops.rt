@@ -1,6 +1,6 @@
 // The drops of a square.
 use crate::way::Place;
-use crate::way::Way;
+use adding::way::Way;
 use grid::marks::is_closed;
 use grid::marks::is_exit;
 use grid::squares::EAST;

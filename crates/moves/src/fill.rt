@@ -4,7 +4,7 @@ use crate::drops::drops_of;
 use crate::way::Place;
 use crate::way::Row;
 use crate::way::Span;
-use crate::way::Way;
+use adding::way::Way;
 use grid::marks::is_closed;
 use grid::squares::Shape;
 use grid::walks::Walk;

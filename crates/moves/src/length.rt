@@ -1,7 +1,7 @@
 // Step length: the least candidate of all squares, held or worked afresh.
 use crate::drops::drops_by_sides;
 use crate::way::Place;
-use crate::way::Way;
+use adding::way::Way;
 use grid::marks::is_closed;
 use grid::masks::row_mask;
 use grid::squares::next_column;

@@ -1,15 +1,4 @@
 // What the functions of a step hand on to one another by value.
-use grid::squares::Shape;
-use grid::walks::Walk;
-use rule::rules::Rules;
-
-// How a step goes about its work: by which walk, on which grid, by which rules, and whether no two inflow rows are for one square.
-pub struct Way {
-    pub walk: Walk,
-    pub shape: Shape,
-    pub rules: Rules,
-    pub apart: bool,
-}
 
 // The length that the run holds, the clock at which a step starts, and how long it lasts.
 pub struct Span {

@@ -1,5 +1,7 @@
 // A run to an end with the peaks of its states.
 use crate::raising::raise;
+use adding::added::rows_apart;
+use adding::way::Way;
 use checks::fresh::fresh_run;
 use checks::refusals::check;
 use flood::run::Ran;
@@ -12,8 +14,6 @@ use grid::squares::squares_of;
 use grid::walks::Walk;
 use ledger::record::record_size;
 use ledger::runs::Run;
-use moves::added::rows_apart;
-use moves::way::Way;
 use programs::limits::PROGRAM_SQUARES;
 use programs::limits::RECORD_ROOM;
 use reckon::tables::INFLOW_WIDTH;
@@ -30,9 +30,8 @@ ghost use Rattle.reckon.specs.Tests.{every};
 ghost use Rattle.grid.specs.Squares.{squares, shapeFine};
 ghost use Rattle.ledger.specs.Runs.{plan, world};
 ghost use Rattle.checks.specs.Given.{given, ground};
-ghost use Rattle.moves.specs.inner.Added.{rowsApart};
+ghost use Rattle.adding.specs.inner.Added.{rowsApart};
 ghost use Rattle.flood.specs.Step.{Passes};
-ghost use Rattle.flood.specs.inner.Step.{RoomsLent};
 ghost use Rattle.sheet.specs.Sheet.{rooms};
 ghost use Rattle.programs.specs.Program.{programSquares};
 ghost use Rattle.programs.specs.inner.Held.{Holds, partsOf};
@@ -56,16 +55,18 @@ fn peak_on(
     records: &mut [u32],
     peaks: &mut [u32],
     clocks: &mut [u32],
-    left: &mut [u32],
-    worked: &mut [u64],
-    senders: &mut [u64],
-    room: &mut [u32],
 ) -> Ran
     requires { ⌜ Passes (plan (way .shape) (now marks)) (given (ground (way .rules) (now beds) (now roughness) (now rates)) (now rain) (now inflow)) (world (now depths) (now lasts) (now records) run) ⌝ }
-    requires { ⌜ (RoomsLent (way .shape) (now left) (now worked) (now senders) (now room)) × (way .apart ≡ rowsApart (now inflow)) × (end ≤ lastClock) ⌝ }
+    requires { ⌜ (way .apart ≡ rowsApart (now inflow)) × (end ≤ lastClock) ⌝ }
     requires { ⌜ (length (now peaks) ≡ squares (way .shape)) × (length (now clocks) ≡ squares (way .shape)) ⌝ }
     ensures { λ r. ⌜ PeaksOn (plan (way .shape) (now (marks .entry))) (given (ground (way .rules) (now (beds .entry)) (now (roughness .entry)) (now (rates .entry))) (now (rain .entry)) (now (inflow .entry))) end (world (now (depths .entry)) (now (lasts .entry)) (now (records .entry)) run) (now (peaks .entry)) (now (clocks .entry)) r (now (depths .exit)) (now (lasts .exit)) (now (records .exit)) (now (peaks .exit)) (now (clocks .exit)) ⌝ }
 {
+    let squares = squares_of(way.shape);
+    let rows = way.shape.rows;
+    let mut left = [0u32; MOST_SQUARES];
+    let mut worked = [0u64; MOST_ALONG];
+    let mut senders = [0u64; MOST_ALONG];
+    let mut room = [0u32; MOST_SQUARES];
     raise(true, run.clock as u32, marks, depths, peaks, clocks);
     let mut at = run;
     let mut steps: u64 = 0;
@@ -82,10 +83,10 @@ fn peak_on(
             depths,
             lasts,
             records,
-            left,
-            worked,
-            senders,
-            room,
+            &mut left[..squares],
+            &mut worked[..rows],
+            &mut senders[..rows],
+            &mut room[..squares],
         );
         let refused = made.refused;
         let after = made.run;
@@ -170,18 +171,12 @@ pub fn run_peaks(
             run: run,
         };
     }
-    let squares = squares_of(shape);
-    let rows = shape.rows;
     let way = Way {
         walk: Walk::Wet,
         shape: shape,
         rules: rules,
         apart: rows_apart(inflow),
     };
-    let mut left = [0u32; MOST_SQUARES];
-    let mut worked = [0u64; MOST_ALONG];
-    let mut senders = [0u64; MOST_ALONG];
-    let mut room = [0u32; MOST_SQUARES];
     peak_on(
         way,
         run,
@@ -197,10 +192,6 @@ pub fn run_peaks(
         records,
         peaks,
         clocks,
-        &mut left[..squares],
-        &mut worked[..rows],
-        &mut senders[..rows],
-        &mut room[..squares],
     )
 }
 

@@ -1,7 +1,7 @@
 -- The contract of each layer function of this crate leaves one outcome.
 -- Assumes nothing.
 use mathlib.Core.Path.{_≡_}
-use mathlib.Core.Bool.{Bool, true, false}
+use mathlib.Core.Bool.{true, false}
 use mathlib.Core.List.{List}
 use Prim.Native.Nat.{ℕ, _<_}
 use lib.ListN.{getD}
@@ -10,9 +10,8 @@ use Rattle.grid.specs.Squares.{squares}
 use Rattle.grid.specs.declared.walks.Walk.{Walk}
 use Rattle.ledger.specs.Runs.{Plan}
 use Rattle.ledger.specs.Flows.{shut}
-use Rattle.checks.specs.Given.{Given, Ground}
+use Rattle.checks.specs.Given.{Ground}
 use Rattle.moves.specs.inner.Fill.{LengthWorked, RecordFilled, LeftKept, isWorked, workedRows, senderRows}
-use Rattle.moves.specs.inner.Added.{WaterAdded, rowsApart}
 
 -- what `fill` gives: the record, what left each square that is worked, and the rows of the squares that are worked and of those that send
 abbrev pub FillGives : Walk → Plan → Ground → List ℕ → List ℕ → List ℕ → ℕ → ℕ → ℕ → List ℕ × (List ℕ × (List ℕ × List ℕ)) → Type 0
@@ -22,14 +21,9 @@ FillGives walk p o depths lasts added held start ms out =
     × (out .1 .1 .1 ≡ senderRows p o depths lasts ms)
     × (LeftKept walk p o depths lasts added ms (out .1 .0))
 
--- `add_water` and `fill` are lent working rooms too. What `add_water` leaves in its room is determined where the square is not closed, unless a
--- square could not hold what is added; what `fill` leaves in its room `left`, where the square is worked and not closed.
+-- `fill` is lent working rooms too. What it leaves in its room `left` is determined where the square is worked and not closed.
 pub record MovesDetermined : Type 0 where
   pub step-length : (p : Plan) (o : Ground) (depths : List ℕ) (clock held : ℕ) → One (LengthWorked p o depths clock held)
-  pub rows-apart : (inflow : List ℕ) → One {Out = Bool} (λ r. r ≡ rowsApart inflow)
-  pub add-water : (p : Plan) (g : Given) (start end : ℕ) (old : List ℕ) (a b : Bool × List ℕ) →
-      WaterAdded p g start end old (a .0) (a .1) → WaterAdded p g start end old (b .0) (b .1) →
-      (a .0 ≡ b .0) × (a .0 ≡ true → (i : ℕ) → i < squares (p .shape) → shut p i ≡ false → getD (a .1) i 0 ≡ getD (b .1) i 0)
   pub fill : (walk : Walk) (p : Plan) (o : Ground) (depths lasts added : List ℕ) (held start ms : ℕ) (a b : List ℕ × (List ℕ × (List ℕ × List ℕ))) →
       FillGives walk p o depths lasts added held start ms a → FillGives walk p o depths lasts added held start ms b →
       (a .0 ≡ b .0)

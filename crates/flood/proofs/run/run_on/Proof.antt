@@ -1,16 +1,14 @@
 -- `flood::run::run_on` meets its contract: where the loop has come to, the run from there is the whole run.
 -- Assumes nothing.
 use mathlib.Core.Path.{_≡_, refl, sym, _∙_}
-use mathlib.Core.List.{List, _++_}
 use Prim.Native.Nat.{ℕ, _-_, _≤_}
 use native.Mathlib.Omega.{arith}
-use lib.ListN.{length, take, drop, length-append, length-drop, length-replicate}
-use lib.Seq.{length-take-le}
+use lib.ListN.{length, length-replicate}
 use borrow.Author.Needs.{needs}
 use Rattle.grid.specs.Squares.{ShapeInRange, mostAlong, mostSquares}
 use Rattle.ledger.specs.Runs.{Plan, World, plan, world}
 use Rattle.checks.specs.Given.{Given, ground, given}
-use Rattle.flood.proofs.StepLaws.{is-ready}
+use Rattle.flood.proofs.StepLaws.{is-ready, part, refilled}
 use Rattle.flood.proofs.RunToLaws.{Running, running-starts, running-on, running-further, running-refused, running-ends}
 use Rattle.flood.proofs.run.run_on.Statement.{statement}
 use Rattle.flood.proofs.run.run_on.Tie as tie
@@ -75,15 +73,6 @@ squares-fit c = omega (arith, counted c .squares-of .ensures, fine (start c) .fe
 
 rows-fit : (c : tie.Then1 Inv-loop μ-loop) → start c .args .way .shape .rows ≤ mostAlong
 rows-fit c = fine (start c) .rows-high
-
--- a part of a room is as long as it should be
-part : {n most : ℕ} (room : List ℕ) → length room ≡ most → n ≤ most → length (take n room) ≡ n
-part room long h = length-take-le _ room (omega (arith, long, h))
-
--- a room with a part of it written is as long as it was
-refilled : {n most : ℕ} (new old : List ℕ) → length new ≡ length (take n old) → length old ≡ most → n ≤ most → length (new ++ drop n old) ≡ most
-refilled {n} new old kept long h =
-    length-append new (drop n old) ∙ omega (arith, kept, part old long h, length-drop n old, long, h)
 
 -- ---- the answers
 

@@ -15,10 +15,11 @@ use Rattle.ledger.specs.After.{stepRecord}
 use Rattle.checks.specs.Given.{ground, Given, given}
 use Rattle.checks.specs.inner.Ready.{Ready}
 use Rattle.settling.proofs.SureLaws.{surely-settled}
+use Rattle.adding.specs.inner.Added.{addedFits}
+use Rattle.adding.proofs.AddedLaws.{same-fits}
 use Rattle.moves.specs.Moves.{stepLength, stepDuration, stepMoves}
-use Rattle.moves.specs.inner.Added.{addedFits}
 use Rattle.moves.proofs.MoveLaws.{step-lasts-to}
-use Rattle.moves.proofs.FillLaws.{lies-firmly, length-made, lasts-made, same-fits, record-made}
+use Rattle.moves.proofs.FillLaws.{lies-firmly, length-made, lasts-made, record-made}
 use Rattle.flood.specs.inner.Step.{filledRecord, Decides}
 use Rattle.flood.proofs.StepLaws.{is-ready, step-seven, step-eight, settles, room-added, sure-settled, step-settled}
 use Rattle.flood.proofs.step.step_on.Statement.{statement}
@@ -90,7 +91,7 @@ fits-is c =
     let s = start (in-water c) in
     let clock = s .args .run .clock in
     ap (λ (x : ℕ). addedFits (p s) (g s) clock (clock + x)) (sym (lasts-is (in-water c)))
-    ∙ (sym (same-fits (p s) (g s) (w s) clock (clock + in-water c .duration-for .result)) ∙ sym (c .add-water .ensures .fits-is))
+    ∙ (sym (same-fits (p s) (g s) clock (clock + in-water c .duration-for .result)) ∙ sym (c .add-water .ensures .fits-is))
 
 -- all that is added fits
 added-fits : (c : tie.After-surely-settles) → added-at c .add-water .result ≡ true

@@ -6,7 +6,7 @@ use Rattle.reckon.specs.Tables.{rainBy, inflowBy}
 use Rattle.ledger.specs.Runs.{Plan}
 use Rattle.ledger.specs.Account.{overOpen}
 use Rattle.checks.specs.Given.{Given}
-use Rattle.moves.specs.Moves.{addedFor}
+use Rattle.adding.specs.Added.{addedFor}
 
 module _ (p : Plan) (g : Given) where
   -- "all that rain and inflow tables give .. between its own start and end": to the squares not closed

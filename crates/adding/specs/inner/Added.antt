@@ -19,7 +19,7 @@ use Rattle.ledger.specs.Runs.{Plan}
 use Rattle.ledger.specs.Flows.{shut}
 use Rattle.checks.specs.Given.{Given, given, ground}
 use Rattle.checks.specs.inner.Ready.{TablesInRange}
-use Rattle.moves.specs.Moves.{addedFor}
+use Rattle.adding.specs.Added.{addedFor}
 
 -- ---- rain
 

@@ -1,4 +1,4 @@
--- `moves::added::pour_all` meets its contract: the squares of the rows passed hold what is added.
+-- `adding::added::pour_all` meets its contract: the squares of the rows passed hold what is added.
 -- Assumes nothing.
 use mathlib.Core.Path.{_≡_, refl, sym, _∙_, ap}
 use mathlib.Core.Bool.{true}
@@ -13,10 +13,10 @@ use Rattle.reckon.specs.Ranges.{mostDepth}
 use Rattle.reckon.proofs.TestLaws.{not-both, all-none, all-more, all-fails, all-whole}
 use Rattle.grid.specs.Squares.{squares}
 use Rattle.grid.specs.Marks.{inflowWords}
-use Rattle.moves.specs.inner.Added.{amountAt, unpoured, rowSquare}
-use Rattle.moves.proofs.AddedLaws.{pour-none, poured-turn}
-use Rattle.moves.proofs.added.pour_all.Statement.{statement}
-use Rattle.moves.proofs.added.pour_all.Tie as tie
+use Rattle.adding.specs.inner.Added.{amountAt, unpoured, rowSquare}
+use Rattle.adding.proofs.AddedLaws.{pour-none, poured-turn}
+use Rattle.adding.proofs.added.pour_all.Statement.{statement}
+use Rattle.adding.proofs.added.pour_all.Tie as tie
 
 abbrev Inv-loop : tie.InvT-loop
 Inv-loop way inflow start end rain room₀ rows j₀ room j =

@@ -1,9 +1,9 @@
--- `moves::added::rain_all` meets its contract: rain that a square can hold stands everywhere; more than that is fine where all squares are closed.
+-- `adding::added::rain_all` meets its contract: rain that a square can hold stands everywhere; more than that is fine where all squares are closed.
 -- Assumes nothing.
 use borrow.Author.Needs.{needs}
-use Rattle.moves.proofs.AddedLaws.{rain-too-deep, rain-stored}
-use Rattle.moves.proofs.added.rain_all.Statement.{statement}
-use Rattle.moves.proofs.added.rain_all.Tie as tie
+use Rattle.adding.proofs.AddedLaws.{rain-too-deep, rain-stored}
+use Rattle.adding.proofs.added.rain_all.Statement.{statement}
+use Rattle.adding.proofs.added.rain_all.Tie as tie
 
 cast-if1 : tie.Need-cast-if1
 cast-if1 c = search needs

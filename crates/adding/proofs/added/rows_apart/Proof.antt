@@ -1,4 +1,4 @@
--- `moves::added::rows_apart` meets its contract: every row passed so far was for another square than the rows before it.
+-- `adding::added::rows_apart` meets its contract: every row passed so far was for another square than the rows before it.
 -- Assumes nothing.
 use mathlib.Core.Path.{_≡_, sym, _∙_}
 use mathlib.Core.Bool.{true}
@@ -9,9 +9,9 @@ use borrow.Author.Tests.{not-true, not-false}
 use Rattle.reckon.specs.Tests.{allBelow}
 use Rattle.reckon.proofs.TestLaws.{all-none, all-more, all-fails, all-whole}
 use Rattle.grid.specs.Marks.{inflowWords}
-use Rattle.moves.specs.inner.Added.{rowAlone, rowsApart}
-use Rattle.moves.proofs.added.rows_apart.Statement.{statement}
-use Rattle.moves.proofs.added.rows_apart.Tie as tie
+use Rattle.adding.specs.inner.Added.{rowAlone, rowsApart}
+use Rattle.adding.proofs.added.rows_apart.Statement.{statement}
+use Rattle.adding.proofs.added.rows_apart.Tie as tie
 
 abbrev Inv-loop : tie.InvT-loop
 Inv-loop inflow rows j₀ j = (j ≤ length inflow / inflowWords) × (allBelow j (rowAlone inflow) ≡ true)

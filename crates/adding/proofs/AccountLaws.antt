@@ -7,8 +7,8 @@ use Rattle.reckon.proofs.TableLaws.{rain-mono, inflow-mono, rain-start, inflow-
 use Rattle.ledger.specs.Runs.{Plan}
 use Rattle.ledger.proofs.Account.{open-add, open-ext, open-zero}
 use Rattle.checks.specs.Given.{Given}
-use Rattle.moves.specs.Moves.{addedFor}
-use Rattle.moves.specs.Account.{tablesGive, tablesBy, SameTables}
+use Rattle.adding.specs.Added.{addedFor}
+use Rattle.adding.specs.Account.{tablesGive, tablesBy, SameTables}
 
 module _ (p : Plan) (g : Given) where
   pub tables-start : tablesBy p g 0 ≡ 0

@@ -1,12 +1,12 @@
--- `moves::added::add_water` meets its contract: rain first, then the rows.
+-- `adding::added::add_water` meets its contract: rain first, then the rows.
 -- Assumes nothing.
 use mathlib.Core.Path.{_∙_}
 use borrow.Author.Tests.{not-true, not-false}
 use borrow.Author.Needs.{needs}
 use Rattle.ledger.specs.Runs.{Plan, plan}
-use Rattle.moves.proofs.AddedLaws.{rain-asked, pours, rain-too-much, wetted}
-use Rattle.moves.proofs.added.add_water.Statement.{statement}
-use Rattle.moves.proofs.added.add_water.Tie as tie
+use Rattle.adding.proofs.AddedLaws.{rain-asked, pours, rain-too-much, wetted}
+use Rattle.adding.proofs.added.add_water.Statement.{statement}
+use Rattle.adding.proofs.added.add_water.Tie as tie
 
 -- ---- the places, each by the one before it
 

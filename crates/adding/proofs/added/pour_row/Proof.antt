@@ -1,4 +1,4 @@
--- `moves::added::pour_row` meets its contract: the square of a row is on the grid.
+-- `adding::added::pour_row` meets its contract: the square of a row is on the grid.
 -- Assumes nothing.
 use mathlib.Core.Path.{_≡_, refl, sym, _∙_, ap₂}
 use Prim.Native.Nat.{ℕ, _+_, _<_}
@@ -11,10 +11,10 @@ use Rattle.reckon.proofs.TestLaws.{not-both}
 use Rattle.reckon.proofs.TableLaws.{inflow-le}
 use Rattle.grid.specs.Squares.{squares, squareAt}
 use Rattle.grid.proofs.SquareLaws.{square-within}
-use Rattle.moves.proofs.AddedLaws.{row-is-on, amount-made}
-use Rattle.moves.specs.inner.Added.{amountAt, rowSquare}
-use Rattle.moves.proofs.added.pour_row.Statement.{statement}
-use Rattle.moves.proofs.added.pour_row.Tie as tie
+use Rattle.adding.proofs.AddedLaws.{row-is-on, amount-made}
+use Rattle.adding.specs.inner.Added.{amountAt, rowSquare}
+use Rattle.adding.proofs.added.pour_row.Statement.{statement}
+use Rattle.adding.proofs.added.pour_row.Tie as tie
 
 -- ---- the places, each by the one before it
 

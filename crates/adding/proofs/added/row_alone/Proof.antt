@@ -1,4 +1,4 @@
--- `moves::added::row_alone` meets its contract: no row passed so far is for the square of row j.
+-- `adding::added::row_alone` meets its contract: no row passed so far is for the square of row j.
 -- Assumes nothing.
 use mathlib.Core.Path.{_≡_, sym, _∙_, ap}
 use mathlib.Core.Bool.{true, not}
@@ -7,9 +7,9 @@ use native.Mathlib.Omega.{arith}
 use Rattle.reckon.specs.Tests.{allBelow}
 use Rattle.reckon.specs.Tables.{onSquare}
 use Rattle.reckon.proofs.TestLaws.{all-none, all-more}
-use Rattle.moves.proofs.AddedLaws.{alone-fails, alone-whole}
-use Rattle.moves.proofs.added.row_alone.Statement.{statement}
-use Rattle.moves.proofs.added.row_alone.Tie as tie
+use Rattle.adding.proofs.AddedLaws.{alone-fails, alone-whole}
+use Rattle.adding.proofs.added.row_alone.Statement.{statement}
+use Rattle.adding.proofs.added.row_alone.Tie as tie
 
 abbrev Inv-loop : tie.InvT-loop
 Inv-loop inflow j row column k₀ k = (k ≤ j) × (allBelow k (λ i. not (onSquare inflow row column i)) ≡ true)

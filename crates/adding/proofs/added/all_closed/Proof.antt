@@ -1,4 +1,4 @@
--- `moves::added::all_closed` meets its contract: every square passed so far was closed.
+-- `adding::added::all_closed` meets its contract: every square passed so far was closed.
 -- Assumes nothing.
 use mathlib.Core.Path.{_≡_, sym, _∙_}
 use mathlib.Core.Bool.{true}
@@ -9,8 +9,8 @@ use borrow.Author.Tests.{not-true, not-false}
 use Rattle.reckon.specs.Tests.{allBelow}
 use Rattle.reckon.proofs.TestLaws.{all-none, all-more, all-fails, all-whole}
 use Rattle.grid.specs.Marks.{closed}
-use Rattle.moves.proofs.added.all_closed.Statement.{statement}
-use Rattle.moves.proofs.added.all_closed.Tie as tie
+use Rattle.adding.proofs.added.all_closed.Statement.{statement}
+use Rattle.adding.proofs.added.all_closed.Tie as tie
 
 abbrev Inv-loop : tie.InvT-loop
 Inv-loop marks squares square₀ square = (square ≤ length marks) × (allBelow square (closed marks) ≡ true)

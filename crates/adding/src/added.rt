@@ -20,7 +20,7 @@ ghost use Rattle.reckon.specs.inner.Fits.{Fits};
 ghost use Rattle.grid.specs.Squares.{squares};
 ghost use Rattle.grid.specs.Marks.{closed, inflowWords};
 ghost use Rattle.ledger.specs.Runs.{plan};
-ghost use Rattle.moves.specs.inner.Added.{Between, PouredAll, PouredRow, Pours, RainedAll, WaterAdded, rowAlone, rowsApart, tables};
+ghost use Rattle.adding.specs.inner.Added.{Between, PouredAll, PouredRow, Pours, RainedAll, WaterAdded, rowAlone, rowsApart, tables};
 
 // Whether every square is closed.
 fn all_closed(marks: &[u8]) -> bool

@@ -28,9 +28,9 @@ use Rattle.grid.proofs.SquareLaws.{square-in, square-within, row-of, column-of}
 use Rattle.rule.specs.declared.rules.Rules.{Rules}
 use Rattle.ledger.specs.Runs.{Plan}
 use Rattle.ledger.specs.Flows.{shut}
-use Rattle.moves.specs.inner.Added.{amountAt, unpoured, rowSquare, rowAlone, rowsApart, tables, addedFits, RainedAll, PouredRow, PouredAll, Pours, Between, WaterAdded}
+use Rattle.adding.specs.inner.Added.{amountAt, unpoured, rowSquare, rowAlone, rowsApart, tables, addedFits, RainedAll, PouredRow, PouredAll, Pours, Between, WaterAdded}
 use Rattle.checks.specs.Given.{Given}
-use Rattle.moves.specs.Moves.{addedFor}
+use Rattle.adding.specs.Added.{addedFor}
 
 -- ---- rain
 
@@ -434,3 +434,22 @@ module _ (p : Plan) (r : Rules) (rain inflow : List ℕ) (start end : ℕ) (b : 
 
     pub wetted : WaterAdded p g start end old done new
     wetted = record { fits-is = fits-both done refl; stored = stands; long = q .long ∙ a .long }
+
+-- ---- all that is given
+
+module _ (p : Plan) (g : Given) where
+  -- what is added goes by rules and tables alone
+  pub same-fits : (start end : ℕ) → addedFits p (tables (g .lie .rules) (g .rain) (g .inflow)) start end ≡ addedFits p g start end
+  unfolding addedFits addedFor
+  same-fits start end = refl
+
+  same-added : (start end i : ℕ) → addedFor p (tables (g .lie .rules) (g .rain) (g .inflow)) start end i ≡ addedFor p g start end i
+  unfolding addedFor
+  same-added start end i = refl
+
+  -- what stands in the room is what a step of so many ms adds
+  pub room-made :
+      (start ms : ℕ) {end : ℕ} {old room : List ℕ} {fits : Bool} → end ≡ start + ms →
+      WaterAdded p (tables (g .lie .rules) (g .rain) (g .inflow)) start end old fits room → fits ≡ true →
+      (i : ℕ) → i < squares (p .shape) → shut p i ≡ false → getD room i 0 ≡ addedFor p g start (start + ms) i
+  room-made start ms {end} n t f i h c = t .stored f i h c ∙ (same-added start end i ∙ ap (λ (x : ℕ). addedFor p g start x i) n)

@@ -1,4 +1,4 @@
--- `moves::added::store_all` meets its contract: the places passed hold the amount.
+-- `adding::added::store_all` meets its contract: the places passed hold the amount.
 -- Assumes nothing.
 use mathlib.Core.Path.{_≡_, refl, _∙_, ap}
 use mathlib.Core.Bool.{false}
@@ -8,9 +8,9 @@ use native.Mathlib.Omega.{arith}
 use lib.ListN.{length, set}
 use Rattle.reckon.specs.Lists.{filled}
 use Rattle.reckon.proofs.ListLaws.{length-filled, filled-none, filled-store}
-use Rattle.moves.proofs.AddedLaws.{stored-whole}
-use Rattle.moves.proofs.added.store_all.Statement.{statement}
-use Rattle.moves.proofs.added.store_all.Tie as tie
+use Rattle.adding.proofs.AddedLaws.{stored-whole}
+use Rattle.adding.proofs.added.store_all.Statement.{statement}
+use Rattle.adding.proofs.added.store_all.Tie as tie
 
 abbrev Inv-loop : tie.InvT-loop
 Inv-loop amount room₀ places place₀ room place =

@@ -1,11 +1,11 @@
--- `moves::added::poured` meets its contract: where the rows stand apart, the sum over all rows is that row's alone.
+-- `adding::added::poured` meets its contract: where the rows stand apart, the sum over all rows is that row's alone.
 -- Assumes nothing.
 use mathlib.Core.Path.{sym, _∙_}
 use borrow.Author.Tests.{not-false}
 use borrow.Author.Needs.{needs}
-use Rattle.moves.proofs.AddedLaws.{part-fits, part-added}
-use Rattle.moves.proofs.added.poured.Statement.{statement}
-use Rattle.moves.proofs.added.poured.Tie as tie
+use Rattle.adding.proofs.AddedLaws.{part-fits, part-added}
+use Rattle.adding.proofs.added.poured.Statement.{statement}
+use Rattle.adding.proofs.added.poured.Tie as tie
 
 inflow-added-requires : tie.Need-inflow-added-requires
 inflow-added-requires c κs = search needs

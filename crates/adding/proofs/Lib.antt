@@ -1,0 +1,3 @@
+pub mod AccountLaws
+pub mod AddedLaws
+pub mod Determined

@@ -1,0 +1,6 @@
+// What a step adds to each square: the water that the rows of rain and inflow give between its two clocks.
+//   way::Way            how a step goes about its work
+//   added::rows_apart   whether no two inflow rows are for the same square
+//   added::add_water    what a step adds to each square
+pub mod added;
+pub mod way;
