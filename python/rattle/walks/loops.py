@@ -161,10 +161,10 @@ class Loop(Frame):
         self.tests(c)
         c.step(f"stays ! {c.load('go')} $")
         at = f"{self.share} {self.list_now(I)} {I} {self.default} {self.place(x)} within"
-        c.step(f"elem-out ! {self.seen_as} {at} (λ is-h.", 1, "cell", "own", "others")
+        c.step(f"elem-out ! {self.seen_as} {at} (λ is-h.", 1, "item", "own", "others")
         self.address(c, "ptr")
-        cell = f"(load ! (from ! (hop ! (look ! {c.at('v-ptr')} refl) (stop !))) (look-raw ! {c.at('cell')} refl))"
-        c.assign(f"(of-opd ! {cell})", "copy", kind.typed("h", "is-h"))
+        item = f"(load ! (from ! (hop ! (look ! {c.at('v-ptr')} refl) (stop !))) (look-raw ! {c.at('item')} refl))"
+        c.assign(f"(of-opd ! {item})", "copy", kind.typed("h", "is-h"))
         c.assign(f"(of-opd ! {c.load('copy')})", "one", kind.typed("h", "is-h"))
         self.turn(c)
         c.front(*(name for name, _ in self.head(I)))
@@ -270,7 +270,7 @@ class Keeps(Loop):
 
     def turn(self, c):
         x = self.over
-        c.front("cell", "own", "others")
+        c.front("item", "own", "others")
         c.step(f"elem-back ! {self.row(x)} q′ {x}₀ {I} {self.default} {self.element.machines('h')} {self.place(x)} less $", 3, f"row-{x}")
         self.calls_it(c, self.each, f" {I} less (i .1 .1) h is-h")
         self.lands(c, self.result, "r", "kept", "store")
@@ -357,9 +357,9 @@ class Puts(Loop):
         self.lands(c, self.element, "r", "copy", "store")
         self.address(c, "ptr2")
         c.step(f"assigns ! (of-opd ! {c.load('copy')}) (from ! (hop ! (look ! {c.at('v-ptr2')} refl) (stop !))) "
-               f"(store-raw ! {c.at('cell')} refl {self.element.typed('r', 'is')}) $")
+               f"(store-raw ! {c.at('item')} refl {self.element.typed('r', 'is')}) $")
         c.drop("own")
-        c.front("cell", "res", "others")
+        c.front("item", "res", "others")
         c.step(f"elem-put ! {self.element.row} fullShare {self.list_now(I)} {I} r (w ∷ []) {self.place(x)} within $", 3, f"row-{x}")
         self.rewrites_row(c, f"({self.more} {I} {x}₀ less got)")
 
