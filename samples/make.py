@@ -1,11 +1,13 @@
 #!/usr/bin/env python3
-"""make.py [FOLDER]: makes the sample sheets, the sample log and a winter's sheets with their list, and the answer to each by documents 01 and 02
-in Python, in samples/ or in another folder."""
+"""make.py [FOLDER]: makes the sample sheets, the sample log, and a winter's sheets with their list and with level boards for one of them, and the
+answer to each by documents 01 and 02 in Python, in samples/ or in another folder."""
 import sys
 from pathlib import Path
 
 sys.path.insert(0, str(Path(__file__).resolve().parent.parent / "python"))
 
+from meadow.boards import answers as boards
+from meadow.boards import texts
 from meadow.logs.answers import answered
 from meadow.logs.entries import written
 from meadow.peaks import winters
@@ -117,6 +119,21 @@ WINTER = {
     "6-march": lambda: winter_sheet(100, 0, [(0, 20, 10)], [(0, 0, 60, 2_500), (2, 0, 60, 2_000), (4, 0, 60, 2_000)]),
 }
 DROWNED = 100 * MILLIMETRE
+# level boards down the leat, along the ditch, on the low meadow and round the wheel house, each with its mark in mm
+CHRISTMAS_BOARDS = [
+    *((0, 1, 90), (2, 1, 50), (4, 1, 150), (5, 1, 300), (6, 1, 400), (7, 1, 500)),
+    *((6, 2, 300), (6, 4, 300), (6, 6, 100)),
+    *((7, 3, 300), (7, 6, 250)),
+    *((2, 5, 30), (5, 5, 10), (3, 4, 20), (3, 6, 15), (4, 6, 25)),
+]
+
+
+def make_boards(folder):
+    """The boards of the Christmas sheet, and what they show."""
+    text = texts.written((row, column, mark * MILLIMETRE) for row, column, mark in CHRISTMAS_BOARDS)
+    sheet = folder / "3-christmas.sheet"
+    sheet.with_suffix(".boards").write_text(text, encoding="ascii")
+    sheet.with_suffix(".boards.out").write_text(boards.answered(sheet.read_bytes(), text.encode("ascii")), encoding="ascii")
 
 
 def make_winter(folder):
@@ -143,6 +160,7 @@ def main():
         (folder / f"{name}.log.out").write_text(answered(sheet.read_bytes(), log.encode("ascii")), encoding="ascii")
         print(f"{name}.log")
     make_winter(folder / "winter")
+    make_boards(folder / "winter")
     print("winter")
     return 0
 

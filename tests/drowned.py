@@ -8,18 +8,17 @@ import os
 import pwd
 import random
 import subprocess
-import sys
 import tempfile
 from pathlib import Path
 
 from damaged import A_HATCH, A_SHOWER, after, field, flat_grid, last_gone, unended
-from hatchlog import shortened
 from meadow.counted import Checks
 from meadow.peaks.lists import MOST_SHEETS, listed
 from meadow.peaks.winters import answered, told_of
 from meadow.programs import TOP
 from meadow.sheets.lines import SECOND, Sheet, refused_text
 from meadow.sheets.reading import MOST_BYTES
+from printouts import hold_both, hold_stored, seed_said, shortened
 
 # ---- sheets: two pools, each one square with walls all round, so that only rain, a hatch or the soil changes its depth
 
@@ -383,9 +382,7 @@ def hold_table(checks):
     checks.hold(len({name for name, *_ in cases}) == len(cases), "two cases have one name")
     checks.hold((len(LONGEST), MOST_SHEETS) == (MOST_BYTES, 200), f"the longest list has {len(LONGEST)} bytes")
     for name, words, stdin, answer in cases:
-        program, worked = told_of(stdin), answered(stdin)
-        checks.hold(program == answer, f"{name}, {words}: drowned prints {shortened(program)}, not {shortened(answer)}")
-        checks.hold(worked == answer, f"{name}, {words}: by document 02 it is {shortened(worked)}, not {shortened(answer)}")
+        hold_both(checks, f"{name}, {words}", told_of(stdin), answered(stdin), answer)
 
 
 def hold_rights(checks):
@@ -502,13 +499,6 @@ def stored_text():
     return worked
 
 
-def hold_stored(checks):
-    """The stored output is what document 02 gives."""
-    path = CRATE / "stdout"
-    if checks.hold(path.exists(), "crates/drowned has no stored output"):
-        checks.hold(path.read_text(encoding="ascii") == stored_text(), "the stored output of drowned is not what document 02 gives")
-
-
 def write_cases(folder):
     """Every case as a list and its answer, with the sheets beside them."""
     os.chdir(folder)
@@ -520,13 +510,9 @@ def write_cases(folder):
 
 
 def main():
-    if sys.argv[1:] == ["--write"]:
-        (CRATE / "stdout").write_text(stored_text(), encoding="ascii")
+    seed = seed_said("drowned", SEED, stored_text, write_cases)
+    if seed is None:
         return
-    if sys.argv[1:2] == ["--write"]:
-        write_cases(sys.argv[2])
-        return
-    seed = int(sys.argv[2]) if sys.argv[1:2] == ["--seed"] else SEED
     checks = Checks("drowned")
     with tempfile.TemporaryDirectory() as folder:
         os.chmod(folder, 0o755)
@@ -536,7 +522,7 @@ def main():
         hold_rights(checks)
         hold_random(checks, seed, RANDOM_LISTS)
         os.chdir(TOP)
-    hold_stored(checks)
+    hold_stored(checks, "drowned", stored_text())
     checks.end()
 
 

@@ -4,21 +4,18 @@ random logs with `back`. The built `hatchlog` and document 02 in Python give the
 `bin/test hatchlog --seed N` makes other random logs; `bin/test hatchlog --write` writes the program's stored output, and `--write FOLDER` each
 log with its sheet and its answer there, random ones too, for other tests to read.
 """
-import os
-import pwd
 import random
-import subprocess
-import sys
 import tempfile
-from pathlib import Path
 
 from damaged import A_HATCH, A_SHOWER, A_WEEK, BASES, after, field, flat_grid, last_gone
 from meadow.counted import Checks
 from meadow.logs.answers import answered, named
 from meadow.logs.entries import written
-from meadow.programs import TOP, printed
+from meadow.programs import TOP
 from meadow.sheets.lines import SECOND, Sheet, answer_text, refused_text
 from meadow.sheets.reading import MOST_BYTES
+from printouts import hold_stored, seed_said, shortened
+from two_files import Files, hold_names, hold_rights
 
 # ---- sheets
 
@@ -491,36 +488,6 @@ def answer_of(parts):
     return "".join(part if isinstance(part, str) else refused_text(*part) for part in parts)
 
 
-def told(sheet, log, **how):
-    """What the built program prints of two files."""
-    return printed("hatchlog", b"%s\n%s\n" % (os.fsencode(sheet), os.fsencode(log)), **how).decode("ascii")
-
-
-def shortened(text):
-    """A text to be shown, cut where it is long."""
-    return repr(text) if len(text) < 600 else f"{text[:300]!r} .. {text[-300:]!r}, {len(text)} letters"
-
-
-class Files:
-    """A sheet and a log in a folder that everybody may read."""
-
-    def __init__(self, folder):
-        self.folder = Path(folder)
-        self.folder.chmod(0o755)
-        self.sheet, self.log = self.folder / "a.sheet", self.folder / "a.log"
-
-    def put(self, sheet, log):
-        """Their texts, a byte for each letter."""
-        self.sheet.write_bytes(sheet.encode("latin-1"))
-        self.log.write_bytes(log.encode("latin-1"))
-
-    def hold(self, checks, words, answer):
-        """The program and the Python give the answer."""
-        program, worked = told(self.sheet, self.log), answered(self.sheet.read_bytes(), self.log.read_bytes())
-        checks.hold(program == answer, f"{words}: hatchlog prints {shortened(program)}, not {shortened(answer)}")
-        checks.hold(worked == answer, f"{words}: by document 02 it is {shortened(worked)}, not {shortened(answer)}")
-
-
 def hold_table(checks, files):
     """The worked and the damaged logs."""
     checks.hold(len({name for name, *_ in CASES}) == len(CASES), "two cases have one name")
@@ -531,75 +498,6 @@ def hold_table(checks, files):
     for words, log, answer in unreadable():
         files.put(SHEETS["puddle"], log)
         files.hold(checks, words, answer_of(answer))
-
-
-# ---- names
-
-
-def names_of(files):
-    """What is tried, the bytes at standard input, and what is printed."""
-    sheet, log = os.fsencode(files.sheet), os.fsencode(files.log)
-    folder, none = os.fsencode(files.folder), os.fsencode(files.folder / "none")
-    long_name, long_path = folder + b"/" + b"n" * 256, folder + b"/." * 2_048 + b"/a.log"
-    good, refused = at(1_000, 1_000), refused_text(12, 0)
-    return [
-        ("two names", sheet + b"\n" + log + b"\n", good),
-        ("a longest path", sheet + b"\n" + folder + b"/" * (4_095 - len(folder) - 5) + b"a.log\n", good),
-        ("a path one byte longer", sheet + b"\n" + folder + b"/" * (4_096 - len(folder) - 5) + b"a.log\n", refused),
-        ("a path far too long", sheet + b"\n" + long_path + b"\n", refused),
-        ("a name too long for a folder", sheet + b"\n" + long_name + b"\n", refused),
-        ("no such log", sheet + b"\n" + none + b"\n", refused),
-        ("no such sheet", none + b"\n" + log + b"\n", refused),
-        ("a folder for the sheet", folder + b"\n" + log + b"\n", refused),
-        ("a folder for the log", sheet + b"\n" + folder + b"\n", refused),
-        ("a file that opens and cannot be read", sheet + b"\n/proc/self/mem\n", refused),
-        ("a file in a file", sheet + b"\n" + log + b"/a\n", refused),
-        ("nothing", b"", refused),
-        ("a newline", b"\n", refused),
-        ("two blank names", b"\n\n", refused),
-        ("a blank sheet", b"\n" + log + b"\n", refused),
-        ("a blank log", sheet + b"\n\n", refused),
-        ("one name", sheet + b"\n", refused),
-        ("one name without a newline", sheet, refused),
-        ("a log without a newline after it", sheet + b"\n" + log, refused),
-        ("three names", sheet + b"\n" + log + b"\n" + log + b"\n", refused),
-        ("two names and a letter", sheet + b"\n" + log + b"\nx", refused),
-        ("two names and a blank line", sheet + b"\n" + log + b"\n\n", refused),
-        ("a tab for a newline", sheet + b"\t" + log + b"\n", refused),
-        ("a carriage return after a name", sheet + b"\r\n" + log + b"\r\n", refused),
-        ("a space before a name", b" " + sheet + b"\n" + log + b"\n", refused),
-        ("a nought in a name", sheet + b"\0\n" + log + b"\n", refused),
-    ]
-
-
-def hold_names(checks, files):
-    """Names that cannot be opened are 12, line 0, before the sheet is read."""
-    files.put(SHEETS["puddle"], written(NAMED, "1000 1 0"))
-    for words, given, answer in names_of(files):
-        program, worked = printed("hatchlog", given).decode("ascii"), named(given)
-        checks.hold(program == answer, f"{words}: hatchlog prints {program!r}, not {answer!r}")
-        checks.hold(worked == answer, f"{words}: by document 02 it is {worked!r}, not {answer!r}")
-    files.put(SHEETS["cut line"], "")
-    given = b"%s\n%s\n" % (os.fsencode(files.sheet), os.fsencode(files.folder / "none"))
-    for program in (printed("hatchlog", given).decode("ascii"), named(given)):
-        checks.hold(program == refused_text(12, 0), f"no such log, and a sheet that is refused: {program!r}")
-
-
-def hold_rights(checks, files):
-    """A file that nobody may read is 12, line 0; root may read all, so that there the program is started as nobody."""
-    files.put(SHEETS["puddle"], written(NAMED, "1000 1 0"))
-    how = {"user": pwd.getpwnam("nobody").pw_uid} if os.geteuid() == 0 else {}
-    try:
-        whole = told(files.sheet, files.log, **how)
-    except (subprocess.CalledProcessError, OSError) as fault:
-        checks.skip("a file that nobody may read", f"hatchlog cannot be started by nobody: {fault}")
-        return
-    checks.hold(whole == at(1_000, 1_000), f"as nobody: {whole!r}")
-    for path in (files.sheet, files.log):
-        path.chmod(0)
-        program = told(files.sheet, files.log, **how)
-        path.chmod(0o644)
-        checks.hold(program == refused_text(12, 0), f"no right to read {path.name}: {program!r}")
 
 
 # ---- random logs
@@ -664,9 +562,8 @@ def hold_random(checks, files, seed, many):
         sheet, text = random_sheet(chance)
         log = random_log(chance, sheet)
         files.put(text, slipped(chance, log) if chance.random() < 0.25 else log)
-        worked = answered(files.sheet.read_bytes(), files.log.read_bytes())
-        program = told(files.sheet, files.log)
-        if not checks.hold(program == worked, f"random log {turn} of seed {seed}: {text!r} and {files.log.read_bytes()!r}"):
+        program, worked = files.told(), files.worked()
+        if not checks.hold(program == worked, f"random log {turn} of seed {seed}: {text!r} and {files.other.read_bytes()!r}"):
             print(f"hatchlog: it prints {shortened(program)}, and by document 02 it is {shortened(worked)}")
         clocks = [int(line.split("\t")[1]) for line in worked.splitlines() if line.startswith("clock")]
         whole += "refused" not in worked
@@ -684,13 +581,6 @@ def stored_text():
     crate = TOP / "crates" / "hatchlog"
     names = (crate / "stdin").read_text(encoding="ascii").splitlines()
     return answered(*((crate / "data" / name).read_bytes() for name in names))
-
-
-def hold_stored(checks):
-    """The stored output is what document 02 gives."""
-    path = TOP / "crates" / "hatchlog" / "stdout"
-    if checks.hold(path.exists(), "crates/hatchlog has no stored output"):
-        checks.hold(path.read_text(encoding="ascii") == stored_text(), "the stored output of hatchlog is not what document 02 gives")
 
 
 def cases():
@@ -715,21 +605,18 @@ def write_cases(folder):
 
 
 def main():
-    if sys.argv[1:] == ["--write"]:
-        (TOP / "crates" / "hatchlog" / "stdout").write_text(stored_text(), encoding="ascii")
+    seed = seed_said("hatchlog", SEED, stored_text, write_cases)
+    if seed is None:
         return
-    if sys.argv[1:2] == ["--write"]:
-        write_cases(Path(sys.argv[2]))
-        return
-    seed = int(sys.argv[2]) if sys.argv[1:2] == ["--seed"] else SEED
     checks = Checks("hatchlog")
     with tempfile.TemporaryDirectory() as folder:
-        files = Files(folder)
+        files = Files(folder, "hatchlog", "log", answered, named)
         hold_table(checks, files)
-        hold_names(checks, files)
-        hold_rights(checks, files)
+        for hold, *more in ((hold_names, SHEETS["cut line"]), (hold_rights,)):
+            files.put(SHEETS["puddle"], written(NAMED, "1000 1 0"))
+            hold(checks, files, at(1_000, 1_000), *more)
         hold_random(checks, files, seed, RANDOM_LOGS)
-    hold_stored(checks)
+    hold_stored(checks, "hatchlog", stored_text())
     checks.end()
 
 

@@ -1,24 +1,46 @@
-"""crates/exports/flood.h and tests/outside/declared.rs say what the exported functions take and give, and every exported function stands
-in them, with the stack that suffices for it."""
+"""The headers flood.h and display.h, and the declarations for Rust under tests/outside, say what the exported functions take and give; every
+exported function stands in them, with the stack that suffices for it, and a struct that is lent lies in memory as its header says."""
+import ctypes
 import re
 
 import header
 from meadow.counted import Checks
 
+IN_PYTHON = {"bool": ctypes.c_bool, "u32": ctypes.c_uint32, "u64": ctypes.c_uint64, "usize": ctypes.c_uint64}
 
-def main():
-    checks = Checks("header")
-    for stored, made in ((header.HEADER, header.header()), (header.DECLARED, header.declared())):
-        checks.hold(stored.read_text() == made, f"{stored.name} is not what tools/header.py makes of the sources")
+
+def hold_library(checks, library):
+    """One library: its two files are as made, and its functions are those of its sources."""
+    for stored, made in ((library.header, header.header(library)), (library.declared, header.declared(library))):
+        checks.hold(stored.exists() and stored.read_text() == made, f"{stored.name} is not what tools/header.py makes of the sources")
     exported = set()
-    for source in header.SOURCES.glob("*.rt"):
+    for source in library.sources().glob("*.rt"):
         exported |= set(re.findall(r"extern \"C\" fn (\w+)", source.read_text()))
-    declared = set(re.findall(r"\b(flood_\w+)\(", header.header()))
-    measured = set(header.STACK)
-    checks.hold(exported != set(), "nothing is exported")
+    declared = set(re.findall(r"^\w+ (flood_\w+)\(", header.header(library), re.M))
+    measured = set(library.stack)
+    checks.hold(exported != set(), f"{library.crate} exports nothing")
     for name in sorted(exported | declared | measured):
         checks.hold(name in exported and name in declared, f"{name} is exported and not declared, or the reverse")
         checks.hold(name in exported and name in measured, f"{name} is exported and its stack not measured, or the reverse")
+
+
+def hold_structs(checks, library):
+    """Each struct that a library is lent is found once, and its places are those that C gives it."""
+    found = list(header.structs(library))
+    checks.hold([struct.name for struct in found] == [name for _, name in library.structs], f"{library.crate} is lent {found}")
+    for struct in found:
+        in_c = type(struct.name, (ctypes.Structure,), {"_fields_": [(name, IN_PYTHON[kind]) for name, kind in struct.fields]})
+        places, size = struct.places()
+        checks.hold(size == ctypes.sizeof(in_c), f"a {struct.name} has {ctypes.sizeof(in_c)} bytes in C")
+        for name, at in places:
+            checks.hold(at == getattr(in_c, name).offset, f"{name} of a {struct.name} lies at {getattr(in_c, name).offset} in C, not at {at}")
+
+
+def main():
+    checks = Checks("header")
+    for library in header.LIBRARIES:
+        hold_library(checks, library)
+        hold_structs(checks, library)
     checks.end()
 
 

@@ -6,18 +6,16 @@ the program to is worked anew too.
 sheet with its answer there, random ones too, for other tests to read.
 """
 import random
-import sys
-from pathlib import Path
 
 import damaged
 from damaged import BASES, answer_of, field, flat_grid, sheet_of
 from drowned import EAST, FAST_SOIL, SHEETS, WEST, drawn, pools, random_plan, random_sheet
-from hatchlog import shortened
 from meadow.counted import Checks
 from meadow.peaks.heights import answered, heights_text
 from meadow.peaks.runs import Peak
 from meadow.programs import TOP, printed
 from meadow.sheets.lines import DEPTH, SECOND, Answer, refused_text
+from printouts import hold_both, hold_stored, seed_said, shortened
 
 # ---- sheets
 
@@ -119,9 +117,7 @@ def hold_table(checks):
     """The program and the Python give each answer."""
     checks.hold(len({name for name, *_ in CASES}) == len(CASES), "two cases have one name")
     for name, words, sheet, answer in CASES:
-        program, worked = told_of(sheet), answered(sheet.encode("latin-1"))
-        checks.hold(program == answer, f"{name}, {words}: highest prints {shortened(program)}, not {shortened(answer)}")
-        checks.hold(worked == answer, f"{name}, {words}: by document 02 it is {shortened(worked)}, not {shortened(answer)}")
+        hold_both(checks, f"{name}, {words}", told_of(sheet), answered(sheet.encode("latin-1")), answer)
 
 
 def totals_in(text):
@@ -178,19 +174,11 @@ def hold_random(checks, seed, many):
 
 # ---- what the gate holds the program to
 
-CRATE = TOP / "crates" / "highest"
 
 
 def stored_text():
     """What the program prints in the gate, worked in Python."""
-    return answered((CRATE / "stdin").read_bytes())
-
-
-def hold_stored(checks):
-    """The stored output is what document 02 gives."""
-    path = CRATE / "stdout"
-    if checks.hold(path.exists(), "crates/highest has no stored output"):
-        checks.hold(path.read_text(encoding="ascii") == stored_text(), "the stored output of highest is not what document 02 gives")
+    return answered((TOP / "crates" / "highest" / "stdin").read_bytes())
 
 
 def write_cases(folder):
@@ -202,19 +190,15 @@ def write_cases(folder):
 
 
 def main():
-    if sys.argv[1:] == ["--write"]:
-        (CRATE / "stdout").write_text(stored_text(), encoding="ascii")
+    seed = seed_said("highest", SEED, stored_text, write_cases)
+    if seed is None:
         return
-    if sys.argv[1:2] == ["--write"]:
-        write_cases(Path(sys.argv[2]))
-        return
-    seed = int(sys.argv[2]) if sys.argv[1:2] == ["--seed"] else SEED
     checks = Checks("highest")
     hold_table(checks)
     hold_damaged(checks)
     hold_samples(checks)
     hold_random(checks, seed, RANDOM_SHEETS)
-    hold_stored(checks)
+    hold_stored(checks, "highest", stored_text())
     checks.end()
 
 

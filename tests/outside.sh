@@ -1,8 +1,9 @@
 #!/usr/bin/env bash
-# Links the static library into a C program, which calls each function by flood.h, and into a Rust program, which compares every call with
-# document 01 as tests/outside/reference.rs has it. Words go to the Rust program: --long for a long run, --seed N, --rounds N, --endless. Rust
-# programs of their own hold hatch logs to document 02 as tests/outside/evening.rs has it, and lists of sheets and the heights of single ones as
-# tests/outside/winter.rs does.
+# Links the static libraries into C programs, which call each function by flood.h and by display.h, and into a Rust program, which compares every
+# call with document 01 as tests/outside/reference.rs has it, and a run with boards with document 02 as tests/outside/watching.rs does. Words go
+# to the Rust program: --long for a long run, --seed N, --rounds N, --endless. Rust programs of their own hold what the programs print to document
+# 02: of hatch logs as tests/outside/evening.rs has it, of lists of sheets and the heights of single ones as tests/outside/winter.rs does, and of
+# boards as tests/outside/watching.rs does. A board lies in memory as C and Rust both say.
 set -u
 cd "$(dirname "$0")/.." || exit 1
 top=$PWD
@@ -29,35 +30,61 @@ damaged=$built/damaged
 evenings=$built/evenings
 winters=$built/winters
 heights=$built/heights
-rm -rf "$damaged" "$evenings" "$winters" "$heights"
-mkdir -p "$damaged" "$evenings" "$winters" "$heights"
+levels=$built/levels
+rm -rf "$damaged" "$evenings" "$winters" "$heights" "$levels"
+mkdir -p "$damaged" "$evenings" "$winters" "$heights" "$levels"
 
 # cases: what the tests work in Python, written for the Rust programs
 cases() {
     bin/test damaged --write "$damaged" && bin/test hatchlog --write "$evenings" && bin/test drowned --write "$winters" &&
-        bin/test highest --write "$heights"
+        bin/test highest --write "$heights" && bin/test boards --write "$levels"
 }
 
-if ! { cases && archive && build_c header && build compare && build logs && build lists; }; then
+# programs: those in C, and those in Rust
+programs() {
+    local name
+    for name in header display; do
+        build_c "$name" || return 1
+    done
+    for name in compare logs lists boards layout; do
+        build "$name" || return 1
+    done
+}
+
+# told NAME PROGRAM WORDS..: runs a built program, keeps what it prints in NAME.log, and counts it where it fails
+told() {
+    "${run_by[@]}" "$top/$built/$2" "${@:3}" | tee "$top/$built/$1.log"
+    [ "${PIPESTATUS[0]}" -eq 0 ] || failed=$((failed + 1))
+}
+
+if ! { cases && archive && programs; }; then
     ended 0 0 1
 fi
 failed=0
-"${run_by[@]}" "$built/header" | tee "$built/header.log"
-[ "${PIPESTATUS[0]}" -eq 0 ] || failed=$((failed + 1))
-"${run_by[@]}" "$built/compare" "$@" samples/*.sheet "$damaged"/*.sheet | tee "$built/compare.log"
-[ "${PIPESTATUS[0]}" -eq 0 ] || failed=$((failed + 1))
-"${run_by[@]}" "$built/logs" samples/*.log "$evenings"/*.log | tee "$built/logs.log"
-[ "${PIPESTATUS[0]}" -eq 0 ] || failed=$((failed + 1))
-"${run_by[@]}" "$built/lists" samples/winter/*.list "$heights"/*.sheet | tee "$built/heights.log"
-[ "${PIPESTATUS[0]}" -eq 0 ] || failed=$((failed + 1))
+told header header
+told display display
+told compare compare "$@" samples/*.sheet "$damaged"/*.sheet
+told logs logs samples/*.log "$evenings"/*.log
+told heights lists samples/winter/*.list "$heights"/*.sheet
+told levels boards samples/winter/*.boards "$levels"/*.boards
+told c-layout display layout
+told rust-layout layout
+cmp "$built/c-layout.log" "$built/rust-layout.log" || failed=$((failed + 1))
 # a list's sheets are found from the folder that it is read in
-(cd "$winters" && "${run_by[@]}" "$top/$built/lists" ./*.list) | tee "$built/winters.log"
-[ "${PIPESTATUS[0]}" -eq 0 ] || failed=$((failed + 1))
+cd "$winters" || failed=$((failed + 1))
+told winters lists ./*.list
+cd "$top" || failed=$((failed + 1))
 
 functions=$(number_of "$built/header.log" "each of the " " functions")
+places=$(grep -c . "$built/c-layout.log")
 calls=$(number_of "$built/compare.log" "rounds, " " calls compared, no difference")
 logs=$(number_of "$built/logs.log" "outside: " " hatch logs, no difference")
 tops=$(number_of "$built/heights.log" "outside: " " lists and heights, no difference")
 lists=$(number_of "$built/winters.log" "outside: " " lists and heights, no difference")
-[ -n "$functions" ] && [ -n "$calls" ] && [ -n "$logs" ] && [ -n "$tops" ] && [ -n "$lists" ] || failed=$((failed + 1))
-ended "$((${functions:-0} + ${calls:-0} + ${logs:-0} + ${tops:-0} + ${lists:-0}))" 0 "$failed"
+boards=$(number_of "$built/levels.log" "outside: " " boards' texts, no difference")
+made=0
+for count in "$functions" "$places" "$calls" "$logs" "$tops" "$lists" "$boards"; do
+    [ "${count:-0}" -gt 0 ] || failed=$((failed + 1))
+    made=$((made + ${count:-0}))
+done
+ended "$made" 0 "$failed"

@@ -205,9 +205,9 @@ def source_names():
 def is_there(path):
     """Whether there is what a path of Rattle names: crate::module::function, crate::module, module::function, or something of a type."""
     *crate, module, name = path.split("::")
-    if not crate and (CRATES / module).exists():
-        crate, module = [module], "*"
     sources = list(CRATES.glob(f"{crate[0] if crate else '*'}/src/{module}.rt"))
+    if not crate:
+        sources += CRATES.glob(f"{module}/src/*.rt")
     if not crate and not sources:
         return True
     return any(name in NAME.findall(source.read_text(encoding="utf-8")) for source in sources)

@@ -1,5 +1,6 @@
 """The samples are what samples/make.py makes, byte for byte; the built `meadow` prints of each sheet the answer beside it, the built `hatchlog`
-of each log, and the built `drowned` of the winter's list. The sample evening leaves no mark of what was tried and taken back."""
+of each log, the built `drowned` of the winter's list, and the built `boards` of the boards beside a sheet of it. The sample evening leaves no
+mark of what was tried and taken back."""
 import subprocess
 import sys
 import tempfile
@@ -7,23 +8,29 @@ from pathlib import Path
 
 from meadow.counted import Checks
 from meadow.logs.answers import answered
-from meadow.programs import TOP, printed
+from meadow.programs import TOP, printed, printed_of_named
 
 SAMPLES = TOP / "samples"
 
 
 def named(folder):
-    """The sheets, logs, lists and answers of a folder by name."""
-    return {path.name: path.read_bytes() for path in sorted(folder.iterdir()) if path.suffix in (".sheet", ".log", ".list", ".out")}
+    """The sheets, logs, lists, boards and answers of a folder by name."""
+    return {path.name: path.read_bytes() for path in sorted(folder.iterdir()) if path.suffix in (".sheet", ".log", ".list", ".boards", ".out")}
 
 
 def hold_winter(checks, made):
-    """The winter's sheets and list are as made, and what the program prints of the list is stored."""
+    """The winter's sheets, list and boards are as made, and what the programs print of list and boards is stored."""
     stored = named(SAMPLES / "winter")
     for name in sorted(made.keys() | stored.keys()):
         checks.hold(made.get(name) == stored.get(name), f"samples/winter/{name} is not what samples/make.py makes")
     told = printed("drowned", stored["winter.list"], cwd=TOP)
     checks.hold(told == stored["winter.list.out"], "drowned does not print samples/winter/winter.list.out")
+    boards = [name for name in stored if name.endswith(".boards")]
+    for name in boards:
+        path = SAMPLES / "winter" / name
+        told = printed_of_named("boards", path.with_suffix(".sheet"), path)
+        checks.hold(told.encode("ascii") == stored.get(f"{name}.out"), f"boards does not print samples/winter/{name}.out")
+    checks.hold(boards != [], "samples/winter has no boards")
 
 
 def hold_log(checks, name, stored):

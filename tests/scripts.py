@@ -12,11 +12,13 @@ from meadow.programs import TOP
 from meadow.sheets.lines import SQUARE
 
 # the lowest first
-PACKAGES = ("rule", "sheets", "logs", "peaks", "words", "surveys", "maps")
+PACKAGES = ("rule", "sheets", "logs", "peaks", "boards", "words", "surveys", "maps")
 FOLDERS = ("python", "samples", "tests", "tools", "validation")
 SAMPLE = [TOP / "samples" / f"walled-meadow.{kind}" for kind in ("sheet", "out")]
+WITH_BOARDS = [TOP / "samples" / "winter" / f"3-christmas.{kind}" for kind in ("sheet", "boards")]
 # a tool, and words with which it prints
 TOOLS = {f"tools/{name}.py": SAMPLE for name in ("map", "standing", "tell")} | {"tools/why.py": SAMPLE[:1], "tools/header.py": []}
+TOOLS |= {"tools/boards.py": WITH_BOARDS}
 INSTALLS = re.compile(r"\b(apt|apt-get|pip|dpkg)\b.*(install|--add-architecture)")
 
 

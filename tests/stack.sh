@@ -1,5 +1,5 @@
 #!/usr/bin/env bash
-# Makes each exported call on threads with less and less stack, prints how much it needs, and fails where that is more than flood.h says.
+# Makes each exported call on threads with less and less stack, prints how much it needs, and fails where that is more than its header says.
 set -u
 cd "$(dirname "$0")/.." || exit 1
 . tests/outside/build.sh
@@ -33,7 +33,7 @@ suffices() {
 while read -r call said; do
     checks=$((checks + 1))
     if ! suffices "$call" "$said"; then
-        echo "stack: $call does not end well with the $said KiB that flood.h says: $("${run_by[@]}" "$built/stack" "$call" "$said" 2>&1)"
+        echo "stack: $call does not end well with the $said KiB that its header says: $("${run_by[@]}" "$built/stack" "$call" "$said" 2>&1)"
         failed=$((failed + 1))
         continue
     fi
@@ -43,7 +43,7 @@ while read -r call said; do
         middle=$(((too_few + enough) / 2))
         if suffices "$call" $((page * middle)); then enough=$middle; else too_few=$middle; fi
     done
-    echo "stack: $call needs at most $((page * enough)) KiB, and flood.h says $said"
+    echo "stack: $call needs at most $((page * enough)) KiB, and its header says $said"
 done < <("${run_by[@]}" "$built/stack")
 [ "$checks" -gt 0 ] || failed=1
 ended "$checks" 0 "$failed"

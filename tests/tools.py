@@ -1,6 +1,6 @@
 """Every command of docs/TOOLS.md prints what stands below it there, and each tool has an example; README's first command prints the answer
-byte for byte and ends with one line of sense, and its next makes the map; bin/meadow, bin/hatchlog, bin/drowned and bin/highest say what is
-wrong where there is no answer."""
+byte for byte and ends with one line of sense, and its next makes the map; bin/meadow, bin/hatchlog, bin/drowned, bin/highest and bin/boards say
+what is wrong where there is no answer."""
 import re
 import shutil
 import subprocess
@@ -19,8 +19,8 @@ PAGE, README = TOP / "docs" / "TOOLS.md", TOP / "README.md"
 SAMPLES = TOP / "samples"
 # what tools begin with, those that look after the project itself, and the one that the programs' own scripts end with; all others are for the
 # warden and the keeper
-OWN = {"architecture", "begin", "believed", "dev", "edits", "header", "pictures", "places", "sense", "speed", "unused"}
-PROGRAMS = [f"bin/{name}" for name in ("meadow", "hatchlog", "drowned", "highest")]
+OWN = {"architecture", "begin", "believed", "dev", "edits", "header", "pictures", "places", "sense", "speed", "unused", "walks"}
+PROGRAMS = [f"bin/{name}" for name in ("meadow", "hatchlog", "drowned", "highest", "boards")]
 FOR_PEOPLE = [*PROGRAMS, *(f"tools/{path.name}" for path in sorted((TOP / "tools").glob("*.py")) if path.stem not in OWN)]
 LEFT_OUT = "..."
 # a sheet's only square
@@ -203,6 +203,35 @@ def hold_heights(checks, room):
     )
 
 
+def hold_boards(checks, room):
+    """bin/boards: the sample byte for byte and one line; refused boards and sheets, a file that is not there, and no boards."""
+    sheet, boards = "samples/winter/3-christmas.sheet", "samples/winter/3-christmas.boards"
+    status, printed, sense = ran(f"bin/boards {sheet} {boards}", room)
+    checks.hold(status == 0 and printed == (TOP / f"{boards}.out").read_text(), f"bin/boards of the sample: status {status}")
+    said = "13 of 16 marks reached, the last at row 3, column 4 after 31 min 28 s; highest 63 cm at row 6, column 1, of a run of 1 h; 435 steps\n"
+    checks.hold(sense == said, f"bin/boards of the sample ends with {sense!r}")
+    (room / "none.boards").write_text("")
+    (room / "some boards").write_text("0\t1\t31\n")
+    (room / "far.boards").write_text("0\t1\t31\n9\t9\t5\n")
+    (room / "unit.boards").write_text("0\t1\t31\n0\t0\t5cm\n")
+    (room / "board.out").write_text("board\t0\t1\t31\t31\t1000\nsteps\t1\nclock\t1000\n")
+    one = "samples/document-01.sheet"
+    hold_commands(
+        checks,
+        room,
+        [
+            (f"bin/boards {one} 'some boards'", 0, "board\t0\t1\t31\t31\t1000\nsteps\t1\nclock\t1000\n", "1 of 1 mark reached"),
+            (f"bin/boards {one} none.boards", 0, "steps\t1\nclock\t1000\n", "no boards, of a run of 1 s; 1 step"),
+            (f"bin/boards {one} far.boards", 1, "refused\t13\t0\n", "refused by 13, of the boards far.boards: line 2: the board at row 9, column 9"),
+            (f"bin/boards {one} unit.boards", 1, "refused\t12\t2\n", "refused by 12, of the boards unit.boards: line 2: the mark: 5cm has a unit"),
+            ("bin/boards far.boards far.boards", 1, "refused\t12\t1\n", "refused by 12, of the sheet far.boards: line 1: "),
+            (f"bin/boards {one} nosuch", 1, "refused\t12\t0\n", "refused by 12: the boards nosuch cannot be opened"),
+            (f"python3 tools/sense.py --boards board.out {one} far.boards", 1, "", "the answer is that of other boards"),
+            (f"bin/boards {one}", 2, "", "usage: bin/boards SHEET BOARDS"),
+        ],
+    )
+
+
 def hold_kept(checks):
     """How many steps the page says can be taken back."""
     (told,) = re.findall(r"^\*\*How many steps can be taken back\*\* depends on the squares: (.*?)\. ", PAGE.read_text(encoding="utf-8"), re.M)
@@ -218,7 +247,7 @@ def main():
     checks = Checks("tools")
     with tempfile.TemporaryDirectory() as folder:
         room = room_in(folder)
-        for part in (hold_page, hold_readme, hold_samples, hold_refusals, hold_logs, hold_winter, hold_heights):
+        for part in (hold_page, hold_readme, hold_samples, hold_refusals, hold_logs, hold_winter, hold_heights, hold_boards):
             part(checks, room)
     hold_kept(checks)
     checks.end()

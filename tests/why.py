@@ -19,6 +19,7 @@ from meadow.sheets.lines import MINUTE, Sheet
 from meadow.sheets.reading import answered
 from meadow.words.log_reasons import both_reasons
 from meadow.words.reasons import IN_THE_RUN, NOT_FOUND, reasons, refusal
+from two_files import Files
 
 TOOL = TOP / "tools" / "why.py"
 OLD_SQUARE = ["line 4: it has 6 fields after its word and should have 7: say the rate", "soak rate at this line's end"]
@@ -338,7 +339,7 @@ LINE_SLIPS = {
 
 def told_of_log(files):
     """What the tool says of a sheet and a log."""
-    return subprocess.run([sys.executable, TOOL, files.sheet, "--log", files.log], capture_output=True, text=True)
+    return subprocess.run([sys.executable, TOOL, files.sheet, "--log", files.other], capture_output=True, text=True)
 
 
 def hold_logs(checks, files):
@@ -352,7 +353,7 @@ def hold_logs(checks, files):
         files.put(hatchlog.SHEETS[sheet], written(*lines))
         said, (number, line) = told_of_log(files), refused[name]
         of, places = LOG_PLACES.get(name, ("", []))
-        kind = {SHEET: f", of the sheet {files.sheet}", LOG: f", of the log {files.log}"}.get(of, "")
+        kind = {SHEET: f", of the sheet {files.sheet}", LOG: f", of the log {files.other}"}.get(of, "")
         head = f"refused by {number}" + (f", line {line}" if line else "") + kind
         right = said.returncode == 1 and said.stderr == "" and said.stdout.splitlines()[0] == head
         checks.hold(right, f"{name}, {words}: told as {said.stdout!r}{said.stderr!r}, not {head!r}")
@@ -362,12 +363,12 @@ def hold_logs(checks, files):
 
 def log_words(files):
     """What is said of a refusal, where it is not in the run, by document 02 in Python; None where the log is taken."""
-    texts = [path.read_bytes() for path in (files.sheet, files.log)]
+    texts = [path.read_bytes() for path in (files.sheet, files.other)]
     told = answers.answered(*texts)
     refused = blocks_of(told)[1]
     if not refused or refused[0] in IN_THE_RUN:
         return None
-    return refused, both_reasons((files.sheet, files.log), [text.decode("latin-1") for text in texts], told, refused)[1]
+    return refused, both_reasons((files.sheet, files.other), [text.decode("latin-1") for text in texts], told, refused)[1]
 
 
 def hold_lines(checks, files):
@@ -392,7 +393,7 @@ def hold_random_logs(checks, files):
         if found:
             (number, line), said = found
             named = all(told.startswith(f"line {line}" if line else "line ") for told in said)
-            checks.hold(named and NOT_FOUND not in " ".join(said), f"{files.log.read_bytes()!r}, refused by {number}: {said}")
+            checks.hold(named and NOT_FOUND not in " ".join(said), f"{files.other.read_bytes()!r}, refused by {number}: {said}")
 
 
 def hold_files(checks, files):
@@ -405,7 +406,7 @@ def hold_files(checks, files):
     said = told_of_log(files)
     nothing = said.returncode == 0 and "nothing is printed of this log" in said.stdout
     checks.hold(nothing, f"a log that prints nothing: {said.stdout!r}{said.stderr!r}")
-    for gone, kind in ((files.log, "log"), (files.sheet, "sheet")):
+    for gone, kind in ((files.other, "log"), (files.sheet, "sheet")):
         gone.unlink()
         said = told_of_log(files)
         head, *words = said.stdout.splitlines()
@@ -477,7 +478,7 @@ def main():
     with tempfile.TemporaryDirectory() as room:
         hold_table(checks, room)
         hold_slips(checks, room)
-        files = hatchlog.Files(room)
+        files = Files(room, "hatchlog", "log", answers.answered, answers.named)
         hold_logs(checks, files)
         hold_lines(checks, files)
         hold_random_logs(checks, files)

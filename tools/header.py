@@ -1,28 +1,33 @@
-"""Writes how C and Rust call the exported functions, from the functions themselves: crates/exports/flood.h, and tests/outside/declared.rs
-for the programs under tests/outside. A slice becomes a pointer and a length.
+"""Writes how C and Rust call the exported functions, from the functions themselves: crates/exports/flood.h and crates/display_exports/display.h,
+and for the programs under tests/outside declared.rs and declared_boards.rs. A slice becomes a pointer and a length.
 
-    python3 tools/header.py            prints the header
-    python3 tools/header.py --write    writes both files
+    python3 tools/header.py            prints both headers
+    python3 tools/header.py --write    writes all four files
 """
 
 import re
 import sys
 from pathlib import Path
+from textwrap import wrap
+from typing import NamedTuple
 
 from begin import ended
 
 ROOT = Path(__file__).resolve().parent.parent
 CRATES = ROOT / "crates"
-SOURCES = CRATES / "exports" / "src"
-HEADER = CRATES / "exports" / "flood.h"
-DECLARED = ROOT / "tests" / "outside" / "declared.rs"
+OUTSIDE = ROOT / "tests" / "outside"
 
-IN_C = {"u8": "uint8_t", "u32": "uint32_t", "u64": "uint64_t", "usize": "size_t", "f64": "double"}
+IN_C = {"bool": "bool", "u8": "uint8_t", "u32": "uint32_t", "u64": "uint64_t", "usize": "size_t", "f64": "double", "Board": "struct flood_board"}
+# how many bytes a number has, which is also what its place is a multiple of
+BYTES = {"bool": 1, "u8": 1, "u32": 4, "u64": 8, "usize": 8, "f64": 8}
 
 FUNCTION = re.compile(
     r"((?://[^\n]*\n)+)#\[no_mangle\]\npub extern \"C\" fn (\w+)\((.*?)\) -> (\w+)\n", re.DOTALL
 )
 SLICE = re.compile(r"&(mut )?\[(\w+)\]")
+STRUCT = re.compile(r"((?://[^\n]*\n)+)#\[repr\(C\)\]\npub struct (\w+) \{\n(.*?)\}\n", re.DOTALL)
+
+# ---------------------------------------------------------------- what the headers say besides the functions
 
 # the constants of the sources that a caller needs: the name for callers, the crate, the name there
 CONSTANTS = [
@@ -112,15 +117,44 @@ TOP = """\
    on the stack. This much of it suffices, as tests/stack.sh measures for each on the largest grid:
 """
 
+BOARD_CONSTANTS = [("MOST_BOARDS", "display", "MOST_BOARDS")]
+
+BOARD_REFUSALS = [(13, "BOARD", "over sixteen boards, a board off the grid or on a closed square, or a mark above 100,000,000")]
+
+BOARD_STACK = {"flood_run_to_boards": 192}
+
+BOARD_TOP = """\
+/* Level boards in C: a run to an end that keeps boards. Made from crates/display and crates/display_exports by tools/header.py, and kept true by
+   tests/header.py. It stands beside flood.h, whose first words hold here too: what a caller owes, what each array has, and what numbers say.
+   libdisplay_exports.a has this call alone and rests on nothing of libexports.a; a program that makes calls of both headers links both.
+
+   flood_run_to_boards is flood_run_to_wet with one array more, the boards, which is followed by how many there are. It gives and writes just
+   what flood_run_to_wet does, but for what 13 refuses: that comes after 1 to 6 and before any step, also where no step would be made.
+
+   A board keeps its row, its column and its mark, a depth in micrometres. Whatever else is lent in it is set anew by each call:
+     highest     the greatest depth of its square over the starting state and every state after a step
+     reached     whether one of these states was at least as deep as the mark; a mark of 0 is reached at the start
+     first       the clock of the first such state, which may be 0; and 0 where there was none
+   No board is fine, its pointer being not null all the same; several may be on one square. A board's `reached` is lent as 0 or 1.
+
+   Refused by 1 to 6 or by 13 the call leaves the boards as they were lent, and every other array too. Refused by 7, 8, 9 or 15 it has made the
+   steps that `steps` tells, and the boards hold what the states before the step refused gave.
+
+   A board as it lies in memory, as C lays it out by itself:
+"""
+
+BOARD_STACK_WORDS = """\
+   The call does nothing but write the arrays lent to it, as those of flood.h. This much of the stack suffices, as tests/stack.sh measures on the
+   largest grid:
+"""
+
 MIDDLE = """\
-#ifndef FLOOD_H
-#define FLOOD_H
+#ifndef {guard}
+#define {guard}
 
-#include <stddef.h>
-#include <stdint.h>
-
+{included}
 #ifdef __cplusplus
-extern "C" {
+extern "C" {{
 #endif
 
 """
@@ -138,6 +172,67 @@ RUST_TOP = """\
 //! tests/header.py.
 
 """
+
+BOARD_RUST_TOP = """\
+//! The exported run with boards as a Rust program links and calls it, and a board. Made from crates/display and crates/display_exports by
+//! tools/header.py, and kept true by tests/header.py.
+
+"""
+
+
+class Library(NamedTuple):
+    """A crate of exported functions with its header and its declarations for Rust, and what these say besides: the header's first words, the
+    constants, refusals and stack, and the structs that are lent, each by its crate and name."""
+
+    crate: str
+    files: tuple
+    header: Path
+    declared: Path
+    words: str
+    rust_words: str
+    constants: list
+    refusals: list
+    stack: dict
+    structs: tuple = ()
+
+    def sources(self):
+        """Where the functions stand."""
+        return CRATES / self.crate / "src"
+
+
+FLOOD = Library(
+    "exports",
+    ("steps.rt", "bounds.rt", "sights.rt", "sheets.rt"),
+    CRATES / "exports" / "flood.h",
+    OUTSIDE / "declared.rs",
+    TOP,
+    RUST_TOP,
+    CONSTANTS,
+    REFUSALS,
+    STACK,
+)
+BOARDS = Library(
+    "display_exports",
+    ("boards.rt",),
+    CRATES / "display_exports" / "display.h",
+    OUTSIDE / "declared_boards.rs",
+    BOARD_TOP,
+    BOARD_RUST_TOP,
+    BOARD_CONSTANTS,
+    BOARD_REFUSALS,
+    BOARD_STACK,
+    (("display", "Board"),),
+)
+LIBRARIES = (FLOOD, BOARDS)
+
+
+# ---------------------------------------------------------------- what the sources say
+
+
+def words_of(comment):
+    """A comment on one line."""
+    return " ".join(line.removeprefix("//").strip() for line in comment.splitlines())
+
 
 
 def constant(crate, name):
@@ -161,14 +256,40 @@ def record_words():
 
 def heading_rules():
     """Where the rules stand in a heading, so that they go into a call from there."""
-    return re.search(r"room\[(\d+)\] = rules\.square_side;", (SOURCES / "answers.rt").read_text()).group(1)
+    return re.search(r"room\[(\d+)\] = rules\.square_side;", (FLOOD.sources() / "answers.rt").read_text()).group(1)
 
 
-def functions():
-    for file in ("steps.rt", "bounds.rt", "sights.rt", "sheets.rt"):
-        for comment, name, parameters, result in FUNCTION.findall((SOURCES / file).read_text()):
-            words = " ".join(line.removeprefix("//").strip() for line in comment.splitlines())
-            yield words, name, re.findall(r"(\w+): ([^,]+)", parameters), result
+def functions(library):
+    """Each exported function: its words, its name, its parameters with their types, and what it gives."""
+    for file in library.files:
+        for comment, name, parameters, result in FUNCTION.findall((library.sources() / file).read_text()):
+            yield words_of(comment), name, re.findall(r"(\w+): ([^,]+)", parameters), result
+
+
+class Struct(NamedTuple):
+    """A struct that is laid out as in C: its words, its name, and its fields with their types."""
+
+    words: str
+    name: str
+    fields: list
+
+    def places(self):
+        """Where each field begins, in bytes, and how many bytes the whole has: each at the next multiple of its own size."""
+        at, places = 0, []
+        for name, kind in self.fields:
+            at += -at % BYTES[kind]
+            places.append((name, at))
+            at += BYTES[kind]
+        return places, at + -at % max(BYTES[kind] for _, kind in self.fields)
+
+
+def structs(library):
+    """The structs that a library's functions are lent."""
+    for crate, wanted in library.structs:
+        for source in sorted((CRATES / crate / "src").rglob("*.rt")):
+            for comment, name, fields in STRUCT.findall(source.read_text()):
+                if name == wanted:
+                    yield Struct(words_of(comment), name, re.findall(r"pub (\w+): (\w+),", fields))
 
 
 def wrapped(start, pieces, end, most):
@@ -184,6 +305,16 @@ def wrapped(start, pieces, end, most):
     return "\n".join([*lines, line])
 
 
+def remark(first, words, other, end=""):
+    """Words as a remark of as many lines as they need, the first and the others begun so."""
+    return "\n".join(wrap(words + end, 146, initial_indent=first, subsequent_indent=other)) + "\n"
+
+
+def length_of(name, kind):
+    """What the length of an array is called: how many numbers there are, or how many structs."""
+    return f"{name}_numbers" if kind in BYTES else f"{name}_count"
+
+
 # ---------------------------------------------------------------- C
 
 
@@ -191,35 +322,65 @@ def in_c(name, kind):
     found = SLICE.fullmatch(kind)
     if not found:
         return [f"{IN_C[kind]} {name}"]
-    written, number = found.groups()
-    return [f"{'' if written else 'const '}{IN_C[number]} *{name}", f"size_t {name}_numbers"]
+    written, element = found.groups()
+    return [f"{'' if written else 'const '}{IN_C[element]} *{name}", f"size_t {length_of(name, element)}"]
 
 
 def declared_in_c(words, name, parameters, result):
     pieces = [piece for parameter in parameters for piece in in_c(*parameter)]
-    return f"/* {words} */\n" + wrapped(f"{IN_C[result]} {name}(", pieces, ");", 120) + "\n\n"
+    return remark("/* ", words, "   ", " */") + wrapped(f"{IN_C[result]} {name}(", pieces, ");", 120) + "\n\n"
 
 
 def named(name, value, words=None):
     return f"#define FLOOD_{name} {value}" + (f" /* {words} */" if words else "") + "\n"
 
 
-def header():
-    text = TOP
-    for name, size in STACK.items():
-        text += f"     {name:<18} {size:>3} KiB\n"
-    text = text.rstrip("\n") + " */\n" + MIDDLE
-    text += named("DONE", 0)
-    for number, name, words in REFUSALS:
+def stack_in_c(library):
+    """How much stack suffices, a line a function."""
+    return "".join(f"     {name:<18} {size:>3} KiB\n" for name, size in library.stack.items())
+
+
+def struct_in_c(struct):
+    """A struct, and how many bytes it has."""
+    text = remark("/* ", struct.words, "   ", " */") + f"{IN_C[struct.name]} {{\n"
+    text += "".join(f"    {IN_C[kind]} {name};\n" for name, kind in struct.fields) + "};\n"
+    return text + named(f"{struct.name.upper()}_BYTES", struct.places()[1], "of one") + "\n"
+
+
+def layout_words(struct):
+    """Where each field lies, in words."""
+    places, size = struct.places()
+    kinds = dict(struct.fields)
+    lines = [f"     {name:<11} {BYTES[kinds[name]]} byte{'' if BYTES[kinds[name]] == 1 else 's'} from byte {at} on" for name, at in places]
+    return "\n".join([*lines, f"   {size} bytes in all. What lies between its fields is not looked at."]) + "\n\n"
+
+
+def own_constants(library):
+    """The constants that only one library has."""
+    if library is not FLOOD:
+        return ""
+    head, square = record_words()
+    text = named("HEADING_RULES", heading_rules())
+    return text + named("RECORD_NUMBERS(rows, columns)", f"({head} + {square} * (size_t)(rows) * (size_t)(columns))", "of one record")
+
+
+def header(library):
+    lent = list(structs(library))
+    text = library.words + "".join(map(layout_words, lent)) + (BOARD_STACK_WORDS if lent else "")
+    included = ["stddef", "stdint"] if not lent else ["stdbool", "stddef", "stdint"]
+    guard = library.header.name.upper().replace(".", "_")
+    text += stack_in_c(library).rstrip("\n") + " */\n"
+    text += MIDDLE.format(guard=guard, included="".join(f"#include <{name}.h>\n" for name in included))
+    text += named("DONE", 0) if library is FLOOD else ""
+    for number, name, words in library.refusals:
         text += named("REFUSED_" + name, number, words)
     text += "\n"
-    for name, crate, source in CONSTANTS:
+    for name, crate, source in library.constants:
         text += named(name, constant(crate, source)[1])
-    text += named("HEADING_RULES", heading_rules())
-    head, square = record_words()
-    text += named("RECORD_NUMBERS(rows, columns)", f"({head} + {square} * (size_t)(rows) * (size_t)(columns))", "of one record")
-    text += named("STACK_BYTES", f"({max(STACK.values())} * 1024)", "suffice for every call") + "\n"
-    for function in functions():
+    stack = "STACK_BYTES" if library is FLOOD else "BOARDS_STACK_BYTES"
+    text += own_constants(library) + named(stack, f"({max(library.stack.values())} * 1024)", "suffice for every call") + "\n"
+    text += "".join(map(struct_in_c, lent))
+    for function in functions(library):
         text += declared_in_c(*function)
     return text + BOTTOM
 
@@ -232,12 +393,17 @@ def linked_in_rust(words, name, parameters, result):
     for parameter, kind in parameters:
         found = SLICE.fullmatch(kind)
         if found:
-            written, number = found.groups()
-            pieces += [f"{parameter}: *{'mut' if written else 'const'} {number}", f"{parameter}_numbers: usize"]
+            written, element = found.groups()
+            pieces += [f"{parameter}: *{'mut' if written else 'const'} {in_rust(element)}", f"{length_of(parameter, element)}: usize"]
         else:
             pieces.append(f"{parameter}: {kind}")
     text = wrapped(f"pub fn {name}(", pieces, f") -> {result};", 110)
     return "".join(f"        {line}\n" for line in text.split("\n"))
+
+
+def in_rust(kind):
+    """A type as the linked functions name it, in a module of their own."""
+    return kind if kind in BYTES else f"super::{kind}"
 
 
 def called_in_rust(words, name, parameters, result):
@@ -248,34 +414,47 @@ def called_in_rust(words, name, parameters, result):
         pointer = f"{parameter}.as_mut_ptr()" if found and found.group(1) else f"{parameter}.as_ptr()"
         given += [pointer, f"{parameter}.len()"] if found else [parameter]
     body = wrapped(f"linked::{name}(", given, ")", 110).split("\n")
-    text = f"/// {words}\n" + wrapped(f"pub fn {name}(", taken, f") -> {result} {{", 120) + "\n    unsafe {\n"
+    text = remark("/// ", words, "/// ") + wrapped(f"pub fn {name}(", taken, f") -> {result} {{", 120) + "\n    unsafe {\n"
     return text + "".join(f"        {line}\n" for line in body) + "    }\n}\n\n"
 
 
-def declared():
-    text = RUST_TOP
-    for name, crate, source in CONSTANTS:
+def struct_in_rust(struct):
+    """A struct."""
+    text = remark("/// ", struct.words, "/// ") + f"#[repr(C)]\n#[derive(Clone, Copy, Debug, PartialEq)]\npub struct {struct.name} {{\n"
+    text += "".join(f"    pub {name}: {kind},\n" for name, kind in struct.fields) + "}\n\n"
+    return text
+
+
+def records_in_rust():
+    """How large a record is."""
+    head, square = record_words()
+    text = "/// The numbers of one record.\npub const fn record_numbers(rows: usize, columns: usize) -> usize {\n"
+    return text + f"    {head} + {square} * rows * columns\n}}\n\n"
+
+
+def declared(library):
+    text = library.rust_words
+    for name, crate, source in library.constants:
         kind, number = constant(crate, source)
         text += f"pub const {name}: {kind} = {number};\n"
-    for number, name, words in REFUSALS:
+    for number, name, words in library.refusals:
         text += f"pub const REFUSED_{name}: u32 = {number};\n"
-    text += "\n"
-    head, square = record_words()
-    text += "/// The numbers of one record.\npub const fn record_numbers(rows: usize, columns: usize) -> usize {\n"
-    text += f"    {head} + {square} * rows * columns\n}}\n\n"
-    text += f"/// KiB of stack that suffice for each call.\npub const STACK: [(&str, usize); {len(STACK)}] = [\n"
-    text += "".join(f'    ("{name}", {size}),\n' for name, size in STACK.items()) + "];\n\n"
-    text += 'mod linked {\n    #[link(name = "exports", kind = "static")]\n    extern "C" {\n'
-    text += "\n".join(linked_in_rust(*function) for function in functions()) + "    }\n}\n\n"
-    return text + "".join(called_in_rust(*function) for function in functions()).rstrip("\n") + "\n"
+    text += "\n" + (records_in_rust() if library is FLOOD else "")
+    text += f"/// KiB of stack that suffice for each call.\npub const STACK: [(&str, usize); {len(library.stack)}] = [\n"
+    text += "".join(f'    ("{name}", {size}),\n' for name, size in library.stack.items()) + "];\n\n"
+    text += "".join(map(struct_in_rust, structs(library)))
+    text += f'mod linked {{\n    #[link(name = "{library.crate}", kind = "static")]\n    extern "C" {{\n'
+    text += "\n".join(linked_in_rust(*function) for function in functions(library)) + "    }\n}\n\n"
+    return text + "".join(called_in_rust(*function) for function in functions(library)).rstrip("\n") + "\n"
 
 
 def main():
-    if "--write" in sys.argv[1:]:
-        HEADER.write_text(header())
-        DECLARED.write_text(declared())
-    else:
-        print(header(), end="")
+    for library in LIBRARIES:
+        if "--write" in sys.argv[1:]:
+            library.header.write_text(header(library))
+            library.declared.write_text(declared(library))
+        else:
+            print(header(library), end="")
     return 0
 
 

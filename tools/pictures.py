@@ -2,16 +2,19 @@
 """pictures.py: makes the pictures of README, docs/METHOD.md, docs/SPEED.md and docs/TOOLS.md in docs/pictures/.
 
 The map is that of the sample `walled-meadow`, the square is the one worked in docs/METHOD.md, the times are those of the table in
-docs/SPEED.md, the winter is the sample list.
+docs/SPEED.md, the winter is the sample list, the boards are those of its Christmas sheet.
 """
 from begin import ended
+from meadow.boards.answers import shown_of
 from meadow.maps.drawing import svg
 from meadow.maps.often import often_svg
+from meadow.maps.staffs import staffs_svg
 from meadow.peaks.lists import list_in
 from meadow.peaks.tally import tally_of
 from meadow.programs import TOP
 from meadow.rule.worked_square import AMOUNTS, DROPS
-from meadow.sheets.pairs import balanced, bytes_as_text, pair_in
+from meadow.sheets.grounds import worked
+from meadow.sheets.pairs import balanced, bytes_as_text, pair_in, pair_of
 from meadow.sheets.reading import read
 
 WATER, WALL, GROUND, INK, PALE = "#9ecae1", "#4a4a4a", "#e9ddb8", "#222222", "#777777"
@@ -152,12 +155,20 @@ def winter():
     return often_svg(sheet, tally_of(bytes_as_text(folder / "winter.list.out")), "winter", depth)
 
 
+def boards():
+    """The display panel of the sample boards; the water at the end is worked in Python, since no answer of `meadow` to a winter's sheet is stored."""
+    sheet, boards_text, told = (bytes_as_text(TOP / "samples" / "winter" / f"3-christmas.{kind}") for kind in ("sheet", "boards", "boards.out"))
+    pair = balanced(pair_of(*read(sheet), worked(sheet)))
+    return staffs_svg(shown_of(sheet, boards_text, told), pair, "3-christmas")
+
+
 PICTURES = {
     "walled-meadow.svg": walled_meadow,
     "square.svg": one_square,
     "ring.svg": ring,
     "wet-shares.svg": wet_shares,
     "winter.svg": winter,
+    "boards.svg": boards,
 }
 FOLDER = TOP / "docs" / "pictures"
 

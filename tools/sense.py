@@ -3,29 +3,38 @@
 and the steps; or, of a refusal, the likeliest reason. bin/meadow ends with it.
 sense.py SHEET ANSWER LOG: the same about what `hatchlog` printed of a sheet and a log. bin/hatchlog ends with it.
 sense.py --highest SHEET ANSWER: how deep the water of a sheet ever was, and when, by what `highest` printed. bin/highest ends with it.
-sense.py --drowned ANSWER DEPTH SHEET..: which square drowned most often, by what `drowned` printed of a list. bin/drowned ends with it."""
+sense.py --drowned ANSWER DEPTH SHEET..: which square drowned most often, by what `drowned` printed of a list. bin/drowned ends with it.
+sense.py --boards ANSWER SHEET BOARDS: which marks were reached, by what `boards` printed of a sheet and its boards. bin/boards ends with it."""
 import sys
 
 from begin import ended
+from meadow.boards.answers import shown_of
 from meadow.logs.nights import Night, blocks_of
 from meadow.peaks.heights import heights_of
 from meadow.peaks.tally import tally_of
 from meadow.sheets.lines import Answer
 from meadow.sheets.pairs import balanced, bytes_as_text, pair_of
 from meadow.sheets.reading import read
+from meadow.words import board_reasons, log_reasons
 from meadow.words.drownings import heights_sense, tally_sense
+from meadow.words.levels import boards_sense
 from meadow.words.list_reasons import list_reasons
-from meadow.words.log_reasons import both_reasons, unopened
+from meadow.words.opening import texts_of
 from meadow.words.reasons import reasons, refusal
 from meadow.words.sense import night_sense, sense
+
+
+def say_refused(refused, of, why):
+    """A refusal with its likeliest reason."""
+    print(f"refused by {refused[0]}{of}: {why[0]}")
+    return 1
 
 
 def of_sheet(text, told, said):
     """About what was printed of a sheet, `said` being the line about an answer that is no refusal."""
     refused = refusal(told)
     if refused:
-        print(f"refused by {refused[0]}: {reasons(text, *refused)[0]}")
-        return 1
+        return say_refused(refused, "", reasons(text, *refused))
     print(said(text, told))
     return 0
 
@@ -42,14 +51,22 @@ def heights_line(text, told):
 
 def of_log(files, told):
     """About what `hatchlog` printed."""
-    texts = ["" if unopened(path) else bytes_as_text(path) for path in files]
+    texts = texts_of(files)
     refused = blocks_of(told)[1]
     if refused:
-        of, why = both_reasons(files, texts, told, refused)
-        print(f"refused by {refused[0]}{of}: {why[0]}")
-        return 1
+        return say_refused(refused, *log_reasons.both_reasons(files, texts, told, refused))
     night = Night(read(texts[0])[0], texts[1], told)
     print(night_sense(balanced(night) if night.answer else night))
+    return 0
+
+
+def of_boards(told, *files):
+    """About what `boards` printed."""
+    texts = texts_of(files)
+    refused = refusal(told)
+    if refused:
+        return say_refused(refused, *board_reasons.both_reasons(files, texts, refused))
+    print(boards_sense(shown_of(*texts, told)))
     return 0
 
 
@@ -57,8 +74,7 @@ def of_list(told, wet_depth, *names):
     """About what `drowned` printed."""
     refused = refusal(told)
     if refused:
-        print(f"refused by {refused[0]}: {list_reasons(wet_depth, names, refused)}")
-        return 1
+        return say_refused(refused, "", [list_reasons(wet_depth, names, refused)])
     tally = tally_of(told)
     print(tally_sense(tally, int(wet_depth)) + ("; tools/why.py --drowned says why" if tally.refused else ""))
     return 0
@@ -68,13 +84,19 @@ def main():
     kind, *files = sys.argv[1:] or [""]
     if kind == "--drowned" and len(files) > 2:
         return of_list(bytes_as_text(files[0]), *files[1:])
+    if kind == "--boards" and len(files) == 3:
+        return of_boards(bytes_as_text(files[0]), *files[1:])
     if kind == "--highest" and len(files) == 2:
         return of_sheet(*map(bytes_as_text, files), heights_line)
     if len(files) == 1:
         return of_sheet(bytes_as_text(kind), bytes_as_text(files[0]), answer_line)
     if len(files) == 2:
         return of_log((kind, files[1]), bytes_as_text(files[0]))
-    print("usage: sense.py SHEET ANSWER [LOG], sense.py --highest SHEET ANSWER or sense.py --drowned ANSWER DEPTH SHEET..", file=sys.stderr)
+    print(
+        "usage: sense.py SHEET ANSWER [LOG], sense.py --highest SHEET ANSWER, sense.py --drowned ANSWER DEPTH SHEET.. or "
+        "sense.py --boards ANSWER SHEET BOARDS",
+        file=sys.stderr,
+    )
     return 2
 
 

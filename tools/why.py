@@ -1,6 +1,7 @@
 #!/usr/bin/env python3
 """why.py SHEET: runs `meadow` on a sheet and, where it refuses, says in words what is wrong, where, and what to write there.
 why.py SHEET --log LOG: runs `hatchlog` on a sheet and a log likewise, and says which of the two files it is about.
+why.py SHEET --boards BOARDS: runs `boards` on a sheet and its boards, and says the same.
 why.py --drowned DEPTH SHEET..: runs `drowned` on a list of sheets, and says why the list is refused, or which of its sheets are and why.
 
 The number and the line are the program's own. Ends with status 1 where it refuses; of what is taken it says what came of it.
@@ -8,6 +9,7 @@ The number and the line are the program's own. Ends with status 1 where it refus
 import argparse
 
 from begin import ended
+from meadow.boards import answers as boards
 from meadow.logs.nights import Night, blocks_of, told_of
 from meadow.peaks import winters
 from meadow.peaks.lists import listed
@@ -16,9 +18,11 @@ from meadow.programs import printed
 from meadow.sheets.lines import Answer
 from meadow.sheets.pairs import bytes_as_text, pair_of
 from meadow.sheets.reading import read
+from meadow.words import board_reasons, log_reasons
 from meadow.words.drownings import tally_sense
+from meadow.words.levels import boards_sense
 from meadow.words.list_reasons import list_reasons, sheets_reasons
-from meadow.words.log_reasons import both_reasons, unopened
+from meadow.words.opening import texts_of
 from meadow.words.reasons import reasons, refusal
 from meadow.words.sense import night_sense, sense
 
@@ -44,12 +48,21 @@ def of_sheet(sheet_file):
 
 def of_log(*files):
     """What `hatchlog` makes of a sheet and a log."""
-    told = told_of(*files)
-    texts = ["" if unopened(path) else bytes_as_text(path) for path in files]
+    told, texts = told_of(*files), texts_of(files)
     refused = blocks_of(told)[1]
     if refused:
-        return say(refused, *both_reasons(files, texts, told, refused))
+        return say(refused, *log_reasons.both_reasons(files, texts, told, refused))
     print(f"taken: {night_sense(Night(read(texts[0])[0], texts[1], told))}")
+    return 0
+
+
+def of_boards(*files):
+    """What `boards` makes of a sheet and its boards."""
+    told, texts = boards.told_of(*files), texts_of(files)
+    refused = refusal(told)
+    if refused:
+        return say(refused, *board_reasons.both_reasons(files, texts, refused))
+    print(f"taken: {boards_sense(boards.shown_of(*texts, told))}")
     return 0
 
 
@@ -65,17 +78,20 @@ def of_list(wet_depth, names):
 
 
 def main():
-    words = argparse.ArgumentParser(prog="why.py", description="says in words why a sheet, a sheet and a log, or a list of sheets are refused")
+    words = argparse.ArgumentParser(prog="why.py", description="says in words why a sheet, alone or with a log or boards, or a list is refused")
     words.add_argument("sheets", metavar="SHEET", nargs="+")
     kinds = words.add_mutually_exclusive_group()
     kinds.add_argument("--log", metavar="LOG", help="a hatch log over the sheet")
+    kinds.add_argument("--boards", metavar="BOARDS", help="level boards over the sheet")
     kinds.add_argument("--drowned", metavar="DEPTH", help="the sheets are a list, and squares so deep, in µm, are counted as drowned")
     said = words.parse_args()
     if said.drowned is not None:
         return of_list(said.drowned, said.sheets)
     if len(said.sheets) > 1:
         words.error("only a list has several sheets: --drowned DEPTH SHEET..")
-    return of_log(*said.sheets, said.log) if said.log else of_sheet(*said.sheets)
+    if said.log:
+        return of_log(*said.sheets, said.log)
+    return of_boards(*said.sheets, said.boards) if said.boards else of_sheet(*said.sheets)
 
 
 if __name__ == "__main__":

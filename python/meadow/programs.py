@@ -15,6 +15,11 @@ def printed(name, given=b"", **how):
     return subprocess.run([TOP / "bin" / "run", name], input=given, stdout=subprocess.PIPE, check=True, **how).stdout
 
 
+def printed_of_named(name, *files):
+    """What a program prints of the names of files at its standard input, one a line."""
+    return printed(name, "".join(f"{file}\n" for file in files).encode("utf-8", "surrogateescape")).decode("ascii")
+
+
 def meadow(text):
     """What `meadow` answers to a sheet; a refusal is an error."""
     return Answer(printed("meadow", text.encode()).decode())

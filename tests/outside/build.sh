@@ -1,6 +1,6 @@
 # shellcheck shell=bash
 # shellcheck disable=SC2034 # what is set here is used by those who read it
-# Read by the gate, tests/outside.sh, tests/stack.sh and bin/speed at the repository's root. Rust programs that link the static library are
+# Read by the gate, tests/outside.sh, tests/stack.sh and bin/speed at the repository's root. Rust programs that link a static library are
 # x86-64: there any rustc builds them and they run as they are; on Arm they are built with Debian's packages for x86-64 and run under
 # Debian's emulator.
 
@@ -28,32 +28,44 @@ tools() {
     machine="aarch64, x86-64 programs emulated by $(qemu-x86_64 --version | head -n 1)"
 }
 
-# archive: proves and builds target/staticlib/libexports.a, unless it is newer than everything that it is made of. Tests that run at the same
-# time wait for one another here, so that the first alone builds it.
-archive() {
+# the crates that other languages call, each a static library of its own: libexports.a and libdisplay_exports.a, in target/staticlib
+libraries=(exports display_exports)
+
+# one_archive NAME: proves and builds target/staticlib/libNAME.a, unless it is newer than everything that it is made of
+one_archive() {
     local made_of=(crates.txt crates '(' -type d -o -name '*.rt' -o -name '*.antt' -o -name crates.txt ')')
+    [ -n "$(find "${made_of[@]}" -newer "target/staticlib/lib$1.a" 2>&1 | head -n 1)" ] || return 0
+    if ! rt staticlib "$1" >"$built/staticlib.log" 2>&1; then
+        echo "outside: rt staticlib $1 failed:"
+        tail -n 20 "$built/staticlib.log"
+        return 1
+    fi
+}
+
+# archive [NAME..]: builds these static libraries, or all of them. Tests that run at the same time wait for one another here, so that the first
+# alone builds them.
+archive() {
+    local name
+    [ "$#" -gt 0 ] || set -- "${libraries[@]}"
     (
         flock 9
-        [ -n "$(find "${made_of[@]}" -newer target/staticlib/libexports.a 2>&1 | head -n 1)" ] || exit 0
-        if ! rt staticlib exports >"$built/staticlib.log" 2>&1; then
-            echo "outside: rt staticlib exports failed:"
-            tail -n 20 "$built/staticlib.log"
-            exit 1
-        fi
+        for name in "$@"; do
+            one_archive "$name" || exit 1
+        done
     ) 9>"$built/staticlib.lock"
 }
 
 # for release, in one unit
 release=(--edition 2021 -C opt-level=3 -C codegen-units=1)
 
-# build NAME: tests/outside/NAME.rs with the static library, to target/outside/NAME
+# build NAME: tests/outside/NAME.rs with the static libraries that it declares, to target/outside/NAME
 build() {
     "${compile[@]}" "${release[@]}" -L native=target/staticlib -o "$built/$1" "tests/outside/$1.rs"
 }
 
 # build_c NAME: the same of tests/outside/NAME.c
 build_c() {
-    "${compile_c[@]}" -std=c99 -Wall -Wextra -Werror -O -o "$built/$1" "tests/outside/$1.c" target/staticlib/libexports.a
+    "${compile_c[@]}" -std=c99 -Wall -Wextra -Werror -O -o "$built/$1" "tests/outside/$1.c" -Ltarget/staticlib "${libraries[@]/#/-l}"
 }
 
 # build_engine NAME: the crate tests/outside/NAME.rs of one Rust engine, alone

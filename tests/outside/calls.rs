@@ -2,12 +2,14 @@
 //! compared afterwards: the answer, every number lent, the run. The first difference is printed with its input and ends the program.
 
 use crate::declared::{self, BOUNDS_NUMBERS, COUNT_NUMBERS, HEADING_NUMBERS, LINE_NUMBERS, OUT_ROOM, RULES_NUMBERS, RUN_NUMBERS, SPEED_NUMBERS, STEPS_NUMBERS};
+use crate::declared_boards::Board;
 use crate::lent;
 use crate::library::{self, Walk};
 use crate::meadows::{Lent, Sizes};
 use crate::reference::{self, Arrow, Bounds, Heading, Made, Meadow, Run};
 use crate::rival::Rival;
 use crate::roots::{Digits, Guesses};
+use crate::watching::{self, Asked, Shown};
 use std::collections::BTreeMap;
 use std::fmt;
 
@@ -16,6 +18,7 @@ pub enum Call {
     Fresh,
     Step,
     RunTo,
+    RunToBoards,
     TakeBack,
     StepBounds,
     Arrow,
@@ -37,15 +40,16 @@ impl Call {
 }
 
 /// The calls on a meadow.
-pub const ON_MEADOW: [Call; 7] = [Fresh, Step, RunTo, TakeBack, StepBounds, Call::Arrow, WetRows];
+pub const ON_MEADOW: [Call; 8] = [Fresh, Step, RunTo, RunToBoards, TakeBack, StepBounds, Call::Arrow, WetRows];
 
 /// What each call can answer, by each of its walks: 0, a refusal, for an arrow 101 closed, 102 dry, 103 still, and 104 where figures do
 /// not hold. A run can never give 7: its end is in range and no step passes a multiple of the update time. `meadow` can never give 15: in a
 /// week less soaks into all its squares.
-pub const ANSWERS: [(Call, &[u32]); 9] = [
+pub const ANSWERS: [(Call, &[u32]); 10] = [
     (Fresh, &[0, 1, 2, 5, 6]),
     (Step, &[0, 1, 2, 3, 4, 5, 6, 7, 8, 9, 15]),
     (RunTo, &[0, 1, 2, 3, 4, 5, 6, 8, 9, 15]),
+    (RunToBoards, &[0, 1, 2, 3, 4, 5, 6, 8, 9, 13, 15]),
     (TakeBack, &[0, 1, 2, 3, 6, 10, 11]),
     (StepBounds, &[0, 1, 5, 6, 104]),
     (Call::Arrow, &[0, 1, 2, 3, 6, 10, 11, 101, 102, 103]),
@@ -91,6 +95,7 @@ pub struct After {
     pub run: Vec<u64>,
     pub answer: Vec<u64>,
     pub more: Vec<u64>,
+    pub boards: Vec<Board>,
     pub printed: Text,
 }
 
@@ -172,6 +177,7 @@ fn first_difference(expected: &After, found: &After) -> String {
         ("run", expected.run.clone(), found.run.clone()),
         ("answer", expected.answer.clone(), found.answer.clone()),
         ("wet or line", expected.more.clone(), found.more.clone()),
+        ("boards", board_numbers(&expected.boards), board_numbers(&found.boards)),
         ("printed", bytes(&expected.printed.0), bytes(&found.printed.0)),
         ("marks", bytes(&one.marks), bytes(&other.marks)),
         ("beds", wide(&one.beds), wide(&other.beds)),
@@ -194,12 +200,18 @@ fn first_difference(expected: &After, found: &After) -> String {
     "none".to_string()
 }
 
+/// The numbers of boards one after the other: six a board.
+fn board_numbers(boards: &[Board]) -> Vec<u64> {
+    let six = |board: &Board| [board.row as u64, board.column as u64, board.mark as u64, board.highest as u64, board.reached as u64, board.first];
+    boards.iter().flat_map(six).collect()
+}
+
 // ---------------------------------------------------------------- calls on a meadow
 
 /// How many numbers the answer of a call has, besides its run.
 fn answer_size(call: Call) -> usize {
     match call {
-        RunTo => STEPS_NUMBERS,
+        RunTo | RunToBoards => STEPS_NUMBERS,
         StepBounds => BOUNDS_NUMBERS,
         Call::Arrow => SPEED_NUMBERS,
         WetRows => COUNT_NUMBERS,
@@ -227,6 +239,7 @@ fn before(call: Call, lent: &Lent) -> After {
         run: resized(&run, lent.sizes.run),
         answer: resized(&vec![JUNK; answer_size(call)], lent.sizes.answer),
         more: lent.wet.clone(),
+        boards: lent.boards.clone(),
         printed: Text(Vec::new()),
     }
 }
@@ -238,7 +251,7 @@ fn sized(call: Call, lent: &Lent, after: &After) -> bool {
     let answer = after.answer.len() == answer_size(call);
     match call {
         Fresh | Step => rules && run,
-        RunTo => rules && run && answer,
+        RunTo | RunToBoards => rules && run && answer,
         TakeBack => run,
         StepBounds => rules && answer,
         Call::Arrow => run && answer,
@@ -254,6 +267,22 @@ fn put_made(after: &mut After, made: Result<Made, u32>) {
             after.number = made.number;
             after.run.copy_from_slice(&library::run_numbers(&made.run));
             after.answer[0] = made.steps;
+        }
+    }
+}
+
+/// A board after a run: it keeps its square and its mark, and nothing else that was lent in it.
+fn shown(lent: &Board, shown: &Shown) -> Board {
+    Board { highest: shown.highest, reached: shown.first.is_some(), first: shown.first.unwrap_or(0), ..*lent }
+}
+
+fn watch(after: &mut After, lent: &Lent) {
+    let asked: Vec<Asked> = lent.boards.iter().map(|board| Asked { row: board.row, column: board.column, mark: board.mark }).collect();
+    match watching::run_to_boards(&mut after.meadow, &lent.rules, &lent.run, lent.end, &asked) {
+        Err(number) => after.number = number,
+        Ok(watched) => {
+            after.boards = lent.boards.iter().zip(&watched.boards).map(|(board, found)| shown(board, found)).collect();
+            put_made(after, Ok(watched.made));
         }
     }
 }
@@ -290,6 +319,7 @@ fn by_reference(call: Call, lent: &Lent) -> After {
             let made = reference::run_to(&mut after.meadow, &lent.rules, &lent.run, lent.end);
             put_made(&mut after, made);
         }
+        RunToBoards => watch(&mut after, lent),
         TakeBack => {
             let run = reference::take_back(&mut after.meadow, &lent.run);
             put_run(&mut after, run);
@@ -334,6 +364,7 @@ fn by_library(call: Call, walk: Walk, lent: &Lent) -> After {
         Fresh => library::fresh(meadow, &rules, run),
         Step => library::step(walk, meadow, &rules, run),
         RunTo => library::run_to(walk, meadow, &rules, lent.end, run, answer),
+        RunToBoards => library::run_to_boards(meadow, &rules, lent.end, run, answer, &mut after.boards),
         TakeBack => library::take_back(meadow, run),
         StepBounds => declared::flood_step_bounds(&rules, lent.run.clock, lent.end, answer),
         Call::Arrow => {
@@ -357,6 +388,7 @@ fn sheet_before(lent: &LentSheet) -> After {
         run: Vec::new(),
         answer: resized(&[JUNK; HEADING_NUMBERS], lent.heading),
         more: resized(&[JUNK; LINE_NUMBERS], lent.line),
+        boards: Vec::new(),
         printed: Text(Vec::new()),
     }
 }
@@ -412,6 +444,7 @@ fn meadow_after(length: usize, room: &[u8]) -> After {
         run: Vec::new(),
         answer: vec![length as u64],
         more: (0..rest.len()).filter(written).map(|at| at as u64).collect(),
+        boards: Vec::new(),
         printed: Text(printed.to_vec()),
     }
 }

@@ -3,11 +3,14 @@
 //! --long, --endless (the long run that `meadow` refuses with 9, which --long makes too); all others are sheets, with what `meadow` prints
 //! of them stored beside them.
 
+mod board_rounds;
 mod calls;
 mod chance;
 // the comparison uses a part of what is declared
 #[allow(dead_code)]
 mod declared;
+#[allow(dead_code)]
+mod declared_boards;
 mod forged;
 mod lent;
 mod library;
@@ -20,6 +23,8 @@ mod sheets;
 mod spans;
 mod steps;
 mod texts;
+#[allow(dead_code)]
+mod watching;
 mod worked;
 
 use calls::{Call, Tally, Text, ANSWERS};
@@ -28,13 +33,13 @@ use declared::OUT_ROOM;
 use library::Walk;
 use std::time::{Duration, Instant};
 
-const ROUNDS: u64 = 630;
+const ROUNDS: u64 = 660;
 const LONG_ROUNDS: u64 = 10 * ROUNDS;
 
 type Kind = fn(&mut Tally, &mut Chance);
 
 /// The kinds of rounds, in turn.
-const KINDS: [(&str, Kind); 21] = [
+const KINDS: [(&str, Kind); 22] = [
     ("series of steps and take-backs", steps::series),
     ("one value at or past a limit", limits::one_value),
     ("two values at or past a limit", limits::two_values),
@@ -52,6 +57,7 @@ const KINDS: [(&str, Kind); 21] = [
     ("one square with water, at each column", steps::wet_columns),
     ("water in few squares, in all or in none", steps::waterings),
     ("figures before a run", spans::counted_runs),
+    ("boards over a run", board_rounds::watched_runs),
     ("wet rows", steps::wet_rows),
     ("sheets", texts::good_sheets),
     ("sheets with a value at or past a limit", texts::sheets_at_limits),
@@ -126,11 +132,11 @@ fn print_counts(tally: &Tally) {
     for (kind, count) in &tally.by_kind {
         println!("  {:>8}  {}", count, kind);
     }
-    println!("outside: calls by answer (0 done, 1 to 12 and 15 refused; an arrow: 0 moving, 101 closed, 102 dry, 103 still; 104 no figures hold)");
+    println!("outside: calls by answer (0 done, 1 to 13 and 15 refused; an arrow: 0 moving, 101 closed, 102 dry, 103 still; 104 no figures hold)");
     for (call, walk, answers) in by_each_walk() {
         let seen = |answer: &u32| tally.by_answer.get(&(call, walk, *answer)).unwrap_or(&0);
         let counts: Vec<String> = answers.iter().map(|answer| format!("{}: {}", answer, seen(answer))).collect();
-        println!("  {:<10} {}", named(call, walk), counts.join(", "));
+        println!("  {:<11} {}", named(call, walk), counts.join(", "));
     }
     println!("outside: damaged sheets by damage and what the reader answers");
     for name in sheets::DAMAGES.iter().map(|(name, _)| *name).chain([texts::TWO_DAMAGES]) {
@@ -162,6 +168,7 @@ fn main() {
     tally.kind = "worked by hand";
     worked::cases(&mut tally);
     spans::cases(&mut tally);
+    board_rounds::cases(&mut tally);
     tally.kind = "stored sheets";
     for path in &words.sheets {
         texts::stored_sheet(&mut tally, path);

@@ -1,6 +1,7 @@
 //! The static library's calls on a meadow, steps and runs by either walk, and rules and run as the numbers that go in and come out.
 
 use crate::declared::*;
+use crate::declared_boards::{flood_run_to_boards, Board};
 use crate::lent::RunTo;
 use crate::reference::{Meadow, Rules, Run};
 
@@ -63,6 +64,14 @@ pub fn run_to_by(engine: RunTo, meadow: &mut Meadow, rules: &[u64], end: u64, ru
         meadow.rows, meadow.columns, rules, end,
         &meadow.marks, &meadow.beds, &meadow.roughness, &meadow.rates, &meadow.rain, &meadow.inflow,
         &mut meadow.depths, &mut meadow.lasts, &mut meadow.records, run, steps,
+    )
+}
+
+pub fn run_to_boards(meadow: &mut Meadow, rules: &[u64], end: u64, run: &mut [u64], steps: &mut [u64], boards: &mut [Board]) -> u32 {
+    flood_run_to_boards(
+        meadow.rows, meadow.columns, rules, end,
+        &meadow.marks, &meadow.beds, &meadow.roughness, &meadow.rates, &meadow.rain, &meadow.inflow,
+        &mut meadow.depths, &mut meadow.lasts, &mut meadow.records, run, steps, boards,
     )
 }
 

@@ -1,8 +1,10 @@
 //! Rounds of good inputs with one value or two changed: to the limits of their ranges, just past them, and to sizes that slices may not
 //! have.
 
+use crate::board_rounds;
 use crate::calls::{Call, Tally, ON_MEADOW};
 use crate::chance::Chance;
+use crate::declared_boards::Board;
 use crate::meadows::{self, Lent, MOST_BED, MOST_CLOCK, MOST_DEPTH, MOST_OUTFLOW, MOST_SOAKED, MOST_SOAK_RATE};
 use crate::reference::{ADDED, CLOSED, LAST, SOAKED, WORDS};
 use crate::worked::go_on;
@@ -154,6 +156,30 @@ fn record(changes: &mut Vec<Change>, base: &Lent, square: usize) {
     each(changes, round_limits(soaked, soaked, u64::MAX), |lent, value| lent.run.soaked = value);
 }
 
+/// A board of a list that may have become too short for it.
+fn on_board(lent: &mut Lent, at: usize, set: impl Fn(&mut Board)) {
+    if let Some(board) = lent.boards.get_mut(at) {
+        set(board);
+    }
+}
+
+/// One more or fewer than the most boards; and the first and the last board's square and mark, a closed square's among them.
+fn boards(changes: &mut Vec<Change>, base: &Lent) {
+    each(changes, vec![0, 1, 15, 16, 17, 18, 40], |lent, many| lent.boards = lent.boards.iter().cloned().cycle().take(many as usize).collect());
+    let closed = base.meadow.marks.iter().position(|mark| *mark == CLOSED);
+    let (rows, columns) = (base.meadow.rows, base.meadow.columns);
+    let along = |squares: usize| round_limits(0, squares as u64 - 1, u64::MAX);
+    for at in [0, base.boards.len() - 1] {
+        each(changes, along(rows), move |lent, value| on_board(lent, at, |board| board.row = value as usize));
+        each(changes, along(columns), move |lent, value| on_board(lent, at, |board| board.column = value as usize));
+        each(changes, round_limits(0, MOST_DEPTH, MOST_32), move |lent, value| on_board(lent, at, |board| board.mark = value as u32));
+        for square in closed {
+            let place = (square / columns, square % columns);
+            changes.push(Box::new(move |lent| on_board(lent, at, |board| (board.row, board.column) = place)));
+        }
+    }
+}
+
 /// Every change of one value, on a good input.
 fn changes(chance: &mut Chance, base: &Lent) -> Vec<Change> {
     let mut changes: Vec<Change> = Vec::new();
@@ -165,6 +191,7 @@ fn changes(chance: &mut Chance, base: &Lent) -> Vec<Change> {
         record(&mut changes, base, *at);
     }
     tables(&mut changes, base);
+    boards(&mut changes, base);
     sizes(&mut changes, base);
     each(&mut changes, round_limits(0, MOST_DEPTH, MOST_32), |lent, value| lent.wet_depth = value as u32);
     if let Some(depth) = base.meadow.depths.first() {
@@ -200,6 +227,8 @@ fn good_for_all(tally: &mut Tally, chance: &mut Chance) -> Lent {
         if chance.one_in(4) {
             lent.run.kept = 0;
         }
+        let many = chance.between(1, 16) as usize;
+        lent.boards = board_rounds::on_open_squares(chance, &lent, many);
         return lent;
     }
 }
@@ -211,7 +240,7 @@ fn short_run(lent: &Lent) -> bool {
 
 pub fn call_all(tally: &mut Tally, lent: &Lent) {
     for call in ON_MEADOW {
-        if call != Call::RunTo || short_run(lent) {
+        if ![Call::RunTo, Call::RunToBoards].contains(&call) || short_run(lent) {
             tally.call(call, lent);
         }
     }

@@ -1,6 +1,7 @@
 //! Random meadows, rules, tables and runs that every check passes. What closed squares hold is junk.
 
 use crate::chance::Chance;
+use crate::declared_boards::Board;
 use crate::reference::{Meadow, Rules, Run, CLOSED, EXIT, OPEN};
 
 pub const MOST_BED: u64 = 1_000_000_000;
@@ -29,6 +30,7 @@ pub struct Lent {
     pub column: usize,
     pub wet_depth: u32,
     pub wet: Vec<u64>,
+    pub boards: Vec<Board>,
     pub sizes: Sizes,
 }
 
@@ -255,6 +257,7 @@ pub fn lent(chance: &mut Chance, shape: (usize, usize)) -> Lent {
         column: chance.index(shape.1),
         wet_depth: chance.amount(MOST_DEPTH) as u32,
         wet: (0..shape.0).map(|_| chance.word()).collect(),
+        boards: Vec::new(),
         sizes: Sizes::default(),
         meadow,
         rules,

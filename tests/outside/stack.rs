@@ -1,11 +1,14 @@
 //! One call of the static library, on the largest grid that it takes, on a thread with so much stack: `stack CALL KIB`. A call that needs
-//! more ends the program. Without words: each call and the KiB that flood.h says suffice for it.
+//! more ends the program. Without words: each call and the KiB that its header says suffice for it.
 
 // this program uses a part of what is declared
 #[allow(dead_code)]
 mod declared;
+#[allow(dead_code)]
+mod declared_boards;
 
 use declared::*;
+use declared_boards::{flood_run_to_boards, Board, MOST_BOARDS};
 use std::fmt::Write;
 
 const ALONG: usize = 64;
@@ -61,6 +64,7 @@ fn on_grid(call: &str) {
     records[1] = 100;
     let (mut run, mut steps) = ([100, 100, 0, 1, 0, 0], [0; STEPS_NUMBERS]);
     let mut bounds = [0; BOUNDS_NUMBERS];
+    let mut boards = [Board { row: 5, column: 5, mark: 500_100, highest: 0, reached: false, first: 0 }; MOST_BOARDS];
     let (mut speeds, mut wet, mut count) = ([0.0; SPEED_NUMBERS], vec![0; ALONG], [0; COUNT_NUMBERS]);
     let number = match call {
         "flood_fresh" => flood_fresh(ALONG, ALONG, &RULES, &marks, &mut lasts, &records, &mut run),
@@ -77,6 +81,10 @@ fn on_grid(call: &str) {
                 &mut run, &mut steps,
             )
         }
+        "flood_run_to_boards" => flood_run_to_boards(
+            ALONG, ALONG, &RULES, END, &marks, &beds, &roughness, &rates, &rain, &inflow, &mut depths, &mut lasts, &mut records, &mut run,
+            &mut steps, &mut boards,
+        ),
         "flood_take_back" => flood_take_back(ALONG, ALONG, &marks, &mut depths, &mut lasts, &records, &mut run),
         "flood_step_bounds" => flood_step_bounds(&RULES, 0, END, &mut bounds),
         "flood_arrow" => flood_arrow(ALONG, ALONG, RULES[0], &marks, &depths, &records, &run, 5, 5, &mut speeds),
@@ -98,7 +106,7 @@ fn make(call: &str) {
 fn main() {
     let words: Vec<String> = std::env::args().skip(1).collect();
     if words.is_empty() {
-        STACK.iter().for_each(|(call, kib)| println!("{} {}", call, kib));
+        STACK.iter().chain(&declared_boards::STACK).for_each(|(call, kib)| println!("{} {}", call, kib));
         return;
     }
     let (call, kib) = (words[0].clone(), words[1].parse::<usize>().expect("KiB"));

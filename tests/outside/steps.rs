@@ -87,11 +87,12 @@ pub fn series(tally: &mut Tally, chance: &mut Chance) {
 
 pub fn brim(tally: &mut Tally, chance: &mut Chance) {
     for _ in 0..15 {
-        steps_at_brim(tally, chance);
+        run_and_steps(tally, at_brim(chance), 6);
     }
 }
 
-fn steps_at_brim(tally: &mut Tally, chance: &mut Chance) {
+/// A meadow that may soon be too deep, or let out or soak too much, or come to the last clock.
+pub fn at_brim(chance: &mut Chance) -> Lent {
     let shape = meadows::small_shape(chance);
     let mut lent = meadows::lent(chance, shape);
     if chance.one_in(2) {
@@ -110,7 +111,7 @@ fn steps_at_brim(tally: &mut Tally, chance: &mut Chance) {
         meadows::tables(chance, &mut lent.meadow, lent.run.clock);
     }
     lent.end = meadows::end(chance, &lent.run, &lent.rules);
-    run_and_steps(tally, lent, 6);
+    lent
 }
 
 /// A run to the end, and from the same start so many steps, up to one that is refused.

@@ -33,6 +33,7 @@ pub fn flat(marks: Vec<u8>, depths: Vec<u32>) -> Lent {
         column: 0,
         wet_depth: 0,
         wet: vec![0],
+        boards: Vec::new(),
         sizes: Sizes::default(),
     }
 }

@@ -2,3 +2,4 @@ pub mod EveningLaws
 pub mod ExportedLaws
 pub mod LibraryLaws
 pub mod ListedLaws
+pub mod WatchedLaws

@@ -93,7 +93,7 @@ module _ (p : Plan) (g : Given) (end : ℕ) (w : World) (peaks clocks : List ℕ
 -- ---- what is printed
 
 -- a text at the start of a room
-printed : {t old new : List ℕ} {long : ℕ} → Wrote t 0 old new long → (take long new ≡ t) × (drop long new ≡ drop long old)
+pub printed : {t old new : List ℕ} {long : ℕ} → Wrote t 0 old new long → (take long new ≡ t) × (drop long new ≡ drop long old)
 unfolding placed
 printed {t} {old} {new} {long} x =
     let whole : long ≡ length t = omega (arith, x .next) in

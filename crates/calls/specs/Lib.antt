@@ -2,3 +2,4 @@ pub mod Evenings
 pub mod Exported
 pub mod Library
 pub mod Listed
+pub mod Watched

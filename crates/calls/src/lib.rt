@@ -3,3 +3,4 @@ pub mod exported;
 pub mod hatch_log;
 pub mod library;
 pub mod listed;
+pub mod watched;

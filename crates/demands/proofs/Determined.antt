@@ -21,8 +21,10 @@ use Rattle.text.proofs.Determined.{written}
 use Rattle.sheet.specs.Sheet.{Rooms, Reads, roomsAfter}
 use Rattle.sheet.specs.declared.reading.Sheet.{Sheet}
 use Rattle.exports.specs.Steps.{ExportsStep, ExportsRun}
-use Rattle.demands.specs.Determined.{LedgerDetermined, ChecksDetermined, FloodDetermined, SightDetermined, SheetDetermined, ProgramsDetermined, PeaksDetermined, ListsDetermined, EveningsDetermined, ExportsDetermined, Determined}
+use Rattle.demands.specs.Determined.{LedgerDetermined, ChecksDetermined, FloodDetermined, SightDetermined, SheetDetermined, ProgramsDetermined, PeaksDetermined, DisplayDetermined, DisplayExportsDetermined, LevelsDetermined, ListsDetermined, EveningsDetermined, ExportsDetermined, Determined}
 use Rattle.peaks.specs.Peaks.{RunsPeaking}
+use Rattle.display.proofs.Determined as Display
+use Rattle.display_exports.proofs.Determined.{exports-boards-one}
 use Rattle.lists.specs.Sheets.{File}
 use Rattle.lists.specs.Tally as Lists
 use Rattle.lists.specs.Tally.{TakesSheet}
@@ -120,6 +122,16 @@ peaks-determined =
       run-peaks = λ p g end w peaks clocks. peaks-one;
       highest-of = λ text old a b x y. written a b (x .wrote) (y .wrote);
     }
+
+display-determined : DisplayDetermined
+display-determined =
+    record { run-boards = λ p g end w before. Display.held-one; run-to-boards = λ p g end w n before. Display.watches-one }
+
+display-exports-determined : DisplayExportsDetermined
+display-exports-determined = record { run-to-boards = λ p g end w n before rules old oldSteps. exports-boards-one }
+
+levels-determined : LevelsDetermined
+levels-determined = record { boards-of = λ sheet boards old a b x y. written a b (x .wrote) (y .wrote) }
 
 lists-determined : ListsDetermined
 lists-determined =
@@ -256,6 +268,9 @@ determined =
       sheet = sheet-determined;
       programs = programs-determined;
       peaks = peaks-determined;
+      display = display-determined;
+      display-exports = display-exports-determined;
+      levels = levels-determined;
       lists = lists-determined;
       evenings = evenings-determined;
       exports = exports-determined;

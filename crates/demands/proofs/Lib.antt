@@ -1,4 +1,5 @@
 pub mod Account
+pub mod Boards
 pub mod Demand1
 pub mod Demand2
 pub mod Demand3

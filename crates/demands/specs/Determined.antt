@@ -29,6 +29,12 @@ use Rattle.exports.specs.Sights.{ExportsArrow, ExportsWet}
 use Rattle.exports.specs.Sheets.{ExportsRead, ExportsMeadow}
 use Rattle.peaks.specs.Peaks.{RunsPeaking}
 use Rattle.peaks.specs.Highest.{highestText}
+use Rattle.display.specs.Watch.{Watches, WatchesHeld}
+use Rattle.display.specs.declared.boards.Board.{Board}
+use Rattle.display.specs.declared.boards.Boards.{Boards}
+use Rattle.display.specs.declared.boards.Shown.{Shown}
+use Rattle.display_exports.specs.Boards.{ExportsBoards}
+use Rattle.levels.specs.Program.{boardsText}
 use Rattle.lists.specs.Names.{ListRead}
 use Rattle.lists.specs.Sheets.{File}
 use Rattle.lists.specs.Tally as Lists
@@ -74,6 +80,23 @@ pub record PeaksDetermined : Type 0 where
       One {Out = Ran × (List ℕ × (List ℕ × (List ℕ × (List ℕ × List ℕ))))}
       (λ o. RunsPeaking p g end w peaks clocks (o .0) (o .1 .0) (o .1 .1 .0) (o .1 .1 .1 .0) (o .1 .1 .1 .1 .0) (o .1 .1 .1 .1 .1))
   pub highest-of : (text old : List ℕ) → One {Out = ℕ × List ℕ} (λ o. Prints (highestText text) old (o .1) (o .0))
+
+-- a run with boards, by value and lent
+pub record DisplayDetermined : Type 0 where
+  pub run-boards : (p : Plan) (g : Given) (end : ℕ) (w : World) (before : Boards) →
+      One {Out = Shown × (List ℕ × (List ℕ × List ℕ))} (λ o. WatchesHeld p g end w before (o .0) (o .1 .0) (o .1 .1 .0) (o .1 .1 .1))
+  pub run-to-boards : (p : Plan) (g : Given) (end : ℕ) (w : World) (n : ℕ) (before : List Board) →
+      One {Out = Ran × (List Board × (List ℕ × (List ℕ × List ℕ)))}
+      (λ o. Watches p g end w n before (o .0) (o .1 .1 .0) (o .1 .1 .1 .0) (o .1 .1 .1 .1) (o .1 .0))
+
+-- what other languages call with boards
+pub record DisplayExportsDetermined : Type 0 where
+  pub run-to-boards : (p : Plan) (g : Given) (end : ℕ) (w : World) (n : ℕ) (before : List Board) (rules old oldSteps : List ℕ) →
+      One {Out = ℕ × (List ℕ × (List ℕ × (List ℕ × (List ℕ × (List ℕ × List Board)))))}
+      (λ o. ExportsBoards p g end w n before rules old oldSteps (o .0) (o .1 .0) (o .1 .1 .0) (o .1 .1 .1 .0) (o .1 .1 .1 .1 .0) (o .1 .1 .1 .1 .1 .0) (o .1 .1 .1 .1 .1 .1))
+
+pub record LevelsDetermined : Type 0 where
+  pub boards-of : (sheet boards old : List ℕ) → One {Out = ℕ × List ℕ} (λ o. Prints (boardsText sheet boards) old (o .1) (o .0))
 
 -- what a list keeps in its five rooms stands together
 pub record ListsDetermined : Type 0 where
@@ -130,6 +153,9 @@ pub record Determined : Type 0 where
   pub sheet : SheetDetermined
   pub programs : ProgramsDetermined
   pub peaks : PeaksDetermined
+  pub display : DisplayDetermined
+  pub display-exports : DisplayExportsDetermined
+  pub levels : LevelsDetermined
   pub lists : ListsDetermined
   pub evenings : EveningsDetermined
   pub exports : ExportsDetermined

@@ -1,5 +1,6 @@
 pub mod AnswerLaws
 pub mod BoundsLaws
+pub mod Determined
 pub mod NumberLaws
 pub mod SheetLaws
 pub mod SightLaws

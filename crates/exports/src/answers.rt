@@ -6,7 +6,7 @@ ghost use lib.ListN.{length};
 ghost use Rattle.exports.specs.Numbers.{headingNumbers, headingSize, runNumbers, runSize};
 
 // Puts a run into its six places.
-pub(crate) fn put_run(run: Run, room: &mut [u64])
+pub fn put_run(run: Run, room: &mut [u64])
     requires { ⌜ length (now room) ≡ runSize ⌝ }
     ensures { λ _. ⌜ now (room .exit) ≡ runNumbers run ⌝ }
 {

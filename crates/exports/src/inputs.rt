@@ -15,7 +15,7 @@ pub(crate) fn shape_from(rows: usize, columns: usize) -> Shape
     }
 }
 
-pub(crate) fn rules_from(numbers: &[u64]) -> Rules
+pub fn rules_from(numbers: &[u64]) -> Rules
     requires { ⌜ length (now numbers) ≡ rulesSize ⌝ }
     ensures { λ r. ⌜ r ≡ rulesFrom (now (numbers .entry)) ⌝ }
 {
@@ -30,7 +30,7 @@ pub(crate) fn rules_from(numbers: &[u64]) -> Rules
     }
 }
 
-pub(crate) fn run_from(numbers: &[u64]) -> Run
+pub fn run_from(numbers: &[u64]) -> Run
     requires { ⌜ length (now numbers) ≡ runSize ⌝ }
     ensures { λ r. ⌜ r ≡ runValueFrom (now (numbers .entry)) ⌝ }
 {

@@ -8,10 +8,10 @@
 //   sizes    inside: how many numbers each slice has
 //   inputs   inside: shape, rules and run of the numbers lent
 //   answers  inside: a run and a heading put into slices
-mod answers;
+pub mod answers;
 pub mod bounds;
-mod inputs;
+pub mod inputs;
 pub mod sheets;
 pub mod sights;
-mod sizes;
+pub mod sizes;
 pub mod steps;

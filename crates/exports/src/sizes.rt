@@ -1,9 +1,9 @@
 // How many numbers a slice has that is lent for rules, a run or an answer.
-pub(crate) const RULES_NUMBERS: usize = 7;
+pub const RULES_NUMBERS: usize = 7;
 
-pub(crate) const RUN_NUMBERS: usize = 6;
+pub const RUN_NUMBERS: usize = 6;
 
-pub(crate) const STEPS_NUMBERS: usize = 1;
+pub const STEPS_NUMBERS: usize = 1;
 
 pub(crate) const BOUNDS_NUMBERS: usize = 2;
 
@@ -16,4 +16,4 @@ pub(crate) const HEADING_NUMBERS: usize = 12;
 pub(crate) const LINE_NUMBERS: usize = 1;
 
 // The refusal of a slice that has not its size.
-pub(crate) const NOT_ITS_SIZE: u32 = 1;
+pub const NOT_ITS_SIZE: u32 = 1;

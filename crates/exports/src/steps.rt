@@ -25,7 +25,7 @@ ghost use Rattle.exports.specs.Steps.{answerNumber, ExportsBack, Exports
 ghost use Rattle.exports.specs.inner.Slices.{answerRun};
 
 // The last of the numbers that are tried before any step.
-const LAST_CHECK: u32 = 6;
+pub const LAST_CHECK: u32 = 6;
 
 // An answer's number; its run, where there is one, goes into the slice.
 fn tell_answer(answer: Answer, run: &mut [u64]) -> u32

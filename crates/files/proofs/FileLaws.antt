@@ -1,20 +1,21 @@
 -- Laws of reads into a room: bytes that were put leave what stands after them; read after read; a whole file.
 -- Assumes nothing.
-use mathlib.Core.Path.{_≡_, refl, sym, ap, _∙_}
-use mathlib.Core.Bool.{false, not}
+use mathlib.Core.Path.{_≡_, refl, sym, ap, subst, _∙_}
+use mathlib.Core.Bool.{Bool, false, not}
 use mathlib.Core.List.{List, _++_}
 use Prim.Native.Nat.{ℕ, _+_, _-_, _≤_}
 use native.Mathlib.Omega.{arith}
-use lib.ListN.{length, take, drop}
+use lib.ListN.{length, take, drop, replicate, drop-of-length-le, length-replicate}
 use lib.Seq.{drop-drop, drop-at, drop-append-seam, length-take-le}
+use Rattle.reckon.specs.Tests.{pick}
 use Rattle.reckon.specs.Lists.{placed}
-use Rattle.reckon.proofs.TestLaws.{not-both}
+use Rattle.reckon.proofs.TestLaws.{not-both, pick-both}
 use Rattle.text.specs.Lines.{nthLine}
 use Rattle.text.specs.Writing.{Wrote}
 use Rattle.text.specs.declared.lines.Line.{Line}
 use Rattle.text.proofs.WritingLaws.{wrote-length}
-use Rattle.files.specs.Files.{InputCame, FileCame, NamedCame, notRead}
-use Rattle.files.specs.inner.Reading.{CameOn}
+use Rattle.files.specs.Files.{InputCame, FileCame, NamedCame, HandedOn, notRead}
+use Rattle.files.specs.inner.Reading.{CameOn, handedOf}
 use Rattle.files.specs.declared.Came.{Came}
 
 drop-placed :
@@ -76,3 +77,33 @@ named-came names k e h l f =
       too-long = λ g. f .too-long (omega (arith, l, ap (λ (x : Line). x .to) e, ap (λ (x : Line). x .from) e));
       no-newline = λ g. not-both (ap not (ap (λ (x : Line). x .ended) e ∙ g)) h;
     }
+
+-- ---- the bytes that are handed on
+
+-- all of a room
+whole-room : {old new : List ℕ} → length new ≡ length old → HandedOn old new (length new)
+whole-room {old} {new} e =
+    record {
+      long = e;
+      within = omega arith;
+      counted = sym (length-take-le (length new) new (omega arith));
+      rest = drop-of-length-le new {i = length new} (omega arith) ∙ sym (drop-of-length-le old {i = length new} (omega (arith, e)));
+    }
+
+pub came-handed : {old new : List ℕ} {r : Came} {room n : ℕ} → InputCame old new r → room ≡ length new → n ≡ handedOf r room → HandedOn old new n
+came-handed {old} {new} {r} {room} {n} f e h =
+    subst (HandedOn old new) (sym h)
+    (pick-both (HandedOn old new) (r .whole) (record { long = f .long; within = f .within; counted = f .counted; rest = f .rest })
+    (subst (HandedOn old new) (sym e) (whole-room (f .long))))
+
+pub last-handed :
+    (more : Bool) {old new : List ℕ} {r : Came} {room n : ℕ} → InputCame old new r → room ≡ length new → n ≡ pick more room (handedOf r room) →
+    HandedOn old new n
+last-handed more {old} {new} {r} {room} f e h =
+    subst (HandedOn old new) (sym h)
+    (pick-both (HandedOn old new) more (subst (HandedOn old new) (sym e) (whole-room (f .long))) (came-handed f e refl))
+
+-- the names, in a room that is as long as it was made
+pub names-handed :
+    (size : ℕ) {new : List ℕ} {r : Came} {n : ℕ} → InputCame (replicate size 0) new r → n ≡ handedOf r size → HandedOn (replicate size 0) new n
+names-handed size f h = came-handed f (sym (f .long ∙ length-replicate {A = ℕ} size 0)) h

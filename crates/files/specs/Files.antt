@@ -1,12 +1,13 @@
 -- Document 02, #107, #104 and #114: what has come into a lent room of a file, of which the system alone knows what it holds.
 -- Assumes nothing.
 use mathlib.Core.Path.{_≡_}
-use mathlib.Core.Bool.{false}
+use mathlib.Core.Bool.{true, false}
 use mathlib.Core.List.{List}
 use Prim.Native.Nat.{ℕ, _-_, _≤_, _<_}
 use lib.ListN.{length, take, drop}
 use Rattle.text.specs.Lines.{nthLine}
 use Rattle.files.specs.declared.Came.{Came}
+use Rattle.files.specs.declared.Two.{Two}
 
 -- the most bytes of a name that the system takes
 abbrev pub mostName : ℕ
@@ -33,3 +34,11 @@ pub record NamedCame (names : List ℕ) (k : ℕ) (old new : List ℕ) (r : Came
   pub came : InputCame old new r
   pub too-long : mostName < nthLine names k .to - nthLine names k .from → r ≡ notRead
   pub no-newline : nthLine names k .ended ≡ false → r ≡ notRead
+
+-- so many bytes of a room, as `InputCame` says it
+abbrev pub HandedOn : List ℕ → List ℕ → ℕ → Type 0
+HandedOn old new n = InputCame old new (record { whole = true; length = n })
+
+pub record TwoCame (old new old′ new′ : List ℕ) (r : Two) : Type 0 where
+  pub first : HandedOn old new (r .first)
+  pub second : HandedOn old′ new′ (r .second)

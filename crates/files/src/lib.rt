@@ -4,19 +4,27 @@
 //   read_input   the standard input
 //   read_file    the file of a name
 //   read_named   the file whose name is a line of a list of names
+//   read_two     the two files whose names are the two lines of the standard input
 use text::lines::nth_line;
 use text::writing::put_word;
 ghost use mathlib.Core.Path.{_≡_};
 ghost use Prim.Native.Nat.{_≤_};
 ghost use lib.ListN.{length};
-ghost use Rattle.files.specs.Files.{InputCame, FileCame, NamedCame, notRead};
-ghost use Rattle.files.specs.inner.Reading.{ReadOn};
+ghost use Rattle.reckon.specs.Tests.{pick};
+ghost use Rattle.files.specs.Files.{InputCame, FileCame, NamedCame, TwoCame, notRead};
+ghost use Rattle.files.specs.inner.Reading.{ReadOn, handedOf};
 
 // What a read of a whole file came to: how many bytes came, and whether that is all of them, or all that the room holds. It is not where the
 // file cannot be opened, or where a read of it fails, as a directory's does: what came before that may read well, and is not the file.
 pub struct Came {
     pub whole: bool,
     pub length: usize,
+}
+
+// How many bytes of each of two rooms are handed on.
+pub struct Two {
+    pub first: usize,
+    pub second: usize,
 }
 
 // One read's answer: the position after what came, and whether the read failed.
@@ -27,6 +35,9 @@ struct Next {
 
 // The most bytes of a name that the system takes.
 const MOST_NAME: usize = 4_095;
+
+// Room for the lines of the standard input: one byte more than is taken of it.
+const NAMES_ROOM: usize = 65_537;
 
 fn not_read() -> Came
     ensures { λ r. ⌜ r ≡ notRead ⌝ }
@@ -124,4 +135,41 @@ pub fn read_named(names: &[u8], k: usize, room: &mut [u8]) -> Came
     let from = line.from;
     let to = line.to;
     read_file(&names[from..to], room)
+}
+
+// How many bytes of a room are handed on: all of it where the file did not come whole. A room has one byte more than its caller takes, so that
+// such a text is refused as one that is too long is.
+fn handed(came: Came, room: usize) -> usize
+    ensures { λ r. ⌜ r ≡ handedOf came room ⌝ }
+{
+    if !came.whole {
+        return room;
+    }
+    came.length
+}
+
+// The same of the last file that is named: all of the room where a line follows its name, too.
+fn handed_last(came: Came, more: bool, room: usize) -> usize
+    ensures { λ r. ⌜ r ≡ pick more room (handedOf came room) ⌝ }
+{
+    if more {
+        return room;
+    }
+    handed(came, room)
+}
+
+// Two files, of which the standard input has the names, one a line, and no line after them.
+pub fn read_two(first: &mut [u8], second: &mut [u8]) -> Two
+    ensures { λ r. ⌜ TwoCame (now (first .entry)) (now (first .exit)) (now (second .entry)) (now (second .exit)) r ⌝ }
+{
+    let mut names = [0u8; NAMES_ROOM];
+    let count = handed(read_input(&mut names), NAMES_ROOM);
+    let first_came = read_named(&names[..count], 0, first);
+    let second_came = read_named(&names[..count], 1, second);
+    let third = nth_line(&names[..count], 2);
+    let more = third.from < count;
+    Two {
+        first: handed(first_came, first.len()),
+        second: handed_last(second_came, more, second.len()),
+    }
 }

@@ -4,41 +4,13 @@ use evenings::program::Night;
 use evenings::program::RATES_ROOM;
 use evenings::program::begin_log;
 use evenings::program::go_on;
-use files::Came;
-use files::read_input;
-use files::read_named;
+use files::read_two;
 use hatches::log::MOST_NUMBERS;
 use programs::limits::OUT_ROOM;
 use programs::limits::PROGRAM_SQUARES;
 use programs::limits::TEXT_ROOM;
 use reckon::tables::INFLOW_ROOM;
 use reckon::tables::RAIN_ROOM;
-use text::lines::nth_line;
-ghost use Prim.Native.Nat.{_≤_};
-
-// How many bytes of a text are handed on. Where it did not come whole these are more than are taken, so that it is refused as one that is too
-// long is: by 12, line 0.
-fn handed(came: Came) -> usize
-    ensures { λ r. ⌜ r ≤ 65_537 ⌝ }
-{
-    if !came.whole {
-        return TEXT_ROOM;
-    }
-    if TEXT_ROOM < came.length {
-        return TEXT_ROOM;
-    }
-    came.length
-}
-
-// The same of the log, where the list of names has a line after its second.
-fn handed_of_two(came: Came, after: usize, length: usize) -> usize
-    ensures { λ r. ⌜ r ≤ 65_537 ⌝ }
-{
-    if after < length {
-        return TEXT_ROOM;
-    }
-    handed(came)
-}
 
 // Takes the lines that are left, and writes what is printed of each.
 fn take_lines(
@@ -125,13 +97,10 @@ fn run_log(sheet: &[u8], log: &[u8]) {
 }
 
 fn main() {
-    let mut names = [0u8; TEXT_ROOM];
     let mut sheet = [0u8; TEXT_ROOM];
     let mut log = [0u8; TEXT_ROOM];
-    let count = handed(read_input(&mut names));
-    let sheet_length = handed(read_named(&names[..count], 0, &mut sheet));
-    let log_came = read_named(&names[..count], 1, &mut log);
-    let third = nth_line(&names[..count], 2);
-    let log_length = handed_of_two(log_came, third.from, count);
+    let handed = read_two(&mut sheet, &mut log);
+    let sheet_length = handed.first;
+    let log_length = handed.second;
     run_log(&sheet[..sheet_length], &log[..log_length]);
 }

@@ -1,6 +1,6 @@
 """Document 02, #107: what the program `hatchlog` prints, of the texts of a sheet and a log and of the two names at its standard input."""
 from ..rule.refusals import Refused, check
-from ..sheets.files import opened
+from ..sheets.files import both_opened
 from ..sheets.lines import refused_text
 from ..sheets.reading import MOST_BYTES, meadow_of, read
 from .entries import entries_in
@@ -28,13 +28,7 @@ def answered(sheet_bytes, log_bytes):
     return "".join(told)
 
 
-def names_in(given):
-    """The two names at the standard input, each ended by a newline; None where there are not exactly two."""
-    *names, rest = given.split(b"\n")
-    return names if len(names) == 2 and rest == b"" else None
-
-
 def named(given):
     """What is printed of the bytes at the standard input: both files are opened first."""
-    texts = [opened(name) for name in names_in(given) or [b""]]
-    return refused_text(12, 0) if None in texts else answered(*texts)
+    texts = both_opened(given)
+    return answered(*texts) if texts else refused_text(12, 0)

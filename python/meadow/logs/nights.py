@@ -7,7 +7,7 @@ import tempfile
 from pathlib import Path
 from typing import NamedTuple
 
-from ..programs import printed
+from ..programs import printed_of_named
 from ..rule.ranges import LAST_CLOCK
 from ..rule.steps import inflow_by
 from ..sheets.account import Account, account
@@ -152,7 +152,7 @@ def night_in(sheet_file, log_file, told_file=None):
 
 def told_of(sheet_file, log_file):
     """What the program prints of two files."""
-    return printed("hatchlog", f"{sheet_file}\n{log_file}\n".encode("utf-8", "surrogateescape")).decode("ascii")
+    return printed_of_named("hatchlog", sheet_file, log_file)
 
 
 def told_of_texts(sheet_text, log_text):

@@ -1,1 +1,2 @@
-"""The map of a sheet and its answer, in SVG: drawing puts it together from shades, signs, contours and a legend."""
+"""Pictures in SVG: the map of a sheet and its answer (drawing puts it together from shades, signs, contours and a legend), the map of how often
+squares drowned (often), and the display panel of level boards (staffs)."""

@@ -8,3 +8,13 @@ def opened(name):
             return file.read()
     except (OSError, ValueError):
         return None
+
+
+def both_opened(given):
+    """The bytes of two files, by their names at the standard input, each ended by a newline; None where there are not exactly two names, or
+    one of them cannot be opened."""
+    *names, rest = given.split(b"\n")
+    if len(names) != 2 or rest:
+        return None
+    texts = [opened(name) for name in names]
+    return None if None in texts else texts

@@ -3,11 +3,14 @@
     units        amounts as people say them
     sense        one line about an answer
     drownings    one line about a winter's sheets, and one about how high one sheet's water stood
+    levels       one line about level boards, and when a mark was first reached
     hatches      the hatches of a sheet
     telling      a sheet in a person's units
     doubts       what in a sheet is likely a slip
     enclosed     ground that is walled in
     reasons      why a sheet is refused: faults (the places of 1 to 5), misplaced (the line of 12), slips (inside that line)
+    opening      why a file cannot be opened, and whether a refusal is the sheet's own
     log_reasons  why a hatch log is refused, and which of the two files it is about
     list_reasons why a list of sheets is refused, or a sheet of one
+    board_reasons why boards are refused, and which of the two files it is about
 """

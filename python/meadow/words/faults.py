@@ -93,15 +93,15 @@ def rows_with_lines(sheet, kind):
         yield first + at, dict(zip(names, row))
 
 
-def place_faults(sheet, line, values):
-    """Of 4: a hatch off the grid, or on a closed square."""
+def place_faults(sheet, line, values, thing="hatch"):
+    """Of 4, or of 13: a thing off the grid, or on a closed square."""
     place = values["row"], values["column"]
     if place not in sheet.squares:
         shape = f"rows go from 0 to {sheet.rows - 1}, columns from 0 to {sheet.columns - 1}"
         swapped = "; row and column may be swapped" if place[::-1] in sheet.squares else ""
-        yield Fault(line, f"the hatch at {square(place)} is off the grid", shape + swapped)
+        yield Fault(line, f"the {thing} at {square(place)} is off the grid", shape + swapped)
     elif sheet.squares[place]["mark"] == CLOSED:
-        yield Fault(line, f"the hatch at {square(place)} stands on a closed square", "move the hatch, or open the square")
+        yield Fault(line, f"the {thing} at {square(place)} stands on a closed square", f"move the {thing}, or open the square")
 
 
 def table_faults(sheet, _end):

@@ -8,7 +8,7 @@ from ..rule.ranges import MOST_DEPTH
 from ..sheets.lines import MARKS
 from ..sheets.pairs import bytes_as_text
 from ..sheets.reading import MOST_BYTES, read
-from .log_reasons import unopened
+from .opening import unopened
 from .reasons import NOT_FOUND, reasons, refusal
 from .slips import number_slip
 from .units import square

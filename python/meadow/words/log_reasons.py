@@ -3,19 +3,17 @@
 Number and line are the program's own. A refusal other than 12 has no line: it is about the first line of the log of which nothing was
 printed and should have been. Where no place is found that fits the number, that is said.
 """
-import os
 import re
 from difflib import get_close_matches
-from pathlib import Path
 
 from ..logs.entries import BACK, HATCH, LOG_LINES, RATE, entry_of, parted, written
 from ..logs.evening import MOST_HATCHES
 from ..logs.nights import Night, told_of_texts
 from ..rule.ranges import LAST_CLOCK, MOST_ROWS_OF_A_TABLE, fine
-from ..rule.refusals import Refused, check
 from ..sheets.lines import HOUR, MINUTE
-from ..sheets.reading import MOST_BYTES, Lines, meadow_of, number_well, read
+from ..sheets.reading import Lines, number_well, read
 from .faults import good_ends, out_of_range, place_faults
+from .opening import file_faults, is_the_sheets
 from .reasons import IN_THE_RUN, NOT_FOUND, reasons
 from .sense import deepest
 from .slips import mended, number_slip, shown
@@ -29,40 +27,6 @@ SAID = {"number": ("hatch's number", ""), "clock": ("clock", " of ms"), "litres"
 HOURS_AND_MINUTES = re.compile(r"(\d+):([0-5]\d)")
 DECIMAL = re.compile(r"\d*[.,]\d+")
 THOUSANDS = re.compile(r"\d{1,3}(,\d{3})+")
-
-
-# ---- which of the two files
-
-
-def unopened(path):
-    """Why a file cannot be opened or read; None where it can."""
-    try:
-        Path(path).read_bytes()
-    except (OSError, ValueError) as fault:
-        return getattr(fault, "strerror", None) or str(fault)
-    return None
-
-
-def file_faults(sheet_file, log_file):
-    """Of 12 with line 0: the files that cannot be opened, and those that are too long."""
-    for kind, path in (("sheet", sheet_file), ("log", log_file)):
-        why = unopened(path)
-        if why:
-            yield f"the {kind} {path} cannot be opened: {why}"
-        elif os.path.getsize(path) > MOST_BYTES:
-            yield f"the {kind} {path} has {os.path.getsize(path):,} bytes, and at most {MOST_BYTES:,} are read"
-        if "\n" in str(path):
-            yield f"the name of the {kind} has a newline in it: give it another name"
-
-
-def is_the_sheets(sheet_text, refused):
-    """Whether a refusal is the sheet's own, which `hatchlog` reads as `meadow` does, before any line of the log."""
-    try:
-        sheet, end = read(sheet_text)
-        check(meadow_of(sheet), end)
-    except Refused as found:
-        return (found.number, found.line) == tuple(refused)
-    return False
 
 
 # ---- a line of the log that cannot be read
@@ -235,7 +199,7 @@ def log_reasons(sheet_text, text, told):
 def both_reasons(files, texts, told, refused):
     """The words for which file it is, and why: of the names of a sheet and a log, their texts, what was printed and the refusal at its end."""
     if tuple(refused) == (12, 0):
-        return "", list(file_faults(*files)) or [NOT_FOUND]
+        return "", list(file_faults("log", *files)) or [NOT_FOUND]
     if is_the_sheets(texts[0], refused):
         return f", of the sheet {files[0]}", reasons(texts[0], *refused)
     return f", of the log {files[1]}", log_reasons(*texts, told)

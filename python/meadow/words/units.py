@@ -31,6 +31,14 @@ def depth(amount):
     return scaled(amount, DEPTHS)
 
 
+def graduation(amount):
+    """A round depth in µm, as a staff has it: 2 m, 50 cm, 5 mm, 200 µm."""
+    for divisor, name in ((1_000_000, "m"), (10_000, "cm"), (1_000, "mm")):
+        if amount >= divisor:
+            return f"{amount / divisor:g} {name}"
+    return f"{amount:g} µm" if amount else "0"
+
+
 def volume(amount):
     """A volume in m³: 1,364 m³, 0.4 m³."""
     return scaled(amount, VOLUMES)

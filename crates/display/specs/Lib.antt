@@ -1,0 +1,4 @@
+pub mod Boards
+pub mod Watch
+pub mod Worked
+pub mod inner

@@ -1,0 +1,3 @@
+pub mod Determined
+pub mod Lent
+pub mod Refreshed

@@ -1,0 +1,4 @@
+pub mod LevelLaws
+pub mod LineLaws
+pub mod ShownLaws
+pub mod WorkedLaws
