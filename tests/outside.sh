@@ -3,7 +3,8 @@
 # call with document 01 as tests/outside/reference.rs has it, and a run with boards with document 02 as tests/outside/watching.rs does. Words go
 # to the Rust program: --long for a long run, --seed N, --rounds N, --endless. Rust programs of their own hold what the programs print to document
 # 02: of hatch logs as tests/outside/evening.rs has it, of lists of sheets and the heights of single ones as tests/outside/winter.rs does, and of
-# boards as tests/outside/watching.rs does. A board lies in memory as C and Rust both say.
+# boards as tests/outside/watching.rs does. Another one holds the survey office's sets in Python to tests/outside/survey.rs. A board lies in memory
+# as C and Rust both say.
 set -u
 cd "$(dirname "$0")/.." || exit 1
 top=$PWD
@@ -31,13 +32,14 @@ evenings=$built/evenings
 winters=$built/winters
 heights=$built/heights
 levels=$built/levels
-rm -rf "$damaged" "$evenings" "$winters" "$heights" "$levels"
-mkdir -p "$damaged" "$evenings" "$winters" "$heights" "$levels"
+surveys=$built/surveys
+rm -rf "$damaged" "$evenings" "$winters" "$heights" "$levels" "$surveys"
+mkdir -p "$damaged" "$evenings" "$winters" "$heights" "$levels" "$surveys"
 
 # cases: what the tests work in Python, written for the Rust programs
 cases() {
     bin/test damaged --write "$damaged" && bin/test hatchlog --write "$evenings" && bin/test drowned --write "$winters" &&
-        bin/test highest --write "$heights" && bin/test boards --write "$levels"
+        bin/test highest --write "$heights" && bin/test boards --write "$levels" && bin/test sets --write "$surveys"
 }
 
 # programs: those in C, and those in Rust
@@ -46,7 +48,7 @@ programs() {
     for name in header display; do
         build_c "$name" || return 1
     done
-    for name in compare logs lists boards layout; do
+    for name in compare logs lists boards sets layout; do
         build "$name" || return 1
     done
 }
@@ -67,6 +69,7 @@ told compare compare "$@" samples/*.sheet "$damaged"/*.sheet
 told logs logs samples/*.log "$evenings"/*.log
 told heights lists samples/winter/*.list "$heights"/*.sheet
 told levels boards samples/winter/*.boards "$levels"/*.boards
+told moves sets "$surveys"/*.note "$surveys"/*.sheet
 told c-layout display layout
 told rust-layout layout
 cmp "$built/c-layout.log" "$built/rust-layout.log" || failed=$((failed + 1))
@@ -82,8 +85,9 @@ logs=$(number_of "$built/logs.log" "outside: " " hatch logs, no difference")
 tops=$(number_of "$built/heights.log" "outside: " " lists and heights, no difference")
 lists=$(number_of "$built/winters.log" "outside: " " lists and heights, no difference")
 boards=$(number_of "$built/levels.log" "outside: " " boards' texts, no difference")
+moves=$(number_of "$built/moves.log" "outside: " " sets and sheets moved, no difference")
 made=0
-for count in "$functions" "$places" "$calls" "$logs" "$tops" "$lists" "$boards"; do
+for count in "$functions" "$places" "$calls" "$logs" "$tops" "$lists" "$boards" "$moves"; do
     [ "${count:-0}" -gt 0 ] || failed=$((failed + 1))
     made=$((made + ${count:-0}))
 done

@@ -1,5 +1,6 @@
 """A real GDAL reads the grids that tools/depths.py writes, each depth to the micrometre, NODATA at closed squares alone and the corner where
-it was; and tools/make_sheet.py reads grids that GDAL writes of them."""
+it was; and tools/make_sheet.py reads grids that GDAL writes of them. It reads the grids of the survey office's sets, every number exactly; what it
+writes of them at a survey's corner tools/office_grid.py brings back byte for byte, and takes to that corner again."""
 import json
 import subprocess
 import sys
@@ -13,11 +14,15 @@ from meadow.programs import TOP
 from meadow.sheets.lines import Sheet
 from meadow.sheets.pairs import pair_in
 from meadow.sheets.reading import read
+from meadow.surveys.office import METRES, read_office
 from meadow.surveys.places import Place, place_file, place_text
+from meadow.surveys.sets import GRIDS, MOST_SQUARES, Set, moved_back, moved_out
 
 SAMPLES = TOP / "samples"
 # corners with and without decimals, and on both sides of 0
 CORNERS = [("0", "0"), ("432100.5", "215000"), ("-1234567.125", "9876543.75")]
+# a projection that GDAL writes as a .prj file
+PROJECTION = "EPSG:27700"
 EXACT = ("-oo", "DATATYPE=Float64")
 NO_DATA = -9999
 
@@ -95,6 +100,60 @@ def hold_back(checks, room):
     checks.hold((Decimal(head["xllcorner"]), Decimal(head["yllcorner"])) == (Decimal("432100.5"), 215000), f"by way of GDAL the corner is {head}")
 
 
+def highest():
+    """Beds, roughness and rates at the ends of their ranges, and water; an exit and a wall."""
+    sheet = Sheet(3, 3, 100)
+    places = sorted(sheet.squares)
+    ground = zip((0, 1, 999_999_999, 1_000_000_000, 16_777_217, 123_456_789, 536_870_913, 1), (1, 10_000, 9_999, 350, 2, 3, 4, 5))
+    for at, (bed, roughness) in enumerate(ground):
+        sheet.put(places[at], bed, roughness, 7 * at, "e" if at == 0 else "o", rate=(0, 1, 999_999, 1_000_000)[at % 4])
+    return sheet.text(0)
+
+
+def hold_office(checks, path, room):
+    """Each grid of a sheet's set as GDAL reads it: its head, and every number exactly."""
+    ours = moved_out(path.read_text())
+    sheet, _ = read(path.read_text(), MOST_SQUARES)
+    for part, kind in GRIDS.items():
+        grid, name = room / "office.asc", f"the {part} of {path.name}"
+        grid.write_text(getattr(ours, part))
+        hold_head(checks, name, sheet, CORNERS[0], grid)
+        unit = 1_000_000 if kind is METRES else 1
+        for place, told, wanted in zip(sorted(sheet.squares), values_in(grid, room), read_office(getattr(ours, part), kind).numbers, strict=True):
+            right = told == NO_DATA if wanted is None else told == wanted / unit
+            checks.hold(right, f"{name}: square {place} is {told!r} to GDAL, and {wanted} in the set")
+
+
+def at_a_corner(ours, part, corner, sheet, room):
+    """A grid of a set at a corner and with a projection, as GDAL writes it."""
+    grid, theirs = room / "office.asc", room / f"{part}-theirs.asc"
+    grid.write_text(getattr(ours, part))
+    west, south = (Decimal(number) for number in corner)
+    box = (west, south + sheet.rows * sheet.side, west + sheet.columns * sheet.side, south)
+    how = ("-of", "AAIGrid", "-a_srs", PROJECTION, "-a_ullr", *box, "-co", "DECIMAL_PRECISION=9", "-co", "FORCE_CELLSIZE=TRUE")
+    ran("gdal_translate", "-q", *EXACT, *how, grid, theirs)
+    return theirs
+
+
+def hold_brought(checks, path, room):
+    """What GDAL writes of a set at a corner is brought back byte for byte, and the set is the sheet's; the grids go to the corner again."""
+    ours, sheet = moved_out(path.read_text()), read(path.read_text(), MOST_SQUARES)[0]
+    for corner in CORNERS:
+        texts, side_file = {}, room / "set.place"
+        for part in GRIDS:
+            theirs = at_a_corner(ours, part, corner, sheet, room)
+            made, back = room / f"{part}.asc", room / f"{part}-back.asc"
+            tool("office_grid", part, theirs, made, "--place", side_file, "--replace")
+            texts[part] = made.read_text()
+            name = f"the {part} of {path.name} at {' '.join(corner)}"
+            checks.hold(texts[part] == getattr(ours, part), f"{name} is another by way of GDAL")
+            tool("office_grid", "--back", part, made, back, "--place", side_file, "--replace")
+            hold_head(checks, name, sheet, corner, back)
+            kept = [file.with_suffix(".prj").read_text().split() for file in (theirs, back)]
+            checks.hold(kept[0] == kept[1] != [], f"{name} has another .prj file")
+        checks.hold(moved_back(Set(ours.note, **texts)) == path.read_text(), f"{path.name} does not come back by way of GDAL")
+
+
 def main():
     checks = Checks("gdal")
     with tempfile.TemporaryDirectory() as folder:
@@ -105,6 +164,10 @@ def main():
         for path in sorted(room.glob("*.sheet")):
             hold_sheet(checks, path, room)
         hold_back(checks, room)
+        (room / "highest.sheet").write_text(highest())
+        for path in sorted(room.glob("*.sheet")):
+            hold_office(checks, path, room)
+            hold_brought(checks, path, room)
     checks.end()
 
 

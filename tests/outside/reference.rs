@@ -738,7 +738,7 @@ pub fn number(field: &[u8]) -> Option<u32> {
 }
 
 /// "Fields parted by one tab": the word, and then as many numbers as are asked.
-fn word_and_numbers(line: &[u8], word: &str, count: usize) -> Option<Vec<u32>> {
+pub fn word_and_numbers(line: &[u8], word: &str, count: usize) -> Option<Vec<u32>> {
     let mut fields = line.split(|byte| *byte == b'\t');
     if fields.next() != Some(word.as_bytes()) {
         return None;
@@ -874,12 +874,17 @@ pub fn refused_line(refusal: &Refusal) -> Vec<u8> {
 /// A sheet read within `meadow`'s limits, with room for one record.
 pub fn within_limits(text: &[u8]) -> Result<(Meadow, Heading), Refusal> {
     // "reads at most 65,536 bytes from standard input (more: 12, line 0) and gives 1 above 1,024 squares"
-    if text.len() > MOST_TEXT {
+    read_within(text, MOST_TEXT, MOST_MEADOW_SQUARES)
+}
+
+/// A sheet of at most so many bytes and squares, with room for one record.
+pub fn read_within(text: &[u8], most_text: usize, most_squares: usize) -> Result<(Meadow, Heading), Refusal> {
+    if text.len() > most_text {
         return Err(Refusal { number: 12, line: 0 });
     }
-    let room = || vec![0u32; MOST_MEADOW_SQUARES];
+    let room = || vec![0u32; most_squares];
     let mut meadow = Meadow {
-        marks: vec![0; MOST_MEADOW_SQUARES],
+        marks: vec![0; most_squares],
         beds: room(),
         roughness: room(),
         rates: room(),

@@ -4,18 +4,17 @@ use mathlib.Core.Path.{_≡_, sym, ap, subst, _∙_}
 use mathlib.Core.Bool.{true, false}
 use mathlib.Core.List.{List, [], _∷_, _++_}
 use Prim.Native.Nat.{ℕ, zero, suc, _+_, _*_, _/_, _%_, _^_, _≤_, _<_}
-use native.Mathlib.Nat.{le-refl, not-suc-le-zero, le-of-suc-le-suc, div-le-self, mod-le, mul-suc}
+use native.Mathlib.Nat.{not-suc-le-zero, le-of-suc-le-suc, div-le-self, mod-le}
 use native.Mathlib.Omega.{arith}
 use lib.ListN.{length, getD, length-append}
-use Rattle.reckon.specs.Lists.{joined, placed}
 use Rattle.reckon.proofs.TestLaws.{pick-true, pick-false, pick-both}
-use Rattle.reckon.proofs.ListLaws.{joined-none, joined-more}
 use Rattle.grid.specs.Squares.{squares, mostSquares}
 use Rattle.ledger.specs.Runs.{Plan}
 use Rattle.ledger.specs.Flows.{shut}
 use Rattle.ledger.specs.declared.runs.Run.{Run}
 use Rattle.text.specs.Writing.{lineText, Wrote}
-use Rattle.text.proofs.ReadingLaws.{by-lt}
+pub use Rattle.text.proofs.JoinedLaws.{joined-short, lines-length, line-fits, line-written, none-written, lines-whole}
+pub use Rattle.text.proofs.WritingLaws.{written-as}
 use Rattle.text.proofs.WritingLaws.{fields-text-short, line-text-long, placed-none, wrote-both, wrote-length}
 use Rattle.sheet.specs.Lines.{cellWord}
 use Rattle.answer.specs.Printed.{mostRefused, refusedWord, outWord, soakWord, stepsWord, clockWord, refusedText, cellText, cellsText, totalsText, madeText}
@@ -63,56 +62,6 @@ cell-short p depths i h g =
           (three-below (10 ^ 10) _ _ _ (omega (arith, div-le-self i (p .shape .columns))) (omega (arith, mod-le i (p .shape .columns))) (omega arith)),
     ))
 
-pub joined-short : (n k : ℕ) (f : ℕ → List ℕ) → ((i : ℕ) → i < n → length (f i) ≤ k) → length (joined n f) ≤ k * n
-unfolding joined
-joined-short zero k f h = omega arith
-joined-short (suc n) k f h =
-    omega (
-      arith,
-      length-append (joined n f) (f n),
-      joined-short n k f (λ i l. h i (omega arith)),
-      h n (omega arith),
-      mul-suc k n,
-    )
-
--- ---- lines one after the other
-
-joined-within : (f : ℕ → List ℕ) (n i : ℕ) → i ≤ n → length (joined i f) ≤ length (joined n f)
-unfolding joined
-joined-within f zero i h = subst (λ (k : ℕ). length (joined k f) ≤ length (joined zero f)) (let e : 0 ≡ i = omega arith in e) (le-refl _)
-joined-within f (suc n) i h =
-    by-lt i (suc n) (λ l. omega (arith, length-append (joined n f) (f n), joined-within f n i (omega arith)))
-    (λ l. subst (λ (k : ℕ). length (joined k f) ≤ length (joined (suc n) f)) (let e : suc n ≡ i = omega arith in e) (le-refl _))
-
-module _ (f : ℕ → List ℕ) (n at : ℕ) (old : List ℕ) (fits : at + length (joined n f) ≤ length old) where
-  so-far-fits : (i : ℕ) → i ≤ n → at + length (joined i f) ≤ length old
-  so-far-fits i l = omega (arith, fits, joined-within f n i l)
-
-  next-fits : (i : ℕ) → i < n → at + length (joined i f) + length (f i) ≤ length old
-  next-fits i l = omega (arith, so-far-fits (i + 1) (omega arith), ap length (joined-more i f), length-append (joined i f) (f i))
-
-  module _ (i : ℕ) {room : List ℕ} {next : ℕ} (w : Wrote (joined i f) at old room next) where
-    pub lines-length : i ≤ n → length room ≡ length old
-    lines-length l = wrote-length (so-far-fits i l) w
-
-    pub line-fits : i < n → next + length (f i) ≤ length room
-    line-fits l = omega (arith, w .next, next-fits i l, lines-length (omega arith))
-
-    pub line-written : {new : List ℕ} {r : ℕ} → i < n → Wrote (f i) next room new r → Wrote (joined (i + 1) f) at old new r
-    line-written {new} {r} l v = subst (λ (t : List ℕ). Wrote t at old new r) (sym (joined-more i f)) (wrote-both (next-fits i l) w v)
-
-pub none-written : (f : ℕ → List ℕ) (at : ℕ) (room : List ℕ) → Wrote (joined 0 f) at room room at
-none-written f at room =
-    record {
-      next = omega (arith, ap length (joined-none f));
-      room = sym (ap (placed room at) (joined-none f) ∙ placed-none room at);
-    }
-
--- all of them
-pub lines-whole :
-    (f : ℕ → List ℕ) {i n at next : ℕ} {old room : List ℕ} → i ≡ n → Wrote (joined i f) at old room next → Wrote (joined n f) at old room next
-lines-whole f {at = at} {next} {old} {room} e w = subst (λ (k : ℕ). Wrote (joined k f) at old room next) e w
-
 module _ (p : Plan) (depths : List ℕ) where
   pub closed-written : (i : ℕ) {at : ℕ} {room : List ℕ} → shut p i ≡ true → Wrote (cellText p depths i) at room room at
   unfolding cellText
@@ -125,10 +74,6 @@ module _ (p : Plan) (depths : List ℕ) where
       cellText p depths i ≡ lineText cellWord (i / p .shape .columns ∷ i % p .shape .columns ∷ getD depths i 0 ∷ [])
   unfolding cellText
   open-text i e = pick-false _ _ e
-
--- a text that is written under another name
-pub written-as : {t u : List ℕ} {at r : ℕ} {old new : List ℕ} → t ≡ u → Wrote u at old new r → Wrote t at old new r
-written-as {at = at} {r} {old} {new} e w = subst (λ (k : List ℕ). Wrote k at old new r) (sym e) w
 
 pub line-as :
     {t : List ℕ} (word : List ℕ) (a b : ℕ) {d depth : ℕ} → d ≡ depth → t ≡ lineText word (a ∷ b ∷ depth ∷ []) → t ≡ lineText word (a ∷ b ∷ d ∷ [])

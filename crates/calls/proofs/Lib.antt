@@ -2,4 +2,5 @@ pub mod EveningLaws
 pub mod ExportedLaws
 pub mod LibraryLaws
 pub mod ListedLaws
+pub mod SurveyedLaws
 pub mod WatchedLaws

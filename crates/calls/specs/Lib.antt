@@ -2,4 +2,5 @@ pub mod Evenings
 pub mod Exported
 pub mod Library
 pub mod Listed
+pub mod Surveyed
 pub mod Watched

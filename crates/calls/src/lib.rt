@@ -3,4 +3,5 @@ pub mod exported;
 pub mod hatch_log;
 pub mod library;
 pub mod listed;
+pub mod surveyed;
 pub mod watched;

@@ -23,7 +23,7 @@ use Rattle.text.specs.inner.Standing.{LineStands}
 use Rattle.text.proofs.ReadingLaws.{by-test}
 use Rattle.sheet.specs.Lines.{cellWord, rainWord, inflowWord, letterOf}
 use Rattle.sheet.specs.Sheet.{Rooms}
-use Rattle.sheet.specs.Written.{gridWritten, runWritten, groundAt, cellWritten, rowWritten, sheetWritten}
+use Rattle.sheet.specs.Written.{gridWritten, runWritten, groundAt, cellWritten, rowWritten, linesWritten, sheetWritten}
 use Rattle.sheet.specs.declared.reading.Heading.{Heading}
 use Rattle.sheet.proofs.WrittenLaws.{SheetStands, said-stands, read-stands, stands-written}
 use Rattle.answer.specs.Printed.{refusedText, cellText, cellsText, totalsText, madeText}
@@ -132,7 +132,7 @@ module _ (h : Heading) (a b : Rooms) (same : SaysSame h a b) where
       (λ j l. ap (lineText word) (tabulate-ext width _ _ (λ k g. e (width * j + k) (omega (arith, g, mul-le-mul-left width l, mul-suc width j)))))
 
   written-same : sheetWritten h a ≡ sheetWritten h b
-  unfolding sheetWritten
+  unfolding sheetWritten linesWritten
   written-same =
       rw (
         joined-ext (squares (h .shape)) (cellWritten (h .shape .columns) a) (cellWritten (h .shape .columns) b) cell-same,

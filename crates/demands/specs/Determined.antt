@@ -29,6 +29,9 @@ use Rattle.exports.specs.Sights.{ExportsArrow, ExportsWet}
 use Rattle.exports.specs.Sheets.{ExportsRead, ExportsMeadow}
 use Rattle.peaks.specs.Peaks.{RunsPeaking}
 use Rattle.peaks.specs.Highest.{highestText}
+use Rattle.survey.specs.Moving.{MovesPart}
+use Rattle.survey.specs.declared.moving.Part.{Part}
+use Rattle.survey.specs.declared.moving.Moved.{Moved}
 use Rattle.display.specs.Watch.{Watches, WatchesHeld}
 use Rattle.display.specs.declared.boards.Board.{Board}
 use Rattle.display.specs.declared.boards.Boards.{Boards}
@@ -80,6 +83,9 @@ pub record PeaksDetermined : Type 0 where
       One {Out = Ran × (List ℕ × (List ℕ × (List ℕ × (List ℕ × List ℕ))))}
       (λ o. RunsPeaking p g end w peaks clocks (o .0) (o .1 .0) (o .1 .1 .0) (o .1 .1 .1 .0) (o .1 .1 .1 .1 .0) (o .1 .1 .1 .1 .1))
   pub highest-of : (text old : List ℕ) → One {Out = ℕ × List ℕ} (λ o. Prints (highestText text) old (o .1) (o .0))
+
+pub record SurveyDetermined : Type 0 where
+  pub to-part : (text : List ℕ) (part : Part) (old : List ℕ) → One {Out = Moved × List ℕ} (λ o. MovesPart text part old (o .0) (o .1))
 
 -- a run with boards, by value and lent
 pub record DisplayDetermined : Type 0 where
@@ -153,6 +159,7 @@ pub record Determined : Type 0 where
   pub sheet : SheetDetermined
   pub programs : ProgramsDetermined
   pub peaks : PeaksDetermined
+  pub survey : SurveyDetermined
   pub display : DisplayDetermined
   pub display-exports : DisplayExportsDetermined
   pub levels : LevelsDetermined

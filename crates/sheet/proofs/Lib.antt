@@ -1,3 +1,4 @@
+pub mod Determined
 pub mod JudgeLaws
 pub mod KindLaws
 pub mod LetterLaws

@@ -28,7 +28,7 @@ use Rattle.text.proofs.LineLaws.{line-add, line-from, lines-stand}
 use Rattle.text.proofs.RoundTrip.{line-found}
 use Rattle.sheet.specs.Lines.{gridWord, runWord, rainWord, inflowWord, gridFields, runFields, asGrid, gridLine, asRun, runLine}
 use Rattle.sheet.specs.Sheet.{Cells, Rooms, cellFrom, closedFrom, cellsRead, rowLine, rowsRead, tableRows, lineOne, lineTwo, shapeOf, cellsAt, rainAt, rainRows, rainTable, inflowAt, inflowRows, inflowTable, afterAll, badLine, cellsFilled, allCells, noCells, roomsFilled, said, headingOf, sheetOf, roomsAfter, Reads}
-use Rattle.sheet.specs.Written.{gridWritten, runWritten, groundAt, cellWritten, rowWritten, sheetWritten}
+use Rattle.sheet.specs.Written.{gridWritten, runWritten, groundAt, cellWritten, rowWritten, linesWritten, sheetWritten}
 use Rattle.sheet.specs.declared.lines.CellLine.{CellLine}
 use Rattle.sheet.specs.declared.reading.Heading.{Heading}
 use Rattle.sheet.specs.declared.reading.Sheet.the-variants.{Read}
@@ -52,11 +52,11 @@ row-stands {f} s p word count few w e t =
 -- ---- what rooms hold of a sheet
 
 -- the first squares and the first rows are those that its lines say
-record Held (s : List ℕ) (held : Rooms) : Type 0 where
-  mark : (i : ℕ) → i < squares (shapeOf s) → getD (held .cells .marks) i 0 ≡ cellFrom s (cellsAt s) (shapeOf s .columns) i .mark
-  ground : (i : ℕ) → i < squares (shapeOf s) → groundAt held i ≡ groundOf (cellFrom s (cellsAt s) (shapeOf s .columns) i)
-  rain : (m : ℕ) → m < rainKind .width * rainRows s → getD (held .rain) m 0 ≡ getD (rainTable s) m 0
-  inflow : (m : ℕ) → m < inflowKind .width * inflowRows s → getD (held .inflow) m 0 ≡ getD (inflowTable s) m 0
+pub record Held (s : List ℕ) (held : Rooms) : Type 0 where
+  pub mark : (i : ℕ) → i < squares (shapeOf s) → getD (held .cells .marks) i 0 ≡ cellFrom s (cellsAt s) (shapeOf s .columns) i .mark
+  pub ground : (i : ℕ) → i < squares (shapeOf s) → groundAt held i ≡ groundOf (cellFrom s (cellsAt s) (shapeOf s .columns) i)
+  pub rain : (m : ℕ) → m < rainKind .width * rainRows s → getD (held .rain) m 0 ≡ getD (rainTable s) m 0
+  pub inflow : (m : ℕ) → m < inflowKind .width * inflowRows s → getD (held .inflow) m 0 ≡ getD (inflowTable s) m 0
 
 -- a square of rooms that were filled
 module _ (s : List ℕ) (old : Cells) (i : ℕ) (l : i < squares (shapeOf s)) (in-old : Within i old) where
@@ -96,7 +96,7 @@ table-put old new fits m l =
     ap (λ (k : ℕ). getD (placed old 0 new) k 0) (sym (zero-add m)) ∙ placed-in old 0 new (omega (arith, fits)) m l
 
 -- what a sheet says
-held-said : (s : List ℕ) → Held s (said s)
+pub held-said : (s : List ℕ) → Held s (said s)
 held-said s =
     record {
       mark = λ i l. filled-mark s (noCells (squares (shapeOf s))) i l (within i l);
@@ -192,12 +192,12 @@ row-passes n false rs l e = absurd (omega (arith, l, e))
 
 module _ (s : List ℕ) (lent : Rooms) (h : Heading) (w : Well s lent h) where
   -- what a text with no bad line has
-  record TextWhole : Type 0 where
-    second-line : lineTwo s .found ≡ true
-    all-cells : squares (shapeOf s) ≤ cellsRead s (cellsAt s) (shapeOf s)
-    nothing-left : length s ≤ afterAll s
+  pub record TextWhole : Type 0 where
+    pub second-line : lineTwo s .found ≡ true
+    pub all-cells : squares (shapeOf s) ≤ cellsRead s (cellsAt s) (shapeOf s)
+    pub nothing-left : length s ≤ afterAll s
 
-  whole : TextWhole
+  pub whole : TextWhole
   unfolding badLine
   whole =
       let a = row-passes 2 (lineTwo s .found) _ (omega arith) (w .text-good) in
@@ -214,11 +214,11 @@ module _ (s : List ℕ) (lent : Rooms) (h : Heading) (w : Well s lent h) where
   run-stands = row-stands s (lineFrom s 0 1) runWord runFields (omega arith) plain-run refl (whole .second-line)
 
   -- D of line 2's rules is line 1's
-  side-same : lineTwo s .rules .«square_side» ≡ lineOne s .side
+  pub side-same : lineTwo s .rules .«square_side» ≡ lineOne s .side
   unfolding runLine asRun
   side-same = refl
 
-  cell-found : (i : ℕ) → i < squares (shapeOf s) → cellFrom s (cellsAt s) (shapeOf s .columns) i .found ≡ true
+  pub cell-found : (i : ℕ) → i < squares (shapeOf s) → cellFrom s (cellsAt s) (shapeOf s .columns) i .found ≡ true
   unfolding cellsRead
   cell-found i l =
       failing-before (squares (shapeOf s)) (λ k. cellFrom s (cellsAt s) (shapeOf s .columns) k .found) i (omega (arith, l, whole .all-cells))
@@ -258,7 +258,7 @@ module _ (s : List ℕ) (lent : Rooms) (h : Heading) (w : Well s lent h) where
 
 -- a sheet whose lines stand so is the text of what the rooms hold
 pub stands-written : {s : List ℕ} {h : Heading} {held : Rooms} → SheetStands s h held → s ≡ sheetWritten h held
-unfolding sheetWritten lineFrom
+unfolding sheetWritten linesWritten lineFrom
 stands-written {s} {h} {held} a =
     let all =
     stands-both (a .grid-line)

@@ -49,11 +49,15 @@ cellWritten columns held i =
 unfoldable pub rowWritten : List ℕ → ℕ → List ℕ → ℕ → List ℕ
 rowWritten word width table j = lineText word (tabulate width (λ k. getD table (width * j + k) 0))
 
--- the whole sheet: of each room only the squares and rows that the heading counts are looked at
-unfoldable pub sheetWritten : Heading → Rooms → List ℕ
-sheetWritten h held =
+-- all lines in their order, each square's as it is given: of each room only the squares and rows that the heading counts are looked at
+unfoldable pub linesWritten : Heading → Rooms → (ℕ → List ℕ) → List ℕ
+linesWritten h held cell =
     gridWritten h
     ++ (runWritten h
-    ++ (joined (squares (h .shape)) (cellWritten (h .shape .columns) held)
+    ++ (joined (squares (h .shape)) cell
     ++ (joined (h .«rain_rows») (rowWritten rainWord (rainKind .width) (held .rain))
     ++ joined (h .«inflow_rows») (rowWritten inflowWord (inflowKind .width) (held .inflow)))))
+
+-- the whole sheet
+unfoldable pub sheetWritten : Heading → Rooms → List ℕ
+sheetWritten h held = linesWritten h held (cellWritten (h .shape .columns) held)

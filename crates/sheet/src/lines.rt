@@ -20,36 +20,36 @@ const OPEN: u8 = 1;
 const EXIT: u8 = 2;
 
 // Line 1: the shape and the side D.
-pub(crate) struct GridLine {
-    pub(crate) found: bool,
-    pub(crate) shape: Shape,
-    pub(crate) side: u64,
-    pub(crate) next: usize,
+pub struct GridLine {
+    pub found: bool,
+    pub shape: Shape,
+    pub side: u64,
+    pub next: usize,
 }
 
 // Line 2: all of the rules, and the end of the run.
-pub(crate) struct RunLine {
-    pub(crate) found: bool,
-    pub(crate) rules: Rules,
-    pub(crate) end: u64,
-    pub(crate) next: usize,
+pub struct RunLine {
+    pub found: bool,
+    pub rules: Rules,
+    pub end: u64,
+    pub next: usize,
 }
 
 // A square's line. A closed square has no bed, roughness, depth or soak rate: 0 stands for each.
-pub(crate) struct CellLine {
-    pub(crate) found: bool,
-    pub(crate) mark: u8,
-    pub(crate) bed: u32,
-    pub(crate) roughness: u32,
-    pub(crate) depth: u32,
-    pub(crate) rate: u32,
-    pub(crate) next: usize,
+pub struct CellLine {
+    pub found: bool,
+    pub mark: u8,
+    pub bed: u32,
+    pub roughness: u32,
+    pub depth: u32,
+    pub rate: u32,
+    pub next: usize,
 }
 
 // `grid` rows columns D.
 const GRID_FIELDS: usize = 3;
 
-pub(crate) fn grid_line(text: &[u8]) -> GridLine
+pub fn grid_line(text: &[u8]) -> GridLine
     ensures { λ r. ⌜ r ≡ gridLine (now (text .entry)) ⌝ }
 {
     let line = line_of(text, 0, b"grid", GRID_FIELDS);
@@ -68,7 +68,7 @@ pub(crate) fn grid_line(text: &[u8]) -> GridLine
 // `run` q shortest longest U end; line 1 tells D.
 const RUN_FIELDS: usize = 7;
 
-pub(crate) fn run_line(text: &[u8], at: usize, side: u64) -> RunLine
+pub fn run_line(text: &[u8], at: usize, side: u64) -> RunLine
     ensures { λ r. ⌜ r ≡ runLine (now (text .entry)) at side ⌝ }
 {
     let line = line_of(text, at, b"run", RUN_FIELDS);

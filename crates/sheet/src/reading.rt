@@ -183,7 +183,7 @@ fn looked_at(rows: usize) -> usize
 }
 
 // The first of 1 to 6 that applies to a run to the end from a fresh run, 0 for none.
-fn judge(
+pub fn judge(
     shape: Shape,
     rules: Rules,
     end: u64,

@@ -19,9 +19,9 @@ ghost use Rattle.sheet.specs.Sheet.{cellsRooms, rowsRead, tableRows};
 ghost use Rattle.sheet.specs.inner.Reading.{CellsRead, RowsCounted};
 
 // How many lines were read, and where the line after them starts.
-pub(crate) struct Scan {
-    pub(crate) count: usize,
-    pub(crate) next: usize,
+pub struct Scan {
+    pub count: usize,
+    pub next: usize,
 }
 
 // What a line says of a square into the rooms: the mark, and bed, roughness, soak rate and depth where it is not
@@ -90,7 +90,7 @@ pub(crate) fn fill_cells(
 }
 
 // How many lines of a table stand from a position on.
-pub(crate) fn count_rows(text: &[u8], at: usize, word: &[u8], width: usize) -> Scan
+pub fn count_rows(text: &[u8], at: usize, word: &[u8], width: usize) -> Scan
     requires { ⌜ (width ≤ mostFields) × (plain (now word) ≡ true) ⌝ }
     ensures { λ r. ⌜ RowsCounted (now (text .entry)) at (now (word .entry)) width r ⌝ }
 {
@@ -122,14 +122,7 @@ fn put_row(values: &[u32], width: usize, at: usize, room: &mut [u32])
 }
 
 // Some of the lines of a table, as many as are asked for, into its room.
-pub(crate) fn fill_rows(
-    text: &[u8],
-    at: usize,
-    word: &[u8],
-    width: usize,
-    count: usize,
-    room: &mut [u32],
-)
+pub fn fill_rows(text: &[u8], at: usize, word: &[u8], width: usize, count: usize, room: &mut [u32])
     requires { ⌜ (width ≤ mostFields) × (plain (now word) ≡ true) ⌝ }
     requires { ⌜ (count ≤ rowsRead (now text) at (now word) width) × (width * count ≤ length (now room)) ⌝ }
     ensures { λ _. ⌜ now (room .exit) ≡ placed (now (room .entry)) 0 (tableRows (now (text .entry)) at (now (word .entry)) width count) ⌝ }

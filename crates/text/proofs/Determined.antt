@@ -3,6 +3,7 @@
 use mathlib.Core.Path.{sym, _∙_}
 use mathlib.Core.List.{List}
 use Prim.Native.Nat.{ℕ}
+use native.Mathlib.Omega.{arith}
 use Rattle.reckon.specs.Outcomes.{One}
 use Rattle.text.specs.Writing.{Wrote}
 use Rattle.reckon.proofs.OutcomeLaws.{exactly}
@@ -17,6 +18,8 @@ text-determined =
     record {
       byte-is = λ text at byte. exactly;
       word-at = λ text at word. exactly;
+      is-digit = λ text at. exactly;
+      digit = λ text at a b p q. omega (arith, p, q);
       number-at = λ text at. exactly;
       field-at = λ text at. exactly;
       fields-at = λ text at count. exactly;

@@ -1,6 +1,7 @@
 pub mod ApartLaws
 pub mod Determined
 pub mod EndLaws
+pub mod JoinedLaws
 pub mod LineLaws
 pub mod ReadingLaws
 pub mod RoundTrip

@@ -31,22 +31,22 @@ record Figures (t : List ℕ) (n : ℕ) : Type 0 where
   long : length (digitsOf t) ≡ length t
   worth : valueFrom 0 (digitsOf t) ≡ n
 
-digits-cons : (d : ℕ) (rest : List ℕ) → d < 10 → digitsOf ((48 + d) ∷ rest) ≡ d ∷ digitsOf rest
+pub digits-cons : (d : ℕ) (rest : List ℕ) → d < 10 → digitsOf ((48 + d) ∷ rest) ≡ d ∷ digitsOf rest
 unfolding digitsOf
 digits-cons d rest h =
     let z : 48 + d - 48 ≡ d = omega arith in
     pick-true _ _ (digit-is (48 + d) (omega arith) (omega arith)) ∙ rw z
 
-digits-none : digitsOf [] ≡ []
+pub digits-none : digitsOf [] ≡ []
 unfolding digitsOf
 digits-none = refl
 
-value-append : (ds es : List ℕ) (n : ℕ) → valueFrom n (ds ++ es) ≡ valueFrom (valueFrom n ds) es
+pub value-append : (ds es : List ℕ) (n : ℕ) → valueFrom n (ds ++ es) ≡ valueFrom (valueFrom n ds) es
 unfolding valueFrom
 value-append [] es n = refl
 value-append (d ∷ ds) es n = value-append ds es (n * 10 + d)
 
-value-one : (n d : ℕ) → valueFrom n (d ∷ []) ≡ n * 10 + d
+pub value-one : (n d : ℕ) → valueFrom n (d ∷ []) ≡ n * 10 + d
 unfolding valueFrom
 value-one n d = refl
 
@@ -115,12 +115,12 @@ decimal-formed n =
 
 -- ---- a number
 
-digits-front : (l : List ℕ) → isDigit (getD l 0 0) ≡ false → digitsOf l ≡ []
+pub digits-front : (l : List ℕ) → isDigit (getD l 0 0) ≡ false → digitsOf l ≡ []
 unfolding digitsOf
 digits-front [] e = refl
 digits-front (b ∷ l) e = pick-false _ _ e
 
-front-after : (s : List ℕ) (q : ℕ) → getD (drop q s) 0 0 ≡ getD s q 0
+pub front-after : (s : List ℕ) (q : ℕ) → getD (drop q s) 0 0 ≡ getD s q 0
 front-after s q = getD-drop q s 0 0 ∙ ap (λ (k : ℕ). getD s k 0) (add-zero q)
 
 -- a number that was written, with no digit after it: its digits are all that are read, and they make it
@@ -155,7 +155,7 @@ digits-text (b ∷ l) v o =
     (λ e. rw (pick-false ((b - 48) ∷ digitsOf l) [] e))
 
 -- the digits of a text end where no digit stands
-digits-stop : (l : List ℕ) → isDigit (getD l (length (digitsOf l)) 0) ≡ false
+pub digits-stop : (l : List ℕ) → isDigit (getD l (length (digitsOf l)) 0) ≡ false
 unfolding digitsOf
 digits-stop [] = digit-under 0 (omega arith)
 digits-stop (b ∷ l) =

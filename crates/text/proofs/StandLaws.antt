@@ -1,13 +1,13 @@
 -- Laws of a text that stands in another: its parts stand one after the other, and a byte or a word is read exactly where it stands.
 -- Assumes nothing.
-use mathlib.Core.Path.{_≡_, refl, sym, ap, _∙_}
+use mathlib.Core.Path.{_≡_, refl, sym, ap, subst, _∙_}
 use mathlib.Core.Bool.{true}
-use mathlib.Core.List.{List, [], _∷_, _++_, append-assoc}
+use mathlib.Core.List.{List, [], _∷_, _++_, append-assoc, append-nil}
 use Prim.Native.Nat.{ℕ, _+_, _-_, _≤_, _<_}
-use native.Mathlib.Nat.{add-zero}
+use native.Mathlib.Nat.{zero-add, add-zero}
 use native.Mathlib.Numerals.{add-one}
 use native.Mathlib.Omega.{arith}
-use lib.ListN.{length, getD, take, drop, length-append, length-drop, take-append-drop, List·getD-append}
+use lib.ListN.{length, getD, take, drop, length-append, length-drop, take-append-drop, drop-of-length-le, List·getD-append}
 use lib.Seq.{drop-cons, drop-drop, drop-append-seam, drop-at, getD-drop, getD-take, ext-getD, length-take-le}
 use borrow.Author.Tests.{eq-eqb, eqb-true}
 use Rattle.reckon.proofs.TestLaws.{all-at, all-of}
@@ -41,6 +41,19 @@ module _ {s : List ℕ} {p r : ℕ} (t u : List ℕ) (a : StandsAt s p (t ++ u) 
 
   pub stands-second : StandsAt s (p + length t) u r
   stands-second = record { after = omega (arith, a .after, length-append t u); text = after-first }
+
+-- a text stands in itself, and two texts in the two together
+pub stands-whole : (s : List ℕ) → StandsAt s 0 s (length s)
+stands-whole s =
+    let h : length s ≤ length s = omega arith in
+    record { after = omega arith; text = sym (ap (λ (l : List ℕ). s ++ l) (drop-of-length-le s h) ∙ append-nil s) }
+
+module _ (t u : List ℕ) where
+  pub front-stands : StandsAt (t ++ u) 0 t (length t)
+  front-stands = subst (λ (k : ℕ). StandsAt (t ++ u) 0 t k) (zero-add (length t)) (stands-first t u (stands-whole (t ++ u)))
+
+  pub back-stands : StandsAt (t ++ u) (length t) u (length (t ++ u))
+  back-stands = subst (λ (k : ℕ). StandsAt (t ++ u) k u (length (t ++ u))) (zero-add (length t)) (stands-second t u (stands-whole (t ++ u)))
 
 -- a text with a byte in it ends within
 pub stands-within : {s : List ℕ} {p q b : ℕ} {t : List ℕ} → StandsAt s p (b ∷ t) q → q ≤ length s

@@ -1,6 +1,6 @@
 -- Laws of writing: a number's digits, one by one; a text put into a room piece by piece is the whole text put there.
 -- Assumes nothing.
-use mathlib.Core.Path.{_≡_, refl, sym, ap, _∙_}
+use mathlib.Core.Path.{_≡_, refl, sym, ap, subst, _∙_}
 use mathlib.Core.List.{List, [], _∷_, _++_, append-assoc}
 use Prim.Native.Nat.{ℕ, zero, suc, _+_, _*_, _-_, _/_, _%_, _^_, _≤_, _<_}
 use native.Mathlib.Nat.{mul-suc, add-zero, add-suc, suc-add, not-suc-le-zero, pow-suc}
@@ -133,6 +133,10 @@ wrote-both {v} {w} {old} {mid} {new} {at} {p} {r} h a b =
       next = rw (length-append v w) (omega (arith, a .next, b .next));
       room = b .room ∙ (rw (a .room, a .next) (placed-both old at v w h));
     }
+
+-- the same text under another name
+pub written-as : {t u : List ℕ} {at r : ℕ} {old new : List ℕ} → t ≡ u → Wrote u at old new r → Wrote t at old new r
+written-as {at = at} {r} {old} {new} e w = subst (λ (k : List ℕ). Wrote k at old new r) (sym e) w
 
 -- ---- a text put piece by piece: what is left of it, from p on, makes the whole
 

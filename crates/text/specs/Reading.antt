@@ -151,6 +151,12 @@ ByteIs s p b r = r ≡ isByte s p b
 abbrev pub WordAt : List ℕ → ℕ → List ℕ → Bool → Type 0
 WordAt s p word r = r ≡ wordAt s p word
 
+abbrev pub DigitJudged : List ℕ → ℕ → Bool → Type 0
+DigitJudged s p r = r ≡ isDigit (getD s p 0)
+
+abbrev pub DigitAt : List ℕ → ℕ → ℕ → Type 0
+DigitAt s p r = r + 48 ≡ getD s p 0
+
 abbrev pub NumberReadAt : List ℕ → ℕ → Number → Type 0
 NumberReadAt s p r = r ≡ numberAt s p
 

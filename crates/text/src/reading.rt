@@ -4,7 +4,7 @@ ghost use mathlib.Core.Bool.{true, _&&_};
 ghost use Prim.Native.Nat.{_+_, _≤_};
 ghost use lib.Dec.{eqb};
 ghost use lib.ListN.{getD, drop};
-ghost use Rattle.text.specs.Reading.{mostFields, isDigit, digitsOf, numberFrom, ByteIs, WordAt, NumberReadAt, FieldAt, FieldsAt, RestOfLine, LineOf, asFields, Reading};
+ghost use Rattle.text.specs.Reading.{mostFields, isDigit, digitsOf, numberFrom, ByteIs, WordAt, DigitJudged, DigitAt, NumberReadAt, FieldAt, FieldsAt, RestOfLine, LineOf, asFields, Reading};
 
 // What stands at a position as a number: its value and the position after it, or none.
 pub enum Number {
@@ -23,7 +23,8 @@ pub const TAB: u8 = 9;
 
 pub const NEWLINE: u8 = 10;
 
-const MOST_NUMBER: u64 = 4_294_967_295;
+// The most that a number can be.
+pub const MOST_NUMBER: u64 = 4_294_967_295;
 
 // A given byte stands at a position.
 pub fn byte_is(text: &[u8], at: usize, byte: u8) -> bool
@@ -55,8 +56,9 @@ pub fn word_at(text: &[u8], at: usize, word: &[u8]) -> bool
     true
 }
 
-fn is_digit(text: &[u8], at: usize) -> bool
-    ensures { λ r. ⌜ r ≡ isDigit (getD (now (text .entry)) at 0) ⌝ }
+// A digit stands at a position.
+pub fn is_digit(text: &[u8], at: usize) -> bool
+    ensures { λ r. ⌜ DigitJudged (now (text .entry)) at r ⌝ }
 {
     if text.len() <= at {
         return false;
@@ -67,9 +69,10 @@ fn is_digit(text: &[u8], at: usize) -> bool
     text[at] <= b'9'
 }
 
-fn digit(text: &[u8], at: usize) -> u64
+// The digit at a position.
+pub fn digit(text: &[u8], at: usize) -> u64
     requires { ⌜ isDigit (getD (now text) at 0) ≡ true ⌝ }
-    ensures { λ r. ⌜ r + 48 ≡ getD (now (text .entry)) at 0 ⌝ }
+    ensures { λ r. ⌜ DigitAt (now (text .entry)) at r ⌝ }
 {
     (text[at] - b'0') as u64
 }

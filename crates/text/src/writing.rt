@@ -6,7 +6,7 @@ ghost use lib.ListN.{length};
 ghost use Rattle.text.specs.Writing.{decimal, fieldText, fieldsText, lineText, PutByte, PutWord, PutNumber, PutField, PutFields, PutLine};
 
 // The byte of the digit 0.
-const ZERO: u64 = 48;
+pub const ZERO: u64 = 48;
 
 // A byte.
 pub fn put_byte(room: &mut [u8], at: usize, byte: u8) -> usize

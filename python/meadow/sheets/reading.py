@@ -10,7 +10,7 @@ from .lines import CLOSED, GRID, INFLOW, MARKS, RAIN, RUN, SHEET_LINES, SQUARE, 
 MOST_BYTES = 65_536
 MOST_SQUARES = 1_024
 MOST_NUMBER = 4_294_967_295
-NUMBER = re.compile("0|[1-9][0-9]*")
+NUMBER = re.compile("0|[1-9][0-9]{0,9}")
 # names of a run's rules; the end is none of them
 RULES = [field.name for field in SHEET_LINES[RUN] if field.name != "end"]
 
@@ -42,19 +42,34 @@ class Lines:
         """Whether every byte has been read."""
         return self.at == len(self.lines) and self.rest == ""
 
+    def next(self):
+        """The next line; one that is missing is empty."""
+        return self.lines[self.at] if self.at < len(self.lines) else ""
+
     def next_is(self, kind):
         """Whether the next line has the word of a kind."""
-        return self.at < len(self.lines) and self.lines[self.at].split("\t")[0] == kind
+        return self.next().split("\t")[0] == kind
 
     def take(self, kind):
         """The values of the next line, which must be of a kind; else 12 with its number."""
         if not self.next_is(kind):
             raise Refused(12, self.at + 1)
-        fields = self.lines[self.at].split("\t")[1:]
+        fields = self.next().split("\t")[1:]
         if not fields_well(kind, fields):
             raise Refused(12, self.at + 1)
         self.at += 1
         return values_of(kind, fields)
+
+    def take_tables(self):
+        """The rows of rain and of inflow, with which the text must end; else 12 with the line's number."""
+        tables = []
+        for kind in (RAIN, INFLOW):
+            tables.append([])
+            while self.next_is(kind):
+                tables[-1].append(tuple(self.take(kind).values()))
+        if not self.ended():
+            raise Refused(12, self.at + 1)
+        return tables
 
 
 def read(text, most_squares=MOST_SQUARES):
@@ -70,11 +85,7 @@ def read(text, most_squares=MOST_SQUARES):
         if (values.pop("row"), values.pop("column")) != place:
             raise Refused(12, lines.at)
         sheet.squares[place] = values
-    for kind, rows in ((RAIN, sheet.rain), (INFLOW, sheet.inflow)):
-        while lines.next_is(kind):
-            rows.append(tuple(lines.take(kind).values()))
-    if not lines.ended():
-        raise Refused(12, lines.at + 1)
+    sheet.rain, sheet.inflow = lines.take_tables()
     return sheet, end
 
 

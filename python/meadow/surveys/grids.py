@@ -13,6 +13,8 @@ from ..sheets.lines import Unreadable
 
 NO_DATA = Decimal(-9999)
 CORNERS = {"xllcorner": "xllcenter", "yllcorner": "yllcenter"}
+# how map programs write NODATA where it is no number
+NOT_A_NUMBER = ("nan", "-nan")
 HEADS = ("ncols", "nrows", "cellsize", "nodata_value", *CORNERS, *CORNERS.values())
 
 
@@ -52,8 +54,15 @@ def head_of(lines, name):
             return heads, at
         if len(words) != 2 or words[0].lower() in heads:
             raise Unreadable(f"{name}, line {at + 1}: {line.strip()!r} is no head of a grid")
-        heads[words[0].lower()] = number(words[1], f"{name}, line {at + 1}")
+        no_number = words[0].lower() == "nodata_value" and words[1].lower() in NOT_A_NUMBER
+        heads[words[0].lower()] = NO_DATA if no_number else number(words[1], f"{name}, line {at + 1}")
     return heads, len(lines)
+
+
+def value_of(text, where, empty):
+    """A square's number; None where there is none."""
+    value = None if text.lower() in NOT_A_NUMBER else number(text, where)
+    return None if value == empty else value
 
 
 def corner_of(heads, name):
@@ -74,11 +83,10 @@ def esri(text, name):
         if head not in heads:
             raise Unreadable(f"{name}: it has no {head}")
     empty = heads.get("nodata_value", NO_DATA)
-    values = [number(word, f"{name}, line {at}") for at, line in enumerate(lines[first:], first + 1) for word in line.split()]
+    values = [value_of(word, f"{name}, line {at}", empty) for at, line in enumerate(lines[first:], first + 1) for word in line.split()]
     rows, columns = int(heads["nrows"]), int(heads["ncols"])
     if rows < 1 or columns < 1 or len(values) != rows * columns:
         raise Unreadable(f"{name}: {rows} rows of {columns} columns are {rows * columns} numbers, and it has {len(values)}")
-    values = [None if value == empty else value for value in values]
     return Grid([values[at : at + columns] for at in range(0, len(values), columns)], heads["cellsize"], corner_of(heads, name))
 
 

@@ -107,11 +107,11 @@ def bed_at(beds, place, datum):
     return bed
 
 
-def hold_shape(beds, side):
-    """The shape and the side are those that `meadow` takes."""
+def hold_shape(beds, side, most_squares=MOST_SQUARES):
+    """The shape and the side are those that `meadow` takes, or a set of so many squares."""
     rows, columns = beds.shape()
-    if not (fine("rows", rows) and fine("columns", columns)) or rows * columns > MOST_SQUARES:
-        raise Unreadable(f"{rows} rows of {columns} are too many: 64 each and {MOST_SQUARES:,} squares at most; cut the grid, or take larger squares")
+    if not (fine("rows", rows) and fine("columns", columns)) or rows * columns > most_squares:
+        raise Unreadable(f"{rows} rows of {columns} are too many: 64 each and {most_squares:,} squares at most; cut the grid, or take larger squares")
     if side is None:
         raise Unreadable("a CSV does not say how large its squares are: give --side")
     if side != side.to_integral_value() or not fine("side", int(side)):

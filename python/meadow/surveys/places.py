@@ -1,6 +1,7 @@
 """Where on a map a sheet lies: the side file that stands beside it, with the corner and the height that its beds count from.
 
-It is written as the head of an ESRI grid, and one line more: `datum`, the height in metres that is 0 in the sheet.
+It is written as the head of an ESRI grid, and one line more: `datum`, the height in metres that is 0 in the sheet. Where the survey has a
+projection, a .prj file beside its grid, its lines follow, each after the word `prj`.
 """
 from decimal import Decimal
 from pathlib import Path
@@ -10,14 +11,18 @@ from ..sheets.lines import Unreadable
 from .grids import corner_of, head_of, head_text, number, plain
 
 DATUM = "datum"
+PROJECTION = "prj "
 SUFFIX = ".place"
+# a .prj file may have any letters, and they come back byte for byte
+LETTERS = {"encoding": "utf-8", "errors": "surrogateescape"}
 
 
 class Place(NamedTuple):
-    """The south-west corner in metres, and the height of the sheet's zero."""
+    """The south-west corner in metres, the height of the sheet's zero, and the lines of the survey's projection."""
 
     corner: tuple = (Decimal(0), Decimal(0))
     datum: Decimal = Decimal(0)
+    projection: tuple = ()
 
     def middle(self, sheet, place):
         """The middle of a square, in metres east and north."""
@@ -32,20 +37,28 @@ def place_file(sheet_file):
 
 
 def place_text(sheet, place):
-    """The side file's text."""
-    return head_text((sheet.rows, sheet.columns), sheet.side, place.corner) + f"{DATUM} {plain(place.datum)}\n"
+    """The side file's text, of a sheet or of a grid with the shape and side of one."""
+    head = head_text((sheet.rows, sheet.columns), sheet.side, place.corner)
+    return head + f"{DATUM} {plain(place.datum)}\n" + "".join(f"{PROJECTION}{line}\n" for line in place.projection)
+
+
+def place_in(path, sheet, what="sheet"):
+    """Where a sheet or a grid lies by a side file. A file of another shape is another one's."""
+    lines = path.read_text(**LETTERS).splitlines()
+    heads, first = head_of(lines, path.name)
+    if (heads.get("nrows"), heads.get("ncols"), heads.get("cellsize")) != (sheet.rows, sheet.columns, sheet.side):
+        raise Unreadable(f"{path.name} is another {what}'s: its shape or side is not that of the {what}")
+    word, *values = lines[first].split() if first < len(lines) else [""]
+    if word != DATUM or len(values) != 1:
+        raise Unreadable(f"{path.name}, line {first + 1}: it should be {DATUM} and a height")
+    for at, line in enumerate(lines[first + 1 :], first + 2):
+        if not line.startswith(PROJECTION):
+            raise Unreadable(f"{path.name}, line {at}: it should be a line of a .prj file, and begin with {PROJECTION.strip()}")
+    datum, projection = number(values[0], f"{path.name}, line {first + 1}"), [line.removeprefix(PROJECTION) for line in lines[first + 1 :]]
+    return Place(corner_of(heads, path.name), datum, tuple(projection))
 
 
 def place_beside(sheet_file, sheet):
-    """Where a sheet lies by its side file; None where there is none. A file of another shape is another sheet's."""
+    """Where a sheet lies by its side file; None where there is none."""
     path = place_file(sheet_file)
-    if not path.exists():
-        return None
-    lines = path.read_text(encoding="ascii").splitlines()
-    heads, first = head_of(lines, path.name)
-    if (heads.get("nrows"), heads.get("ncols"), heads.get("cellsize")) != (sheet.rows, sheet.columns, sheet.side):
-        raise Unreadable(f"{path.name} is another sheet's: its shape or side is not that of the sheet")
-    word, *values = lines[first].split() if first < len(lines) else [""]
-    if word != DATUM or len(values) != 1 or first + 1 != len(lines):
-        raise Unreadable(f"{path.name}, line {first + 1}: it should be {DATUM} and a height")
-    return Place(corner_of(heads, path.name), number(values[0], f"{path.name}, line {first + 1}"))
+    return place_in(path, sheet) if path.exists() else None

@@ -3,7 +3,7 @@
 use mathlib.Core.List.{List}
 use Prim.Native.Nat.{ℕ}
 use Rattle.reckon.specs.Outcomes.{One}
-use Rattle.text.specs.Reading.{ByteIs, WordAt, FieldAt, FieldsAt, RestOfLine, LineOf}
+use Rattle.text.specs.Reading.{ByteIs, WordAt, DigitJudged, DigitAt, FieldAt, FieldsAt, RestOfLine, LineOf}
 use Rattle.text.specs.Reading as Reading
 use Rattle.text.specs.Lines.{LineEnd, NextLine, LineAt, NthLine}
 use Rattle.text.specs.Writing.{PutByte, PutWord, PutNumber, PutField, PutFields, PutLine}
@@ -11,6 +11,8 @@ use Rattle.text.specs.Writing.{PutByte, PutWord, PutNumber, PutField, Pu
 pub record TextDetermined : Type 0 where
   pub byte-is : (text : List ℕ) (at byte : ℕ) → One (ByteIs text at byte)
   pub word-at : (text : List ℕ) (at : ℕ) (word : List ℕ) → One (WordAt text at word)
+  pub is-digit : (text : List ℕ) (at : ℕ) → One (DigitJudged text at)
+  pub digit : (text : List ℕ) (at : ℕ) → One (DigitAt text at)
   pub number-at : (text : List ℕ) (at : ℕ) → One (Reading.NumberReadAt text at)
   pub field-at : (text : List ℕ) (at : ℕ) → One (FieldAt text at)
   pub fields-at : (text : List ℕ) (at count : ℕ) → One (FieldsAt text at count)

@@ -1,0 +1,12 @@
+pub mod AfterLaws
+pub mod AmountLaws
+pub mod DecimalLaws
+pub mod Determined
+pub mod GridLaws
+pub mod HeadLaws
+pub mod LengthLaws
+pub mod PutLaws
+pub mod RangeLaws
+pub mod SpaceLaws
+pub mod SquareLaws
+pub mod WorkedLaws

@@ -1,0 +1,4 @@
+pub mod Amounts
+pub mod Raster
+pub mod Worked
+pub mod inner

@@ -1,0 +1,12 @@
+pub mod FitLaws
+pub mod LinesBack
+pub mod MovingLaws
+pub mod NoteBack
+pub mod NoteLaws
+pub mod PutLaws
+pub mod RefusedLaws
+pub mod ReturnLaws
+pub mod SayableLaws
+pub mod SetBack
+pub mod SetLaws
+pub mod WorkedLaws

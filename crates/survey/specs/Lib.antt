@@ -1,0 +1,4 @@
+pub mod Sets
+pub mod Moving
+pub mod Worked
+pub mod inner
