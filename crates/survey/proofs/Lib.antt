@@ -1,3 +1,4 @@
+pub mod BackLaws
 pub mod FitLaws
 pub mod LinesBack
 pub mod MovingLaws

@@ -26,10 +26,11 @@ use Rattle.programs.proofs.HeldLaws.{parts-said, partsAt}
 use Rattle.survey.specs.Sets.{mostFile, noteText, columnText, setOf, Outcome, movedOut, toSurvey}
 use Rattle.survey.specs.Sets.Outcome.{moved, refused}
 use Rattle.survey.specs.Moving.{partOf, partMoved, answered, roomAfter, Moves, MovesPart}
-use Rattle.survey.specs.inner.Notes.{judgedText}
+use Rattle.survey.specs.inner.Notes.{Judged, judgedText}
 use Rattle.survey.specs.inner.Writing.{Writable, onlyNoted}
 use Rattle.survey.specs.declared.moving.Part.{Part}
 use Rattle.survey.specs.declared.moving.Part.the-variants as part
+use Rattle.survey.specs.declared.moving.Moved.{Moved}
 use Rattle.survey.specs.declared.moving.Moved.the-variants as moved-as
 use Rattle.survey.proofs.LinesBack.{readable-at}
 use Rattle.survey.proofs.FitLaws.{note-fits, column-fits}
@@ -133,6 +134,12 @@ part-refused s k old f =
 module _ {n : ℕ} (h : Heading) (held : Rooms) (e : n ≡ squares (h .shape)) where
   pub parts-writable : Writable h (partsOf h held) → Writable h (partsAt n h held)
   parts-writable w = subst (λ (k : ℕ). Writable h (partsAt k h held)) (sym e) w
+
+  pub parts-judged : Judged h (partsOf h held) → Judged h (partsAt n h held)
+  parts-judged w = subst (λ (k : ℕ). Judged h (partsAt k h held)) (sym e) w
+
+  pub parts-moved : {old new : List ℕ} {a : Moved} → Moves (judgedText h (partsAt n h held)) old a new → Moves (judgedText h (partsOf h held)) old a new
+  parts-moved {old} {new} {a} m = subst (λ (k : ℕ). Moves (judgedText h (partsAt k h held)) old a new) e m
 
   pub parts-wrote : (k : Part) {old new : List ℕ} {r : ℕ} → Wrote (partOf k (setOf h (partsAt n h held))) 0 old new r →
       Wrote (partOf k (setOf h (partsOf h held))) 0 old new r
