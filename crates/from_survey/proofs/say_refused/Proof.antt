@@ -1,32 +1,28 @@
+-- `from_survey::say_refused` is safe: a refusal's line lies in its room.
+-- Assumes nothing.
+use native.Mathlib.Omega.{arith}
+use Rattle.programs.proofs.EndedLaws.{refused-printed}
 use borrow.Author.Needs.{needs}
 use Rattle.from_survey.proofs.say_refused.Statement.{statement}
 use Rattle.from_survey.proofs.say_refused.Tie as tie
-use Rattle.from_survey.proofs.say_refused.Reads as reads
-use Rattle.from_survey.proofs.say_refused.Lts as lts
-use Rattle.answer.proofs.printing.put_refused.Reads as put-refused-reads
-use Rattle.io.proofs.write_all.Reads as write-all-reads
 
--- src/main.rt:22:27
 slice-aggregate-put-refused : tie.Need-slice-aggregate-put-refused
 slice-aggregate-put-refused c = search needs
 
--- src/main.rt:22:9
 put-refused-requires : tie.Need-put-refused-requires
 put-refused-requires c κs = search needs
 
--- src/main.rt:23:22
 array-share-prefix-out : tie.Need-array-share-prefix-out
-array-share-prefix-out c = ?
+array-share-prefix-out c =
+    refused-printed (omega arith) (omega arith) (omega arith) (c .before .put-refused .ensures) .within
 
--- src/main.rt:23:22
 slice-aggregate-write-all : tie.Need-slice-aggregate-write-all
-slice-aggregate-write-all c = ?
+slice-aggregate-write-all c =
+    refused-printed (omega arith) (omega arith) (omega arith) (c .before .before .put-refused .ensures) .counted
 
--- src/main.rt:23:5
 write-all-requires : tie.Need-write-all-requires
 write-all-requires c κs = search needs
 
--- src/main.rt:20:1
 returns : tie.Need-returns
 returns c = search needs
 

@@ -1,42 +1,36 @@
+-- `to_survey::all_writable` is safe and ends: with each name that is tried fewer are left.
+-- Assumes nothing.
+use Prim.Native.Nat.{_-_, _≤_}
+use borrow.Author.Needs.{needs}
 use Rattle.to_survey.proofs.all_writable.Statement.{statement}
 use Rattle.to_survey.proofs.all_writable.Tie as tie
-use Rattle.to_survey.proofs.all_writable.Reads as reads
-use Rattle.to_survey.proofs.all_writable.Lts as lts
-use Rattle.files.proofs.can_write.Reads as can-write-reads
 
 abbrev Inv-loop : tie.InvT-loop
-Inv-loop names place₀ place = ?
+Inv-loop names place₀ place = place ≤ 6
 
 abbrev μ-loop : tie.MeasureT-loop
-μ-loop names place₀ place = ?
+μ-loop names place₀ place = 6 - place
 
--- src/main.rt:41:5
 loop-holds : tie.Need-loop-holds Inv-loop μ-loop
-loop-holds c = ?
+loop-holds c = search needs
 
--- src/main.rt:42:13
 can-write-requires : tie.Need-can-write-requires Inv-loop μ-loop
-can-write-requires c κs = ?
+can-write-requires c κs = search needs
 
--- src/main.rt:43:13
 returns : tie.Need-returns Inv-loop μ-loop
-returns c = ?
+returns c = search needs
 
--- src/main.rt:41:9
 add-place : tie.Need-add-place Inv-loop μ-loop
-add-place c = ?
+add-place c = search needs
 
--- src/main.rt:41:5
 loop-less : tie.Need-loop-less Inv-loop μ-loop
-loop-less c = ?
+loop-less c = search needs
 
--- src/main.rt:41:5
 loop-again : tie.Need-loop-again Inv-loop μ-loop
-loop-again c = ?
+loop-again c = search needs
 
--- src/main.rt:40:1
 returns-2 : tie.Need-returns-2 Inv-loop μ-loop
-returns-2 c = ?
+returns-2 c = search needs
 
 pub all-writable-spec : {M : Type 1} → statement M
 all-writable-spec =

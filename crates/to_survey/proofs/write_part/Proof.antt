@@ -1,45 +1,36 @@
+-- `to_survey::write_part` is safe: what was written lies in its room.
+-- Assumes nothing.
 use borrow.Author.Needs.{needs}
+use Rattle.survey.proofs.MovingLaws.{wrote-lies}
 use Rattle.to_survey.proofs.write_part.Statement.{statement}
 use Rattle.to_survey.proofs.write_part.Tie as tie
-use Rattle.to_survey.proofs.write_part.Reads as reads
-use Rattle.to_survey.proofs.write_part.Lts as lts
-use Rattle.files.proofs.write_named.Reads as write-named-reads
-use Rattle.survey.proofs.moving.to_part.Reads as to-part-reads
-use Rattle.to_survey.proofs.part_at.Reads as part-at-reads
 
--- src/main.rt:52:25
 part-at-requires : tie.Need-part-at-requires
 part-at-requires c κs = search needs
 
--- src/main.rt:52:11
 to-part-requires : tie.Need-to-part-requires
 to-part-requires c κs = search needs
 
--- src/main.rt:53:24
 enum-known--number : tie.Need-enum-known--number
 enum-known--number c = search needs
 
--- src/main.rt:54:22
 enum-known-length : tie.Need-enum-known-length
 enum-known-length c = search needs
 
--- src/main.rt:54:59
 array-share-prefix-out : tie.Need-array-share-prefix-out
-array-share-prefix-out c = ?
+array-share-prefix-out c =
+    wrote-lies _ (c .before .length .given .1) (c .before .before .before .to-part .ensures) .within
 
--- src/main.rt:54:59
 slice-aggregate-write-named : tie.Need-slice-aggregate-write-named
-slice-aggregate-write-named c = ?
+slice-aggregate-write-named c =
+    wrote-lies _ (c .before .before .length .given .1) (c .before .before .before .before .to-part .ensures) .counted
 
--- src/main.rt:54:33
 write-named-requires : tie.Need-write-named-requires
 write-named-requires c κs = search needs
 
--- src/main.rt:50:1
 returns : tie.Need-returns
 returns c = search needs
 
--- src/main.rt:50:1
 returns-2 : tie.Need-returns-2
 returns-2 c = search needs
 

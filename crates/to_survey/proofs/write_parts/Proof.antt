@@ -1,42 +1,36 @@
+-- `to_survey::write_parts` is safe and ends: with each part that is written fewer are left.
+-- Assumes nothing.
+use Prim.Native.Nat.{_-_, _≤_}
+use borrow.Author.Needs.{needs}
 use Rattle.to_survey.proofs.write_parts.Statement.{statement}
 use Rattle.to_survey.proofs.write_parts.Tie as tie
-use Rattle.to_survey.proofs.write_parts.Reads as reads
-use Rattle.to_survey.proofs.write_parts.Lts as lts
-use Rattle.to_survey.proofs.write_part.Reads as write-part-reads
 
 abbrev Inv-loop : tie.InvT-loop
-Inv-loop text names place₀ place = ?
+Inv-loop text names place₀ place = place ≤ 6
 
 abbrev μ-loop : tie.MeasureT-loop
-μ-loop text names place₀ place = ?
+μ-loop text names place₀ place = 6 - place
 
--- src/main.rt:59:5
 loop-holds : tie.Need-loop-holds Inv-loop μ-loop
-loop-holds c = ?
+loop-holds c = search needs
 
--- src/main.rt:60:13
 write-part-requires : tie.Need-write-part-requires Inv-loop μ-loop
-write-part-requires c κs = ?
+write-part-requires c κs = search needs
 
--- src/main.rt:61:13
 returns : tie.Need-returns Inv-loop μ-loop
-returns c = ?
+returns c = search needs
 
--- src/main.rt:59:9
 add-place : tie.Need-add-place Inv-loop μ-loop
-add-place c = ?
+add-place c = search needs
 
--- src/main.rt:59:5
 loop-less : tie.Need-loop-less Inv-loop μ-loop
-loop-less c = ?
+loop-less c = search needs
 
--- src/main.rt:59:5
 loop-again : tie.Need-loop-again Inv-loop μ-loop
-loop-again c = ?
+loop-again c = search needs
 
--- src/main.rt:58:1
 returns-2 : tie.Need-returns-2 Inv-loop μ-loop
-returns-2 c = ?
+returns-2 c = search needs
 
 pub write-parts-spec : {M : Type 1} → statement M
 write-parts-spec =
