@@ -2,7 +2,7 @@
 -- Assumes nothing.
 use mathlib.Core.Path.{_≡_, refl, sym, ap, subst, _∙_}
 use mathlib.Core.Bool.{true, false}
-use mathlib.Core.List.{List, _∷_}
+use mathlib.Core.List.{List}
 use Prim.Native.Nat.{ℕ, zero, suc}
 use native.Mathlib.Omega.{arith}
 use borrow.Author.Tests.{eq-eqb, ne-eqb}
@@ -12,12 +12,10 @@ use Rattle.checks.specs.Refusals.{checkRefusals}
 use Rattle.text.proofs.ReadingLaws.{by-test}
 use Rattle.sheet.specs.Sheet.{checksIn, headingOf, judged}
 use Rattle.sheet.specs.Written.{sheetWritten}
-use Rattle.sheet.specs.declared.reading.Sheet.{Sheet}
 use Rattle.sheet.specs.declared.reading.Sheet.the-variants as sheet
 use Rattle.survey.specs.Sets.{Set, setBad, allAgree, setSays, setNumber, Outcome, movedOut, toSurvey, movedBack, allShort, setAnswer, fromSurvey}
 use Rattle.survey.specs.Sets.Outcome.{moved, refused}
-use Rattle.survey.specs.Moving.{roomAfter, MovesSet}
-use Rattle.survey.specs.declared.moving.Moved.{Moved}
+use Rattle.survey.specs.Moving.{roomAfter}
 use Rattle.demands.specs.Table.{TableSays}
 use Rattle.demands.specs.Surveys.{setRows, numberOf, SetsRight}
 use Rattle.demands.proofs.Table.{table-says}

@@ -1,7 +1,7 @@
 -- Laws of reads into a room: bytes that were put leave what stands after them; read after read; a whole file.
 -- Assumes nothing.
 use mathlib.Core.Path.{_≡_, refl, sym, ap, subst, _∙_}
-use mathlib.Core.Bool.{Bool, true, false, not}
+use mathlib.Core.Bool.{Bool, false, not}
 use mathlib.Core.List.{List, _++_}
 use Prim.Native.Nat.{ℕ, _+_, _-_, _≤_, _<_}
 use native.Mathlib.Omega.{arith}
@@ -12,7 +12,6 @@ use borrow.Author.Tests.{lt-ltb}
 use Rattle.reckon.specs.Tests.{pick}
 use Rattle.reckon.specs.Lists.{placed}
 use Rattle.reckon.proofs.TestLaws.{not-both, pick-true, pick-false, pick-same, pick-both}
-use Rattle.text.specs.Reading.{lineFrom}
 use Rattle.text.specs.Lines.{nthLine}
 use Rattle.text.specs.Writing.{Wrote}
 use Rattle.text.specs.declared.lines.Line.{Line}

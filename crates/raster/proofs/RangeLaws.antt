@@ -8,7 +8,7 @@ use native.Mathlib.Nat.{mul-zero}
 use native.Mathlib.Omega.{arith}
 use lib.Dec.{leb}
 use borrow.Author.Tests.{leb-true}
-use Rattle.reckon.proofs.TestLaws.{pick-true, pick-false, pick-both}
+use Rattle.reckon.proofs.TestLaws.{not-both, pick-true, pick-false, pick-both}
 use Rattle.text.specs.Bytes.{bytesOf}
 use Rattle.text.specs.Reading.{newline, mostNumber, isByte, numberAt, withNumber}
 use Rattle.text.specs.declared.reading.Number.{Number}
@@ -99,6 +99,22 @@ bare-small k s p = pick-both (λ (e : Entry). e .value ≤ mostNumber) _ (omega 
 pub entry-small : (k : Scale) (s : List ℕ) (p : ℕ) (last : Bool) → entryAt k s p last .value ≤ mostNumber
 unfolding parted noEntry
 entry-small k s p last = pick-both (λ (e : Entry). e .value ≤ mostNumber) _ (bare-small k s p) (omega arith)
+
+-- a closed square's number is 0
+abbrev NoneClosed : Entry → Type 0
+NoneClosed e = e .closed ≡ true → e .value ≡ 0
+
+bare-closed : (k : Scale) (s : List ℕ) (p : ℕ) → NoneClosed (bareEntry k s p)
+unfolding bareEntry noEntry
+bare-closed k s p = pick-both NoneClosed _ (λ e. refl) (go (amountAt k s p))
+  where
+    go : (v : Number) → NoneClosed (withNumber v (noEntry p) (λ n q. record { found = true; closed = false; value = n; next = q }))
+    go (Is n q) e = not-both e refl
+    go Not e = refl
+
+pub entry-closed : (k : Scale) (s : List ℕ) (p : ℕ) (last : Bool) → entryAt k s p last .closed ≡ true → entryAt k s p last .value ≡ 0
+unfolding parted noEntry
+entry-closed k s p last = pick-both NoneClosed _ (bare-closed k s p) (λ e. refl)
 
 -- where there is a square there is a column
 pub some-column : (rows columns : ℕ) {i : ℕ} → i < rows * columns → 0 < columns

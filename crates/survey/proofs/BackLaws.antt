@@ -2,50 +2,50 @@
 -- well as all of them.
 -- Assumes nothing.
 use mathlib.Core.Path.{_≡_, refl, sym, ap, ap₂, subst, _∙_}
-use mathlib.Core.Bool.{Bool, true, false, _&&_}
+use mathlib.Core.Bool.{Bool, true, false, not}
 use mathlib.Core.List.{List, [], _∷_}
-use Prim.Native.Nat.{ℕ, zero, suc, _*_, _/_, _≤_, _<_, min}
-use native.Mathlib.Nat.{mul-div-cancel-left}
+use Prim.Native.Nat.{ℕ, zero, suc, _*_, _≤_, _<_, min}
 use native.Mathlib.Omega.{arith}
-use lib.Dec.{eqb, ltb, leb}
-use lib.ListN.{length, getD, take, replicate, length-replicate}
+use lib.Dec.{eqb, ltb}
+use lib.ListN.{length, take, replicate, length-replicate, List·getD-eq-default}
 use lib.Seq.{getD-take, length-take-le}
 use borrow.Author.Tests.{eq-eqb, ne-eqb, eqb-true, leb-true, ltb-true}
-use Rattle.reckon.specs.Tests.{every}
+use Rattle.reckon.specs.Tests.{pick, every}
 use Rattle.reckon.specs.Lists.{tabulate, filled, placed}
 use Rattle.reckon.specs.Ranges.{sideFine, mostTableRows}
-use Rattle.reckon.specs.Tables.{rainKind, inflowKind, tableFine}
-use Rattle.reckon.proofs.TestLaws.{pick-true, pick-false, every-each, failing-before}
+use Rattle.reckon.specs.Tables.{rainKind, inflowKind}
+use Rattle.reckon.proofs.TestLaws.{not-both, pick-true, pick-false, every-each, all-at, failing-before}
 use Rattle.reckon.proofs.ListLaws.{length-tabulate, getD-tabulate, is-tabulate, length-filled, filled-in, length-placed}
 use Rattle.grid.specs.Squares.{ShapeInRange, shapeFine, mostSquares, squares}
+use Rattle.grid.specs.Marks.{closed}
 use Rattle.grid.specs.declared.squares.Shape.{Shape}
 use Rattle.grid.proofs.SquareLaws.{ranges-of-fine}
 use Rattle.checks.proofs.CheckLaws.{ready, run-checks-step}
 use Rattle.text.specs.Reading.{mostNumber, mostFields, lineFrom}
 use Rattle.text.specs.inner.Standing.{Readable}
+use Rattle.text.proofs.ReadingLaws.{by-lt}
 use Rattle.raster.specs.Raster.{lastInRow, headOf, placeFrom, entryFrom, entryOf, gridBad}
 use Rattle.raster.specs.declared.amounts.Scale.{Scale}
 use Rattle.raster.specs.declared.amounts.Scale.the-variants.{Metres, Whole}
-use Rattle.raster.proofs.RangeLaws.{entry-small}
+use Rattle.raster.proofs.RangeLaws.{entry-small, entry-closed}
 use Rattle.sheet.specs.Lines.{rainWord, inflowWord, runLine, asRun}
-use Rattle.sheet.specs.Sheet.{Cells, Rooms, rooms, tableRows, rowsRead, checksIn, lineOne, lineTwo, shapeOf, cellsAt, rainAt, rainRows, rainTable, inflowAt, inflowRows, inflowTable, headingOf, judged}
+use Rattle.sheet.specs.Sheet.{Rooms, rooms, tableRows, rowsRead, checksIn, lineOne, lineTwo, shapeOf, rainAt, rainRows, inflowAt, inflowRows, headingOf, judged}
 use Rattle.sheet.specs.Written.{sheetWritten}
 use Rattle.sheet.specs.declared.reading.Heading.{Heading}
-use Rattle.sheet.specs.declared.reading.Sheet.{Sheet}
 use Rattle.sheet.proofs.JudgeLaws.{table-taken, looked-same, checks-looked}
 use Rattle.sheet.proofs.SheetLaws.{rows-few}
 use Rattle.sheet.proofs.WrittenLaws.{row-passes}
 use Rattle.sheet.proofs.RoomLaws.{table-long}
 use Rattle.programs.specs.inner.Held.{partsOf}
-use Rattle.survey.specs.Sets.{Set, noteMark, marksRead, noteBad, firstOf, setBad, agrees, allAgree, column, setSays, setNumber, Outcome, movedBack, allShort, setAnswer, fromSurvey}
+use Rattle.survey.specs.Sets.{Set, noteMark, marksRead, noteBad, firstOf, setBad, sameClosed, agrees, allAgree, column, setSays, setNumber, Outcome, movedBack, allShort, setAnswer, fromSurvey}
 use Rattle.survey.specs.Sets.Outcome.{moved, refused}
 use Rattle.survey.specs.Moving.{Moves, MovesSet}
 use Rattle.survey.specs.inner.Notes.{markAt, markFrom, NoteIs, NoteRead, lookedRows, lookedHeading, Judged, judgedText, Lies, SetGood, lookedSays}
-use Rattle.survey.specs.inner.Writing.{Sayable, OneEach, Writable}
+use Rattle.survey.specs.inner.Writing.{Sayable, Writable}
 use Rattle.survey.specs.declared.moving.Moved.{Moved}
 use Rattle.survey.specs.declared.notes.Note.{Note}
 use Rattle.survey.proofs.LinesBack.{readable-tabulate}
-use Rattle.survey.proofs.SayableLaws.{first-small, second-small, table-small}
+use Rattle.survey.proofs.SayableLaws.{Column, first-small, second-small, table-small}
 use Rattle.survey.proofs.SetLaws.{shape-is, side-is}
 
 -- ---- the text of a set that is good
@@ -261,13 +261,38 @@ module _ (t : Set) (good : SetGood t) where
     unfolding column
     column-long k grid = length-tabulate (squares (shapeOf s)) (λ i. entryOf k grid i .value)
 
+    value-small : (k : Scale) (grid : List ℕ) (i : ℕ) → entryOf k grid i .value ≤ mostNumber
+    value-small k grid i =
+        entry-small k grid (placeFrom k grid (headOf grid .next) (headOf grid .shape .columns) i) (lastInRow (headOf grid .shape .columns) i)
+
     column-small : (k : Scale) (grid : List ℕ) → Readable (column t k grid)
     unfolding column
-    column-small k grid =
-        readable-tabulate (squares (shapeOf s)) (λ i. entryOf k grid i .value)
-        (λ i l. entry-small k grid (placeFrom k grid (headOf grid .next) (headOf grid .shape .columns) i) (lastInRow (headOf grid .shape .columns) i))
+    column-small k grid = readable-tabulate (squares (shapeOf s)) (λ i. entryOf k grid i .value) (λ i l. value-small k grid i)
 
-    says-writable : Writable (headingOf s) (setSays t)
+    -- 0 at closed squares, which are the note's
+    pub column-is :
+        (k : Scale) (grid : List ℕ) → agrees t k grid ≡ true → Column (setSays t .cells .marks) (squares (shapeOf s)) (column t k grid)
+    unfolding setSays column agrees sameClosed closed
+    column-is k grid a =
+        record {
+          long = column-long k grid;
+          none = λ i l e. getD-tabulate n value i l ∙ none-at i l (entryOf k grid i .closed) refl (all-at n (sameClosed t k grid) (every-each _ a .1 .1 .1 .0) i l) (eqb-true _ 0 (sym (ap (λ (m : ℕ). eqb m 0) (getD-tabulate n (noteMark s) i l)) ∙ e));
+          small = λ i e. by-lt i n (λ l. omega (arith, getD-tabulate n value i l, value-small k grid i)) (λ l. omega (arith, List·getD-eq-default (tabulate n value) 0 {n = i} (omega (arith, l, length-tabulate n value))));
+        }
+      where
+        n : ℕ
+        n = squares (shapeOf s)
+
+        value : ℕ → ℕ
+        value i = entryOf k grid i .value
+
+        none-at : (i : ℕ) → i < n → (b : Bool) → entryOf k grid i .closed ≡ b → pick (entryOf k grid i .closed) (eqb (noteMark s i) 0) (not (eqb (noteMark s i) 0)) ≡ true → noteMark s i ≡ 0 → value i ≡ 0
+        none-at i l true c g z =
+            entry-closed k grid (placeFrom k grid (headOf grid .next) (headOf grid .shape .columns) i) (lastInRow (headOf grid .shape .columns) i) c
+        none-at i l false c g z =
+            not-both (sym (pick-false _ _ c) ∙ g) (ap not (eq-eqb _ 0 z))
+
+    pub says-writable : Writable (headingOf s) (setSays t)
     unfolding setSays headingOf
     says-writable =
         record {

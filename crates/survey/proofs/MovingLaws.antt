@@ -36,7 +36,8 @@ use Rattle.survey.specs.declared.moving.Moved.{Moved}
 use Rattle.survey.specs.declared.moving.Moved.the-variants as moved-as
 use Rattle.survey.proofs.LinesBack.{readable-at}
 use Rattle.survey.proofs.FitLaws.{note-fits, column-fits}
-use Rattle.survey.proofs.ReturnLaws.{full, full-well, writable}
+use Rattle.survey.proofs.FromElsewhere.{full}
+use Rattle.survey.proofs.ReturnLaws.{full-well, writable}
 
 -- ---- the parts
 
