@@ -54,7 +54,7 @@ unfolding answered IsWrote
 outcome (moved t) x number line e = absurd (subst IsWrote (sym (x .answer) ∙ e) tt)
 outcome (refused n l) x number line e = same (sym (x .answer) ∙ e)
   where
-    same : {i j k m : ℕ} → Refused i j ≡ Refused k m → refused {A = List ℕ} i j ≡ refused k m
+    same : {i j k m : ℕ} → Refused i j ≡ Refused k m → _≡_ {A = Outcome (List ℕ)} (refused i j) (refused k m)
     same e = cc
 
 text-of : (o : Outcome (List ℕ)) {old new : List ℕ} {a : Moved} → Moves o old a new → (n : ℕ) → a ≡ Wrote n → (numberOf o ≡ 0) × ((t : List ℕ) → o ≡ moved t → take n new ≡ t)
@@ -64,7 +64,7 @@ text-of (moved t) {old} {new} x n e = (refl, λ u f. ap (λ (k : ℕ). take k ne
     same : {i j : ℕ} → Wrote i ≡ Wrote j → i ≡ j
     same e = cc
 
-    inside : {u v : List ℕ} → moved u ≡ moved v → u ≡ v
+    inside : {u v : List ℕ} → _≡_ {A = Outcome (List ℕ)} (moved u) (moved v) → u ≡ v
     inside e = cc
 text-of (refused k l) x n e = absurd (subst IsWrote (sym e ∙ x .answer) tt)
 

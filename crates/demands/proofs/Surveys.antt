@@ -81,7 +81,7 @@ module _ (t : Set) where
   line-is zero (suc number) n line e = cc
   line-is (suc bad) number n line e = cc
 
-  same-line : {n k l m : ℕ} → refused {A = List ℕ} n l ≡ refused k m → m ≡ l
+  same-line : {n k l m : ℕ} → _≡_ {A = Outcome (List ℕ)} (refused n l) (refused k m) → m ≡ l
   same-line e = cc
 
   told-line : (number line : ℕ) → fromSurvey t ≡ refused number line → line ≡ pick (allShort t) (setBad t) 0

@@ -4,6 +4,7 @@ use answer::printing::put_refused;
 use files::NAMES_ROOM;
 use files::read_names;
 use files::read_of;
+use programs::limits::OUT_ROOM;
 use survey::moving::MOST_FILE;
 use survey::moving::Moved;
 use survey::returning::from_set;
@@ -11,14 +12,11 @@ use survey::returning::from_set;
 // A room that holds one byte more than a file may have, so that one that is too long is seen to be.
 const FILE_ROOM: usize = MOST_FILE + 1;
 
-// The bytes that always suffice for the line of a refusal.
-const REFUSED_ROOM: usize = 64;
-
 // How many files there are.
 const FILES: usize = 5;
 
 fn say_refused(number: u32, line: usize) {
-    let mut out = [0u8; REFUSED_ROOM];
+    let mut out = [0u8; OUT_ROOM];
     let end = put_refused(&mut out, 0, number, line);
     io::write_all(1, &out[..end]);
 }

@@ -2,12 +2,14 @@
 -- Assumes nothing.
 use mathlib.Core.Path.{_≡_, refl, sym, ap, subst, _∙_}
 use mathlib.Core.List.{List}
-use Prim.Native.Nat.{ℕ, _≤_}
+use Prim.Native.Nat.{ℕ, _+_, _≤_}
 use native.Mathlib.Nat.{zero-add}
 use native.Mathlib.Omega.{arith}
 use lib.Dec.{leb}
-use lib.ListN.{length}
+use lib.ListN.{length, take, drop, length-append}
+use lib.Seq.{length-take-le}
 use borrow.Author.Tests.{eq-eqb, ne-eqb}
+use Rattle.reckon.specs.Lists.{placed}
 use Rattle.reckon.proofs.TestLaws.{pick-true, pick-false}
 use Rattle.grid.specs.Squares.{mostSquares, squares}
 use Rattle.text.specs.Writing.{Wrote}
@@ -163,3 +165,25 @@ module _ (h : Heading) (held : Rooms) {number : ℕ} (e : number ≡ checksIn (h
         answer = ap moved-as.Wrote (v .next ∙ zero-add (length (sheetWritten h held))) ∙ sym (ap answered o);
         room = v .room ∙ sym (ap (λ (x : Outcome (List ℕ)). roomAfter x old) o);
       }
+
+-- ---- what was written lies in the room
+
+pub record Lying (n : ℕ) (new : List ℕ) : Type 0 where
+  pub within : n ≤ length new
+  pub counted : n ≡ length (take n new)
+
+pub wrote-lies : (o : Outcome (List ℕ)) {old new : List ℕ} {n : ℕ} {a : Moved} → a ≡ moved-as.Wrote n → Moves o old a new → Lying n new
+unfolding answered roomAfter placed
+wrote-lies (moved t) {old} {new} {n} w m =
+    let e : n ≡ length t = same (sym w ∙ m .answer) in
+    let long : length new ≡ length t + length (drop (length t) (drop 0 old)) =
+    ap length (m .room) ∙ length-append t (drop (length t) (drop 0 old)) in
+    let inside : n ≤ length new = omega (arith, e, long) in
+    record { within = inside; counted = sym (length-take-le n new inside) }
+  where
+    same : {i j : ℕ} → moved-as.Wrote i ≡ moved-as.Wrote j → i ≡ j
+    same e = cc
+wrote-lies (refused number line) w m = never (sym w ∙ m .answer)
+  where
+    never : {A : Type 0} {i j k : ℕ} → moved-as.Wrote i ≡ moved-as.Refused j k → A
+    never e = absurd (let z : _≡_ {A = ℕ} 0 1 = cc in omega arith)

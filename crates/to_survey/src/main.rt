@@ -6,6 +6,7 @@ use files::can_write;
 use files::read_names;
 use files::read_of;
 use files::write_named;
+use programs::limits::OUT_ROOM;
 use survey::moving::MOST_FILE;
 use survey::moving::Moved;
 use survey::moving::Part;
@@ -14,14 +15,11 @@ use survey::moving::to_part;
 // A room that holds one byte more than a file may have, so that one that is too long is seen to be.
 const FILE_ROOM: usize = MOST_FILE + 1;
 
-// The bytes that always suffice for the line of a refusal.
-const REFUSED_ROOM: usize = 64;
-
 // How many files there are, the sheet first.
 const FILES: usize = 6;
 
 fn say_refused(number: u32, line: usize) {
-    let mut out = [0u8; REFUSED_ROOM];
+    let mut out = [0u8; OUT_ROOM];
     let end = put_refused(&mut out, 0, number, line);
     io::write_all(1, &out[..end]);
 }
@@ -38,10 +36,12 @@ fn part_at(place: usize) -> Part {
 }
 
 fn all_writable(names: &[u8]) -> bool {
-    for place in 1..FILES {
+    let mut place: usize = 1;
+    while place < FILES {
         if !can_write(names, place) {
             return false;
         }
+        place += 1;
     }
     true
 }
@@ -56,10 +56,12 @@ fn write_part(text: &[u8], names: &[u8], place: usize) -> bool {
 }
 
 fn write_parts(text: &[u8], names: &[u8]) -> bool {
-    for place in 1..FILES {
+    let mut place: usize = 1;
+    while place < FILES {
         if !write_part(text, names, place) {
             return false;
         }
+        place += 1;
     }
     true
 }
