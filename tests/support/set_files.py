@@ -5,9 +5,8 @@ import pwd
 from pathlib import Path
 
 from meadow.programs import printed_often
-from meadow.surveys.sets import GRIDS, Set
+from meadow.surveys.sets import ENDINGS, Set
 
-KINDS = {"sheet": ".sheet", "note": ".note", **{name: f".{name}.asc" for name in GRIDS}}
 # who may read and write nothing that is not everybody's; root may all
 NOBODY = {"user": pwd.getpwnam("nobody").pw_uid} if os.geteuid() == 0 else {}
 
@@ -29,7 +28,7 @@ class SetFiles:
     def __init__(self, folder, name="a"):
         self.folder = Path(folder)
         self.folder.chmod(0o755)
-        self.paths = {kind: self.folder / f"{name}{ending}" for kind, ending in KINDS.items()}
+        self.paths = {kind: self.folder / f"{name}{ending}" for kind, ending in {"sheet": ".sheet", **ENDINGS}.items()}
 
     def put_sheet(self, text):
         """The sheet, a byte for each letter."""
