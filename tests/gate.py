@@ -171,6 +171,10 @@ def runner(checks, room):
     told = lambda: room.ran("bin/run", "tool")[1].splitlines()
     checks.hold(told()[1:] == building, "bin/run does not build what is not built, crate by crate")
     checks.hold(told() == ["ran tool"], "bin/run builds what is up to date")
+    words = room.ran("bin/run", "--words", "tool")[1].splitlines()
+    checks.hold(words[-1:] == [str(room.top / "target/bin/tool")] and "ran tool" not in words, f"bin/run --words tool says {words}")
+    again = subprocess.run(words, capture_output=True, text=True).stdout
+    checks.hold(again == "ran tool\n", f"the words of bin/run --words tool print {again!r}")
     os.utime(room.top / "crates/low/src/lib.rt", (2**33, 2**33))
     checks.hold(told()[1:] == building, "bin/run does not build again when a source below is newer")
     checks.hold(sorted(path.name for path in room.top.glob(".*")) == [".ci"], "bin/run leaves something behind")

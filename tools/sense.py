@@ -4,7 +4,9 @@ and the steps; or, of a refusal, the likeliest reason. bin/meadow ends with it.
 sense.py SHEET ANSWER LOG: the same about what `hatchlog` printed of a sheet and a log. bin/hatchlog ends with it.
 sense.py --highest SHEET ANSWER: how deep the water of a sheet ever was, and when, by what `highest` printed. bin/highest ends with it.
 sense.py --drowned ANSWER DEPTH SHEET..: which square drowned most often, by what `drowned` printed of a list. bin/drowned ends with it.
-sense.py --boards ANSWER SHEET BOARDS: which marks were reached, by what `boards` printed of a sheet and its boards. bin/boards ends with it."""
+sense.py --boards ANSWER SHEET BOARDS: which marks were reached, by what `boards` printed of a sheet and its boards. bin/boards ends with it.
+sense.py --to-survey ANSWER SHEET NOTE BED DEPTH ROUGHNESS RATE: the set that `to_survey` made of a sheet. bin/to_survey ends with it.
+sense.py --from-survey ANSWER NOTE BED DEPTH ROUGHNESS RATE: the sheet that `from_survey` made of a set. bin/from_survey ends with it."""
 import sys
 
 from begin import ended
@@ -15,6 +17,8 @@ from meadow.peaks.tally import tally_of
 from meadow.sheets.lines import Answer
 from meadow.sheets.pairs import balanced, bytes_as_text, pair_of
 from meadow.sheets.reading import read
+from meadow.surveys.set_reasons import moving_reasons, set_reasons
+from meadow.surveys.sets import MOST_SQUARES, Set, set_paths
 from meadow.words import board_reasons, log_reasons
 from meadow.words.drownings import heights_sense, tally_sense
 from meadow.words.levels import boards_sense
@@ -80,12 +84,40 @@ def of_list(told, wet_depth, *names):
     return 0
 
 
+def plan_line(sheet_text):
+    """The shape of a sheet that was moved."""
+    sheet, _ = read(sheet_text, MOST_SQUARES)
+    return f"{sheet.rows} by {sheet.columns} squares of {sheet.side} m, {len(sheet.squares) - len(sheet.ground())} closed"
+
+
+def of_moving_out(told, sheet_file, *files):
+    """About what `to_survey` printed."""
+    refused, text = refusal(told), texts_of([sheet_file])[0]
+    if refused:
+        return say_refused(refused, *moving_reasons(sheet_file, text, set_paths(*files), refused))
+    print(f"made {files[0]} and its four grids: {plan_line(text)}")
+    return 0
+
+
+def of_moving_back(told, *files):
+    """About what `from_survey` printed."""
+    refused = refusal(told)
+    if refused:
+        return say_refused(refused, *set_reasons(set_paths(*files), Set(*texts_of(files)), refused))
+    print(f"a sheet of {files[0]} and its four grids: {plan_line(told)}")
+    return 0
+
+
 def main():
     kind, *files = sys.argv[1:] or [""]
     if kind == "--drowned" and len(files) > 2:
         return of_list(bytes_as_text(files[0]), *files[1:])
     if kind == "--boards" and len(files) == 3:
         return of_boards(bytes_as_text(files[0]), *files[1:])
+    if kind == "--to-survey" and len(files) == 7:
+        return of_moving_out(bytes_as_text(files[0]), *files[1:])
+    if kind == "--from-survey" and len(files) == 6:
+        return of_moving_back(bytes_as_text(files[0]), *files[1:])
     if kind == "--highest" and len(files) == 2:
         return of_sheet(*map(bytes_as_text, files), heights_line)
     if len(files) == 1:
@@ -93,8 +125,9 @@ def main():
     if len(files) == 2:
         return of_log((kind, files[1]), bytes_as_text(files[0]))
     print(
-        "usage: sense.py SHEET ANSWER [LOG], sense.py --highest SHEET ANSWER, sense.py --drowned ANSWER DEPTH SHEET.. or "
-        "sense.py --boards ANSWER SHEET BOARDS",
+        "usage: sense.py SHEET ANSWER [LOG], sense.py --highest SHEET ANSWER, sense.py --drowned ANSWER DEPTH SHEET.., "
+        "sense.py --boards ANSWER SHEET BOARDS, sense.py --to-survey ANSWER SHEET NOTE BED DEPTH ROUGHNESS RATE or "
+        "sense.py --from-survey ANSWER NOTE BED DEPTH ROUGHNESS RATE",
         file=sys.stderr,
     )
     return 2

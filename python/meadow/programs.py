@@ -1,4 +1,5 @@
 """The built programs, and scripts that end as a reader of their output would have it."""
+import functools
 import os
 import subprocess
 import sys
@@ -13,6 +14,17 @@ TOP = Path(__file__).resolve().parent.parent.parent
 def printed(name, given=b"", **how):
     """What a program prints of these bytes at its standard input; `how` says how it is started, as another user say."""
     return subprocess.run([TOP / "bin" / "run", name], input=given, stdout=subprocess.PIPE, check=True, **how).stdout
+
+
+@functools.cache
+def words_of(name):
+    """The words that start a built program, as bin/run says them."""
+    return subprocess.run([TOP / "bin" / "run", "--words", name], stdout=subprocess.PIPE, check=True, text=True).stdout.splitlines()
+
+
+def printed_often(name, given=b"", **how):
+    """The same as `printed`, for those who start a program some thousand times: bin/run is asked once."""
+    return subprocess.run(words_of(name), input=given, stdout=subprocess.PIPE, check=True, **how).stdout
 
 
 def printed_of_named(name, *files):

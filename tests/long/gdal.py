@@ -1,6 +1,7 @@
 """A real GDAL reads the grids that tools/depths.py writes, each depth to the micrometre, NODATA at closed squares alone and the corner where
-it was; and tools/make_sheet.py reads grids that GDAL writes of them. It reads the grids of the survey office's sets, every number exactly; what it
-writes of them at a survey's corner tools/office_grid.py brings back byte for byte, and takes to that corner again."""
+it was; and tools/make_sheet.py reads grids that GDAL writes of them. It reads the grids of the survey office's sets that the built `to_survey`
+makes, every number exactly; what it writes of them at a survey's corner tools/office_grid.py brings back byte for byte, so that the built
+`from_survey` gives the sheet, and takes to that corner again."""
 import json
 import subprocess
 import sys
@@ -10,13 +11,13 @@ from decimal import Decimal
 from pathlib import Path
 
 from meadow.counted import Checks
-from meadow.programs import TOP
+from meadow.programs import TOP, printed_of_named
 from meadow.sheets.lines import Sheet
 from meadow.sheets.pairs import pair_in
 from meadow.sheets.reading import read
 from meadow.surveys.office import METRES, read_office
 from meadow.surveys.places import Place, place_file, place_text
-from meadow.surveys.sets import GRIDS, MOST_SQUARES, Set, moved_back, moved_out
+from meadow.surveys.sets import GRIDS, MOST_SQUARES, Set, moved_out, set_paths
 
 SAMPLES = TOP / "samples"
 # corners with and without decimals, and on both sides of 0
@@ -110,9 +111,18 @@ def highest():
     return sheet.text(0)
 
 
+def set_made(checks, path, room):
+    """The set that the built program makes of a sheet."""
+    files = set_paths(str(room), "made").values()
+    told = printed_of_named("to_survey", path, *files)
+    made = Set(*(Path(file).read_text() for file in files))
+    checks.hold((told, made) == ("", moved_out(path.read_text())), f"{path.name} is moved to another set: {told!r}")
+    return made
+
+
 def hold_office(checks, path, room):
     """Each grid of a sheet's set as GDAL reads it: its head, and every number exactly."""
-    ours = moved_out(path.read_text())
+    ours = set_made(checks, path, room)
     sheet, _ = read(path.read_text(), MOST_SQUARES)
     for part, kind in GRIDS.items():
         grid, name = room / "office.asc", f"the {part} of {path.name}"
@@ -151,7 +161,10 @@ def hold_brought(checks, path, room):
             hold_head(checks, name, sheet, corner, back)
             kept = [file.with_suffix(".prj").read_text().split() for file in (theirs, back)]
             checks.hold(kept[0] == kept[1] != [], f"{name} has another .prj file")
-        checks.hold(moved_back(Set(ours.note, **texts)) == path.read_text(), f"{path.name} does not come back by way of GDAL")
+        files = set_paths(str(room), "brought")
+        for part, file in files.items():
+            Path(file).write_text(texts.get(part, ours.note))
+        checks.hold(printed_of_named("from_survey", *files.values()) == path.read_text(), f"{path.name} does not come back by way of GDAL")
 
 
 def main():

@@ -124,7 +124,11 @@ peaks-determined =
     }
 
 survey-determined : SurveyDetermined
-survey-determined = record { to-part = λ text part old a b x y. λ j. ((x .answer ∙ sym (y .answer)) j, (x .room ∙ sym (y .room)) j) }
+survey-determined =
+    record {
+      to-part = λ text part old a b x y. λ j. ((x .answer ∙ sym (y .answer)) j, (x .room ∙ sym (y .room)) j);
+      from-set = λ t old a b x y. λ j. ((x .answer ∙ sym (y .answer)) j, (x .room ∙ sym (y .room)) j);
+    }
 
 display-determined : DisplayDetermined
 display-determined =

@@ -15,6 +15,7 @@ pub mod Loader
 pub mod Played
 pub mod RunStops
 pub mod StepCount
+pub mod Surveys
 pub mod Table
 pub mod WetAre
 pub mod WorkedCases

@@ -29,7 +29,8 @@ use Rattle.exports.specs.Sights.{ExportsArrow, ExportsWet}
 use Rattle.exports.specs.Sheets.{ExportsRead, ExportsMeadow}
 use Rattle.peaks.specs.Peaks.{RunsPeaking}
 use Rattle.peaks.specs.Highest.{highestText}
-use Rattle.survey.specs.Moving.{MovesPart}
+use Rattle.survey.specs.Sets.{Set}
+use Rattle.survey.specs.Moving.{MovesPart, MovesSet}
 use Rattle.survey.specs.declared.moving.Part.{Part}
 use Rattle.survey.specs.declared.moving.Moved.{Moved}
 use Rattle.display.specs.Watch.{Watches, WatchesHeld}
@@ -86,6 +87,7 @@ pub record PeaksDetermined : Type 0 where
 
 pub record SurveyDetermined : Type 0 where
   pub to-part : (text : List ℕ) (part : Part) (old : List ℕ) → One {Out = Moved × List ℕ} (λ o. MovesPart text part old (o .0) (o .1))
+  pub from-set : (t : Set) (old : List ℕ) → One {Out = Moved × List ℕ} (λ o. MovesSet t old (o .0) (o .1))
 
 -- a run with boards, by value and lent
 pub record DisplayDetermined : Type 0 where

@@ -12,6 +12,7 @@ pub mod HatchLog
 pub mod Loader
 pub mod Played
 pub mod StepCount
+pub mod Surveys
 pub mod Table
 pub mod WetAre
 pub mod Worked

@@ -3,18 +3,21 @@
 use mathlib.Core.Path.{_≡_, refl, sym, ap, subst, _∙_}
 use mathlib.Core.Bool.{Bool, false, not}
 use mathlib.Core.List.{List, _++_}
-use Prim.Native.Nat.{ℕ, _+_, _-_, _≤_}
+use Prim.Native.Nat.{ℕ, _+_, _-_, _≤_, _<_}
 use native.Mathlib.Omega.{arith}
-use lib.ListN.{length, take, drop, replicate, drop-of-length-le, length-replicate}
+use lib.Dec.{ltb}
+use lib.ListN.{length, take, drop, drop-of-length-le, length-drop}
 use lib.Seq.{drop-drop, drop-at, drop-append-seam, length-take-le}
+use borrow.Author.Tests.{lt-ltb}
 use Rattle.reckon.specs.Tests.{pick}
 use Rattle.reckon.specs.Lists.{placed}
-use Rattle.reckon.proofs.TestLaws.{not-both, pick-both}
+use Rattle.reckon.proofs.TestLaws.{not-both, pick-true, pick-false, pick-same, pick-both}
 use Rattle.text.specs.Lines.{nthLine}
 use Rattle.text.specs.Writing.{Wrote}
 use Rattle.text.specs.declared.lines.Line.{Line}
+use Rattle.text.proofs.EndLaws.{start-within, end-within}
 use Rattle.text.proofs.WritingLaws.{wrote-length}
-use Rattle.files.specs.Files.{InputCame, FileCame, NamedCame, HandedOn, notRead}
+use Rattle.files.specs.Files.{InputCame, FileCame, NamedCame, HandedOn, OneCame, NamedWritten, mostName, notRead}
 use Rattle.files.specs.inner.Reading.{CameOn, handedOf}
 use Rattle.files.specs.declared.Came.{Came}
 
@@ -67,6 +70,23 @@ all-came {old} {new} {n} r a e =
 pub nothing-came : (old : List ℕ) {r : Came} → r ≡ notRead → InputCame old old r
 nothing-came old {r} e = all-came r (none-came old 0 (omega arith)) (ap (λ (x : Came). x .length) e)
 
+-- a line lies in the names
+module _ (names : List ℕ) (k : ℕ) {line : Line} (e : line ≡ nthLine names k) where
+  pub line-forth : line .from ≤ line .to
+  line-forth =
+      omega (
+        arith,
+        end-within names _ (start-within names k) .0,
+        ap (λ (l : Line). l .from) e,
+        ap (λ (l : Line). l .to) e,
+      )
+
+  pub line-inside : line .to ≤ length names
+  line-inside = omega (arith, end-within names _ (start-within names k) .1, ap (λ (l : Line). l .to) e)
+
+  pub line-long : length (take (line .to - line .from) (drop (line .from) names)) ≡ line .to - line .from
+  line-long = length-take-le _ _ (omega (arith, line-forth, line-inside, length-drop (line .from) names))
+
 -- a name that is a line with its newline
 pub named-came :
     (names : List ℕ) (k : ℕ) {line : Line} {name old new : List ℕ} {r : Came} → line ≡ nthLine names k → not (line .ended) ≡ false →
@@ -103,7 +123,33 @@ last-handed more {old} {new} {r} {room} f e h =
     subst (HandedOn old new) (sym h)
     (pick-both (HandedOn old new) more (subst (HandedOn old new) (sym e) (whole-room (f .long))) (came-handed f e refl))
 
--- the names, in a room that is as long as it was made
-pub names-handed :
-    (size : ℕ) {new : List ℕ} {r : Came} {n : ℕ} → InputCame (replicate size 0) new r → n ≡ handedOf r size → HandedOn (replicate size 0) new n
-names-handed size f h = came-handed f (sym (f .long ∙ length-replicate {A = ℕ} size 0)) h
+-- one file of just so many names
+pub one-handed :
+    (names : List ℕ) (k of : ℕ) {after : Line} {old new : List ℕ} {r : Came} {room n : ℕ} → after ≡ nthLine names of →
+    NamedCame names k old new r → room ≡ length new → n ≡ pick (ltb (after .from) (length names)) room (handedOf r room) →
+    OneCame names k of old new n
+one-handed names k of {after} {old} {new} {r} {room} {n} a f e h =
+    record {
+      came = last-handed (ltb (after .from) (length names)) (f .came) e h;
+      more = λ l. h ∙ (pick-true _ _ (lt-ltb (after .from) (length names) (omega (arith, l, ap (λ (x : Line). x .from) a))) ∙ e);
+      no-newline = λ l. h ∙ (all-of (f .no-newline l) ∙ e);
+      too-long = λ l. h ∙ (all-of (f .too-long l) ∙ e);
+    }
+  where
+    all-of : r ≡ notRead → pick (ltb (after .from) (length names)) room (handedOf r room) ≡ room
+    all-of z =
+        ap (pick (ltb (after .from) (length names)) room) (ap (λ (x : Came). handedOf x room) z ∙ pick-false _ _ refl)
+        ∙ pick-same (ltb (after .from) (length names)) room
+
+-- a file that is a line of a list is written or not by its name
+pub named-written :
+    (names : List ℕ) (k : ℕ) {line : Line} {n : ℕ} {r : Bool} → line ≡ nthLine names k → not (line .ended) ≡ false → n ≡ line .to - line .from →
+    (mostName < n → r ≡ false) → NamedWritten names k r
+named-written names k e h l f =
+    record {
+      too-long = λ g. f (omega (arith, l, ap (λ (x : Line). x .to) e, ap (λ (x : Line). x .from) e));
+      no-newline = λ g. not-both (ap not (ap (λ (x : Line). x .ended) e ∙ g)) h;
+    }
+
+pub not-written : (names : List ℕ) (k : ℕ) → NamedWritten names k false
+not-written names k = record { too-long = λ g. refl; no-newline = λ g. refl }

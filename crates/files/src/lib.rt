@@ -1,17 +1,22 @@
-// Files by name and the standard input, read into a lent room: what comes lies at the room's start, and the rest of the room stays.
-// Which bytes the system gives no contract can say.
+// Files by name and the standard input, read into a lent room: what comes lies at the room's start, and the rest of the room stays. Files
+// written whole. Which bytes the system gives or takes no contract can say.
 //
 //   read_input   the standard input
 //   read_file    the file of a name
 //   read_named   the file whose name is a line of a list of names
+//   read_names   the names that the standard input holds, one a line
+//   read_of      one file of a list of just so many names
 //   read_two     the two files whose names are the two lines of the standard input
+//   can_write    whether a file whose name is a line of a list can be written
+//   write_named  a text as the file whose name is a line of a list
 use text::lines::nth_line;
 use text::writing::put_word;
 ghost use mathlib.Core.Path.{_≡_};
-ghost use Prim.Native.Nat.{_≤_};
+ghost use mathlib.Core.Bool.{false};
+ghost use Prim.Native.Nat.{_<_, _≤_};
 ghost use lib.ListN.{length};
 ghost use Rattle.reckon.specs.Tests.{pick};
-ghost use Rattle.files.specs.Files.{InputCame, FileCame, NamedCame, TwoCame, notRead};
+ghost use Rattle.files.specs.Files.{InputCame, FileCame, NamedCame, HandedOn, OneCame, TwoCame, NamedWritten, mostName, notRead};
 ghost use Rattle.files.specs.inner.Reading.{ReadOn, handedOf};
 
 // What a read of a whole file came to: how many bytes came, and whether that is all of them, or all that the room holds. It is not where the
@@ -37,7 +42,7 @@ struct Next {
 const MOST_NAME: usize = 4_095;
 
 // Room for the lines of the standard input: one byte more than is taken of it.
-const NAMES_ROOM: usize = 65_537;
+pub const NAMES_ROOM: usize = 65_537;
 
 fn not_read() -> Came
     ensures { λ r. ⌜ r ≡ notRead ⌝ }
@@ -158,18 +163,95 @@ fn handed_last(came: Came, more: bool, room: usize) -> usize
     handed(came, room)
 }
 
+pub fn read_names(room: &mut [u8]) -> usize
+    ensures { λ r. ⌜ HandedOn (now (room .entry)) (now (room .exit)) r ⌝ }
+{
+    let came = read_input(room);
+    handed(came, room.len())
+}
+
+// The whole room where a line follows the last of the names, or where the file did not come whole.
+pub fn read_of(names: &[u8], k: usize, of: usize, room: &mut [u8]) -> usize
+    ensures { λ r. ⌜ OneCame (now (names .entry)) k of (now (room .entry)) (now (room .exit)) r ⌝ }
+{
+    let came = read_named(names, k, room);
+    let after = nth_line(names, of);
+    let more = after.from < names.len();
+    handed_last(came, more, room.len())
+}
+
 // Two files, of which the standard input has the names, one a line, and no line after them.
 pub fn read_two(first: &mut [u8], second: &mut [u8]) -> Two
     ensures { λ r. ⌜ TwoCame (now (first .entry)) (now (first .exit)) (now (second .entry)) (now (second .exit)) r ⌝ }
 {
     let mut names = [0u8; NAMES_ROOM];
-    let count = handed(read_input(&mut names), NAMES_ROOM);
-    let first_came = read_named(&names[..count], 0, first);
-    let second_came = read_named(&names[..count], 1, second);
-    let third = nth_line(&names[..count], 2);
-    let more = third.from < count;
+    let count = read_names(&mut names);
+    let first_length = read_of(&names[..count], 0, 2, first);
+    let second_length = read_of(&names[..count], 1, 2, second);
     Two {
-        first: handed(first_came, first.len()),
-        second: handed_last(second_came, more, second.len()),
+        first: first_length,
+        second: second_length,
     }
+}
+
+// A file that is there is opened and left as it is; one that is not there is made and taken away again.
+fn can_open(name: &[u8]) -> bool
+    ensures { λ r. ⌜ (mostName < length (now (name .entry)) → r ≡ false) ⌝ }
+{
+    if MOST_NAME < name.len() {
+        return false;
+    }
+    let there = os::open_append(name);
+    if 0 <= there {
+        libc::close(there);
+        return true;
+    }
+    let made = os::create(name);
+    if made < 0 {
+        return false;
+    }
+    libc::close(made);
+    os::unlink(name);
+    true
+}
+
+// A last line without its newline names no file.
+pub fn can_write(names: &[u8], k: usize) -> bool
+    ensures { λ r. ⌜ NamedWritten (now (names .entry)) k r ⌝ }
+{
+    let line = nth_line(names, k);
+    if !line.ended {
+        return false;
+    }
+    let from = line.from;
+    let to = line.to;
+    can_open(&names[from..to])
+}
+
+// A file of a name, emptied or made, and then written: whether all of the text was taken.
+fn write_file(name: &[u8], text: &[u8]) -> bool
+    ensures { λ r. ⌜ (mostName < length (now (name .entry)) → r ≡ false) ⌝ }
+{
+    if MOST_NAME < name.len() {
+        return false;
+    }
+    let file = os::open_overwrite(name);
+    if file < 0 {
+        return false;
+    }
+    let whole = io::write_all(file, text);
+    libc::close(file);
+    whole
+}
+
+pub fn write_named(names: &[u8], k: usize, text: &[u8]) -> bool
+    ensures { λ r. ⌜ NamedWritten (now (names .entry)) k r ⌝ }
+{
+    let line = nth_line(names, k);
+    if !line.ended {
+        return false;
+    }
+    let from = line.from;
+    let to = line.to;
+    write_file(&names[from..to], text)
 }

@@ -1,22 +1,24 @@
 -- How great what is read can be: a number is at most the most, so that a grid's squares can be counted.
 -- Assumes nothing.
 use mathlib.Core.Path.{_≡_, refl, sym, subst}
+use mathlib.Core.Bool.{Bool, true, false}
 use mathlib.Core.List.{List}
 use Prim.Native.Nat.{ℕ, zero, suc, _*_, _≤_, _<_}
 use native.Mathlib.Nat.{mul-zero}
 use native.Mathlib.Omega.{arith}
 use lib.Dec.{leb}
 use borrow.Author.Tests.{leb-true}
-use Rattle.reckon.proofs.TestLaws.{pick-true, pick-false, pick-both}
+use Rattle.reckon.proofs.TestLaws.{not-both, pick-true, pick-false, pick-both}
 use Rattle.text.specs.Bytes.{bytesOf}
 use Rattle.text.specs.Reading.{newline, mostNumber, isByte, numberAt, withNumber}
 use Rattle.text.specs.declared.reading.Number.{Number}
 use Rattle.text.specs.declared.reading.Number.the-variants.{Is, Not}
 use Rattle.text.proofs.ReadingLaws.{by-test}
 use Rattle.raster.specs.Amounts.{placesOf, upToMost, decimalsAfter, amountAt}
-use Rattle.raster.specs.Raster.{lineEndAfter, headLine, onlyZero, noDataAt, noHead, headOf}
+use Rattle.raster.specs.Raster.{lineEndAfter, headLine, onlyZero, noDataAt, noHead, headOf, noEntry, bareEntry, parted, entryAt}
 use Rattle.raster.specs.declared.amounts.Scale.{Scale}
 use Rattle.raster.specs.declared.amounts.Scale.the-variants.{Metres, Whole}
+use Rattle.raster.specs.declared.reading.Entry.{Entry}
 use Rattle.raster.specs.declared.reading.Head.{Head}
 
 -- ---- a number
@@ -83,6 +85,36 @@ head-small s =
     (λ n. rw (ea, eb, n) (none-small b))) (λ n. rw (ea, n) (none-small a))) (λ n. rw n (none-small 0))
 
 -- ---- squares
+
+bare-small : (k : Scale) (s : List ℕ) (p : ℕ) → bareEntry k s p .value ≤ mostNumber
+unfolding bareEntry noEntry
+bare-small k s p = pick-both (λ (e : Entry). e .value ≤ mostNumber) _ (omega arith) (go (amountAt k s p) (amount-small k s p))
+  where
+    go :
+        (v : Number) → Small v →
+        withNumber v (noEntry p) (λ n q. record { found = true; closed = false; value = n; next = q }) .value ≤ mostNumber
+    go (Is n q) h = h
+    go Not h = omega arith
+
+pub entry-small : (k : Scale) (s : List ℕ) (p : ℕ) (last : Bool) → entryAt k s p last .value ≤ mostNumber
+unfolding parted noEntry
+entry-small k s p last = pick-both (λ (e : Entry). e .value ≤ mostNumber) _ (bare-small k s p) (omega arith)
+
+-- a closed square's number is 0
+abbrev NoneClosed : Entry → Type 0
+NoneClosed e = e .closed ≡ true → e .value ≡ 0
+
+bare-closed : (k : Scale) (s : List ℕ) (p : ℕ) → NoneClosed (bareEntry k s p)
+unfolding bareEntry noEntry
+bare-closed k s p = pick-both NoneClosed _ (λ e. refl) (go (amountAt k s p))
+  where
+    go : (v : Number) → NoneClosed (withNumber v (noEntry p) (λ n q. record { found = true; closed = false; value = n; next = q }))
+    go (Is n q) e = not-both e refl
+    go Not e = refl
+
+pub entry-closed : (k : Scale) (s : List ℕ) (p : ℕ) (last : Bool) → entryAt k s p last .closed ≡ true → entryAt k s p last .value ≡ 0
+unfolding parted noEntry
+entry-closed k s p last = pick-both NoneClosed _ (bare-closed k s p) (λ e. refl)
 
 -- where there is a square there is a column
 pub some-column : (rows columns : ℕ) {i : ℕ} → i < rows * columns → 0 < columns

@@ -50,7 +50,7 @@ module _ (shape : Shape) (D : ℕ) (lent : Rooms) (f : roomsFine shape D lent �
       let t = every-each _ f in
       (leb-true (tableRoom rainKind) (length (lent .rain)) (t .1 .1 .1 .1 .1 .1 .1 .0), leb-true (tableRoom inflowKind) (length (lent .inflow)) (t .1 .1 .1 .1 .1 .1 .1 .1 .0))
 
-rows-few :
+pub rows-few :
     (s : List ℕ) (p : ℕ) (word : List ℕ) (width rows lead most : ℕ) → width ≤ mostFields → 0 < width →
     tableFine (record { width = width; lead = lead; most = most }) (tableRows s p word width rows) ≡ true → rows ≤ mostTableRows
 unfolding tableFine

@@ -185,7 +185,7 @@ rows-stand s p a word width few w at table same j l =
     (row-stands s (lineFrom s p j) word width few w refl found)))
 
 -- where nothing is refused, a row that has a number passes
-row-passes : (n : ℕ) (b : Bool) (rs : List Row) → 0 < n → refusal (n unless b ∷ rs) ≡ 0 → (b ≡ true) × (refusal rs ≡ 0)
+pub row-passes : (n : ℕ) (b : Bool) (rs : List Row) → 0 < n → refusal (n unless b ∷ rs) ≡ 0 → (b ≡ true) × (refusal rs ≡ 0)
 unfolding refusal pick
 row-passes n true rs l e = (refl, e)
 row-passes n false rs l e = absurd (omega (arith, l, e))

@@ -1,4 +1,6 @@
+pub mod BackLaws
 pub mod FitLaws
+pub mod FromElsewhere
 pub mod LinesBack
 pub mod MovingLaws
 pub mod NoteBack
@@ -9,4 +11,5 @@ pub mod ReturnLaws
 pub mod SayableLaws
 pub mod SetBack
 pub mod SetLaws
+pub mod SheetBack
 pub mod WorkedLaws

@@ -2,12 +2,14 @@
 -- Assumes nothing.
 use mathlib.Core.Path.{_≡_, refl, sym, ap, subst, _∙_}
 use mathlib.Core.List.{List}
-use Prim.Native.Nat.{ℕ, _≤_}
+use Prim.Native.Nat.{ℕ, _+_, _≤_}
 use native.Mathlib.Nat.{zero-add}
 use native.Mathlib.Omega.{arith}
 use lib.Dec.{leb}
-use lib.ListN.{length}
+use lib.ListN.{length, take, drop, length-append}
+use lib.Seq.{length-take-le}
 use borrow.Author.Tests.{eq-eqb, ne-eqb}
+use Rattle.reckon.specs.Lists.{placed}
 use Rattle.reckon.proofs.TestLaws.{pick-true, pick-false}
 use Rattle.grid.specs.Squares.{mostSquares, squares}
 use Rattle.text.specs.Writing.{Wrote}
@@ -26,14 +28,16 @@ use Rattle.programs.proofs.HeldLaws.{parts-said, partsAt}
 use Rattle.survey.specs.Sets.{mostFile, noteText, columnText, setOf, Outcome, movedOut, toSurvey}
 use Rattle.survey.specs.Sets.Outcome.{moved, refused}
 use Rattle.survey.specs.Moving.{partOf, partMoved, answered, roomAfter, Moves, MovesPart}
-use Rattle.survey.specs.inner.Notes.{judgedText}
+use Rattle.survey.specs.inner.Notes.{Judged, judgedText}
 use Rattle.survey.specs.inner.Writing.{Writable, onlyNoted}
 use Rattle.survey.specs.declared.moving.Part.{Part}
 use Rattle.survey.specs.declared.moving.Part.the-variants as part
+use Rattle.survey.specs.declared.moving.Moved.{Moved}
 use Rattle.survey.specs.declared.moving.Moved.the-variants as moved-as
 use Rattle.survey.proofs.LinesBack.{readable-at}
 use Rattle.survey.proofs.FitLaws.{note-fits, column-fits}
-use Rattle.survey.proofs.ReturnLaws.{full, full-well, writable}
+use Rattle.survey.proofs.FromElsewhere.{full}
+use Rattle.survey.proofs.ReturnLaws.{full-well, writable}
 
 -- ---- the parts
 
@@ -134,6 +138,12 @@ module _ {n : ℕ} (h : Heading) (held : Rooms) (e : n ≡ squares (h .shape)) w
   pub parts-writable : Writable h (partsOf h held) → Writable h (partsAt n h held)
   parts-writable w = subst (λ (k : ℕ). Writable h (partsAt k h held)) (sym e) w
 
+  pub parts-judged : Judged h (partsOf h held) → Judged h (partsAt n h held)
+  parts-judged w = subst (λ (k : ℕ). Judged h (partsAt k h held)) (sym e) w
+
+  pub parts-moved : {old new : List ℕ} {a : Moved} → Moves (judgedText h (partsAt n h held)) old a new → Moves (judgedText h (partsOf h held)) old a new
+  parts-moved {old} {new} {a} m = subst (λ (k : ℕ). Moves (judgedText h (partsAt k h held)) old a new) e m
+
   pub parts-wrote : (k : Part) {old new : List ℕ} {r : ℕ} → Wrote (partOf k (setOf h (partsAt n h held))) 0 old new r →
       Wrote (partOf k (setOf h (partsOf h held))) 0 old new r
   parts-wrote k {old} {new} {r} w = subst (λ (m : ℕ). Wrote (partOf k (setOf h (partsAt m h held))) 0 old new r) e w
@@ -156,3 +166,25 @@ module _ (h : Heading) (held : Rooms) {number : ℕ} (e : number ≡ checksIn (h
         answer = ap moved-as.Wrote (v .next ∙ zero-add (length (sheetWritten h held))) ∙ sym (ap answered o);
         room = v .room ∙ sym (ap (λ (x : Outcome (List ℕ)). roomAfter x old) o);
       }
+
+-- ---- what was written lies in the room
+
+pub record Lying (n : ℕ) (new : List ℕ) : Type 0 where
+  pub within : n ≤ length new
+  pub counted : n ≡ length (take n new)
+
+pub wrote-lies : (o : Outcome (List ℕ)) {old new : List ℕ} {n : ℕ} {a : Moved} → a ≡ moved-as.Wrote n → Moves o old a new → Lying n new
+unfolding answered roomAfter placed
+wrote-lies (moved t) {old} {new} {n} w m =
+    let e : n ≡ length t = same (sym w ∙ m .answer) in
+    let long : length new ≡ length t + length (drop (length t) (drop 0 old)) =
+    ap length (m .room) ∙ length-append t (drop (length t) (drop 0 old)) in
+    let inside : n ≤ length new = omega (arith, e, long) in
+    record { within = inside; counted = sym (length-take-le n new inside) }
+  where
+    same : {i j : ℕ} → moved-as.Wrote i ≡ moved-as.Wrote j → i ≡ j
+    same e = cc
+wrote-lies (refused number line) w m = never (sym w ∙ m .answer)
+  where
+    never : {A : Type 0} {i j k : ℕ} → moved-as.Wrote i ≡ moved-as.Refused j k → A
+    never e = absurd (let z : _≡_ {A = ℕ} 0 1 = cc in omega arith)

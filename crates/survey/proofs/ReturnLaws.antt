@@ -6,16 +6,15 @@ use mathlib.Core.List.{List}
 use Prim.Native.Nat.{ℕ, _≤_}
 use native.Mathlib.Omega.{arith}
 use lib.Dec.{leb}
-use lib.ListN.{length, take, replicate, length-replicate}
+use lib.ListN.{length, take}
 use borrow.Author.Tests.{le-leb}
-use Rattle.reckon.specs.Tables.{rainKind, inflowKind, tableRoom}
 use Rattle.reckon.proofs.TestLaws.{pick-true, pick-false, every-each, each-every}
-use Rattle.grid.specs.Squares.{mostSquares, squares}
+use Rattle.grid.specs.Squares.{squares}
 use Rattle.grid.specs.declared.squares.Shape.{Shape}
 use Rattle.text.proofs.ReadingLaws.{by-test}
 use Rattle.raster.specs.declared.amounts.Scale.{Scale}
 use Rattle.raster.specs.declared.amounts.Scale.the-variants.{Metres, Whole}
-use Rattle.sheet.specs.Sheet.{Rooms, roomsFine, lineOne, shapeOf, said, headingOf, judged, sheetOf}
+use Rattle.sheet.specs.Sheet.{Rooms, roomsFine, lineOne, shapeOf, said, headingOf, sheetOf}
 use Rattle.sheet.specs.Written.{sheetWritten}
 use Rattle.sheet.specs.declared.reading.Heading.{Heading}
 use Rattle.sheet.specs.declared.reading.Sheet.{Sheet}
@@ -23,7 +22,7 @@ use Rattle.sheet.specs.declared.reading.Sheet.the-variants.{Read, Refused}
 use Rattle.sheet.proofs.JudgeLaws.{take-put}
 use Rattle.sheet.proofs.SheetLaws.{Well, well, rooms-shape, rain-few, inflow-few}
 use Rattle.sheet.proofs.WrittenLaws.{stands-written, said-stands}
-use Rattle.programs.specs.Reading.{sheetWithin, emptyRooms}
+use Rattle.programs.specs.Reading.{sheetWithin}
 use Rattle.survey.specs.Sets.{Set, fiveFiles, mostFile, noteText, columnText, setOf, Outcome, movedOut, toSurvey, movedBack, allShort, setAnswer, fromSurvey}
 use Rattle.survey.specs.Sets.Outcome.{moved, refused}
 use Rattle.survey.specs.Moving.{partOf, partMoved, answered, roomAfter, Moves, MovesPart, MovesSet}
@@ -36,9 +35,7 @@ use Rattle.survey.specs.inner.Writing.{Writable}
 use Rattle.survey.proofs.SayableLaws.{Column, column-readable}
 use Rattle.survey.proofs.SetBack.{say, each, bed, depth, roughness, rate, says-same, set-judged}
 use Rattle.survey.proofs.FitLaws.{sheet-fits, note-fits, column-fits}
-
-abbrev pub full : Rooms
-full = emptyRooms mostSquares
+use Rattle.survey.proofs.FromElsewhere.{full, full-rooms, well-read, becomes-sheet}
 
 -- ---- a sheet that reads well with some rooms reads well with those of the most squares
 
@@ -46,16 +43,7 @@ full-fine : (shape : Shape) (D : ℕ) (lent : Rooms) → roomsFine shape D lent 
 unfolding roomsFine
 full-fine shape D lent f =
     let t = every-each _ f in
-    let few = rooms-shape shape D lent f .few in
-    let cells : leb (squares shape) (length (replicate {A = ℕ} mostSquares 0)) ≡ true =
-    le-leb (squares shape) (length (replicate {A = ℕ} mostSquares 0)) (omega (arith, few, length-replicate {A = ℕ} mostSquares 0)) in
-    let rain : leb (tableRoom rainKind) (length (replicate {A = ℕ} (tableRoom rainKind) 0)) ≡ true =
-    le-leb (tableRoom rainKind) (length (replicate {A = ℕ} (tableRoom rainKind) 0))
-    (omega (arith, length-replicate {A = ℕ} (tableRoom rainKind) 0)) in
-    let inflow : leb (tableRoom inflowKind) (length (replicate {A = ℕ} (tableRoom inflowKind) 0)) ≡ true =
-    le-leb (tableRoom inflowKind) (length (replicate {A = ℕ} (tableRoom inflowKind) 0))
-    (omega (arith, length-replicate {A = ℕ} (tableRoom inflowKind) 0)) in
-    each-every _ (t .0, (t .1 .0, (cells, (cells, (cells, (cells, (cells, (rain, (inflow, tt)))))))))
+    full-rooms shape D (t .0) (t .1 .0)
 
 pub full-well : (s : List ℕ) (lent : Rooms) (h : Heading) → Well s lent h → Well s full (headingOf s)
 full-well s lent h w =
@@ -66,10 +54,6 @@ full-well s lent h w =
       checks = w .checks;
       heading = refl;
     }
-
-well-read : (s : List ℕ) (lent : Rooms) → Well s lent (headingOf s) → sheetOf s lent ≡ Read (headingOf s)
-unfolding sheetOf judged
-well-read s lent w = pick-true _ _ (w .first-line) ∙ (pick-true _ _ (w .fine) ∙ rw (w .text-good, w .checks) refl)
 
 -- ---- a sheet that reads well
 
@@ -204,4 +188,11 @@ returns-parts s lent h e old n b d k r N B D K R mn mb md mk mr a before after m
     text-moved s (ap fromSurvey same ∙ returns-sheet s (setOf h (said s)) f) m
 
 pub returns : Returns
-returns = record { sheet-moves = moves-there; sheet-returns = returns-sheet; set-returns = returns-set; there-and-back = returns-parts }
+returns =
+    record {
+      sheet-moves = moves-there;
+      sheet-returns = returns-sheet;
+      set-returns = returns-set;
+      elsewhere = becomes-sheet;
+      there-and-back = returns-parts;
+    }

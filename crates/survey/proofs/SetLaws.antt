@@ -129,11 +129,11 @@ module _ (note : List ℕ) (q : ℕ) (k : Scale) (grid : List ℕ) (p : ℕ) (sh
 -- ---- a grid and a note
 
 module _ {note : List ℕ} {read : Note} (n : NoteIs note read) where
-  shape-is : read .heading .shape ≡ shapeOf note
+  pub shape-is : read .heading .shape ≡ shapeOf note
   unfolding headingOf
   shape-is = ap (λ (h : Heading). h .shape) (n .heading-is)
 
-  side-is : read .heading .rules .«square_side» ≡ lineOne note .side
+  pub side-is : read .heading .rules .«square_side» ≡ lineOne note .side
   unfolding headingOf runLine asRun
   side-is = ap (λ (h : Heading). h .rules .«square_side») (n .heading-is)
 

@@ -6,11 +6,13 @@ use mathlib.Core.List.{List, [], _∷_, _++_}
 use Prim.Native.Nat.{ℕ}
 use Prim.Native.String.{String}
 use lib.ListN.{length, take}
+use Rattle.grid.specs.Squares.{mostSquares}
 use Rattle.text.specs.Bytes.{bytesOf}
-use Rattle.sheet.specs.Sheet.{Rooms, rooms, said, sheetOf}
+use Rattle.sheet.specs.Sheet.{Rooms, rooms, said, headingOf, sheetOf}
 use Rattle.sheet.specs.declared.reading.Heading.{Heading}
 use Rattle.sheet.specs.declared.reading.Sheet.the-variants.{Read}
-use Rattle.survey.specs.Sets.{Set, fiveFiles, setOf, toSurvey, fromSurvey}
+use Rattle.programs.specs.Reading.{emptyRooms}
+use Rattle.survey.specs.Sets.{Set, fiveFiles, setOf, setSays, toSurvey, fromSurvey}
 use Rattle.survey.specs.Sets.Outcome.{moved, refused}
 use Rattle.survey.specs.Moving.{MovesPart, MovesSet}
 use Rattle.survey.specs.declared.moving.Part.the-variants.{Note, Bed, Depth, Roughness, Rate}
@@ -86,6 +88,10 @@ pub record Returns : Type 0 where
   pub sheet-returns : (s : List ℕ) (t : Set) → toSurvey s ≡ moved t → fromSurvey t ≡ moved s
   -- "and a set we wrote returns likewise"
   pub set-returns : (s u : List ℕ) (t : Set) → toSurvey s ≡ moved t → fromSurvey t ≡ moved u → toSurvey u ≡ moved t
+  -- "A set from elsewhere": the sheet that it becomes reads well, and says what the set says
+  pub elsewhere :
+      (t : Set) (u : List ℕ) → fromSurvey t ≡ moved u →
+      (sheetOf u (emptyRooms mostSquares) ≡ Read (headingOf (t .note))) × (said u ≡ setSays t)
   -- of the calls: the five parts that a sheet which reads well is moved to, in whatever rooms, are moved back to it
   pub there-and-back :
       (s : List ℕ) (lent : Rooms) (h : Heading) → Read h ≡ sheetOf s lent → (old : List ℕ) (n b d k r : ℕ) (N B D K R : List ℕ) →

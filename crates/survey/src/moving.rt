@@ -1,6 +1,5 @@
-// A sheet moved to a set, one part of it at a time, and what a set says moved back.
+// A sheet moved to a set, one part of it at a time.
 use crate::texts::put_note;
-use crate::texts::put_sheet;
 use grid::squares::MOST_SQUARES;
 use grid::squares::squares_of;
 use programs::reading::read_within;
@@ -12,16 +11,14 @@ use reckon::tables::RAIN_ROOM;
 use reckon::tables::RAIN_WIDTH;
 use sheet::reading::Heading;
 use sheet::reading::Sheet;
-use sheet::reading::judge;
 ghost use Prim.Native.Nat.{_≤_};
 ghost use lib.ListN.{length};
-ghost use Rattle.grid.specs.Squares.{ShapeInRange, mostSquares};
+ghost use Rattle.grid.specs.Squares.{mostSquares};
 ghost use Rattle.text.specs.Writing.{Wrote};
 ghost use Rattle.sheet.specs.Sheet.{rooms};
 ghost use Rattle.programs.specs.inner.Held.{Holds, partsOf};
 ghost use Rattle.survey.specs.Sets.{mostFile, setOf};
-ghost use Rattle.survey.specs.Moving.{Moves, MovesPart, partOf};
-ghost use Rattle.survey.specs.inner.Notes.{Judged, judgedText};
+ghost use Rattle.survey.specs.Moving.{MovesPart, partOf};
 ghost use Rattle.survey.specs.inner.Writing.{Writable};
 
 // A file of a set.
@@ -142,48 +139,4 @@ pub fn to_part(text: &[u8], part: Part, out: &mut [u8; MOST_FILE]) -> Moved
             &inflow,
         )),
     }
-}
-
-// 1 to 5, and then the sheet of what rooms hold at the start of a room.
-fn put_judged(
-    out: &mut [u8],
-    heading: Heading,
-    marks: &[u8],
-    beds: &[u32],
-    roughness: &[u32],
-    rates: &[u32],
-    depths: &[u32],
-    rain: &[u32],
-    inflow: &[u32],
-) -> Moved
-    requires { ⌜ (ShapeInRange (heading .shape)) × (mostFile ≤ length (now out)) ⌝ }
-    requires { ⌜ Judged heading (rooms (now marks) (now beds) (now roughness) (now rates) (now depths) (now rain) (now inflow)) ⌝ }
-    ensures { λ r. ⌜ Moves (judgedText heading (rooms (now (marks .entry)) (now (beds .entry)) (now (roughness .entry)) (now (rates .entry)) (now (depths .entry)) (now (rain .entry)) (now (inflow .entry)))) (now (out .entry)) r (now (out .exit)) ⌝ }
-{
-    let number = judge(
-        heading.shape,
-        heading.rules,
-        heading.end,
-        marks,
-        beds,
-        roughness,
-        rates,
-        depths,
-        rain,
-        inflow,
-    );
-    if number != 0 {
-        return Moved::Refused(number, 0);
-    }
-    Moved::Wrote(put_sheet(
-        out,
-        heading,
-        marks,
-        beds,
-        roughness,
-        rates,
-        depths,
-        rain,
-        inflow,
-    ))
 }

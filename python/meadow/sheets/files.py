@@ -10,11 +10,16 @@ def opened(name):
         return None
 
 
-def both_opened(given):
-    """The bytes of two files, by their names at the standard input, each ended by a newline; None where there are not exactly two names, or
-    one of them cannot be opened."""
+def all_opened(given, many):
+    """The bytes of so many files, by their names at the standard input, each ended by a newline; None where there are not exactly so many names,
+    or one of them cannot be opened."""
     *names, rest = given.split(b"\n")
-    if len(names) != 2 or rest:
+    if len(names) != many or rest:
         return None
     texts = [opened(name) for name in names]
     return None if None in texts else texts
+
+
+def both_opened(given):
+    """The bytes of two files likewise."""
+    return all_opened(given, 2)

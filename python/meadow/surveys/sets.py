@@ -4,7 +4,8 @@ from typing import NamedTuple
 
 from ..rule.ranges import fine
 from ..rule.refusals import Refused, check, refuse_if
-from ..sheets.lines import CLOSED, GRID, MARKS, RUN, SQUARE, Sheet, place_of
+from ..sheets.files import all_opened
+from ..sheets.lines import CLOSED, GRID, MARKS, RUN, SQUARE, Sheet, place_of, refused_text
 from ..sheets.reading import Lines, meadow_of, read
 from .office import METRES, WHOLE, OfficeGrid, office_text, read_office
 
@@ -12,6 +13,8 @@ MOST_FILE = 262_144
 MOST_SQUARES = 4_096
 # each grid of a set: the field of a square that it holds, and how it is written
 GRIDS = {"bed": METRES, "depth": METRES, "roughness": WHOLE, "rate": WHOLE}
+# how the files of a set that has a name are called
+ENDINGS = {"note": ".note", **{name: f".{name}.asc" for name in GRIDS}}
 
 
 class Set(NamedTuple):
@@ -117,3 +120,20 @@ def moved_out(text):
     squares = [sheet.squares[place] for place in sorted(sheet.squares)]
     grids = {name: OfficeGrid(sheet.rows, sheet.columns, sheet.side, [square.get(name) for square in squares]) for name in GRIDS}
     return Set(note_of(text), **{name: office_text(grid, GRIDS[name]) for name, grid in grids.items()})
+
+
+def set_paths(*words):
+    """The five files of a set by what they are: the files themselves, or a folder and the set's name in it."""
+    if len(words) == 2:
+        words = [f"{words[0].rstrip('/') or words[0]}/{words[1]}{ending}" for ending in ENDINGS.values()]
+    return dict(zip(ENDINGS, words, strict=True))
+
+
+def named_back(given):
+    """What `from_survey` prints of the bytes at its standard input, the names of a set's five files."""
+    texts = all_opened(given, len(Set._fields))
+    try:
+        refuse_if(texts is None, 12)
+        return moved_back(Set(*(text.decode("latin-1") for text in texts)))
+    except Refused as refused:
+        return refused_text(refused.number, refused.line)

@@ -9,7 +9,7 @@ from ..sheets.reading import Lines, number_well, read
 from .faults import Fault, out_of_range, place_faults
 from .list_reasons import depth_slip
 from .opening import file_faults, is_the_sheets
-from .reasons import IN_THE_RUN, MOST_TOLD, NOT_FOUND, reasons
+from .reasons import IN_THE_RUN, NOT_FOUND, first_told, reasons
 from .slips import mended, number_slip, shown
 
 # how a line is written
@@ -71,8 +71,7 @@ def boards_reasons(sheet_text, text, number, line):
     if number in IN_THE_RUN:
         return reasons(sheet_text, number, line)
     found = [str(fault) for fault in board_faults(read(sheet_text)[0], boards_in(text))] if number == 13 else []
-    more = [f"and {len(found) - MOST_TOLD} more places"] if len(found) > MOST_TOLD else []
-    return found[:MOST_TOLD] + more or [NOT_FOUND]
+    return first_told(found)
 
 
 def both_reasons(files, texts, refused):

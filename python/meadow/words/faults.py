@@ -53,14 +53,14 @@ def out_of_range(line, values, where=""):
             yield Fault(line, f"{where}{thing} is {value:,}", f"write {least:,} to {most:,}{f' ({unit})' if unit else ''}")
 
 
-def shape_faults(text):
+def shape_faults(text, most_squares):
     """Of 1: rows, columns and side of line 1."""
     grid = Lines(text).take(GRID)
     yield from out_of_range(1, grid)
     squares = grid["rows"] * grid["columns"]
-    if fine("rows", grid["rows"]) and fine("columns", grid["columns"]) and squares > MOST_SQUARES:
+    if fine("rows", grid["rows"]) and fine("columns", grid["columns"]) and squares > most_squares:
         larger = f"with twice the side they would be {-(-grid['rows'] // 2)} by {-(-grid['columns'] // 2)}"
-        yield Fault(1, f"{grid['rows']} by {grid['columns']} are {squares:,} squares", f"at most {MOST_SQUARES:,} are taken; {larger}")
+        yield Fault(1, f"{grid['rows']} by {grid['columns']} are {squares:,} squares", f"at most {most_squares:,} are taken; {larger}")
 
 
 def ground_of(sheet):
@@ -139,7 +139,7 @@ def run_faults(sheet, end):
 BY_NUMBER = {2: ground_faults, 3: depth_faults, 4: table_faults, 5: run_faults}
 
 
-def faults(number, text):
+def faults(number, text, most_squares=MOST_SQUARES):
     """Every place that a refusal by 1 to 5 can be about, in the sheet's order."""
-    found = shape_faults(text) if number == 1 else BY_NUMBER[number](*read(text))
+    found = shape_faults(text, most_squares) if number == 1 else BY_NUMBER[number](*read(text, most_squares))
     return sorted(found, key=lambda fault: fault.line)

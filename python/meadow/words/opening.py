@@ -23,12 +23,17 @@ def texts_of(files):
 
 def file_faults(other, sheet_file, other_file):
     """Of 12 with line 0: of a sheet and another file, called so, those that cannot be opened and those that are too long."""
-    for kind, path in (("sheet", sheet_file), (other, other_file)):
+    return named_faults({"sheet": sheet_file, other: other_file}, MOST_BYTES)
+
+
+def named_faults(files, most):
+    """The same of files by what they are called, and so many bytes."""
+    for kind, path in files.items():
         why = unopened(path)
         if why:
             yield f"the {kind} {path} cannot be opened: {why}"
-        elif os.path.getsize(path) > MOST_BYTES:
-            yield f"the {kind} {path} has {os.path.getsize(path):,} bytes, and at most {MOST_BYTES:,} are read"
+        elif os.path.getsize(path) > most:
+            yield f"the {kind} {path} has {os.path.getsize(path):,} bytes, and at most {most:,} are read"
         if "\n" in str(path):
             yield f"the name of the {kind} has a newline in it: give it another name"
 

@@ -5,7 +5,7 @@ Nothing is decided here. Where no place is found that fits the number, that is s
 from ..programs import printed
 from ..rule.refusals import Refused, check
 from ..sheets.lines import ANSWER_LINES, INFLOW, REFUSED, Answer, values_of
-from ..sheets.reading import meadow_of, read
+from ..sheets.reading import MOST_SQUARES, meadow_of, read
 from .faults import faults
 from .misplaced import lines_in, slips_at, wanted
 from .sense import deepest
@@ -74,15 +74,19 @@ def text_reasons(text, line):
     yield f"line {line} may be {', or '.join(forms)}"
 
 
-def reasons(text, number, line):
+def first_told(found):
+    """The places that are told one by one, and how many more there are; that none was found, where there are none."""
+    more = [f"and {len(found) - MOST_TOLD} more places"] if len(found) > MOST_TOLD else []
+    return found[:MOST_TOLD] + more or [NOT_FOUND]
+
+
+def reasons(text, number, line, most_squares=MOST_SQUARES):
     """Why a text was refused, line by line, the likeliest first."""
     if number == 12:
         return list(text_reasons(text, line))
     if number in IN_THE_RUN:
         return list(run_reasons(text, number))
-    found = [str(fault) for fault in faults(number, text)] if number <= 5 else []
-    more = [f"and {len(found) - MOST_TOLD} more places"] if len(found) > MOST_TOLD else []
-    return found[:MOST_TOLD] + more or [NOT_FOUND]
+    return first_told([str(fault) for fault in faults(number, text, most_squares)] if number <= 5 else [])
 
 
 def why_not(text):

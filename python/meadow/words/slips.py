@@ -48,10 +48,10 @@ def shown(line):
     return seen if len(seen) <= LONGEST_SHOWN else seen[:LONGEST_SHOWN] + "…"
 
 
-def mended(line, every):
+def mended(line, every, mends=None):
     """A line with every mend made, and the slips that were there, each with how many other lines have it."""
     slips = []
-    for mend, words in MENDS:
+    for mend, words in mends or MENDS:
         if mend(line) != line:
             others = sum(mend(other) != other for other in every) - 1
             slips.append(words + (f" (so in {others} other lines)" if others > 0 else ""))

@@ -3,20 +3,26 @@
 use mathlib.Core.Path.{_≡_}
 use mathlib.Core.Bool.{Bool, true, not}
 use mathlib.Core.List.{List, []}
-use Prim.Native.Nat.{ℕ, _+_, _≤_, min}
+use Prim.Native.Nat.{ℕ, _+_, _*_, _≤_, min}
+use lib.ListN.{length}
 use lib.Dec.{eqb, ltb}
 use Rattle.reckon.specs.Tests.{pick, allBelow, firstFailing}
+use Rattle.reckon.specs.Lists.{tabulate}
 use Rattle.reckon.specs.Ranges.{mostTableRows}
-use Rattle.grid.specs.Squares.{squares}
+use Rattle.reckon.specs.Tables.{rainKind, inflowKind}
+use Rattle.grid.specs.Squares.{ShapeInRange, squares}
 use Rattle.grid.specs.declared.squares.Shape.{Shape}
 use Rattle.text.specs.Reading.{wordAt, lineFrom}
 use Rattle.raster.specs.Raster.{entryFrom}
 use Rattle.raster.specs.declared.amounts.Scale.{Scale}
-use Rattle.sheet.specs.Sheet.{Rooms, checksIn, lineOne, cellsAt, rainAt, inflowAt, headingOf}
+use Rattle.raster.specs.declared.amounts.Scale.the-variants.{Metres, Whole}
+use Rattle.sheet.specs.Lines.{rainWord, inflowWord}
+use Rattle.sheet.specs.Sheet.{Rooms, rooms, tableRows, checksIn, lineOne, shapeOf, cellsAt, rainAt, rainRows, inflowAt, inflowRows, headingOf}
 use Rattle.sheet.specs.declared.reading.Heading.{Heading}
 use Rattle.sheet.specs.declared.rooms.Scan.{Scan}
 use Rattle.sheet.specs.Written.{sheetWritten}
-use Rattle.survey.specs.Sets.{Set, fiveFiles, markLine, noteBad, Outcome}
+use Rattle.programs.specs.inner.Held.{partsOf}
+use Rattle.survey.specs.Sets.{Set, fiveFiles, markLine, noteMark, noteBad, setBad, allAgree, column, Outcome}
 use Rattle.survey.specs.Sets.Outcome.{moved, refused}
 use Rattle.survey.specs.inner.Writing.{Writable}
 use Rattle.survey.specs.declared.notes.Note.{Note}
@@ -86,3 +92,31 @@ unfoldable pub judgedText : Heading → Rooms → Outcome (List ℕ)
 judgedText h held =
     pick (eqb (checksIn (h .shape) (h .rules) held (h .end)) 0) (moved (sheetWritten h held))
     (refused (checksIn (h .shape) (h .rules) held (h .end)) 0)
+
+-- rooms of which the parts that belong to a heading can be judged, and written where their checks pass
+pub record Lies (h : Heading) (held : Rooms) : Type 0 where
+  pub shape : ShapeInRange (h .shape)
+  pub marks : squares (h .shape) ≤ length (held .cells .marks)
+  pub beds : squares (h .shape) ≤ length (held .cells .beds)
+  pub roughness : squares (h .shape) ≤ length (held .cells .roughness)
+  pub rates : squares (h .shape) ≤ length (held .cells .rates)
+  pub depths : squares (h .shape) ≤ length (held .cells .depths)
+  pub rain-few : h .«rain_rows» ≤ lookedRows
+  pub inflow-few : h .«inflow_rows» ≤ lookedRows
+  pub rain : rainKind .width * h .«rain_rows» ≤ length (held .rain)
+  pub inflow : inflowKind .width * h .«inflow_rows» ≤ length (held .inflow)
+  pub judged : Judged h (partsOf h held)
+
+-- a set whose text, closed squares and shape are good
+pub record SetGood (t : Set) : Type 0 where
+  pub text : setBad t ≡ 0
+  pub agree : allAgree t ≡ true
+  pub shape : ShapeInRange (shapeOf (t .note))
+
+-- what it says, of its tables the rows that are looked at
+unfoldable pub lookedSays : Set → Rooms
+lookedSays t =
+    rooms (tabulate (squares (shapeOf (t .note))) (noteMark (t .note))) (column t Metres (t .bed)) (column t Whole (t .roughness))
+    (column t Whole (t .rate)) (column t Metres (t .depth))
+    (tableRows (t .note) (rainAt (t .note)) rainWord (rainKind .width) (min (rainRows (t .note)) lookedRows))
+    (tableRows (t .note) (inflowAt (t .note)) inflowWord (inflowKind .width) (min (inflowRows (t .note)) lookedRows))

@@ -6,7 +6,7 @@ use Prim.Native.Nat.{ℕ, _+_, _-_, _≤_}
 use native.Mathlib.Omega.{arith}
 use lib.ListN.{length, length-replicate}
 use borrow.Author.Needs.{needs}
-use Rattle.grid.specs.Squares.{ShapeInRange, mostAlong, mostSquares}
+use Rattle.grid.specs.Squares.{mostAlong, mostSquares}
 use Rattle.ledger.specs.Runs.{Plan, World, plan, world}
 use Rattle.checks.specs.Given.{Given, ground, given}
 use Rattle.flood.proofs.StepLaws.{passed-fine, part, refilled}

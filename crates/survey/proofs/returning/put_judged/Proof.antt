@@ -1,11 +1,11 @@
--- `survey::moving::put_judged` meets its contract: a check that fails, or the sheet.
+-- `survey::returning::put_judged` meets its contract: a check that fails, or the sheet.
 -- Assumes nothing.
 use mathlib.Core.Path.{sym, _∙_}
 use borrow.Author.Needs.{needs}
 use Rattle.sheet.specs.Sheet.{Rooms, rooms}
 use Rattle.survey.proofs.MovingLaws.{judged-refused, judged-put}
-use Rattle.survey.proofs.moving.put_judged.Statement.{statement}
-use Rattle.survey.proofs.moving.put_judged.Tie as tie
+use Rattle.survey.proofs.returning.put_judged.Statement.{statement}
+use Rattle.survey.proofs.returning.put_judged.Tie as tie
 
 abbrev held : tie.Start → Rooms
 held s =
