@@ -1,0 +1,92 @@
+use borrow.Author.Needs.{needs}
+use Rattle.holes.proofs.holes.hole_at.Statement.{statement}
+use Rattle.holes.proofs.holes.hole_at.Tie as tie
+use Rattle.holes.proofs.holes.hole_at.Reads as reads
+use Rattle.holes.proofs.holes.hole_at.Lts as lts
+use Rattle.holes.proofs.holes.put_place.Reads as put-place-reads
+use Rattle.text.proofs.reading.word_at.Reads as word-at-reads
+
+-- src/holes.rt:43:28
+slice-aggregate-put-place : tie.Need-slice-aggregate-put-place
+slice-aggregate-put-place c = search needs
+
+-- src/holes.rt:43:9
+put-place-requires : tie.Need-put-place-requires
+put-place-requires c κs = ?
+
+-- src/holes.rt:44:27
+array-share-prefix-room : tie.Need-array-share-prefix-room
+array-share-prefix-room c = ?
+
+-- src/holes.rt:44:27
+slice-aggregate-word-at : tie.Need-slice-aggregate-word-at
+slice-aggregate-word-at c = ?
+
+-- src/holes.rt:44:9
+word-at-requires : tie.Need-word-at-requires
+word-at-requires c κs = search needs
+
+-- src/holes.rt:45:9
+returns : tie.Need-returns
+returns c = ?
+
+-- src/holes.rt:47:17
+add-after : tie.Need-add-after
+add-after c = ?
+
+-- src/holes.rt:48:29
+slice-aggregate-word-at-2 : tie.Need-slice-aggregate-word-at-2
+slice-aggregate-word-at-2 c = search needs
+
+-- src/holes.rt:48:8
+word-at-requires-2 : tie.Need-word-at-requires-2
+word-at-requires-2 c κs = search needs
+
+-- src/holes.rt:49:25
+add-t19 : tie.Need-add-t19
+add-t19 c = ?
+
+-- src/holes.rt:49:9
+returns-2 : tie.Need-returns-2
+returns-2 c = ?
+
+-- src/holes.rt:51:29
+slice-aggregate-word-at-3 : tie.Need-slice-aggregate-word-at-3
+slice-aggregate-word-at-3 c = search needs
+
+-- src/holes.rt:51:8
+word-at-requires-3 : tie.Need-word-at-requires-3
+word-at-requires-3 c κs = search needs
+
+-- src/holes.rt:52:25
+add-t23 : tie.Need-add-t23
+add-t23 c = ?
+
+-- src/holes.rt:52:9
+returns-3 : tie.Need-returns-3
+returns-3 c = ?
+
+-- src/holes.rt:39:1
+returns-4 : tie.Need-returns-4
+returns-4 c = ?
+
+pub hole-at-spec : {M : Type 1} → statement M
+hole-at-spec =
+    tie.close
+    (tie.spec
+    slice-aggregate-put-place
+    put-place-requires
+    array-share-prefix-room
+    slice-aggregate-word-at
+    word-at-requires
+    returns
+    add-after
+    slice-aggregate-word-at-2
+    word-at-requires-2
+    add-t19
+    returns-2
+    slice-aggregate-word-at-3
+    word-at-requires-3
+    add-t23
+    returns-3
+    returns-4)
