@@ -1,0 +1,4 @@
+pub mod RoundLaws
+pub mod FillLaws
+pub mod HoleLaws
+pub mod PutLaws

@@ -11,9 +11,10 @@ ghost use mathlib.Core.Path.{_≡_};
 ghost use Prim.Native.Nat.{_+_, _≤_, _<_};
 ghost use lib.ListN.{length};
 ghost use Rattle.text.specs.Writing.{Wrote};
-ghost use Rattle.holes.specs.Holes.{bedAt, holeAt, lineWith};
+ghost use Rattle.sheet.specs.Sheet.{cellsAt};
+ghost use Rattle.holes.specs.Holes.{lineWith};
 ghost use Rattle.holes.specs.Repaired.{bedText};
-ghost use Rattle.holes.specs.inner.Steps.{Looked, bedsPut, holeIn, placeText};
+ghost use Rattle.holes.specs.inner.Steps.{Looked, bedsPut, cellsPut, holeIn, placeText};
 
 // Where the `?` of a square's line stands, or that it has none.
 pub(crate) enum Hole {
@@ -89,14 +90,22 @@ fn put_line_with(
     put_word(out, next, &text[rest..end])
 }
 
-// A text with a bed for each hole of its squares, at the start of out.
-pub(crate) fn put_with_beds(out: &mut [u8], text: &[u8], columns: usize, squares: usize, beds: &[u32]) -> usize
-    requires { ⌜ (Looked (now text) columns squares) × (squares ≤ length (now beds)) ⌝ }
-    requires { ⌜ length (bedsPut (now text) (now beds)) ≤ length (now out) ⌝ }
-    ensures { λ r. ⌜ Wrote (bedsPut (now (text .entry)) (now (beds .entry))) 0 (now (out .entry)) (now (out .exit)) r ⌝ }
+// The lines of a text's squares with a bed for each hole, and the rest of the text after them.
+fn put_from(
+    out: &mut [u8],
+    at: usize,
+    text: &[u8],
+    cells: usize,
+    columns: usize,
+    squares: usize,
+    beds: &[u32],
+) -> usize
+    requires { ⌜ (Looked (now text) columns squares) × (squares ≤ length (now beds)) × (cells ≡ cellsAt (now text)) ⌝ }
+    requires { ⌜ at + length (cellsPut (now text) (now beds)) ≤ length (now out) ⌝ }
+    ensures { λ r. ⌜ Wrote (cellsPut (now (text .entry)) (now (beds .entry))) at (now (out .entry)) (now (out .exit)) r ⌝ }
 {
-    let mut start = next_line(text, next_line(text, 0));
-    let mut next = put_word(out, 0, &text[..start]);
+    let mut start = cells;
+    let mut next = at;
     let mut square: usize = 0;
     while square < squares {
         let bed = number(beds, square);
@@ -105,4 +114,22 @@ pub(crate) fn put_with_beds(out: &mut [u8], text: &[u8], columns: usize, squares
         square += 1;
     }
     put_word(out, next, &text[start..])
+}
+
+// Where the line of the first square starts.
+pub(crate) fn cells_at(text: &[u8]) -> usize
+    ensures { λ r. ⌜ r ≡ cellsAt (now (text .entry)) ⌝ }
+{
+    next_line(text, next_line(text, 0))
+}
+
+// A text with a bed for each hole of its squares, at the start of out.
+pub(crate) fn put_with_beds(out: &mut [u8], text: &[u8], columns: usize, squares: usize, beds: &[u32]) -> usize
+    requires { ⌜ (Looked (now text) columns squares) × (squares ≤ length (now beds)) ⌝ }
+    requires { ⌜ length (bedsPut (now text) (now beds)) ≤ length (now out) ⌝ }
+    ensures { λ r. ⌜ Wrote (bedsPut (now (text .entry)) (now (beds .entry))) 0 (now (out .entry)) (now (out .exit)) r ⌝ }
+{
+    let cells = cells_at(text);
+    let next = put_word(out, 0, &text[..cells]);
+    put_from(out, next, text, cells, columns, squares, beds)
 }

@@ -1,5 +1,6 @@
 // What the repair tool prints of a text: the whole program short of its input and output.
 use crate::holes::Hole;
+use crate::holes::cells_at;
 use crate::holes::hole_at;
 use crate::holes::put_with_beds;
 use crate::rounds::NO_BED;
@@ -42,7 +43,7 @@ pub const REPAIR_ROOM: usize = 131_072;
 // A bed that is not known for a square whose line has a hole.
 fn mark_hole(text: &[u8], start: usize, row: usize, column: usize, beds: &mut [u32], square: usize)
     requires { ⌜ square < length (now beds) ⌝ }
-    ensures { λ _. ⌜ now (beds .exit) ≡ pick (holeAt (now (text .entry)) start row column) (set (now (beds .entry)) square noBed) (now (beds .entry)) ⌝ }
+    ensures { λ _. ⌜ now (beds .exit) ≡ pick (not (holeAt (now (text .entry)) start row column)) (now (beds .entry)) (set (now (beds .entry)) square noBed) ⌝ }
 {
     let Hole::At(_spot) = hole_at(text, start, row, column) else {
         return;
@@ -55,7 +56,7 @@ fn mark_holes(text: &[u8], columns: usize, squares: usize, beds: &mut [u32])
     requires { ⌜ (Looked (now text) columns squares) × (squares ≤ length (now beds)) ⌝ }
     ensures { λ _. ⌜ now (beds .exit) ≡ filled squares (λ i. not (isHole (now (text .entry)) i)) (λ i. noBed) (now (beds .entry)) ⌝ }
 {
-    let mut start = next_line(text, next_line(text, 0));
+    let mut start = cells_at(text);
     let mut square: usize = 0;
     while square < squares {
         mark_hole(text, start, square / columns, square % columns, beds, square);
@@ -113,7 +114,7 @@ fn put_list(
     requires { ⌜ at + length (listed (now text) (now beds) (now turns)) ≤ length (now out) ⌝ }
     ensures { λ r. ⌜ Wrote (listed (now (text .entry)) (now (beds .entry)) (now (turns .entry))) at (now (out .entry)) (now (out .exit)) r ⌝ }
 {
-    let mut start = next_line(text, next_line(text, 0));
+    let mut start = cells_at(text);
     let mut next = at;
     let mut square: usize = 0;
     while square < squares {

@@ -12,8 +12,8 @@ use reckon::copying::copy_into;
 ghost use mathlib.Core.Path.{_≡_};
 ghost use Prim.Native.Nat.{_<_, _≤_, min};
 ghost use lib.Dec.{eqb};
-ghost use lib.ListN.{length, getD};
-ghost use Rattle.reckon.specs.Tests.{allBelow};
+ghost use lib.ListN.{length, getD, set};
+ghost use Rattle.reckon.specs.Tests.{allBelow, pick};
 ghost use Rattle.reckon.specs.Lists.{filled};
 ghost use Rattle.grid.specs.Squares.{OnSquare, ShapeInRange, sides, squares};
 ghost use Rattle.holes.specs.Rounds.{BedsSeen, bedAfter, bedBeside, lowestBeside, roundOf};
@@ -107,16 +107,25 @@ fn same_beds(before: &[u32], beds: &[u32]) -> bool
     true
 }
 
-// The number of a round for each square that it has filled.
+// The number of a round for a square that it has filled.
+fn note_square(before: &[u32], beds: &[u32], turns: &mut [u32], turn: u32, square: usize)
+    requires { ⌜ (square < length (now before)) × (square < length (now beds)) × (square < length (now turns)) ⌝ }
+    ensures { λ _. ⌜ now (turns .exit) ≡ pick (eqb (getD (now (beds .entry)) square 0) (getD (now (before .entry)) square 0)) (now (turns .entry)) (set (now (turns .entry)) square turn) ⌝ }
+{
+    if beds[square] == before[square] {
+        return;
+    }
+    turns[square] = turn;
+}
+
+// The same of all squares.
 fn note_round(before: &[u32], beds: &[u32], turns: &mut [u32], turn: u32)
     requires { ⌜ (length (now before) ≡ length (now beds)) × (length (now before) ≤ length (now turns)) ⌝ }
     ensures { λ _. ⌜ now (turns .exit) ≡ filled (length (now (before .entry))) (λ i. eqb (getD (now (beds .entry)) i 0) (getD (now (before .entry)) i 0)) (λ i. turn) (now (turns .entry)) ⌝ }
 {
     let mut square: usize = 0;
     while square < before.len() {
-        if beds[square] != before[square] {
-            turns[square] = turn;
-        }
+        note_square(before, beds, turns, turn, square);
         square += 1;
     }
 }

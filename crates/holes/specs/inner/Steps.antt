@@ -5,7 +5,7 @@ use mathlib.Core.Bool.{false}
 use mathlib.Core.List.{List, [], _∷_, _++_}
 use Prim.Native.Nat.{ℕ, _/_, _%_, _≤_}
 use lib.Dec.{eqb}
-use lib.ListN.{length, getD}
+use lib.ListN.{length, getD, drop}
 use Rattle.reckon.specs.Tests.{pick}
 use Rattle.reckon.specs.Lists.{joined, filled}
 use Rattle.reckon.specs.Ranges.{mostBed}
@@ -18,7 +18,7 @@ use Rattle.sheet.specs.Lines.{cellWord}
 use Rattle.sheet.specs.Sheet.{shapeOf}
 use Rattle.programs.specs.Program.{mostText}
 use Rattle.holes.specs.Rounds.{filledBeds, roundFilling}
-use Rattle.holes.specs.Holes.{holeAt, bedAt, lookedAt, startOf, withBeds}
+use Rattle.holes.specs.Holes.{holeAt, bedAt, lineWith, lookedAt, startOf, withBeds}
 use Rattle.holes.specs.Repaired.{bedText, holeText, mostRepaired}
 use Rattle.holes.specs.declared.holes.Hole.{Hole}
 use Rattle.holes.specs.declared.holes.Hole.the-variants.{At, None}
@@ -45,9 +45,15 @@ pub record Looked (s : List ℕ) (columns n : ℕ) : Type 0 where
   pub columns-are : columns ≡ shapeOf s .columns
   pub squares-are : n ≡ lookedAt s
 
--- the text with beds for its holes, by what a room holds
+-- the text with beds for its holes, by what a room holds; and what of it stands from the first square's line on
 abbrev pub bedsPut : List ℕ → List ℕ → List ℕ
 bedsPut s beds = withBeds s (λ i. bedText (getD beds i 0))
+
+abbrev pub linePut : List ℕ → List ℕ → ℕ → List ℕ
+linePut s beds i = lineWith s (startOf s i) (i / shapeOf s .columns) (i % shapeOf s .columns) (bedText (getD beds i 0))
+
+abbrev pub cellsPut : List ℕ → List ℕ → List ℕ
+cellsPut s beds = joined (lookedAt s) (linePut s beds) ++ drop (startOf s (lookedAt s)) s
 
 -- the list, by what rooms hold
 abbrev pub listedLine : List ℕ → List ℕ → List ℕ → ℕ → List ℕ

@@ -1,3 +1,6 @@
+use mathlib.Core.Path.{sym, _∙_}
+use native.Mathlib.Omega.{arith}
+use Rattle.holes.proofs.FillLaws.{off-bed, closed-bed, open-bed}
 use borrow.Author.Needs.{needs}
 use Rattle.holes.proofs.rounds.bed_beside.Statement.{statement}
 use Rattle.holes.proofs.rounds.bed_beside.Tie as tie
@@ -17,7 +20,9 @@ squares-of-requires c κs = search needs
 
 -- src/rounds.rt:48:9
 returns : tie.Need-returns
-returns c = ?
+returns c =
+    off-bed (c .before .before .before .before .before .args .shape) (c .before .before .before .before .before .args .marks .now) (c .before .before .before .before .before .args .beds .now) (c .before .before .before .before .before .args .square) (c .before .before .before .before .before .args .side) (c .before .before .beside-on .ensures)
+    (omega (arith, c .if1 .taken, c .before .squares-of .ensures))
 
 -- src/rounds.rt:50:8
 is-closed-requires : tie.Need-is-closed-requires
@@ -25,7 +30,9 @@ is-closed-requires c κs = search needs
 
 -- src/rounds.rt:51:9
 returns-2 : tie.Need-returns-2
-returns-2 c = ?
+returns-2 c =
+    closed-bed (c .before .before .before .before .before .before .before .args .shape) (c .before .before .before .before .before .before .before .args .marks .now) (c .before .before .before .before .before .before .before .args .beds .now) (c .before .before .before .before .before .before .before .args .square) (c .before .before .before .before .before .before .before .args .side) (c .before .before .before .before .beside-on .ensures)
+    (sym (c .before .is-closed .ensures) ∙ c .if2 .taken)
 
 -- src/rounds.rt:53:5
 mul-result : tie.Need-mul-result
@@ -37,7 +44,9 @@ shared-slice-read-result c = search needs
 
 -- src/rounds.rt:35:1
 returns-3 : tie.Need-returns-3
-returns-3 c = ?
+returns-3 c =
+    open-bed (c .before .before .before .before .before .before .before .before .args .shape) (c .before .before .before .before .before .before .before .before .args .marks .now) (c .before .before .before .before .before .before .before .before .args .beds .now) (c .before .before .before .before .before .before .before .before .args .square) (c .before .before .before .before .before .before .before .before .args .side) (c .before .before .before .before .before .beside-on .ensures)
+    (omega (arith, c .before .before .before .if1 .left, c .before .before .before .before .squares-of .ensures)) (sym (c .before .before .is-closed .ensures) ∙ c .before .if2 .left)
 
 pub bed-beside-spec : {M : Type 1} → statement M
 bed-beside-spec =

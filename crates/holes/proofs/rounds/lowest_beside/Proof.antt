@@ -1,3 +1,4 @@
+use Rattle.holes.proofs.FillLaws.{lowest-of}
 use borrow.Author.Needs.{needs}
 use Rattle.holes.proofs.rounds.lowest_beside.Statement.{statement}
 use Rattle.holes.proofs.rounds.lowest_beside.Tie as tie
@@ -36,7 +37,9 @@ lower-requires-3 c κs = search needs
 
 -- src/rounds.rt:57:1
 returns : tie.Need-returns
-returns c = ?
+returns c =
+    lowest-of (c .before .before .before .before .before .before .before .before .before .args .shape) (c .before .before .before .before .before .before .before .before .before .args .marks .now) (c .before .before .before .before .before .before .before .before .before .args .beds .now) (c .before .before .before .before .before .before .before .before .before .args .square) (c .before .before .before .before .before .before .bed-beside .ensures) (c .before .before .before .before .before .bed-beside2 .ensures)
+    (c .before .before .before .before .bed-beside3 .ensures) (c .before .before .before .bed-beside4 .ensures) (c .before .before .lower .ensures) (c .before .lower2 .ensures) (c .lower3 .ensures)
 
 pub lowest-beside-spec : {M : Type 1} → statement M
 lowest-beside-spec =

@@ -1,61 +1,67 @@
+use mathlib.Core.Path.{_≡_, ap, _∙_}
+use Prim.Native.Nat.{ℕ, _-_, _≤_}
+use native.Mathlib.Omega.{arith}
+use lib.Dec.{eqb}
+use lib.ListN.{length, getD}
+use borrow.Author.Needs.{needs}
+use Rattle.reckon.specs.Lists.{filled}
+use Rattle.reckon.proofs.ListLaws.{length-filled, filled-none}
+use Rattle.holes.proofs.FillLaws.{filled-next}
 use Rattle.holes.proofs.rounds.note_round.Statement.{statement}
 use Rattle.holes.proofs.rounds.note_round.Tie as tie
 use Rattle.holes.proofs.rounds.note_round.Reads as reads
 use Rattle.holes.proofs.rounds.note_round.Lts as lts
+use Rattle.holes.proofs.rounds.note_square.Reads as note-square-reads
 
 abbrev Inv-loop : tie.InvT-loop
-Inv-loop before beds turns₀ turn square₀ turns square = ?
+Inv-loop before beds turns₀ turn square₀ turns square =
+    (square ≤ length before) × (turns ≡ filled square (λ i. eqb (getD beds i 0) (getD before i 0)) (λ i. turn) turns₀)
 
 abbrev μ-loop : tie.MeasureT-loop
-μ-loop before beds turns₀ turn square₀ turns square = ?
+μ-loop before beds turns₀ turn square₀ turns square =
+    length before - square
 
--- src/rounds.rt:116:5
+-- src/rounds.rt:127:5
 loop-holds : tie.Need-loop-holds Inv-loop μ-loop
-loop-holds c = ?
+loop-holds c =
+    (omega arith, filled-none _ _ _)
 
--- src/rounds.rt:117:12
-mul-if1 : tie.Need-mul-if1 Inv-loop μ-loop
-mul-if1 c = ?
+-- src/rounds.rt:128:9
+note-square-requires : tie.Need-note-square-requires Inv-loop μ-loop
+note-square-requires c κs =
+    (
+      omega (arith, c .before .loop-test .taken),
+      omega (arith, c .before .loop-test .taken, c .before .before .before .before .before .before .pre .0),
+      omega (arith, c .before .loop-test .taken, c .before .before .before .before .before .before .pre .1, ap length (c .before .before .loop .inv .1), length-filled (c .before .before .loop .square) (λ i. eqb (getD (c .before .before .before .before .before .before .args .beds .now) i 0) (getD (c .before .before .before .before .before .before .args .before .now) i 0)) (λ i. c .before .before .before .before .before .before .args .turn) (c .before .before .before .before .before .before .args .turns .now)),
+    )
 
--- src/rounds.rt:117:12
-shared-slice-read-if1 : tie.Need-shared-slice-read-if1 Inv-loop μ-loop
-shared-slice-read-if1 c = ?
-
--- src/rounds.rt:117:28
-mul-if1-2 : tie.Need-mul-if1-2 Inv-loop μ-loop
-mul-if1-2 c = ?
-
--- src/rounds.rt:117:28
-shared-slice-read-if1-2 : tie.Need-shared-slice-read-if1-2 Inv-loop μ-loop
-shared-slice-read-if1-2 c = ?
-
--- src/rounds.rt:118:13
-mul-turns : tie.Need-mul-turns Inv-loop μ-loop
-mul-turns c = ?
-
--- src/rounds.rt:118:13
-slice-write-turns : tie.Need-slice-write-turns Inv-loop μ-loop
-slice-write-turns c = ?
-
--- src/rounds.rt:120:9
+-- src/rounds.rt:129:9
 add-square : tie.Need-add-square Inv-loop μ-loop
-add-square c = ?
+add-square c =
+    omega (arith, c .before .before .before .before .loop-test .taken)
 
--- src/rounds.rt:116:5
+-- src/rounds.rt:127:5
 loop-less : tie.Need-loop-less Inv-loop μ-loop
-loop-less c = ?
+loop-less c =
+    omega (arith, c .before .before .before .before .loop-test .taken)
 
--- src/rounds.rt:116:5
+-- src/rounds.rt:127:5
 loop-again : tie.Need-loop-again Inv-loop μ-loop
-loop-again c = ?
+loop-again c =
+    (
+      omega (arith, c .before .before .before .before .loop-test .taken),
+      filled-next _ _ _ (c .before .before .before .before .before .loop .square) (omega (arith, c .before .before .before .before .loop-test .taken, c .before .before .before .before .before .before .before .before .before .pre .1)) (c .before .before .before .before .before .loop .inv .1) (c .before .before .note-square .ensures),
+    )
 
--- src/rounds.rt:111:1
+-- src/rounds.rt:122:1
 same-length : tie.Need-same-length Inv-loop μ-loop
-same-length c = ?
+same-length c =
+    ap length (c .before .loop .inv .1) ∙ length-filled (c .before .loop .square) (λ i. eqb (getD (c .before .before .before .before .before .args .beds .now) i 0) (getD (c .before .before .before .before .before .args .before .now) i 0)) (λ i. c .before .before .before .before .before .args .turn) (c .before .before .before .before .before .args .turns .now)
 
--- src/rounds.rt:111:1
+-- src/rounds.rt:122:1
 returns : tie.Need-returns Inv-loop μ-loop
-returns c = ?
+returns c =
+    c .before .loop .inv .1 ∙ ap (λ (k : ℕ). filled k (λ i. eqb (getD (c .before .before .before .before .before .args .beds .now) i 0) (getD (c .before .before .before .before .before .args .before .now) i 0)) (λ i. c .before .before .before .before .before .args .turn) (c .before .before .before .before .before .args .turns .now)) (omega (arith, c .before .loop .inv .0, c .loop-test .left))
 
 pub note-round-spec : {M : Type 1} → statement M
 note-round-spec =
@@ -64,12 +70,7 @@ note-round-spec =
     Inv-loop
     μ-loop
     loop-holds
-    mul-if1
-    shared-slice-read-if1
-    mul-if1-2
-    shared-slice-read-if1-2
-    mul-turns
-    slice-write-turns
+    note-square-requires
     add-square
     loop-less
     loop-again

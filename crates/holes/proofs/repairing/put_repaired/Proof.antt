@@ -1,0 +1,75 @@
+use borrow.Author.Needs.{needs}
+use Rattle.holes.proofs.repairing.put_repaired.Statement.{statement}
+use Rattle.holes.proofs.repairing.put_repaired.Tie as tie
+use Rattle.holes.proofs.repairing.put_repaired.Reads as reads
+use Rattle.holes.proofs.repairing.put_repaired.Lts as lts
+use Rattle.grid.proofs.squares.squares_of.Reads as squares-of-reads
+use Rattle.holes.proofs.holes.put_with_beds.Reads as put-with-beds-reads
+use Rattle.holes.proofs.repairing.mark_holes.Reads as mark-holes-reads
+use Rattle.holes.proofs.repairing.put_list.Reads as put-list-reads
+use Rattle.holes.proofs.rounds.fill_rounds.Reads as fill-rounds-reads
+
+-- src/repairing.rt:155:9
+squares-of-requires : tie.Need-squares-of-requires
+squares-of-requires c κs = search needs
+
+-- src/repairing.rt:156:5
+mark-holes-requires : tie.Need-mark-holes-requires
+mark-holes-requires c κs = ?
+
+-- src/repairing.rt:157:37
+slice-aggregate-fill-rounds : tie.Need-slice-aggregate-fill-rounds
+slice-aggregate-fill-rounds c = search needs
+
+-- src/repairing.rt:157:49
+array-borrow-prefix-before : tie.Need-array-borrow-prefix-before
+array-borrow-prefix-before c = ?
+
+-- src/repairing.rt:157:49
+slice-aggregate-fill-rounds-2 : tie.Need-slice-aggregate-fill-rounds-2
+slice-aggregate-fill-rounds-2 c = ?
+
+-- src/repairing.rt:157:5
+fill-rounds-requires : tie.Need-fill-rounds-requires
+fill-rounds-requires c κs = ?
+
+-- src/repairing.rt:158:9
+put-with-beds-requires : tie.Need-put-with-beds-requires
+put-with-beds-requires c κs = ?
+
+-- src/repairing.rt:159:55
+slice-aggregate-put-list : tie.Need-slice-aggregate-put-list
+slice-aggregate-put-list c = search needs
+
+-- src/repairing.rt:159:5
+put-list-requires : tie.Need-put-list-requires
+put-list-requires c κs = ?
+
+-- src/repairing.rt:148:1
+same-length : tie.Need-same-length
+same-length c = search needs
+
+-- src/repairing.rt:148:1
+same-length-2 : tie.Need-same-length-2
+same-length-2 c = search needs
+
+-- src/repairing.rt:148:1
+returns : tie.Need-returns
+returns c = ?
+
+pub put-repaired-spec : {M : Type 1} → statement M
+put-repaired-spec =
+    tie.close
+    (tie.spec
+    squares-of-requires
+    mark-holes-requires
+    slice-aggregate-fill-rounds
+    array-borrow-prefix-before
+    slice-aggregate-fill-rounds-2
+    fill-rounds-requires
+    put-with-beds-requires
+    slice-aggregate-put-list
+    put-list-requires
+    same-length
+    same-length-2
+    returns)
