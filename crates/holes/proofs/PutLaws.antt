@@ -7,7 +7,8 @@ use Prim.Native.Nat.{ℕ, zero, suc, _+_, _-_, _*_, _/_, _%_, _^_, _≤_, _<_}
 use native.Mathlib.Numerals.{add-one}
 use native.Mathlib.Omega.{arith}
 use lib.Dec.{eqb}
-use lib.ListN.{length, getD, take, drop, length-append}
+use lib.ListN.{length, getD, take, drop, length-append, length-drop}
+use lib.Seq.{take-all}
 use borrow.Author.Tests.{eq-eqb, ne-eqb}
 use Rattle.reckon.specs.Tests.{pick}
 use Rattle.reckon.proofs.TestLaws.{not-both, pick-true, pick-false, and-left, and-right, no-more}
@@ -21,9 +22,9 @@ use Rattle.sheet.specs.Lines.{cellWord, letterOf, lineHead}
 use Rattle.sheet.specs.Sheet.{lineOne, shapeOf, cellsAt}
 use Rattle.sheet.proofs.JudgeLaws.{take-put}
 use Rattle.holes.specs.Rounds.{noBed}
-use Rattle.holes.specs.Holes.{question, between, upToBed, holeAt, bedAt, lineWith, lookedAt, startOf, isHole}
+use Rattle.holes.specs.Holes.{question, between, upToBed, holeAt, bedAt, lineWith, lookedAt, startOf, isHole, withBeds}
 use Rattle.holes.specs.Repaired.{bedText, givenText, holeText}
-use Rattle.holes.specs.inner.Steps.{placeText, holeIn, Looked, linePut, listedLine}
+use Rattle.holes.specs.inner.Steps.{placeText, holeIn, Looked, linePut, bedsPut, cellsPut, listedLine}
 use Rattle.holes.specs.declared.holes.Hole.{Hole}
 use Rattle.holes.specs.declared.holes.Hole.the-variants.{At, None}
 use Rattle.holes.proofs.HoleLaws.{looked-some, start-in}
@@ -300,8 +301,31 @@ module _ {s : List ℕ} {columns n : ℕ} (look : Looked s columns n) where
     hole-as = λ j. holeAt s (sym at-line j) (i / sym (look .columns-are) j) (i % sym (look .columns-are) j)
 
   -- the rest of the text after the last
-  pub rest-is : {i start : ℕ} → i ≡ n → start ≡ startOf s i → drop start s ≡ drop (startOf s (lookedAt s)) s
-  rest-is e f = ap (λ (k : ℕ). drop k s) (f ∙ ap (startOf s) (e ∙ look .squares-are))
+  pub rest-is : {i start : ℕ} → i ≡ n → start ≡ startOf s i → drop (startOf s (lookedAt s)) s ≡ take (length s - start) (drop start s)
+  rest-is {i} {start} e f =
+      sym
+      (take-all (length s - start) (drop start s) (omega (arith, length-drop start s))
+      ∙ ap (λ (k : ℕ). drop k s) (f ∙ ap (startOf s) (e ∙ look .squares-are)))
 
   pub all-lines : {i : ℕ} → i ≡ n → i ≡ lookedAt s
   all-lines e = e ∙ look .squares-are
+
+-- ---- the whole text with beds: up to the first square's line, and from there on
+
+module _ (s beds : List ℕ) {cells : ℕ} (at-cells : cells ≡ cellsAt s) (old : List ℕ) (fits : length (bedsPut s beds) ≤ length old) where
+  whole-is : take cells s ++ cellsPut s beds ≡ bedsPut s beds
+  unfolding withBeds
+  whole-is = ap (λ (k : ℕ). take k s ++ cellsPut s beds) at-cells
+
+  whole-fits : 0 + length (take cells s ++ cellsPut s beds) ≤ length old
+  whole-fits = omega (arith, fits, ap length whole-is)
+
+  pub head-fits : 0 + length (take cells s) ≤ length old
+  head-fits = one-fits (take cells s) (cellsPut s beds) 0 old whole-fits
+
+  module _ {a : List ℕ} {p : ℕ} (x : Wrote (take cells s) 0 old a p) where
+    pub cells-fit : p + length (cellsPut s beds) ≤ length a
+    cells-fit = other-fits (take cells s) (cellsPut s beds) 0 old whole-fits x
+
+    pub beds-put : {new : List ℕ} {r : ℕ} → Wrote (cellsPut s beds) p a new r → Wrote (bedsPut s beds) 0 old new r
+    beds-put y = written-as (sym whole-is) (both-put (take cells s) (cellsPut s beds) 0 old whole-fits x y)

@@ -34,8 +34,8 @@ ghost use Rattle.reckon.specs.Lists.{filled};
 ghost use Rattle.text.specs.Writing.{Wrote};
 ghost use Rattle.holes.specs.Rounds.{noBed};
 ghost use Rattle.holes.specs.Holes.{holeAt, isHole, lookedIn};
-ghost use Rattle.holes.specs.Repaired.{PrintsRepair, givenText, holeText, mostRepaired, repairedWith};
-ghost use Rattle.holes.specs.inner.Steps.{Looked, Repairable, listed};
+ghost use Rattle.holes.specs.Repaired.{PrintsRepair, givenText, holeText, mostRepaired};
+ghost use Rattle.holes.specs.inner.Steps.{Looked, PutsRepaired, Repairable, listed};
 
 // The bytes that always suffice for what is printed.
 pub const REPAIR_ROOM: usize = 131_072;
@@ -147,7 +147,7 @@ fn looked_in(top: GridLine) -> usize
 // The repaired sheet and the list, by what the ordinary reader found.
 fn put_repaired(out: &mut [u8], text: &[u8], shape: Shape, marks: &[u8], beds: &mut [u32]) -> usize
     requires { ⌜ (Repairable (now text) shape (now marks) (now beds)) × (mostRepaired ≤ length (now out)) ⌝ }
-    ensures { λ r. ⌜ Wrote (repairedWith (now (text .entry)) (now (marks .entry)) (now (beds .entry))) 0 (now (out .entry)) (now (out .exit)) r ⌝ }
+    ensures { λ r. ⌜ PutsRepaired (now (text .entry)) (now (marks .entry)) (now (beds .entry)) (now (out .entry)) (now (out .exit)) r ⌝ }
 {
     let mut turns = [0u32; PROGRAM_SQUARES];
     let mut before = [0u32; PROGRAM_SQUARES];

@@ -3,7 +3,7 @@
 use mathlib.Core.Path.{_≡_}
 use mathlib.Core.Bool.{false}
 use mathlib.Core.List.{List, [], _∷_, _++_}
-use Prim.Native.Nat.{ℕ, _/_, _%_, _≤_}
+use Prim.Native.Nat.{ℕ, _/_, _%_, _≤_, _<_}
 use lib.Dec.{eqb}
 use lib.ListN.{length, getD, drop}
 use Rattle.reckon.specs.Tests.{pick}
@@ -13,13 +13,13 @@ use Rattle.grid.specs.Squares.{ShapeInRange, squares}
 use Rattle.grid.specs.Marks.{closed}
 use Rattle.grid.specs.declared.squares.Shape.{Shape}
 use Rattle.text.specs.Reading.{tab}
-use Rattle.text.specs.Writing.{fieldsText}
+use Rattle.text.specs.Writing.{fieldsText, Wrote}
 use Rattle.sheet.specs.Lines.{cellWord}
 use Rattle.sheet.specs.Sheet.{shapeOf}
-use Rattle.programs.specs.Program.{mostText}
+use Rattle.programs.specs.Program.{mostText, programSquares}
 use Rattle.holes.specs.Rounds.{filledBeds, roundFilling}
 use Rattle.holes.specs.Holes.{holeAt, bedAt, lineWith, lookedAt, startOf, withBeds}
-use Rattle.holes.specs.Repaired.{bedText, holeText, mostRepaired}
+use Rattle.holes.specs.Repaired.{bedText, holeText, repairedWith, mostRepaired}
 use Rattle.holes.specs.declared.holes.Hole.{Hole}
 use Rattle.holes.specs.declared.holes.Hole.the-variants.{At, None}
 
@@ -67,7 +67,13 @@ pub record Repairable (s : List ℕ) (shape : Shape) (marks beds : List ℕ) : T
   pub short : length s ≤ mostText
   pub shape-is : shape ≡ shapeOf s
   pub in-range : ShapeInRange shape
+  pub few : squares shape ≤ programSquares
   pub all-looked : squares shape ≡ lookedAt s
   pub marks-long : squares shape ≡ length marks
   pub beds-long : squares shape ≡ length beds
-  pub beds-low : (i : ℕ) → closed marks i ≡ false → getD beds i 0 ≤ mostBed
+  pub beds-low : (i : ℕ) → i < squares shape → closed marks i ≡ false → getD beds i 0 ≤ mostBed
+
+-- the repaired sheet and the list at the start of a room, where they fit
+pub record PutsRepaired (s marks beds old new : List ℕ) (r : ℕ) : Type 0 where
+  pub wrote : Wrote (repairedWith s marks beds) 0 old new r
+  pub fits : length (repairedWith s marks beds) ≤ mostRepaired

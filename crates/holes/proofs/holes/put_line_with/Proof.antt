@@ -1,3 +1,13 @@
+use mathlib.Core.Path.{sym, ap, _∙_}
+use Prim.Native.Nat.{_+_}
+use native.Mathlib.Omega.{arith}
+use lib.ListN.{length}
+use Rattle.text.proofs.EndLaws.{next-within}
+use Rattle.text.proofs.WritingLaws.{written-as}
+use Rattle.holes.specs.Holes.{between}
+use Rattle.holes.specs.Repaired.{bedText}
+use Rattle.holes.proofs.HoleLaws.{hole-spot, next-forth}
+use Rattle.holes.proofs.PutLaws.{told-none, told-at, line-whole, line-parts, first-fits, second-fits, third-fits, three-put}
 use borrow.Author.Needs.{needs}
 use Rattle.holes.proofs.holes.put_line_with.Statement.{statement}
 use Rattle.holes.proofs.holes.put_line_with.Tie as tie
@@ -26,19 +36,28 @@ enum-told c = search needs
 
 -- src/holes.rt:84:34
 sub-put-word : tie.Need-sub-put-word
-sub-put-word c = ?
+sub-put-word c =
+    let a = c .before .before .before .before .before .before .before .args in
+    omega (arith, c .before .before .before .before .next-line .ensures, next-forth (a .text .now) (a .start), next-within (a .text .now) (a .start) (c .before .before .before .before .before .before .before .pre .0))
 
 -- src/holes.rt:84:34
 part-put-word-start : tie.Need-part-put-word-start
-part-put-word-start c = ?
+part-put-word-start c =
+    let a = c .before .before .before .before .before .before .before .args in
+    omega (arith, c .before .before .before .before .next-line .ensures, next-forth (a .text .now) (a .start), next-within (a .text .now) (a .start) (c .before .before .before .before .before .before .before .pre .0))
 
 -- src/holes.rt:84:34
 part-put-word-end : tie.Need-part-put-word-end
-part-put-word-end c = ?
+part-put-word-end c =
+    let a = c .before .before .before .before .before .before .before .args in
+    omega (arith, c .before .before .before .before .next-line .ensures, next-forth (a .text .now) (a .start), next-within (a .text .now) (a .start) (c .before .before .before .before .before .before .before .pre .0))
 
 -- src/holes.rt:84:9
 put-word-requires : tie.Need-put-word-requires
-put-word-requires c κs = ?
+put-word-requires c κs =
+    let a = c .before .before .before .before .before .before .before .before .args in
+    let e = told-none (a .text .now) (a .start) (a .row) (a .column) (sym (c .before .before .enum-told .given .1) ∙ c .before .before .before .before .hole-at .ensures) in
+    omega (arith, c .before .before .before .before .before .before .before .before .pre .1, ap length (line-whole (a .text .now) (a .start) (a .row) (a .column) (bedText (a .bed)) e (c .before .before .before .before .before .next-line .ensures)))
 
 -- src/holes.rt:84:9
 same-length : tie.Need-same-length
@@ -46,47 +65,96 @@ same-length c = search needs
 
 -- src/holes.rt:84:9
 returns : tie.Need-returns
-returns c = ?
+returns c =
+    let a = c .before .before .before .before .before .before .before .before .before .before .before .args in
+    let e = told-none (a .text .now) (a .start) (a .row) (a .column) (sym (c .before .before .before .before .before .enum-told .given .1) ∙ c .before .before .before .before .before .before .before .hole-at .ensures) in
+    written-as (line-whole (a .text .now) (a .start) (a .row) (a .column) (bedText (a .bed)) e (c .before .before .before .before .before .before .before .before .next-line .ensures)) (c .before .before .put-word .ensures)
 
 -- src/holes.rt:86:36
 sub-put-word-2 : tie.Need-sub-put-word-2
-sub-put-word-2 c = ?
+sub-put-word-2 c =
+    let a = c .before .before .before .before .before .before .before .before .args in
+    let t = told-at (a .text .now) (a .start) (a .row) (a .column) (sym (c .before .before .spot .given .1) ∙ c .before .before .before .before .hole-at .ensures) in
+    let k = hole-spot (a .text .now) (a .start) (a .row) (a .column) (t .0) in
+    omega (arith, t .1, k .before, k .inside, k .after, c .before .before .before .before .before .next-line .ensures, next-within (a .text .now) (a .start) (c .before .before .before .before .before .before .before .before .pre .0))
 
 -- src/holes.rt:86:36
 part-put-word-start-2 : tie.Need-part-put-word-start-2
-part-put-word-start-2 c = ?
+part-put-word-start-2 c =
+    let a = c .before .before .before .before .before .before .before .before .args in
+    let t = told-at (a .text .now) (a .start) (a .row) (a .column) (sym (c .before .before .spot .given .1) ∙ c .before .before .before .before .hole-at .ensures) in
+    let k = hole-spot (a .text .now) (a .start) (a .row) (a .column) (t .0) in
+    omega (arith, t .1, k .before, k .inside, k .after, c .before .before .before .before .before .next-line .ensures, next-within (a .text .now) (a .start) (c .before .before .before .before .before .before .before .before .pre .0))
 
 -- src/holes.rt:86:36
 part-put-word-end-2 : tie.Need-part-put-word-end-2
-part-put-word-end-2 c = ?
+part-put-word-end-2 c =
+    let a = c .before .before .before .before .before .before .before .before .args in
+    let t = told-at (a .text .now) (a .start) (a .row) (a .column) (sym (c .before .before .spot .given .1) ∙ c .before .before .before .before .hole-at .ensures) in
+    let k = hole-spot (a .text .now) (a .start) (a .row) (a .column) (t .0) in
+    omega (arith, t .1, k .before, k .inside, k .after, c .before .before .before .before .before .next-line .ensures, next-within (a .text .now) (a .start) (c .before .before .before .before .before .before .before .before .pre .0))
 
 -- src/holes.rt:86:9
 put-word-requires-2 : tie.Need-put-word-requires-2
-put-word-requires-2 c κs = ?
+put-word-requires-2 c κs =
+    let a = c .before .before .before .before .before .before .before .before .before .args in
+    let spot = c .before .before .before .spot .given .0 .0 in
+    let t = told-at (a .text .now) (a .start) (a .row) (a .column) (sym (c .before .before .before .spot .given .1) ∙ c .before .before .before .before .before .hole-at .ensures) in
+    first-fits (between (a .text .now) (a .start) spot) (bedText (a .bed)) (between (a .text .now) (spot + 1) (c .before .before .before .before .before .before .next-line .result))
+    (line-parts (a .text .now) (a .start) (a .row) (a .column) (bedText (a .bed)) (t .0) (t .1) (c .before .before .before .before .before .before .next-line .ensures)) (a .at) (a .out .now)
+    (c .before .before .before .before .before .before .before .before .before .pre .1)
 
 -- src/holes.rt:87:9
 put-bed-requires : tie.Need-put-bed-requires
-put-bed-requires c κs = ?
+put-bed-requires c κs =
+    let a = c .before .before .before .before .before .before .before .before .before .before .before .before .before .args in
+    let spot = c .before .before .before .before .before .before .before .spot .given .0 .0 in
+    let t = told-at (a .text .now) (a .start) (a .row) (a .column) (sym (c .before .before .before .before .before .before .before .spot .given .1) ∙ c .before .before .before .before .before .before .before .before .before .hole-at .ensures) in
+    second-fits (between (a .text .now) (a .start) spot) (bedText (a .bed)) (between (a .text .now) (spot + 1) (c .before .before .before .before .before .before .before .before .before .before .next-line .result))
+    (line-parts (a .text .now) (a .start) (a .row) (a .column) (bedText (a .bed)) (t .0) (t .1) (c .before .before .before .before .before .before .before .before .before .before .next-line .ensures)) (a .at) (a .out .now)
+    (c .before .before .before .before .before .before .before .before .before .before .before .before .before .pre .1) (c .before .before .before .put-word2 .ensures)
 
 -- src/holes.rt:88:16
 add-rest : tie.Need-add-rest
-add-rest c = ?
+add-rest c =
+    let a = c .before .before .before .before .before .before .before .before .before .before .before .before .before .before .before .before .args in
+    let t = told-at (a .text .now) (a .start) (a .row) (a .column) (sym (c .before .before .before .before .before .before .before .before .before .before .spot .given .1) ∙ c .before .before .before .before .before .before .before .before .before .before .before .before .hole-at .ensures) in
+    let k = hole-spot (a .text .now) (a .start) (a .row) (a .column) (t .0) in
+    omega (arith, t .1, k .before, k .inside, k .after, c .before .before .before .before .before .before .before .before .before .before .before .before .before .next-line .ensures, next-within (a .text .now) (a .start) (c .before .before .before .before .before .before .before .before .before .before .before .before .before .before .before .before .pre .0))
 
 -- src/holes.rt:89:25
 sub-put-word-3 : tie.Need-sub-put-word-3
-sub-put-word-3 c = ?
+sub-put-word-3 c =
+    let a = c .before .before .before .before .before .before .before .before .before .before .before .before .before .before .before .before .before .args in
+    let t = told-at (a .text .now) (a .start) (a .row) (a .column) (sym (c .before .before .before .before .before .before .before .before .before .before .before .spot .given .1) ∙ c .before .before .before .before .before .before .before .before .before .before .before .before .before .hole-at .ensures) in
+    let k = hole-spot (a .text .now) (a .start) (a .row) (a .column) (t .0) in
+    omega (arith, t .1, k .before, k .inside, k .after, c .before .before .before .before .before .before .before .before .before .before .before .before .before .before .next-line .ensures, next-within (a .text .now) (a .start) (c .before .before .before .before .before .before .before .before .before .before .before .before .before .before .before .before .before .pre .0))
 
 -- src/holes.rt:89:25
 part-put-word-start-3 : tie.Need-part-put-word-start-3
-part-put-word-start-3 c = ?
+part-put-word-start-3 c =
+    let a = c .before .before .before .before .before .before .before .before .before .before .before .before .before .before .before .before .before .args in
+    let t = told-at (a .text .now) (a .start) (a .row) (a .column) (sym (c .before .before .before .before .before .before .before .before .before .before .before .spot .given .1) ∙ c .before .before .before .before .before .before .before .before .before .before .before .before .before .hole-at .ensures) in
+    let k = hole-spot (a .text .now) (a .start) (a .row) (a .column) (t .0) in
+    omega (arith, t .1, k .before, k .inside, k .after, c .before .before .before .before .before .before .before .before .before .before .before .before .before .before .next-line .ensures, next-within (a .text .now) (a .start) (c .before .before .before .before .before .before .before .before .before .before .before .before .before .before .before .before .before .pre .0))
 
 -- src/holes.rt:89:25
 part-put-word-end-3 : tie.Need-part-put-word-end-3
-part-put-word-end-3 c = ?
+part-put-word-end-3 c =
+    let a = c .before .before .before .before .before .before .before .before .before .before .before .before .before .before .before .before .before .args in
+    let t = told-at (a .text .now) (a .start) (a .row) (a .column) (sym (c .before .before .before .before .before .before .before .before .before .before .before .spot .given .1) ∙ c .before .before .before .before .before .before .before .before .before .before .before .before .before .hole-at .ensures) in
+    let k = hole-spot (a .text .now) (a .start) (a .row) (a .column) (t .0) in
+    omega (arith, t .1, k .before, k .inside, k .after, c .before .before .before .before .before .before .before .before .before .before .before .before .before .before .next-line .ensures, next-within (a .text .now) (a .start) (c .before .before .before .before .before .before .before .before .before .before .before .before .before .before .before .before .before .pre .0))
 
 -- src/holes.rt:89:5
 put-word-requires-3 : tie.Need-put-word-requires-3
-put-word-requires-3 c κs = ?
+put-word-requires-3 c κs =
+    let a = c .before .before .before .before .before .before .before .before .before .before .before .before .before .before .before .before .before .before .args in
+    let spot = c .before .before .before .before .before .before .before .before .before .before .before .before .spot .given .0 .0 in
+    let t = told-at (a .text .now) (a .start) (a .row) (a .column) (sym (c .before .before .before .before .before .before .before .before .before .before .before .before .spot .given .1) ∙ c .before .before .before .before .before .before .before .before .before .before .before .before .before .before .hole-at .ensures) in
+    third-fits (between (a .text .now) (a .start) spot) (bedText (a .bed)) (between (a .text .now) (spot + 1) (c .before .before .before .before .before .before .before .before .before .before .before .before .before .before .before .next-line .result))
+    (line-parts (a .text .now) (a .start) (a .row) (a .column) (bedText (a .bed)) (t .0) (t .1) (c .before .before .before .before .before .before .before .before .before .before .before .before .before .before .before .next-line .ensures)) (a .at) (a .out .now)
+    (c .before .before .before .before .before .before .before .before .before .before .before .before .before .before .before .before .before .before .pre .1) (c .before .before .before .before .before .before .before .before .put-word2 .ensures) (c .before .before .before .before .put-bed .ensures)
 
 -- src/holes.rt:69:1
 same-length-2 : tie.Need-same-length-2
@@ -94,7 +162,13 @@ same-length-2 c = search needs
 
 -- src/holes.rt:69:1
 returns-2 : tie.Need-returns-2
-returns-2 c = ?
+returns-2 c =
+    let a = c .before .before .before .before .before .before .before .before .before .before .before .before .before .before .before .before .before .before .before .before .before .args in
+    let spot = c .before .before .before .before .before .before .before .before .before .before .before .before .before .before .before .spot .given .0 .0 in
+    let t = told-at (a .text .now) (a .start) (a .row) (a .column) (sym (c .before .before .before .before .before .before .before .before .before .before .before .before .before .before .before .spot .given .1) ∙ c .before .before .before .before .before .before .before .before .before .before .before .before .before .before .before .before .before .hole-at .ensures) in
+    three-put (between (a .text .now) (a .start) spot) (bedText (a .bed)) (between (a .text .now) (spot + 1) (c .before .before .before .before .before .before .before .before .before .before .before .before .before .before .before .before .before .before .next-line .result))
+    (line-parts (a .text .now) (a .start) (a .row) (a .column) (bedText (a .bed)) (t .0) (t .1) (c .before .before .before .before .before .before .before .before .before .before .before .before .before .before .before .before .before .before .next-line .ensures)) (a .at) (a .out .now)
+    (c .before .before .before .before .before .before .before .before .before .before .before .before .before .before .before .before .before .before .before .before .before .pre .1) (c .before .before .before .before .before .before .before .before .before .before .before .put-word2 .ensures) (c .before .before .before .before .before .before .before .put-bed .ensures) (c .before .before .put-word3 .ensures)
 
 pub put-line-with-spec : {M : Type 1} → statement M
 put-line-with-spec =

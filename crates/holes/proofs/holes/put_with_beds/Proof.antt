@@ -1,3 +1,8 @@
+use mathlib.Core.Path.{sym}
+use native.Mathlib.Omega.{arith}
+use lib.Seq.{length-take-le}
+use Rattle.text.proofs.EndLaws.{start-within}
+use Rattle.holes.proofs.PutLaws.{head-fits, cells-fit, beds-put}
 use borrow.Author.Needs.{needs}
 use Rattle.holes.proofs.holes.put_with_beds.Statement.{statement}
 use Rattle.holes.proofs.holes.put_with_beds.Tie as tie
@@ -13,15 +18,21 @@ cells-at-requires c κs = search needs
 
 -- src/holes.rt:133:33
 slice-aggregate-put-word : tie.Need-slice-aggregate-put-word
-slice-aggregate-put-word c = ?
+slice-aggregate-put-word c =
+    sym (length-take-le _ _ (omega (arith, c .before .before .cells-at .ensures, start-within (c .before .before .before .before .before .before .args .text .now) 2)))
 
 -- src/holes.rt:133:9
 put-word-requires : tie.Need-put-word-requires
-put-word-requires c κs = ?
+put-word-requires c κs =
+    head-fits (c .before .before .before .before .before .before .args .text .now) (c .before .before .before .before .before .before .args .beds .now) (c .before .before .cells-at .ensures) (c .before .before .before .before .before .before .args .out .now) (c .before .before .before .before .before .before .pre .1)
 
 -- src/holes.rt:134:5
 put-from-requires : tie.Need-put-from-requires
-put-from-requires c κs = ?
+put-from-requires c κs =
+    (
+      (c .before .before .before .before .before .before .before .before .before .before .pre .0 .0, c .before .before .before .before .before .before .before .before .before .before .pre .0 .1, c .before .before .before .before .before .before .cells-at .ensures),
+      cells-fit (c .before .before .before .before .before .before .before .before .before .before .args .text .now) (c .before .before .before .before .before .before .before .before .before .before .args .beds .now) (c .before .before .before .before .before .before .cells-at .ensures) (c .before .before .before .before .before .before .before .before .before .before .args .out .now) (c .before .before .before .before .before .before .before .before .before .before .pre .1) (c .before .before .before .put-word .ensures),
+    )
 
 -- src/holes.rt:127:1
 same-length : tie.Need-same-length
@@ -29,7 +40,8 @@ same-length c = search needs
 
 -- src/holes.rt:127:1
 returns : tie.Need-returns
-returns c = ?
+returns c =
+    beds-put (c .before .before .before .before .before .before .before .before .before .before .before .before .before .args .text .now) (c .before .before .before .before .before .before .before .before .before .before .before .before .before .args .beds .now) (c .before .before .before .before .before .before .before .before .before .cells-at .ensures) (c .before .before .before .before .before .before .before .before .before .before .before .before .before .args .out .now) (c .before .before .before .before .before .before .before .before .before .before .before .before .before .pre .1) (c .before .before .before .before .before .before .put-word .ensures) (c .before .before .put-from .ensures)
 
 pub put-with-beds-spec : {M : Type 1} → statement M
 put-with-beds-spec =

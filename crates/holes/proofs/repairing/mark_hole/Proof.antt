@@ -1,3 +1,7 @@
+use mathlib.Core.Path.{sym, ap, _∙_}
+use mathlib.Core.Bool.{not}
+use Rattle.reckon.proofs.TestLaws.{pick-true, pick-false}
+use Rattle.holes.proofs.PutLaws.{told-none, told-at}
 use borrow.Author.Needs.{needs}
 use Rattle.holes.proofs.repairing.mark_hole.Statement.{statement}
 use Rattle.holes.proofs.repairing.mark_hole.Tie as tie
@@ -19,7 +23,8 @@ enum-told c = search needs
 
 -- src/repairing.rt:48:9
 returns : tie.Need-returns
-returns c = ?
+returns c =
+    sym (pick-true _ _ (ap not (told-none (c .before .before .before .before .before .args .text .now) (c .before .before .before .before .before .args .start) (c .before .before .before .before .before .args .row) (c .before .before .before .before .before .args .column) (sym (c .enum-told .given .1) ∙ c .before .before .hole-at .ensures))))
 
 -- src/repairing.rt:50:5
 mul-beds : tie.Need-mul-beds
@@ -35,7 +40,8 @@ same-length c = search needs
 
 -- src/repairing.rt:43:1
 returns-2 : tie.Need-returns-2
-returns-2 c = ?
+returns-2 c =
+    sym (pick-false _ _ (ap not (told-at (c .before .before .before .before .before .before .args .text .now) (c .before .before .before .before .before .before .args .start) (c .before .before .before .before .before .before .args .row) (c .before .before .before .before .before .before .args .column) (sym (c .before .-spot .given .1) ∙ c .before .before .before .hole-at .ensures) .0)))
 
 pub mark-hole-spec : {M : Type 1} → statement M
 mark-hole-spec =

@@ -1,3 +1,8 @@
+use mathlib.Core.Path.{refl, sym, _∙_}
+use native.Mathlib.Omega.{arith}
+use Rattle.sheet.proofs.JudgeLaws.{taken-long}
+use Rattle.programs.specs.Program.{programSquares}
+use Rattle.holes.proofs.RepairLaws.{looked, seen, rooms-long, sheet-fits, list-fits, repaired-put}
 use borrow.Author.Needs.{needs}
 use Rattle.holes.proofs.repairing.put_repaired.Statement.{statement}
 use Rattle.holes.proofs.repairing.put_repaired.Tie as tie
@@ -15,7 +20,8 @@ squares-of-requires c κs = search needs
 
 -- src/repairing.rt:156:5
 mark-holes-requires : tie.Need-mark-holes-requires
-mark-holes-requires c κs = ?
+mark-holes-requires c κs =
+    (looked (c .before .before .before .before .before .before .args .text .now) (c .before .before .before .before .before .before .pre .0) (c .before .squares-of .ensures), omega (arith, c .before .squares-of .ensures, c .before .before .before .before .before .before .pre .0 .beds-long))
 
 -- src/repairing.rt:157:37
 slice-aggregate-fill-rounds : tie.Need-slice-aggregate-fill-rounds
@@ -23,19 +29,33 @@ slice-aggregate-fill-rounds c = search needs
 
 -- src/repairing.rt:157:49
 array-borrow-prefix-before : tie.Need-array-borrow-prefix-before
-array-borrow-prefix-before c = ?
+array-borrow-prefix-before c =
+    omega (arith, c .before .before .before .before .before .before .squares-of .ensures, c .before .before .before .before .before .before .before .before .before .before .before .pre .0 .few)
 
 -- src/repairing.rt:157:49
 slice-aggregate-fill-rounds-2 : tie.Need-slice-aggregate-fill-rounds-2
-slice-aggregate-fill-rounds-2 c = ?
+slice-aggregate-fill-rounds-2 c =
+    taken-long {size = programSquares} _ (omega (arith, c .before .before .before .before .before .before .before .squares-of .ensures, c .before .before .before .before .before .before .before .before .before .before .before .before .pre .0 .few)) refl
 
 -- src/repairing.rt:157:5
 fill-rounds-requires : tie.Need-fill-rounds-requires
-fill-rounds-requires c κs = ?
+fill-rounds-requires c κs =
+    (
+      (c .before .before .before .before .before .before .before .before .before .before .before .before .pre .0 .in-range, c .before .before .before .before .before .before .before .before .before .before .before .before .pre .0 .marks-long, c .before .before .before .before .before .before .before .before .before .before .before .before .pre .0 .few, sym (c .before .before .before .before .before .before .before .squares-of .ensures) ∙ taken-long {size = programSquares} _ (omega (arith, c .before .before .before .before .before .before .before .squares-of .ensures, c .before .before .before .before .before .before .before .before .before .before .before .before .pre .0 .few)) refl),
+      seen (c .before .before .before .before .before .before .before .before .before .before .before .before .args .text .now) (c .before .before .before .before .before .before .before .before .before .before .before .before .pre .0) (c .before .before .before .before .before .before .before .squares-of .ensures) (c .before .before .before .before .before .mark-holes .ensures),
+    )
 
 -- src/repairing.rt:158:9
 put-with-beds-requires : tie.Need-put-with-beds-requires
-put-with-beds-requires c κs = ?
+put-with-beds-requires c κs =
+    let k = c .before .before .before .before .before .before .before .before .before .before .before .before .before .before .before .before .before .before .before .pre .0 in
+    (
+      (
+        looked (c .before .before .before .before .before .before .before .before .before .before .before .before .before .before .before .before .before .before .before .args .text .now) k (c .before .before .before .before .before .before .before .before .before .before .before .before .before .before .squares-of .ensures),
+        omega (arith, c .before .before .before .before .before .before .before .before .before .before .before .before .before .before .squares-of .ensures, rooms-long (c .before .before .before .before .before .before .before .before .before .before .before .before .before .before .before .before .before .before .before .args .text .now) k (c .before .before .before .before .before .before .before .before .before .before .before .before .before .before .squares-of .ensures) (c .before .before .before .before .before .before .before .before .before .before .before .before .mark-holes .ensures) (k .few) (c .before .before .before .before .before .before .fill-rounds .ensures) .0),
+      ),
+      sheet-fits (c .before .before .before .before .before .before .before .before .before .before .before .before .before .before .before .before .before .before .before .args .text .now) k (c .before .before .before .before .before .before .before .before .before .before .before .before .before .before .squares-of .ensures) (c .before .before .before .before .before .before .before .before .before .before .before .before .mark-holes .ensures) (k .few) (c .before .before .before .before .before .before .fill-rounds .ensures) (λ i. omega (arith, c .before .before .before .before .slice-known4 .given i)) (c .before .before .before .before .before .before .before .before .before .before .before .before .before .before .before .before .before .before .before .args .out .now) (c .before .before .before .before .before .before .before .before .before .before .before .before .before .before .before .before .before .before .before .pre .1),
+    )
 
 -- src/repairing.rt:159:55
 slice-aggregate-put-list : tie.Need-slice-aggregate-put-list
@@ -43,7 +63,18 @@ slice-aggregate-put-list c = search needs
 
 -- src/repairing.rt:159:5
 put-list-requires : tie.Need-put-list-requires
-put-list-requires c κs = ?
+put-list-requires c κs =
+    let k = c .before .before .before .before .before .before .before .before .before .before .before .before .before .before .before .before .before .before .before .before .before .before .before .before .before .pre .0 in
+    let long = rooms-long (c .before .before .before .before .before .before .before .before .before .before .before .before .before .before .before .before .before .before .before .before .before .before .before .before .before .args .text .now) k (c .before .before .before .before .before .before .before .before .before .before .before .before .before .before .before .before .before .before .before .before .squares-of .ensures) (c .before .before .before .before .before .before .before .before .before .before .before .before .before .before .before .before .before .before .mark-holes .ensures) (k .few) (c .before .before .before .before .before .before .before .before .before .before .before .before .fill-rounds .ensures) in
+    (
+      (
+        looked (c .before .before .before .before .before .before .before .before .before .before .before .before .before .before .before .before .before .before .before .before .before .before .before .before .before .args .text .now) k (c .before .before .before .before .before .before .before .before .before .before .before .before .before .before .before .before .before .before .before .before .squares-of .ensures),
+        omega (arith, c .before .before .before .before .before .before .before .before .before .before .before .before .before .before .before .before .before .before .before .before .squares-of .ensures, long .0),
+        omega (arith, c .before .before .before .before .before .before .before .before .before .before .before .before .before .before .before .before .before .before .before .before .squares-of .ensures, long .1, k .few),
+      ),
+      list-fits (c .before .before .before .before .before .before .before .before .before .before .before .before .before .before .before .before .before .before .before .before .before .before .before .before .before .args .text .now) k (c .before .before .before .before .before .before .before .before .before .before .before .before .before .before .before .before .before .before .before .before .squares-of .ensures) (c .before .before .before .before .before .before .before .before .before .before .before .before .before .before .before .before .before .before .mark-holes .ensures) (k .few) (c .before .before .before .before .before .before .before .before .before .before .before .before .fill-rounds .ensures) (λ i. omega (arith, c .before .before .before .before .before .before .before .before .before .before .slice-known4 .given i)) (c .before .before .before .before .before .before .before .before .before .before .before .before .before .before .before .before .before .before .before .before .before .before .before .before .before .args .out .now) (c .before .before .before .before .before .before .before .before .before .before .before .before .before .before .before .before .before .before .before .before .before .before .before .before .before .pre .1)
+          (c .before .before .before .before .before .put-with-beds .ensures),
+    )
 
 -- src/repairing.rt:148:1
 same-length : tie.Need-same-length
@@ -55,7 +86,10 @@ same-length-2 c = search needs
 
 -- src/repairing.rt:148:1
 returns : tie.Need-returns
-returns c = ?
+returns c =
+    let k = c .before .before .before .before .before .before .before .before .before .before .before .before .before .before .before .before .before .before .before .before .before .before .before .before .before .before .before .before .pre .0 in
+    repaired-put (c .before .before .before .before .before .before .before .before .before .before .before .before .before .before .before .before .before .before .before .before .before .before .before .before .before .before .before .before .args .text .now) k (c .before .before .before .before .before .before .before .before .before .before .before .before .before .before .before .before .before .before .before .before .before .before .before .squares-of .ensures) (c .before .before .before .before .before .before .before .before .before .before .before .before .before .before .before .before .before .before .before .before .before .mark-holes .ensures) (k .few) (c .before .before .before .before .before .before .before .before .before .before .before .before .before .before .before .fill-rounds .ensures) (λ i. omega (arith, c .before .before .before .before .before .before .before .before .before .before .before .before .before .slice-known4 .given i)) (c .before .before .before .before .before .before .before .before .before .before .before .before .before .before .before .before .before .before .before .before .before .before .before .before .before .before .before .before .args .out .now) (c .before .before .before .before .before .before .before .before .before .before .before .before .before .before .before .before .before .before .before .before .before .before .before .before .before .before .before .before .pre .1)
+    (c .before .before .before .before .before .before .before .before .put-with-beds .ensures) (c .before .before .put-list .ensures)
 
 pub put-repaired-spec : {M : Type 1} → statement M
 put-repaired-spec =

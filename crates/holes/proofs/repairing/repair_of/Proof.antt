@@ -1,3 +1,22 @@
+use mathlib.Core.Path.{_≡_, refl, sym, ap, subst, _∙_}
+use mathlib.Core.List.{List}
+use Prim.Native.Nat.{ℕ, _+_, _≤_}
+use native.Mathlib.Omega.{arith}
+use lib.ListN.{length, take}
+use lib.Seq.{length-take-le}
+use Rattle.sheet.specs.Sheet.{Rooms, rooms, lineOne}
+use Rattle.sheet.specs.declared.lines.GridLine.{GridLine}
+use Rattle.sheet.specs.declared.reading.Sheet.{Sheet}
+use Rattle.sheet.specs.declared.reading.Sheet.the-variants.{Read, Refused}
+use Rattle.programs.specs.Program.{mostText, programSquares, programRooms}
+use Rattle.programs.specs.Reading.{ReadsWithin}
+use Rattle.programs.proofs.HeldLaws.{part-long, read-as, read-holds}
+use Rattle.holes.specs.Holes.{lookedIn, plugged}
+use Rattle.holes.specs.inner.Steps.{bedsPut}
+use Rattle.holes.proofs.HoleLaws.{looked-few}
+use Rattle.holes.proofs.PutLaws.{put-within, put-again}
+use Rattle.holes.proofs.RepairLaws.{plug-is, plug-short}
+use Rattle.holes.proofs.PrintLaws.{repair-long, repair-refused, repairable, repair-read}
 use borrow.Author.Needs.{needs}
 use Rattle.holes.proofs.repairing.repair_of.Statement.{statement}
 use Rattle.holes.proofs.repairing.repair_of.Tie as tie
@@ -16,7 +35,8 @@ put-refused-requires c κs = search needs
 
 -- src/repairing.rt:167:9
 returns : tie.Need-returns
-returns c = ?
+returns c =
+    repair-long (c .before .before .before .before .args .text .now) (c .before .before .if1 .taken) (omega arith) (c .put-refused .ensures)
 
 -- src/repairing.rt:169:9
 grid-line-requires : tie.Need-grid-line-requires
@@ -36,15 +56,30 @@ slice-aggregate-put-with-beds-2 c = search needs
 
 -- src/repairing.rt:174:9
 put-with-beds-requires : tie.Need-put-with-beds-requires
-put-with-beds-requires c κs = ?
+put-with-beds-requires c κs =
+    let s = c .before .before .before .before .before .before .before .args .text .now in
+    (
+      (
+        record {
+          columns-are = ap (λ (g : GridLine). g .shape .columns) (c .before .before .before .before .grid-line .ensures);
+          squares-are = c .before .before .looked-in .ensures ∙ ap lookedIn (c .before .before .before .before .grid-line .ensures);
+        },
+        omega (arith, c .before .before .looked-in .ensures, looked-few (c .before .before .before .before .grid-line .result)),
+      ),
+      omega (arith, ap length (plug-is s programSquares), plug-short s, c .before .before .before .before .before .if1 .left),
+    )
 
 -- src/repairing.rt:183:9
 array-share-prefix-plugged : tie.Need-array-share-prefix-plugged
-array-share-prefix-plugged c = ?
+array-share-prefix-plugged c =
+    let s = c .before .before .before .before .before .before .before .before .before .args .text .now in
+    put-within (c .before .put-with-beds .ensures) (omega (arith, ap length (plug-is s programSquares), plug-short s, c .before .before .before .before .before .before .before .if1 .left))
 
 -- src/repairing.rt:183:9
 slice-aggregate-read-within : tie.Need-slice-aggregate-read-within
-slice-aggregate-read-within c = ?
+slice-aggregate-read-within c =
+    let s = c .before .before .before .before .before .before .before .before .before .before .args .text .now in
+    sym (length-take-le _ _ (put-within (c .before .before .put-with-beds .ensures) (omega (arith, ap length (plug-is s programSquares), plug-short s, c .before .before .before .before .before .before .before .before .if1 .left))))
 
 -- src/repairing.rt:185:9
 slice-aggregate-read-within-2 : tie.Need-slice-aggregate-read-within-2
@@ -92,31 +127,38 @@ enum-known-sheet-2 c = search needs
 
 -- src/repairing.rt:195:65
 array-share-prefix-marks : tie.Need-array-share-prefix-marks
-array-share-prefix-marks c = ?
+array-share-prefix-marks c =
+    ?
 
 -- src/repairing.rt:195:65
 slice-aggregate-put-repaired : tie.Need-slice-aggregate-put-repaired
-slice-aggregate-put-repaired c = ?
+slice-aggregate-put-repaired c =
+    ?
 
 -- src/repairing.rt:195:84
 array-borrow-prefix-beds : tie.Need-array-borrow-prefix-beds
-array-borrow-prefix-beds c = ?
+array-borrow-prefix-beds c =
+    ?
 
 -- src/repairing.rt:195:84
 slice-aggregate-put-repaired-2 : tie.Need-slice-aggregate-put-repaired-2
-slice-aggregate-put-repaired-2 c = ?
+slice-aggregate-put-repaired-2 c =
+    ?
 
 -- src/repairing.rt:195:34
 put-repaired-requires : tie.Need-put-repaired-requires
-put-repaired-requires c κs = ?
+put-repaired-requires c κs =
+    ?
 
 -- src/repairing.rt:163:1
 returns-2 : tie.Need-returns-2
-returns-2 c = ?
+returns-2 c =
+    ?
 
 -- src/repairing.rt:163:1
 returns-3 : tie.Need-returns-3
-returns-3 c = ?
+returns-3 c =
+    ?
 
 pub repair-of-spec : {M : Type 1} → statement M
 repair-of-spec =
