@@ -1,25 +1,19 @@
-use Rattle.text.proofs.WritingLaws.{wrote-length}
-use mathlib.Core.Path.{_≡_, sym, ap, subst, _∙_}
-use mathlib.Core.List.{List, _++_}
-use Prim.Native.Nat.{ℕ, _+_, _-_, _≤_}
+-- `holes::holes::put_from` meets its contract: the lines so far stand at the place, and the rest of the text follows the last.
+-- Assumes nothing.
+use mathlib.Core.Path.{_≡_, sym, ap, _∙_}
+use Prim.Native.Nat.{_-_, _≤_}
 use native.Mathlib.Omega.{arith}
 use lib.ListN.{length, drop}
 use Rattle.reckon.specs.Lists.{joined}
+use Rattle.text.proofs.WritingLaws.{wrote-length, written-as}
 use Rattle.text.specs.Writing.{Wrote}
-use Rattle.text.proofs.WritingLaws.{written-as}
-use Rattle.text.proofs.JoinedLaws.{none-written, lines-length, line-fits, line-written, lines-whole}
+use Rattle.text.proofs.JoinedLaws.{none-written, line-fits, line-written, lines-whole}
 use Rattle.holes.specs.Holes.{lookedAt, startOf}
 use Rattle.holes.specs.inner.Steps.{linePut}
 use Rattle.holes.proofs.HoleLaws.{start-zero}
 use Rattle.holes.proofs.PutLaws.{one-fits, other-fits, both-put, columns-some, line-in, line-on, line-as, rest-is, all-lines}
 use Rattle.holes.proofs.holes.put_from.Statement.{statement}
 use Rattle.holes.proofs.holes.put_from.Tie as tie
-use Rattle.holes.proofs.holes.put_from.Reads as reads
-use Rattle.holes.proofs.holes.put_from.Lts as lts
-use Rattle.holes.proofs.holes.put_line_with.Reads as put-line-with-reads
-use Rattle.reckon.proofs.numbers.number.Reads as number-reads
-use Rattle.text.proofs.lines.next_line.Reads as next-line-reads
-use Rattle.text.proofs.writing.put_word.Reads as put-word-reads
 
 abbrev Inv-loop : tie.InvT-loop
 Inv-loop out₀ at text cells columns squares beds start₀ next₀ square₀ out start next square =
@@ -29,27 +23,22 @@ abbrev μ-loop : tie.MeasureT-loop
 μ-loop out₀ at text cells columns squares beds start₀ next₀ square₀ out start next square =
     squares - square
 
--- src/holes.rt:110:5
 loop-holds : tie.Need-loop-holds Inv-loop μ-loop
 loop-holds c =
     (omega arith, c .before .before .before .pre .0 .2 ∙ sym (start-zero _), none-written _ _ _)
 
--- src/holes.rt:111:13
 number-requires : tie.Need-number-requires Inv-loop μ-loop
 number-requires c κs =
     omega (arith, c .loop-test .taken, c .before .before .before .before .before .pre .0 .1)
 
--- src/holes.rt:112:54
 div-put-line-with : tie.Need-div-put-line-with Inv-loop μ-loop
 div-put-line-with c =
     omega (arith, columns-some (c .before .before .before .before .before .before .before .pre .0 .0) (c .before .before .loop-test .taken))
 
--- src/holes.rt:112:72
 rem-put-line-with : tie.Need-rem-put-line-with Inv-loop μ-loop
 rem-put-line-with c =
     omega (arith, columns-some (c .before .before .before .before .before .before .before .pre .0 .0) (c .before .before .loop-test .taken))
 
--- src/holes.rt:112:9
 put-line-with-requires : tie.Need-put-line-with-requires Inv-loop μ-loop
 put-line-with-requires c κs =
     let a = c .before .before .before .before .before .before .before .args in
@@ -65,22 +54,18 @@ put-line-with-requires c κs =
       ),
     )
 
--- src/holes.rt:113:9
 next-line-requires : tie.Need-next-line-requires Inv-loop μ-loop
 next-line-requires c κs =
     line-in (c .before .before .before .before .before .before .before .before .before .before .pre .0 .0) (c .before .before .before .before .before .before .loop .square) (c .before .before .before .before .before .before .loop .inv .1)
 
--- src/holes.rt:114:9
 add-square : tie.Need-add-square Inv-loop μ-loop
 add-square c =
     omega (arith, c .before .before .before .before .before .before .loop-test .taken)
 
--- src/holes.rt:110:5
 loop-less : tie.Need-loop-less Inv-loop μ-loop
 loop-less c =
     omega (arith, c .before .before .before .before .before .before .loop-test .taken)
 
--- src/holes.rt:110:5
 loop-again : tie.Need-loop-again Inv-loop μ-loop
 loop-again c =
     let a = c .before .before .before .before .before .before .before .before .before .before .before .args in
@@ -94,22 +79,18 @@ loop-again c =
           (written-as (line-as look (l .square) (l .inv .1) (a .beds .now) (c .before .before .before .before .before .number .ensures)) (c .before .before .before .put-line-with .ensures)),
     )
 
--- src/holes.rt:116:25
 sub-put-word : tie.Need-sub-put-word Inv-loop μ-loop
 sub-put-word c =
     omega (arith, line-in (c .before .before .before .before .before .before .pre .0 .0) (c .before .before .loop .square) (c .before .before .loop .inv .1))
 
--- src/holes.rt:116:25
 part-put-word-start : tie.Need-part-put-word-start Inv-loop μ-loop
 part-put-word-start c =
     omega (arith, line-in (c .before .before .before .before .before .before .pre .0 .0) (c .before .before .loop .square) (c .before .before .loop .inv .1))
 
--- src/holes.rt:116:25
 part-put-word-end : tie.Need-part-put-word-end Inv-loop μ-loop
 part-put-word-end c =
     omega (arith, line-in (c .before .before .before .before .before .before .pre .0 .0) (c .before .before .loop .square) (c .before .before .loop .inv .1))
 
--- src/holes.rt:116:5
 put-word-requires : tie.Need-put-word-requires Inv-loop μ-loop
 put-word-requires c κs =
     let a = c .before .before .before .before .before .before .before .args in
@@ -122,7 +103,6 @@ put-word-requires c κs =
       ap length (rest-is look {i = l .square} (omega (arith, l .inv .0, c .before .before .loop-test .left)) (l .inv .1)),
     )
 
--- src/holes.rt:94:1
 same-length : tie.Need-same-length Inv-loop μ-loop
 same-length c =
     let a = c .before .before .before .before .before .before .before .before .before .before .args in
@@ -133,7 +113,6 @@ same-length c =
     (lines-whole (linePut (a .text .now) (a .beds .now)) (all-lines look (omega (arith, l .inv .0, c .before .before .before .before .before .loop-test .left))) (l .inv .2))
     (written-as (rest-is look {i = l .square} (omega (arith, l .inv .0, c .before .before .before .before .before .loop-test .left)) (l .inv .1)) (c .before .before .put-word .ensures)))
 
--- src/holes.rt:94:1
 returns : tie.Need-returns Inv-loop μ-loop
 returns c =
     let a = c .before .before .before .before .before .before .before .before .before .before .args in

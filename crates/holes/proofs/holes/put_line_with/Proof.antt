@@ -1,76 +1,61 @@
+-- `holes::holes::put_line_with` meets its contract: the whole line where it has no hole, and else what is before the hole, the bed, and what is after it.
+-- Assumes nothing.
 use mathlib.Core.Path.{sym, ap, _∙_}
 use Prim.Native.Nat.{_+_}
 use native.Mathlib.Omega.{arith}
 use lib.ListN.{length}
+use borrow.Author.Needs.{needs}
 use Rattle.text.proofs.EndLaws.{next-within}
 use Rattle.text.proofs.WritingLaws.{written-as}
 use Rattle.holes.specs.Holes.{between}
 use Rattle.holes.specs.Repaired.{bedText}
 use Rattle.holes.proofs.HoleLaws.{hole-spot, next-forth}
 use Rattle.holes.proofs.PutLaws.{told-none, told-at, line-whole, line-parts, first-fits, second-fits, third-fits, three-put}
-use borrow.Author.Needs.{needs}
 use Rattle.holes.proofs.holes.put_line_with.Statement.{statement}
 use Rattle.holes.proofs.holes.put_line_with.Tie as tie
-use Rattle.holes.proofs.holes.put_line_with.Reads as reads
-use Rattle.holes.proofs.holes.put_line_with.Lts as lts
-use Rattle.holes.proofs.holes.hole_at.Reads as hole-at-reads
-use Rattle.holes.proofs.holes.put_bed.Reads as put-bed-reads
-use Rattle.text.proofs.lines.next_line.Reads as next-line-reads
-use Rattle.text.proofs.writing.put_word.Reads as put-word-reads
 
--- src/holes.rt:82:9
 next-line-requires : tie.Need-next-line-requires
 next-line-requires c κs = search needs
 
--- src/holes.rt:83:26
 hole-at-requires : tie.Need-hole-at-requires
 hole-at-requires c κs = search needs
 
--- src/holes.rt:83:18
 enum-known-spot : tie.Need-enum-known-spot
 enum-known-spot c = search needs
 
--- src/holes.rt:84:25
 enum-told : tie.Need-enum-told
 enum-told c = search needs
 
--- src/holes.rt:84:34
 sub-put-word : tie.Need-sub-put-word
 sub-put-word c =
     let a = c .before .before .before .before .before .before .before .args in
     omega (arith, c .before .before .before .before .next-line .ensures, next-forth (a .text .now) (a .start), next-within (a .text .now) (a .start) (c .before .before .before .before .before .before .before .pre .0))
 
--- src/holes.rt:84:34
 part-put-word-start : tie.Need-part-put-word-start
 part-put-word-start c =
     let a = c .before .before .before .before .before .before .before .args in
     omega (arith, c .before .before .before .before .next-line .ensures, next-forth (a .text .now) (a .start), next-within (a .text .now) (a .start) (c .before .before .before .before .before .before .before .pre .0))
 
--- src/holes.rt:84:34
 part-put-word-end : tie.Need-part-put-word-end
 part-put-word-end c =
     let a = c .before .before .before .before .before .before .before .args in
     omega (arith, c .before .before .before .before .next-line .ensures, next-forth (a .text .now) (a .start), next-within (a .text .now) (a .start) (c .before .before .before .before .before .before .before .pre .0))
 
--- src/holes.rt:84:9
 put-word-requires : tie.Need-put-word-requires
 put-word-requires c κs =
     let a = c .before .before .before .before .before .before .before .before .args in
     let e = told-none (a .text .now) (a .start) (a .row) (a .column) (sym (c .before .before .enum-told .given .1) ∙ c .before .before .before .before .hole-at .ensures) in
     omega (arith, c .before .before .before .before .before .before .before .before .pre .1, ap length (line-whole (a .text .now) (a .start) (a .row) (a .column) (bedText (a .bed)) e (c .before .before .before .before .before .next-line .ensures)))
 
--- src/holes.rt:84:9
 same-length : tie.Need-same-length
 same-length c = search needs
 
--- src/holes.rt:84:9
 returns : tie.Need-returns
 returns c =
     let a = c .before .before .before .before .before .before .before .before .before .before .before .args in
     let e = told-none (a .text .now) (a .start) (a .row) (a .column) (sym (c .before .before .before .before .before .enum-told .given .1) ∙ c .before .before .before .before .before .before .before .hole-at .ensures) in
     written-as (line-whole (a .text .now) (a .start) (a .row) (a .column) (bedText (a .bed)) e (c .before .before .before .before .before .before .before .before .next-line .ensures)) (c .before .before .put-word .ensures)
 
--- src/holes.rt:86:36
 sub-put-word-2 : tie.Need-sub-put-word-2
 sub-put-word-2 c =
     let a = c .before .before .before .before .before .before .before .before .args in
@@ -78,7 +63,6 @@ sub-put-word-2 c =
     let k = hole-spot (a .text .now) (a .start) (a .row) (a .column) (t .0) in
     omega (arith, t .1, k .before, k .inside, k .after, c .before .before .before .before .before .next-line .ensures, next-within (a .text .now) (a .start) (c .before .before .before .before .before .before .before .before .pre .0))
 
--- src/holes.rt:86:36
 part-put-word-start-2 : tie.Need-part-put-word-start-2
 part-put-word-start-2 c =
     let a = c .before .before .before .before .before .before .before .before .args in
@@ -86,7 +70,6 @@ part-put-word-start-2 c =
     let k = hole-spot (a .text .now) (a .start) (a .row) (a .column) (t .0) in
     omega (arith, t .1, k .before, k .inside, k .after, c .before .before .before .before .before .next-line .ensures, next-within (a .text .now) (a .start) (c .before .before .before .before .before .before .before .before .pre .0))
 
--- src/holes.rt:86:36
 part-put-word-end-2 : tie.Need-part-put-word-end-2
 part-put-word-end-2 c =
     let a = c .before .before .before .before .before .before .before .before .args in
@@ -94,7 +77,6 @@ part-put-word-end-2 c =
     let k = hole-spot (a .text .now) (a .start) (a .row) (a .column) (t .0) in
     omega (arith, t .1, k .before, k .inside, k .after, c .before .before .before .before .before .next-line .ensures, next-within (a .text .now) (a .start) (c .before .before .before .before .before .before .before .before .pre .0))
 
--- src/holes.rt:86:9
 put-word-requires-2 : tie.Need-put-word-requires-2
 put-word-requires-2 c κs =
     let a = c .before .before .before .before .before .before .before .before .before .args in
@@ -104,7 +86,6 @@ put-word-requires-2 c κs =
     (line-parts (a .text .now) (a .start) (a .row) (a .column) (bedText (a .bed)) (t .0) (t .1) (c .before .before .before .before .before .before .next-line .ensures)) (a .at) (a .out .now)
     (c .before .before .before .before .before .before .before .before .before .pre .1)
 
--- src/holes.rt:87:9
 put-bed-requires : tie.Need-put-bed-requires
 put-bed-requires c κs =
     let a = c .before .before .before .before .before .before .before .before .before .before .before .before .before .args in
@@ -114,7 +95,6 @@ put-bed-requires c κs =
     (line-parts (a .text .now) (a .start) (a .row) (a .column) (bedText (a .bed)) (t .0) (t .1) (c .before .before .before .before .before .before .before .before .before .before .next-line .ensures)) (a .at) (a .out .now)
     (c .before .before .before .before .before .before .before .before .before .before .before .before .before .pre .1) (c .before .before .before .put-word2 .ensures)
 
--- src/holes.rt:88:16
 add-rest : tie.Need-add-rest
 add-rest c =
     let a = c .before .before .before .before .before .before .before .before .before .before .before .before .before .before .before .before .args in
@@ -122,7 +102,6 @@ add-rest c =
     let k = hole-spot (a .text .now) (a .start) (a .row) (a .column) (t .0) in
     omega (arith, t .1, k .before, k .inside, k .after, c .before .before .before .before .before .before .before .before .before .before .before .before .before .next-line .ensures, next-within (a .text .now) (a .start) (c .before .before .before .before .before .before .before .before .before .before .before .before .before .before .before .before .pre .0))
 
--- src/holes.rt:89:25
 sub-put-word-3 : tie.Need-sub-put-word-3
 sub-put-word-3 c =
     let a = c .before .before .before .before .before .before .before .before .before .before .before .before .before .before .before .before .before .args in
@@ -130,7 +109,6 @@ sub-put-word-3 c =
     let k = hole-spot (a .text .now) (a .start) (a .row) (a .column) (t .0) in
     omega (arith, t .1, k .before, k .inside, k .after, c .before .before .before .before .before .before .before .before .before .before .before .before .before .before .next-line .ensures, next-within (a .text .now) (a .start) (c .before .before .before .before .before .before .before .before .before .before .before .before .before .before .before .before .before .pre .0))
 
--- src/holes.rt:89:25
 part-put-word-start-3 : tie.Need-part-put-word-start-3
 part-put-word-start-3 c =
     let a = c .before .before .before .before .before .before .before .before .before .before .before .before .before .before .before .before .before .args in
@@ -138,7 +116,6 @@ part-put-word-start-3 c =
     let k = hole-spot (a .text .now) (a .start) (a .row) (a .column) (t .0) in
     omega (arith, t .1, k .before, k .inside, k .after, c .before .before .before .before .before .before .before .before .before .before .before .before .before .before .next-line .ensures, next-within (a .text .now) (a .start) (c .before .before .before .before .before .before .before .before .before .before .before .before .before .before .before .before .before .pre .0))
 
--- src/holes.rt:89:25
 part-put-word-end-3 : tie.Need-part-put-word-end-3
 part-put-word-end-3 c =
     let a = c .before .before .before .before .before .before .before .before .before .before .before .before .before .before .before .before .before .args in
@@ -146,7 +123,6 @@ part-put-word-end-3 c =
     let k = hole-spot (a .text .now) (a .start) (a .row) (a .column) (t .0) in
     omega (arith, t .1, k .before, k .inside, k .after, c .before .before .before .before .before .before .before .before .before .before .before .before .before .before .next-line .ensures, next-within (a .text .now) (a .start) (c .before .before .before .before .before .before .before .before .before .before .before .before .before .before .before .before .before .pre .0))
 
--- src/holes.rt:89:5
 put-word-requires-3 : tie.Need-put-word-requires-3
 put-word-requires-3 c κs =
     let a = c .before .before .before .before .before .before .before .before .before .before .before .before .before .before .before .before .before .before .args in
@@ -156,11 +132,9 @@ put-word-requires-3 c κs =
     (line-parts (a .text .now) (a .start) (a .row) (a .column) (bedText (a .bed)) (t .0) (t .1) (c .before .before .before .before .before .before .before .before .before .before .before .before .before .before .before .next-line .ensures)) (a .at) (a .out .now)
     (c .before .before .before .before .before .before .before .before .before .before .before .before .before .before .before .before .before .before .pre .1) (c .before .before .before .before .before .before .before .before .put-word2 .ensures) (c .before .before .before .before .put-bed .ensures)
 
--- src/holes.rt:69:1
 same-length-2 : tie.Need-same-length-2
 same-length-2 c = search needs
 
--- src/holes.rt:69:1
 returns-2 : tie.Need-returns-2
 returns-2 c =
     let a = c .before .before .before .before .before .before .before .before .before .before .before .before .before .before .before .before .before .before .before .before .before .args in

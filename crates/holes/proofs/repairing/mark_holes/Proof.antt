@@ -1,3 +1,5 @@
+-- `holes::repairing::mark_holes` meets its contract: the squares passed have no bed where there is a hole, and the position is that of the next line.
+-- Assumes nothing.
 use mathlib.Core.Path.{_≡_, sym, ap, _∙_}
 use mathlib.Core.Bool.{Bool, not}
 use Prim.Native.Nat.{ℕ, _-_, _≤_}
@@ -14,11 +16,6 @@ use Rattle.holes.proofs.FillLaws.{filled-next}
 use Rattle.holes.proofs.PutLaws.{columns-some, line-in, line-on, hole-as}
 use Rattle.holes.proofs.repairing.mark_holes.Statement.{statement}
 use Rattle.holes.proofs.repairing.mark_holes.Tie as tie
-use Rattle.holes.proofs.repairing.mark_holes.Reads as reads
-use Rattle.holes.proofs.repairing.mark_holes.Lts as lts
-use Rattle.holes.proofs.holes.cells_at.Reads as cells-at-reads
-use Rattle.holes.proofs.repairing.mark_hole.Reads as mark-hole-reads
-use Rattle.text.proofs.lines.next_line.Reads as next-line-reads
 
 abbrev Inv-loop : tie.InvT-loop
 Inv-loop text columns squares beds₀ start₀ square₀ beds start square =
@@ -28,27 +25,22 @@ abbrev μ-loop : tie.MeasureT-loop
 μ-loop text columns squares beds₀ start₀ square₀ beds start square =
     squares - square
 
--- src/repairing.rt:59:9
 cells-at-requires : tie.Need-cells-at-requires Inv-loop μ-loop
 cells-at-requires c κs =
     search needs
 
--- src/repairing.rt:61:5
 loop-holds : tie.Need-loop-holds Inv-loop μ-loop
 loop-holds c =
     (omega arith, c .cells-at .ensures ∙ sym (start-zero _), filled-none _ _ _)
 
--- src/repairing.rt:62:32
 div-mark-hole : tie.Need-div-mark-hole Inv-loop μ-loop
 div-mark-hole c =
     omega (arith, columns-some (c .before .before .before .before .before .pre .0) (c .loop-test .taken))
 
--- src/repairing.rt:62:50
 rem-mark-hole : tie.Need-rem-mark-hole Inv-loop μ-loop
 rem-mark-hole c =
     omega (arith, columns-some (c .before .before .before .before .before .pre .0) (c .loop-test .taken))
 
--- src/repairing.rt:62:9
 mark-hole-requires : tie.Need-mark-hole-requires Inv-loop μ-loop
 mark-hole-requires c κs =
     omega (
@@ -59,22 +51,18 @@ mark-hole-requires c κs =
       length-filled (c .before .before .loop .square) (λ i. not (isHole (c .before .before .before .before .before .before .args .text .now) i)) (λ i. noBed) (c .before .before .before .before .before .before .args .beds .now),
     )
 
--- src/repairing.rt:63:9
 next-line-requires : tie.Need-next-line-requires Inv-loop μ-loop
 next-line-requires c κs =
     line-in (c .before .before .before .before .before .before .before .before .before .pre .0) (c .before .before .before .before .before .loop .square) (c .before .before .before .before .before .loop .inv .1)
 
--- src/repairing.rt:64:9
 add-square : tie.Need-add-square Inv-loop μ-loop
 add-square c =
     omega (arith, c .before .before .before .before .before .loop-test .taken)
 
--- src/repairing.rt:61:5
 loop-less : tie.Need-loop-less Inv-loop μ-loop
 loop-less c =
     omega (arith, c .before .before .before .before .before .loop-test .taken)
 
--- src/repairing.rt:61:5
 loop-again : tie.Need-loop-again Inv-loop μ-loop
 loop-again c =
     let l = c .before .before .before .before .before .before .loop in
@@ -86,12 +74,10 @@ loop-again c =
           ∙ ap (λ (b : Bool). pick (not b) (l .beds) (set (l .beds) (l .square) noBed)) (sym (hole-as (c .before .before .before .before .before .before .before .before .before .before .pre .0) (l .square) (l .inv .1)))),
     )
 
--- src/repairing.rt:55:1
 same-length : tie.Need-same-length Inv-loop μ-loop
 same-length c =
     ap length (c .before .loop .inv .2) ∙ length-filled (c .before .loop .square) (λ i. not (isHole (c .before .before .before .before .before .args .text .now) i)) (λ i. noBed) (c .before .before .before .before .before .args .beds .now)
 
--- src/repairing.rt:55:1
 returns : tie.Need-returns Inv-loop μ-loop
 returns c =
     c .before .loop .inv .2

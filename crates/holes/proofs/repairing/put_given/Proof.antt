@@ -1,42 +1,31 @@
-use mathlib.Core.Path.{ap}
+-- `holes::repairing::put_given` meets its contract: row and column, and then bed and round, or `-` for both.
+-- Assumes nothing.
 use mathlib.Core.List.{[], _∷_, _++_}
 use native.Mathlib.Omega.{arith}
-use lib.ListN.{length, length-append}
+use lib.ListN.{length-append}
+use borrow.Author.Needs.{needs}
 use Rattle.text.specs.Reading.{tab, newline}
 use Rattle.text.specs.Writing.{decimal, fieldText, fieldsText}
 use Rattle.holes.proofs.PutLaws.{givenRest, given-is, unknown-given, known-given, first-fits, second-fits, third-fits, three-put, other-fits, both-put}
-use borrow.Author.Needs.{needs}
 use Rattle.holes.proofs.repairing.put_given.Statement.{statement}
 use Rattle.holes.proofs.repairing.put_given.Tie as tie
-use Rattle.holes.proofs.repairing.put_given.Reads as reads
-use Rattle.holes.proofs.repairing.put_given.Lts as lts
-use Rattle.text.proofs.writing.put_byte.Reads as put-byte-reads
-use Rattle.text.proofs.writing.put_field.Reads as put-field-reads
-use Rattle.text.proofs.writing.put_fields.Reads as put-fields-reads
-use Rattle.text.proofs.writing.put_number.Reads as put-number-reads
-use Rattle.text.proofs.writing.put_word.Reads as put-word-reads
 
--- src/repairing.rt:72:9
 put-number-requires : tie.Need-put-number-requires
 put-number-requires c κs =
     let a = c .before .before .args in
     first-fits (decimal (a .row)) (fieldText (a .column)) (givenRest (a .row) (a .column) (a .bed) (a .turn)) (given-is (a .row) (a .column) (a .bed) (a .turn)) (a .at) (a .out .now) (c .before .before .pre)
 
--- src/repairing.rt:73:9
 put-field-requires : tie.Need-put-field-requires
 put-field-requires c κs =
     let a = c .before .before .before .before .before .before .args in
     second-fits (decimal (a .row)) (fieldText (a .column)) (givenRest (a .row) (a .column) (a .bed) (a .turn)) (given-is (a .row) (a .column) (a .bed) (a .turn)) (a .at) (a .out .now) (c .before .before .before .before .before .before .pre) (c .before .before .before .put-number .ensures)
 
--- src/repairing.rt:74:15
 cast-if1 : tie.Need-cast-if1
 cast-if1 c = search needs
 
--- src/repairing.rt:75:38
 slice-aggregate-put-word : tie.Need-slice-aggregate-put-word
 slice-aggregate-put-word c = search needs
 
--- src/repairing.rt:75:9
 put-word-requires : tie.Need-put-word-requires
 put-word-requires c κs =
     let a = c .before .before .before .before .before .before .before .before .before .before .before .before .args in
@@ -46,22 +35,18 @@ put-word-requires c κs =
           (c .before .before .before .before .before .put-field .ensures),
     )
 
--- src/repairing.rt:75:9
 same-length : tie.Need-same-length
 same-length c = search needs
 
--- src/repairing.rt:75:9
 returns : tie.Need-returns
 returns c =
     let a = c .before .before .before .before .before .before .before .before .before .before .before .before .before .before .before .args in
     three-put (decimal (a .row)) (fieldText (a .column)) (tab ∷ 45 ∷ tab ∷ 45 ∷ newline ∷ []) (unknown-given (a .row) (a .column) (a .bed) (a .turn) (c .before .before .before .before .before .if1 .taken)) (a .at) (a .out .now) (c .before .before .before .before .before .before .before .before .before .before .before .before .before .before .before .pre) (c .before .before .before .before .before .before .before .before .before .before .before .before .put-number .ensures)
     (c .before .before .before .before .before .before .before .before .put-field .ensures) (c .before .before .put-word .ensures)
 
--- src/repairing.rt:78:39
 slice-aggregate-put-fields : tie.Need-slice-aggregate-put-fields
 slice-aggregate-put-fields c = search needs
 
--- src/repairing.rt:78:9
 put-fields-requires : tie.Need-put-fields-requires
 put-fields-requires c κs =
     let a = c .before .before .before .before .before .before .before .before .before .before .before .before .args in
@@ -72,7 +57,6 @@ put-fields-requires c κs =
           (c .before .before .before .before .before .put-field .ensures),
     )
 
--- src/repairing.rt:79:5
 put-byte-requires : tie.Need-put-byte-requires
 put-byte-requires c κs =
     let a = c .before .before .before .before .before .before .before .before .before .before .before .before .before .before .before .before .args in
@@ -84,11 +68,9 @@ put-byte-requires c κs =
           (c .before .before .before .put-fields .ensures),
     )
 
--- src/repairing.rt:68:1
 same-length-2 : tie.Need-same-length-2
 same-length-2 c = search needs
 
--- src/repairing.rt:68:1
 returns-2 : tie.Need-returns-2
 returns-2 c =
     let a = c .before .before .before .before .before .before .before .before .before .before .before .before .before .before .before .before .before .before .before .args in

@@ -1,5 +1,7 @@
+-- `holes::repairing::put_list` meets its contract: the lines so far stand at the place.
+-- Assumes nothing.
 use mathlib.Core.Path.{_≡_, sym, ap, _∙_}
-use Prim.Native.Nat.{ℕ, _-_, _≤_}
+use Prim.Native.Nat.{_-_, _≤_}
 use native.Mathlib.Omega.{arith}
 use lib.ListN.{length}
 use borrow.Author.Needs.{needs}
@@ -13,12 +15,6 @@ use Rattle.holes.proofs.HoleLaws.{start-zero}
 use Rattle.holes.proofs.PutLaws.{columns-some, line-in, line-on, listed-as, all-lines}
 use Rattle.holes.proofs.repairing.put_list.Statement.{statement}
 use Rattle.holes.proofs.repairing.put_list.Tie as tie
-use Rattle.holes.proofs.repairing.put_list.Reads as reads
-use Rattle.holes.proofs.repairing.put_list.Lts as lts
-use Rattle.holes.proofs.holes.cells_at.Reads as cells-at-reads
-use Rattle.holes.proofs.repairing.put_hole.Reads as put-hole-reads
-use Rattle.reckon.proofs.numbers.number.Reads as number-reads
-use Rattle.text.proofs.lines.next_line.Reads as next-line-reads
 
 abbrev Inv-loop : tie.InvT-loop
 Inv-loop out₀ at text columns squares beds turns start₀ next₀ square₀ out start next square =
@@ -28,37 +24,30 @@ abbrev μ-loop : tie.MeasureT-loop
 μ-loop out₀ at text columns squares beds turns start₀ next₀ square₀ out start next square =
     squares - square
 
--- src/repairing.rt:117:9
 cells-at-requires : tie.Need-cells-at-requires Inv-loop μ-loop
 cells-at-requires c κs =
     search needs
 
--- src/repairing.rt:120:5
 loop-holds : tie.Need-loop-holds Inv-loop μ-loop
 loop-holds c =
     (omega arith, c .cells-at .ensures ∙ sym (start-zero _), none-written _ _ _)
 
--- src/repairing.rt:121:13
 number-requires : tie.Need-number-requires Inv-loop μ-loop
 number-requires c κs =
     omega (arith, c .loop-test .taken, c .before .before .before .before .before .before .before .pre .0 .1)
 
--- src/repairing.rt:122:13
 number-requires-2 : tie.Need-number-requires-2 Inv-loop μ-loop
 number-requires-2 c κs =
     omega (arith, c .before .loop-test .taken, c .before .before .before .before .before .before .before .before .pre .0 .2)
 
--- src/repairing.rt:123:49
 div-put-hole : tie.Need-div-put-hole Inv-loop μ-loop
 div-put-hole c =
     omega (arith, columns-some (c .before .before .before .before .before .before .before .before .before .before .pre .0 .0) (c .before .before .before .loop-test .taken))
 
--- src/repairing.rt:123:67
 rem-put-hole : tie.Need-rem-put-hole Inv-loop μ-loop
 rem-put-hole c =
     omega (arith, columns-some (c .before .before .before .before .before .before .before .before .before .before .pre .0 .0) (c .before .before .before .loop-test .taken))
 
--- src/repairing.rt:123:9
 put-hole-requires : tie.Need-put-hole-requires Inv-loop μ-loop
 put-hole-requires c κs =
     let a = c .before .before .before .before .before .before .before .before .before .before .args in
@@ -70,22 +59,18 @@ put-hole-requires c κs =
       ap length (listed-as look (l .square) (l .inv .1) (a .beds .now) (a .turns .now) (c .before .before .number .ensures) (c .before .number2 .ensures)),
     )
 
--- src/repairing.rt:124:9
 next-line-requires : tie.Need-next-line-requires Inv-loop μ-loop
 next-line-requires c κs =
     line-in (c .before .before .before .before .before .before .before .before .before .before .before .before .before .pre .0 .0) (c .before .before .before .before .before .before .before .loop .square) (c .before .before .before .before .before .before .before .loop .inv .1)
 
--- src/repairing.rt:125:9
 add-square : tie.Need-add-square Inv-loop μ-loop
 add-square c =
     omega (arith, c .before .before .before .before .before .before .before .loop-test .taken)
 
--- src/repairing.rt:120:5
 loop-less : tie.Need-loop-less Inv-loop μ-loop
 loop-less c =
     omega (arith, c .before .before .before .before .before .before .before .loop-test .taken)
 
--- src/repairing.rt:120:5
 loop-again : tie.Need-loop-again Inv-loop μ-loop
 loop-again c =
     let a = c .before .before .before .before .before .before .before .before .before .before .before .before .before .before .args in
@@ -98,14 +83,12 @@ loop-again c =
           (written-as (listed-as look (l .square) (l .inv .1) (a .beds .now) (a .turns .now) (c .before .before .before .before .before .before .number .ensures) (c .before .before .before .before .before .number2 .ensures)) (c .before .before .before .put-hole .ensures)),
     )
 
--- src/repairing.rt:104:1
 same-length : tie.Need-same-length Inv-loop μ-loop
 same-length c =
     let a = c .before .before .before .before .before .before .before .args in
     let l = c .before .loop in
     lines-length (listedLine (a .text .now) (a .beds .now) (a .turns .now)) (lookedAt (a .text .now)) (a .at) (a .out .now) (c .before .before .before .before .before .before .before .pre .1) (l .square) (l .inv .2) (omega (arith, l .inv .0, c .before .before .before .before .before .before .before .pre .0 .0 .squares-are))
 
--- src/repairing.rt:104:1
 returns : tie.Need-returns Inv-loop μ-loop
 returns c =
     let a = c .before .before .before .before .before .before .before .args in

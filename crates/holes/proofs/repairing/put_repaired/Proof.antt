@@ -1,43 +1,32 @@
+-- `holes::repairing::put_repaired` meets its contract: holes marked, rounds made, the sheet and then the list.
+-- Assumes nothing.
 use mathlib.Core.Path.{refl, sym, _∙_}
 use native.Mathlib.Omega.{arith}
+use borrow.Author.Needs.{needs}
 use Rattle.sheet.proofs.JudgeLaws.{taken-long}
 use Rattle.programs.specs.Program.{programSquares}
 use Rattle.holes.proofs.RepairLaws.{looked, seen, rooms-long, sheet-fits, list-fits, repaired-put}
-use borrow.Author.Needs.{needs}
 use Rattle.holes.proofs.repairing.put_repaired.Statement.{statement}
 use Rattle.holes.proofs.repairing.put_repaired.Tie as tie
-use Rattle.holes.proofs.repairing.put_repaired.Reads as reads
-use Rattle.holes.proofs.repairing.put_repaired.Lts as lts
-use Rattle.grid.proofs.squares.squares_of.Reads as squares-of-reads
-use Rattle.holes.proofs.holes.put_with_beds.Reads as put-with-beds-reads
-use Rattle.holes.proofs.repairing.mark_holes.Reads as mark-holes-reads
-use Rattle.holes.proofs.repairing.put_list.Reads as put-list-reads
-use Rattle.holes.proofs.rounds.fill_rounds.Reads as fill-rounds-reads
 
--- src/repairing.rt:155:9
 squares-of-requires : tie.Need-squares-of-requires
 squares-of-requires c κs = search needs
 
--- src/repairing.rt:156:5
 mark-holes-requires : tie.Need-mark-holes-requires
 mark-holes-requires c κs =
     (looked (c .before .before .before .before .before .before .args .text .now) (c .before .before .before .before .before .before .pre .0) (c .before .squares-of .ensures), omega (arith, c .before .squares-of .ensures, c .before .before .before .before .before .before .pre .0 .beds-long))
 
--- src/repairing.rt:157:37
 slice-aggregate-fill-rounds : tie.Need-slice-aggregate-fill-rounds
 slice-aggregate-fill-rounds c = search needs
 
--- src/repairing.rt:157:49
 array-borrow-prefix-before : tie.Need-array-borrow-prefix-before
 array-borrow-prefix-before c =
     omega (arith, c .before .before .before .before .before .before .squares-of .ensures, c .before .before .before .before .before .before .before .before .before .before .before .pre .0 .few)
 
--- src/repairing.rt:157:49
 slice-aggregate-fill-rounds-2 : tie.Need-slice-aggregate-fill-rounds-2
 slice-aggregate-fill-rounds-2 c =
     taken-long {size = programSquares} _ (omega (arith, c .before .before .before .before .before .before .before .squares-of .ensures, c .before .before .before .before .before .before .before .before .before .before .before .before .pre .0 .few)) refl
 
--- src/repairing.rt:157:5
 fill-rounds-requires : tie.Need-fill-rounds-requires
 fill-rounds-requires c κs =
     (
@@ -45,7 +34,6 @@ fill-rounds-requires c κs =
       seen (c .before .before .before .before .before .before .before .before .before .before .before .before .args .text .now) (c .before .before .before .before .before .before .before .before .before .before .before .before .pre .0) (c .before .before .before .before .before .before .before .squares-of .ensures) (c .before .before .before .before .before .mark-holes .ensures),
     )
 
--- src/repairing.rt:158:9
 put-with-beds-requires : tie.Need-put-with-beds-requires
 put-with-beds-requires c κs =
     let k = c .before .before .before .before .before .before .before .before .before .before .before .before .before .before .before .before .before .before .before .pre .0 in
@@ -57,11 +45,9 @@ put-with-beds-requires c κs =
       sheet-fits (c .before .before .before .before .before .before .before .before .before .before .before .before .before .before .before .before .before .before .before .args .text .now) k (c .before .before .before .before .before .before .before .before .before .before .before .before .before .before .squares-of .ensures) (c .before .before .before .before .before .before .before .before .before .before .before .before .mark-holes .ensures) (k .few) (c .before .before .before .before .before .before .fill-rounds .ensures) (λ i. omega (arith, c .before .before .before .before .slice-known4 .given i)) (c .before .before .before .before .before .before .before .before .before .before .before .before .before .before .before .before .before .before .before .args .out .now) (c .before .before .before .before .before .before .before .before .before .before .before .before .before .before .before .before .before .before .before .pre .1),
     )
 
--- src/repairing.rt:159:55
 slice-aggregate-put-list : tie.Need-slice-aggregate-put-list
 slice-aggregate-put-list c = search needs
 
--- src/repairing.rt:159:5
 put-list-requires : tie.Need-put-list-requires
 put-list-requires c κs =
     let k = c .before .before .before .before .before .before .before .before .before .before .before .before .before .before .before .before .before .before .before .before .before .before .before .before .before .pre .0 in
@@ -76,15 +62,12 @@ put-list-requires c κs =
           (c .before .before .before .before .before .put-with-beds .ensures),
     )
 
--- src/repairing.rt:148:1
 same-length : tie.Need-same-length
 same-length c = search needs
 
--- src/repairing.rt:148:1
 same-length-2 : tie.Need-same-length-2
 same-length-2 c = search needs
 
--- src/repairing.rt:148:1
 returns : tie.Need-returns
 returns c =
     let k = c .before .before .before .before .before .before .before .before .before .before .before .before .before .before .before .before .before .before .before .before .before .before .before .before .before .before .before .before .pre .0 in

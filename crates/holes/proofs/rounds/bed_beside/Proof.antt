@@ -1,48 +1,37 @@
+-- `holes::rounds::bed_beside` meets its contract: no square, a closed one, or its bed.
+-- Assumes nothing.
 use mathlib.Core.Path.{sym, _∙_}
 use native.Mathlib.Omega.{arith}
-use Rattle.holes.proofs.FillLaws.{off-bed, closed-bed, open-bed}
 use borrow.Author.Needs.{needs}
+use Rattle.holes.proofs.FillLaws.{off-bed, closed-bed, open-bed}
 use Rattle.holes.proofs.rounds.bed_beside.Statement.{statement}
 use Rattle.holes.proofs.rounds.bed_beside.Tie as tie
-use Rattle.holes.proofs.rounds.bed_beside.Reads as reads
-use Rattle.holes.proofs.rounds.bed_beside.Lts as lts
-use Rattle.grid.proofs.marks.is_closed.Reads as is-closed-reads
-use Rattle.grid.proofs.squares.beside_on.Reads as beside-on-reads
-use Rattle.grid.proofs.squares.squares_of.Reads as squares-of-reads
 
--- src/rounds.rt:46:9
 beside-on-requires : tie.Need-beside-on-requires
 beside-on-requires c κs = search needs
 
--- src/rounds.rt:47:8
 squares-of-requires : tie.Need-squares-of-requires
 squares-of-requires c κs = search needs
 
--- src/rounds.rt:48:9
 returns : tie.Need-returns
 returns c =
     off-bed (c .before .before .before .before .before .args .shape) (c .before .before .before .before .before .args .marks .now) (c .before .before .before .before .before .args .beds .now) (c .before .before .before .before .before .args .square) (c .before .before .before .before .before .args .side) (c .before .before .beside-on .ensures)
     (omega (arith, c .if1 .taken, c .before .squares-of .ensures))
 
--- src/rounds.rt:50:8
 is-closed-requires : tie.Need-is-closed-requires
 is-closed-requires c κs = search needs
 
--- src/rounds.rt:51:9
 returns-2 : tie.Need-returns-2
 returns-2 c =
     closed-bed (c .before .before .before .before .before .before .before .args .shape) (c .before .before .before .before .before .before .before .args .marks .now) (c .before .before .before .before .before .before .before .args .beds .now) (c .before .before .before .before .before .before .before .args .square) (c .before .before .before .before .before .before .before .args .side) (c .before .before .before .before .beside-on .ensures)
     (sym (c .before .is-closed .ensures) ∙ c .if2 .taken)
 
--- src/rounds.rt:53:5
 mul-result : tie.Need-mul-result
 mul-result c = search needs
 
--- src/rounds.rt:53:5
 shared-slice-read-result : tie.Need-shared-slice-read-result
 shared-slice-read-result c = search needs
 
--- src/rounds.rt:35:1
 returns-3 : tie.Need-returns-3
 returns-3 c =
     open-bed (c .before .before .before .before .before .before .before .before .args .shape) (c .before .before .before .before .before .before .before .before .args .marks .now) (c .before .before .before .before .before .before .before .before .args .beds .now) (c .before .before .before .before .before .before .before .before .args .square) (c .before .before .before .before .before .before .before .before .args .side) (c .before .before .before .before .before .beside-on .ensures)

@@ -1,41 +1,31 @@
-use Rattle.holes.proofs.FillLaws.{lowest-of}
+-- `holes::rounds::lowest_beside` meets its contract: the lowest of the four sides.
+-- Assumes nothing.
 use borrow.Author.Needs.{needs}
+use Rattle.holes.proofs.FillLaws.{lowest-of}
 use Rattle.holes.proofs.rounds.lowest_beside.Statement.{statement}
 use Rattle.holes.proofs.rounds.lowest_beside.Tie as tie
-use Rattle.holes.proofs.rounds.lowest_beside.Reads as reads
-use Rattle.holes.proofs.rounds.lowest_beside.Lts as lts
-use Rattle.holes.proofs.rounds.bed_beside.Reads as bed-beside-reads
-use Rattle.holes.proofs.rounds.lower.Reads as lower-reads
 
--- src/rounds.rt:61:9
 bed-beside-requires : tie.Need-bed-beside-requires
 bed-beside-requires c κs = search needs
 
--- src/rounds.rt:62:9
 bed-beside-requires-2 : tie.Need-bed-beside-requires-2
 bed-beside-requires-2 c κs = search needs
 
--- src/rounds.rt:63:9
 bed-beside-requires-3 : tie.Need-bed-beside-requires-3
 bed-beside-requires-3 c κs = search needs
 
--- src/rounds.rt:64:9
 bed-beside-requires-4 : tie.Need-bed-beside-requires-4
 bed-beside-requires-4 c κs = search needs
 
--- src/rounds.rt:65:11
 lower-requires : tie.Need-lower-requires
 lower-requires c κs = search needs
 
--- src/rounds.rt:65:31
 lower-requires-2 : tie.Need-lower-requires-2
 lower-requires-2 c κs = search needs
 
--- src/rounds.rt:65:5
 lower-requires-3 : tie.Need-lower-requires-3
 lower-requires-3 c κs = search needs
 
--- src/rounds.rt:57:1
 returns : tie.Need-returns
 returns c =
     lowest-of (c .before .before .before .before .before .before .before .before .before .args .shape) (c .before .before .before .before .before .before .before .before .before .args .marks .now) (c .before .before .before .before .before .before .before .before .before .args .beds .now) (c .before .before .before .before .before .before .before .before .before .args .square) (c .before .before .before .before .before .before .bed-beside .ensures) (c .before .before .before .before .before .bed-beside2 .ensures)

@@ -1,17 +1,15 @@
+-- `holes::rounds::note_round` meets its contract: the squares passed that were filled have the number of the round.
+-- Assumes nothing.
 use mathlib.Core.Path.{_≡_, ap, _∙_}
 use Prim.Native.Nat.{ℕ, _-_, _≤_}
 use native.Mathlib.Omega.{arith}
 use lib.Dec.{eqb}
 use lib.ListN.{length, getD}
-use borrow.Author.Needs.{needs}
 use Rattle.reckon.specs.Lists.{filled}
 use Rattle.reckon.proofs.ListLaws.{length-filled, filled-none}
 use Rattle.holes.proofs.FillLaws.{filled-next}
 use Rattle.holes.proofs.rounds.note_round.Statement.{statement}
 use Rattle.holes.proofs.rounds.note_round.Tie as tie
-use Rattle.holes.proofs.rounds.note_round.Reads as reads
-use Rattle.holes.proofs.rounds.note_round.Lts as lts
-use Rattle.holes.proofs.rounds.note_square.Reads as note-square-reads
 
 abbrev Inv-loop : tie.InvT-loop
 Inv-loop before beds turns₀ turn square₀ turns square =
@@ -21,12 +19,10 @@ abbrev μ-loop : tie.MeasureT-loop
 μ-loop before beds turns₀ turn square₀ turns square =
     length before - square
 
--- src/rounds.rt:127:5
 loop-holds : tie.Need-loop-holds Inv-loop μ-loop
 loop-holds c =
     (omega arith, filled-none _ _ _)
 
--- src/rounds.rt:128:9
 note-square-requires : tie.Need-note-square-requires Inv-loop μ-loop
 note-square-requires c κs =
     (
@@ -35,17 +31,14 @@ note-square-requires c κs =
       omega (arith, c .before .loop-test .taken, c .before .before .before .before .before .before .pre .1, ap length (c .before .before .loop .inv .1), length-filled (c .before .before .loop .square) (λ i. eqb (getD (c .before .before .before .before .before .before .args .beds .now) i 0) (getD (c .before .before .before .before .before .before .args .before .now) i 0)) (λ i. c .before .before .before .before .before .before .args .turn) (c .before .before .before .before .before .before .args .turns .now)),
     )
 
--- src/rounds.rt:129:9
 add-square : tie.Need-add-square Inv-loop μ-loop
 add-square c =
     omega (arith, c .before .before .before .before .loop-test .taken)
 
--- src/rounds.rt:127:5
 loop-less : tie.Need-loop-less Inv-loop μ-loop
 loop-less c =
     omega (arith, c .before .before .before .before .loop-test .taken)
 
--- src/rounds.rt:127:5
 loop-again : tie.Need-loop-again Inv-loop μ-loop
 loop-again c =
     (
@@ -53,12 +46,10 @@ loop-again c =
       filled-next _ _ _ (c .before .before .before .before .before .loop .square) (omega (arith, c .before .before .before .before .loop-test .taken, c .before .before .before .before .before .before .before .before .before .pre .1)) (c .before .before .before .before .before .loop .inv .1) (c .before .before .note-square .ensures),
     )
 
--- src/rounds.rt:122:1
 same-length : tie.Need-same-length Inv-loop μ-loop
 same-length c =
     ap length (c .before .loop .inv .1) ∙ length-filled (c .before .loop .square) (λ i. eqb (getD (c .before .before .before .before .before .args .beds .now) i 0) (getD (c .before .before .before .before .before .args .before .now) i 0)) (λ i. c .before .before .before .before .before .args .turn) (c .before .before .before .before .before .args .turns .now)
 
--- src/rounds.rt:122:1
 returns : tie.Need-returns Inv-loop μ-loop
 returns c =
     c .before .loop .inv .1 ∙ ap (λ (k : ℕ). filled k (λ i. eqb (getD (c .before .before .before .before .before .args .beds .now) i 0) (getD (c .before .before .before .before .before .args .before .now) i 0)) (λ i. c .before .before .before .before .before .args .turn) (c .before .before .before .before .before .args .turns .now)) (omega (arith, c .before .loop .inv .0, c .loop-test .left))

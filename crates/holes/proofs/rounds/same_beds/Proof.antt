@@ -1,3 +1,5 @@
+-- `holes::rounds::same_beds` meets its contract: the squares passed have the same bed in both.
+-- Assumes nothing.
 use mathlib.Core.Path.{_≡_, sym}
 use mathlib.Core.Bool.{true}
 use Prim.Native.Nat.{_-_, _≤_}
@@ -9,8 +11,6 @@ use Rattle.reckon.specs.Tests.{allBelow}
 use Rattle.reckon.proofs.TestLaws.{all-none, all-more, all-fails, all-whole}
 use Rattle.holes.proofs.rounds.same_beds.Statement.{statement}
 use Rattle.holes.proofs.rounds.same_beds.Tie as tie
-use Rattle.holes.proofs.rounds.same_beds.Reads as reads
-use Rattle.holes.proofs.rounds.same_beds.Lts as lts
 
 abbrev Inv-loop : tie.InvT-loop
 Inv-loop before beds square₀ square =
@@ -20,52 +20,42 @@ abbrev μ-loop : tie.MeasureT-loop
 μ-loop before beds square₀ square =
     length before - square
 
--- src/rounds.rt:101:5
 loop-holds : tie.Need-loop-holds Inv-loop μ-loop
 loop-holds c =
     (omega arith, all-none _)
 
--- src/rounds.rt:102:12
 mul-if1 : tie.Need-mul-if1 Inv-loop μ-loop
 mul-if1 c =
     omega (arith, c .loop-test .taken)
 
--- src/rounds.rt:102:12
 shared-slice-read-if1 : tie.Need-shared-slice-read-if1 Inv-loop μ-loop
 shared-slice-read-if1 c =
     omega (arith, c .before .loop-test .taken, c .before .before .before .pre)
 
--- src/rounds.rt:102:28
 mul-if1-2 : tie.Need-mul-if1-2 Inv-loop μ-loop
 mul-if1-2 c =
     omega (arith, c .before .loop-test .taken)
 
--- src/rounds.rt:102:28
 shared-slice-read-if1-2 : tie.Need-shared-slice-read-if1-2 Inv-loop μ-loop
 shared-slice-read-if1-2 c =
     omega (arith, c .before .before .loop-test .taken)
 
--- src/rounds.rt:103:13
 returns : tie.Need-returns Inv-loop μ-loop
 returns c =
     sym (all-fails _ _ (c .before .before .before .before .loop .square) (omega (arith, c .before .before .before .loop-test .taken)) (ne-eqb _ _ (c .if1 .taken)))
 
--- src/rounds.rt:105:9
 add-square : tie.Need-add-square Inv-loop μ-loop
 add-square c =
     omega (arith, c .before .before .before .loop-test .taken)
 
--- src/rounds.rt:101:5
 loop-less : tie.Need-loop-less Inv-loop μ-loop
 loop-less c =
     omega (arith, c .before .before .before .loop-test .taken)
 
--- src/rounds.rt:101:5
 loop-again : tie.Need-loop-again Inv-loop μ-loop
 loop-again c =
     (omega (arith, c .before .before .before .loop-test .taken), all-more _ _ (c .before .before .before .before .loop .inv .1) (eq-eqb _ _ (c .if1 .left)))
 
--- src/rounds.rt:96:1
 returns-2 : tie.Need-returns-2 Inv-loop μ-loop
 returns-2 c =
     sym (all-whole _ (c .before .loop .inv .1) (omega (arith, c .before .loop .inv .0, c .loop-test .left)))
