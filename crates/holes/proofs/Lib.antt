@@ -5,3 +5,5 @@ pub mod PutLaws
 pub mod RepairLaws
 pub mod ReaderLaws
 pub mod PrintLaws
+pub mod RepairsLaws
+pub mod WorkedLaws
