@@ -9,6 +9,7 @@ pub mod Exported
 pub mod Fields
 pub mod HatchLaws
 pub mod HatchRuns
+pub mod Holes
 pub mod LineClock
 pub mod LinePlaces
 pub mod Loader

@@ -108,9 +108,10 @@ module _ (s : List ℕ) where
       let z : start 0 - start 0 ≡ 0 = omega arith in
       (sym (ap (λ (k : ℕ). take k (drop (start 0) s)) z), omega arith)
   betweens (suc n) start h =
-      let ih = betweens n start h in
-      (ap (λ (l : List ℕ). l ++ between s (start n) (start (suc n))) (ih .0) ∙ between-both (start 0) (start n) (start (suc n)) (ih .1) (h n),
-      omega (arith, ih .1, h n))
+      let ih = betweens n start h in (
+        ap (λ (l : List ℕ). l ++ between s (start n) (start (suc n))) (ih .0) ∙ between-both (start 0) (start n) (start (suc n)) (ih .1) (h n),
+        omega (arith, ih .1, h n),
+      )
 
 pub next-forth : (s : List ℕ) (p : ℕ) → p ≤ nextLine s p
 unfolding nextLine

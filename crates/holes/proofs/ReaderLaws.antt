@@ -133,6 +133,7 @@ module _ (s : List ℕ) {h : Heading} (e : Read h ≡ sheetOf (plugged s) progra
   pub rooms-are : (length (said (plugged s) .cells .marks) ≡ squares (shapeOf s)) × (length (said (plugged s) .cells .beds) ≡ squares (shapeOf s))
   unfolding cellsFilled
   rooms-are =
-      let zeros = length-replicate {A = ℕ} (squares (shapeOf (plugged s))) 0 in
-      (length-filled _ _ _ (replicate (squares (shapeOf (plugged s))) 0) ∙ (zeros ∙ ap squares same-shape),
-      length-filled _ _ _ (replicate (squares (shapeOf (plugged s))) 0) ∙ (zeros ∙ ap squares same-shape))
+      let zeros = length-replicate {A = ℕ} (squares (shapeOf (plugged s))) 0 in (
+        length-filled _ _ _ (replicate (squares (shapeOf (plugged s))) 0) ∙ (zeros ∙ ap squares same-shape),
+        length-filled _ _ _ (replicate (squares (shapeOf (plugged s))) 0) ∙ (zeros ∙ ap squares same-shape),
+      )

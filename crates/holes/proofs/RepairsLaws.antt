@@ -131,10 +131,11 @@ module _ (s : List ℕ) (i : ℕ) (l : i < squares (shapeOf s)) (t : isHole s i 
   unfolding badLine
   bad =
       by-test (lineTwo s .found)
-      (λ e.
-      (cellsRead s (cellsAt s) (shapeOf s) + 2,
-      refusal-later 2 _ e
-      ∙ (refusal-here _ _ (lt-leb (squares (shapeOf s)) (cellsRead s (cellsAt s) (shapeOf s)) (omega (arith, l, few-cells))) ∙ omega arith)))
+      (λ e. (
+        cellsRead s (cellsAt s) (shapeOf s) + 2,
+        refusal-later 2 _ e
+            ∙ (refusal-here _ _ (lt-leb (squares (shapeOf s)) (cellsRead s (cellsAt s) (shapeOf s)) (omega (arith, l, few-cells))) ∙ omega arith),
+      ))
       (λ e. (1, refusal-here 2 _ e))
 
   twelve :
@@ -142,9 +143,10 @@ module _ (s : List ℕ) (i : ℕ) (l : i < squares (shapeOf s)) (t : isHole s i 
   unfolding sheetOf judged
   twelve lent fine =
       by-test (lineOne s .found)
-      (λ e.
-      (suc (bad .0),
-      sym (pick-true _ _ e ∙ (pick-true _ _ fine ∙ ap (λ (n : ℕ). judged n (checksOf s) (headingOf s)) (bad .1)))))
+      (λ e. (
+        suc (bad .0),
+        sym (pick-true _ _ e ∙ (pick-true _ _ fine ∙ ap (λ (n : ℕ). judged n (checksOf s) (headingOf s)) (bad .1))),
+      ))
       (λ e. (1, sym (pick-false _ _ e)))
 
 -- ---- all of it

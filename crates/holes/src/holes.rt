@@ -109,7 +109,15 @@ fn put_from(
     let mut square: usize = 0;
     while square < squares {
         let bed = number(beds, square);
-        next = put_line_with(out, next, text, start, square / columns, square % columns, bed);
+        next = put_line_with(
+            out,
+            next,
+            text,
+            start,
+            square / columns,
+            square % columns,
+            bed,
+        );
         start = next_line(text, start);
         square += 1;
     }
@@ -124,7 +132,13 @@ pub(crate) fn cells_at(text: &[u8]) -> usize
 }
 
 // A text with a bed for each hole of its squares, at the start of out.
-pub(crate) fn put_with_beds(out: &mut [u8], text: &[u8], columns: usize, squares: usize, beds: &[u32]) -> usize
+pub(crate) fn put_with_beds(
+    out: &mut [u8],
+    text: &[u8],
+    columns: usize,
+    squares: usize,
+    beds: &[u32],
+) -> usize
     requires { ⌜ (Looked (now text) columns squares) × (squares ≤ length (now beds)) ⌝ }
     requires { ⌜ length (bedsPut (now text) (now beds)) ≤ length (now out) ⌝ }
     ensures { λ r. ⌜ Wrote (bedsPut (now (text .entry)) (now (beds .entry))) 0 (now (out .entry)) (now (out .exit)) r ⌝ }

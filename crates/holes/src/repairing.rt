@@ -59,7 +59,14 @@ fn mark_holes(text: &[u8], columns: usize, squares: usize, beds: &mut [u32])
     let mut start = cells_at(text);
     let mut square: usize = 0;
     while square < squares {
-        mark_hole(text, start, square / columns, square % columns, beds, square);
+        mark_hole(
+            text,
+            start,
+            square / columns,
+            square % columns,
+            beds,
+            square,
+        );
         start = next_line(text, start);
         square += 1;
     }
@@ -120,7 +127,16 @@ fn put_list(
     while square < squares {
         let bed = number(beds, square);
         let turn = number(turns, square);
-        next = put_hole(out, next, text, start, square / columns, square % columns, bed, turn);
+        next = put_hole(
+            out,
+            next,
+            text,
+            start,
+            square / columns,
+            square % columns,
+            bed,
+            turn,
+        );
         start = next_line(text, start);
         square += 1;
     }
@@ -192,6 +208,12 @@ pub fn repair_of(text: &[u8], out: &mut [u8; REPAIR_ROOM]) -> usize
     );
     match sheet {
         Sheet::Refused(number, line) => put_refused(out, 0, number, line),
-        Sheet::Read(_heading) => put_repaired(out, text, shape, &marks[..squares], &mut beds[..squares]),
+        Sheet::Read(_heading) => put_repaired(
+            out,
+            text,
+            shape,
+            &marks[..squares],
+            &mut beds[..squares],
+        ),
     }
 }

@@ -44,8 +44,7 @@ put-line-with-requires c κs =
     let a = c .before .before .before .before .before .before .before .args in
     let l = c .before .before .before .loop in
     let look = c .before .before .before .before .before .before .before .pre .0 .0 in
-    let fits = one-fits (joined (lookedAt (a .text .now)) (linePut (a .text .now) (a .beds .now))) (drop (startOf (a .text .now) (lookedAt (a .text .now))) (a .text .now)) (a .at) (a .out .now) (c .before .before .before .before .before .before .before .pre .1) in
-    (
+    let fits = one-fits (joined (lookedAt (a .text .now)) (linePut (a .text .now) (a .beds .now))) (drop (startOf (a .text .now) (lookedAt (a .text .now))) (a .text .now)) (a .at) (a .out .now) (c .before .before .before .before .before .before .before .pre .1) in (
       line-in look (l .square) (l .inv .1),
       omega (
         arith,
@@ -71,8 +70,7 @@ loop-again c =
     let a = c .before .before .before .before .before .before .before .before .before .before .before .args in
     let l = c .before .before .before .before .before .before .before .loop in
     let look = c .before .before .before .before .before .before .before .before .before .before .before .pre .0 .0 in
-    let fits = one-fits (joined (lookedAt (a .text .now)) (linePut (a .text .now) (a .beds .now))) (drop (startOf (a .text .now) (lookedAt (a .text .now))) (a .text .now)) (a .at) (a .out .now) (c .before .before .before .before .before .before .before .before .before .before .before .pre .1) in
-    (
+    let fits = one-fits (joined (lookedAt (a .text .now)) (linePut (a .text .now) (a .beds .now))) (drop (startOf (a .text .now) (lookedAt (a .text .now))) (a .text .now)) (a .at) (a .out .now) (c .before .before .before .before .before .before .before .before .before .before .before .pre .1) in (
       omega (arith, c .before .before .before .before .before .before .loop-test .taken),
       line-on look (l .square) (l .inv .1) (c .next-line .ensures),
       line-written (linePut (a .text .now) (a .beds .now)) (lookedAt (a .text .now)) (a .at) (a .out .now) fits (l .square) (l .inv .2) (omega (arith, c .before .before .before .before .before .before .loop-test .taken, look .squares-are))

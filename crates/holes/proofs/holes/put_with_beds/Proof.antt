@@ -21,11 +21,10 @@ put-word-requires c κs =
     head-fits (c .before .before .before .before .before .before .args .text .now) (c .before .before .before .before .before .before .args .beds .now) (c .before .before .cells-at .ensures) (c .before .before .before .before .before .before .args .out .now) (c .before .before .before .before .before .before .pre .1)
 
 put-from-requires : tie.Need-put-from-requires
-put-from-requires c κs =
-    (
-      (c .before .before .before .before .before .before .before .before .before .before .pre .0 .0, c .before .before .before .before .before .before .before .before .before .before .pre .0 .1, c .before .before .before .before .before .before .cells-at .ensures),
-      cells-fit (c .before .before .before .before .before .before .before .before .before .before .args .text .now) (c .before .before .before .before .before .before .before .before .before .before .args .beds .now) (c .before .before .before .before .before .before .cells-at .ensures) (c .before .before .before .before .before .before .before .before .before .before .args .out .now) (c .before .before .before .before .before .before .before .before .before .before .pre .1) (c .before .before .before .put-word .ensures),
-    )
+put-from-requires c κs = (
+  (c .before .before .before .before .before .before .before .before .before .before .pre .0 .0, c .before .before .before .before .before .before .before .before .before .before .pre .0 .1, c .before .before .before .before .before .before .cells-at .ensures),
+  cells-fit (c .before .before .before .before .before .before .before .before .before .before .args .text .now) (c .before .before .before .before .before .before .before .before .before .before .args .beds .now) (c .before .before .before .before .before .before .cells-at .ensures) (c .before .before .before .before .before .before .before .before .before .before .args .out .now) (c .before .before .before .before .before .before .before .before .before .before .pre .1) (c .before .before .before .put-word .ensures),
+)
 
 same-length : tie.Need-same-length
 same-length c = search needs

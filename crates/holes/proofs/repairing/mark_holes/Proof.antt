@@ -65,8 +65,7 @@ loop-less c =
 
 loop-again : tie.Need-loop-again Inv-loop μ-loop
 loop-again c =
-    let l = c .before .before .before .before .before .before .loop in
-    (
+    let l = c .before .before .before .before .before .before .loop in (
       omega (arith, c .before .before .before .before .before .loop-test .taken),
       line-on (c .before .before .before .before .before .before .before .before .before .before .pre .0) (l .square) (l .inv .1) (c .next-line .ensures),
       filled-next _ _ _ (l .square) (omega (arith, c .before .before .before .before .before .loop-test .taken, c .before .before .before .before .before .before .before .before .before .before .pre .1)) (l .inv .2)

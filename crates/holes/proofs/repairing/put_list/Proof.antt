@@ -75,8 +75,7 @@ loop-again : tie.Need-loop-again Inv-loop μ-loop
 loop-again c =
     let a = c .before .before .before .before .before .before .before .before .before .before .before .before .before .before .args in
     let l = c .before .before .before .before .before .before .before .before .loop in
-    let look = c .before .before .before .before .before .before .before .before .before .before .before .before .before .before .pre .0 .0 in
-    (
+    let look = c .before .before .before .before .before .before .before .before .before .before .before .before .before .before .pre .0 .0 in (
       omega (arith, c .before .before .before .before .before .before .before .loop-test .taken),
       line-on look (l .square) (l .inv .1) (c .next-line .ensures),
       line-written (listedLine (a .text .now) (a .beds .now) (a .turns .now)) (lookedAt (a .text .now)) (a .at) (a .out .now) (c .before .before .before .before .before .before .before .before .before .before .before .before .before .before .pre .1) (l .square) (l .inv .2) (omega (arith, c .before .before .before .before .before .before .before .loop-test .taken, look .squares-are))

@@ -28,16 +28,14 @@ slice-aggregate-fill-rounds-2 c =
     taken-long {size = programSquares} _ (omega (arith, c .before .before .before .before .before .before .before .squares-of .ensures, c .before .before .before .before .before .before .before .before .before .before .before .before .pre .0 .few)) refl
 
 fill-rounds-requires : tie.Need-fill-rounds-requires
-fill-rounds-requires c κs =
-    (
-      (c .before .before .before .before .before .before .before .before .before .before .before .before .pre .0 .in-range, c .before .before .before .before .before .before .before .before .before .before .before .before .pre .0 .marks-long, c .before .before .before .before .before .before .before .before .before .before .before .before .pre .0 .few, sym (c .before .before .before .before .before .before .before .squares-of .ensures) ∙ taken-long {size = programSquares} _ (omega (arith, c .before .before .before .before .before .before .before .squares-of .ensures, c .before .before .before .before .before .before .before .before .before .before .before .before .pre .0 .few)) refl),
-      seen (c .before .before .before .before .before .before .before .before .before .before .before .before .args .text .now) (c .before .before .before .before .before .before .before .before .before .before .before .before .pre .0) (c .before .before .before .before .before .before .before .squares-of .ensures) (c .before .before .before .before .before .mark-holes .ensures),
-    )
+fill-rounds-requires c κs = (
+  (c .before .before .before .before .before .before .before .before .before .before .before .before .pre .0 .in-range, c .before .before .before .before .before .before .before .before .before .before .before .before .pre .0 .marks-long, c .before .before .before .before .before .before .before .before .before .before .before .before .pre .0 .few, sym (c .before .before .before .before .before .before .before .squares-of .ensures) ∙ taken-long {size = programSquares} _ (omega (arith, c .before .before .before .before .before .before .before .squares-of .ensures, c .before .before .before .before .before .before .before .before .before .before .before .before .pre .0 .few)) refl),
+  seen (c .before .before .before .before .before .before .before .before .before .before .before .before .args .text .now) (c .before .before .before .before .before .before .before .before .before .before .before .before .pre .0) (c .before .before .before .before .before .before .before .squares-of .ensures) (c .before .before .before .before .before .mark-holes .ensures),
+)
 
 put-with-beds-requires : tie.Need-put-with-beds-requires
 put-with-beds-requires c κs =
-    let k = c .before .before .before .before .before .before .before .before .before .before .before .before .before .before .before .before .before .before .before .pre .0 in
-    (
+    let k = c .before .before .before .before .before .before .before .before .before .before .before .before .before .before .before .before .before .before .before .pre .0 in (
       (
         looked (c .before .before .before .before .before .before .before .before .before .before .before .before .before .before .before .before .before .before .before .args .text .now) k (c .before .before .before .before .before .before .before .before .before .before .before .before .before .before .squares-of .ensures),
         omega (arith, c .before .before .before .before .before .before .before .before .before .before .before .before .before .before .squares-of .ensures, rooms-long (c .before .before .before .before .before .before .before .before .before .before .before .before .before .before .before .before .before .before .before .args .text .now) k (c .before .before .before .before .before .before .before .before .before .before .before .before .before .before .squares-of .ensures) (c .before .before .before .before .before .before .before .before .before .before .before .before .mark-holes .ensures) (k .few) (c .before .before .before .before .before .before .fill-rounds .ensures) .0),
@@ -51,8 +49,7 @@ slice-aggregate-put-list c = search needs
 put-list-requires : tie.Need-put-list-requires
 put-list-requires c κs =
     let k = c .before .before .before .before .before .before .before .before .before .before .before .before .before .before .before .before .before .before .before .before .before .before .before .before .before .pre .0 in
-    let long = rooms-long (c .before .before .before .before .before .before .before .before .before .before .before .before .before .before .before .before .before .before .before .before .before .before .before .before .before .args .text .now) k (c .before .before .before .before .before .before .before .before .before .before .before .before .before .before .before .before .before .before .before .before .squares-of .ensures) (c .before .before .before .before .before .before .before .before .before .before .before .before .before .before .before .before .before .before .mark-holes .ensures) (k .few) (c .before .before .before .before .before .before .before .before .before .before .before .before .fill-rounds .ensures) in
-    (
+    let long = rooms-long (c .before .before .before .before .before .before .before .before .before .before .before .before .before .before .before .before .before .before .before .before .before .before .before .before .before .args .text .now) k (c .before .before .before .before .before .before .before .before .before .before .before .before .before .before .before .before .before .before .before .before .squares-of .ensures) (c .before .before .before .before .before .before .before .before .before .before .before .before .before .before .before .before .before .before .mark-holes .ensures) (k .few) (c .before .before .before .before .before .before .before .before .before .before .before .before .fill-rounds .ensures) in (
       (
         looked (c .before .before .before .before .before .before .before .before .before .before .before .before .before .before .before .before .before .before .before .before .before .before .before .before .before .args .text .now) k (c .before .before .before .before .before .before .before .before .before .before .before .before .before .before .before .before .before .before .before .before .squares-of .ensures),
         omega (arith, c .before .before .before .before .before .before .before .before .before .before .before .before .before .before .before .before .before .before .before .before .squares-of .ensures, long .0),

@@ -69,8 +69,7 @@ slice-aggregate-put-with-beds-2 c = search needs
 
 put-with-beds-requires : tie.Need-put-with-beds-requires
 put-with-beds-requires c κs =
-    let s = c .before .before .before .before .before .before .before .args .text .now in
-    (
+    let s = c .before .before .before .before .before .before .before .args .text .now in (
       (
         record {
           columns-are = ap (λ (g : GridLine). g .shape .columns) (c .before .before .before .before .grid-line .ensures);
@@ -152,8 +151,7 @@ put-repaired-requires : tie.Need-put-repaired-requires
 put-repaired-requires c κs =
     let r = c .before .before .before .before .before .before .before .before .before .before .before .before .before in
     let s = start r .args .text .now in
-    let short : length s ≤ mostText = omega (arith, c .before .before .before .before .before .before .before .before .before .before .before .before .before .before .before .before .before .before .before .before .before .before .before .before .before .before .before .before .before .if1 .left) in
-    (
+    let short : length s ≤ mostText = omega (arith, c .before .before .before .before .before .before .before .before .before .before .before .before .before .before .before .before .before .before .before .before .before .before .before .before .before .before .before .before .before .if1 .left) in (
       repairable s short (reads r (c .before .before .before .before .sheet2 .given .1)) (count r) (ap (λ (g : GridLine). g .shape) (c .before .before .before .before .before .before .before .before .before .before .before .before .before .before .before .before .before .before .before .before .before .before .before .before .before .before .before .before .grid-line .ensures)),
       omega arith,
     )

@@ -24,12 +24,11 @@ loop-holds c =
     (omega arith, filled-none _ _ _)
 
 note-square-requires : tie.Need-note-square-requires Inv-loop μ-loop
-note-square-requires c κs =
-    (
-      omega (arith, c .before .loop-test .taken),
-      omega (arith, c .before .loop-test .taken, c .before .before .before .before .before .before .pre .0),
-      omega (arith, c .before .loop-test .taken, c .before .before .before .before .before .before .pre .1, ap length (c .before .before .loop .inv .1), length-filled (c .before .before .loop .square) (λ i. eqb (getD (c .before .before .before .before .before .before .args .beds .now) i 0) (getD (c .before .before .before .before .before .before .args .before .now) i 0)) (λ i. c .before .before .before .before .before .before .args .turn) (c .before .before .before .before .before .before .args .turns .now)),
-    )
+note-square-requires c κs = (
+  omega (arith, c .before .loop-test .taken),
+  omega (arith, c .before .loop-test .taken, c .before .before .before .before .before .before .pre .0),
+  omega (arith, c .before .loop-test .taken, c .before .before .before .before .before .before .pre .1, ap length (c .before .before .loop .inv .1), length-filled (c .before .before .loop .square) (λ i. eqb (getD (c .before .before .before .before .before .before .args .beds .now) i 0) (getD (c .before .before .before .before .before .before .args .before .now) i 0)) (λ i. c .before .before .before .before .before .before .args .turn) (c .before .before .before .before .before .before .args .turns .now)),
+)
 
 add-square : tie.Need-add-square Inv-loop μ-loop
 add-square c =
@@ -40,11 +39,10 @@ loop-less c =
     omega (arith, c .before .before .before .before .loop-test .taken)
 
 loop-again : tie.Need-loop-again Inv-loop μ-loop
-loop-again c =
-    (
-      omega (arith, c .before .before .before .before .loop-test .taken),
-      filled-next _ _ _ (c .before .before .before .before .before .loop .square) (omega (arith, c .before .before .before .before .loop-test .taken, c .before .before .before .before .before .before .before .before .before .pre .1)) (c .before .before .before .before .before .loop .inv .1) (c .before .before .note-square .ensures),
-    )
+loop-again c = (
+  omega (arith, c .before .before .before .before .loop-test .taken),
+  filled-next _ _ _ (c .before .before .before .before .before .loop .square) (omega (arith, c .before .before .before .before .loop-test .taken, c .before .before .before .before .before .before .before .before .before .pre .1)) (c .before .before .before .before .before .loop .inv .1) (c .before .before .note-square .ensures),
+)
 
 same-length : tie.Need-same-length Inv-loop μ-loop
 same-length c =

@@ -56,12 +56,11 @@ loop-less c =
     omega (arith, c .before .before .loop-test .taken)
 
 loop-again : tie.Need-loop-again Inv-loop μ-loop
-loop-again c =
-    (
-      omega (arith, c .before .before .loop-test .taken),
-      carried (c .before .before .before .before .before .before .before .before .args .shape) (c .before .before .before .loop .square) (c .before .before .before .loop .inv .1) (c .next-column .ensures),
-      ap (λ (l : List ℕ). set l (c .before .before .before .loop .square) (c .before .bed-after .result)) (c .before .before .before .loop .inv .2) ∙ filled-store _ _ _ (c .before .before .before .loop .square) (omega (arith, c .before .before .loop-test .taken, c .before .before .before .before .squares-of .ensures, c .before .before .before .before .before .before .before .before .pre .3)) refl (c .before .bed-after .ensures),
-    )
+loop-again c = (
+  omega (arith, c .before .before .loop-test .taken),
+  carried (c .before .before .before .before .before .before .before .before .args .shape) (c .before .before .before .loop .square) (c .before .before .before .loop .inv .1) (c .next-column .ensures),
+  ap (λ (l : List ℕ). set l (c .before .before .before .loop .square) (c .before .bed-after .result)) (c .before .before .before .loop .inv .2) ∙ filled-store _ _ _ (c .before .before .before .loop .square) (omega (arith, c .before .before .loop-test .taken, c .before .before .before .before .squares-of .ensures, c .before .before .before .before .before .before .before .before .pre .3)) refl (c .before .bed-after .ensures),
+)
 
 same-length : tie.Need-same-length Inv-loop μ-loop
 same-length c =
