@@ -20,7 +20,7 @@ use Rattle.grid.specs.Squares.{squares, within, beside, north, east, south, wes
 use Rattle.grid.specs.Marks.{closed}
 use Rattle.grid.specs.declared.squares.Shape.{Shape}
 use Rattle.text.proofs.ReadingLaws.{by-test, by-lt}
-use Rattle.holes.specs.Rounds.{noBed, bedBeside, lowestBeside, roundOf, afterRounds, filledBeds, Reach, BedsSeen, RoundsLaw, RoundsHold}
+use Rattle.holes.specs.Rounds.{noBed, bedBeside, lowestBeside, roundOf, afterRounds, filledBeds, Reach, BedsSeen, RoundsLaw}
 use Rattle.holes.specs.Rounds.Reach.{here, wait, step}
 
 pub by-eq : {A : Type 0} (m n : ℕ) → (m ≡ n → A) → ((m ≡ n → ⊥) → A) → A
@@ -239,7 +239,7 @@ module _ (shape : Shape) (marks beds : List ℕ) (seen : BedsSeen shape marks be
       ⊎-elim (λ e. still n j e) (λ l. absurd (omega arith)) (changes n))
       (progress n)
 
-pub rounds-hold : RoundsHold
+pub rounds-hold : (shape : Shape) (marks beds : List ℕ) → BedsSeen shape marks beds → RoundsLaw shape marks beds
 rounds-hold shape marks beds seen =
     record {
       known-stays = known-stays shape marks beds seen;

@@ -75,6 +75,3 @@ pub record RoundsLaw (shape : Shape) (marks beds : List ℕ) : Type 0 where
   -- the round in which a square is filled is its distance from the nearest known one
   pub filled-is-reached : (r i : ℕ) → i < squares shape → (getD (afterRounds shape marks beds r) i 0 ≡ noBed → ⊥) → Reach shape marks beds r i
   pub reached-is-filled : (r i : ℕ) → Reach shape marks beds r i → getD (afterRounds shape marks beds r) i 0 ≡ noBed → ⊥
-
-abbrev pub RoundsHold : Type 0
-RoundsHold = (shape : Shape) (marks beds : List ℕ) → BedsSeen shape marks beds → RoundsLaw shape marks beds
