@@ -130,7 +130,7 @@ module _ (shape : Shape) (marks beds : List ℕ) (seen : BedsSeen shape marks be
   abbrev height : ℕ → ℕ → ℕ
   height r i = getD (afterRounds shape marks beds r) i 0
 
-  known-later : (r k i : ℕ) → i < size → (height r i ≡ noBed → ⊥) → height (r + k) i ≡ height r i
+  pub known-later : (r k i : ℕ) → i < size → (height r i ≡ noBed → ⊥) → height (r + k) i ≡ height r i
   known-later r zero i l d = ap (λ (k : ℕ). height k i) (add-zero r)
   known-later r (suc k) i l d =
       let ih = known-later r k i l d in

@@ -97,7 +97,7 @@ module _ (s : List ℕ) where
       ap (λ (l : List ℕ). between s a b ++ l) (sym (drop-drop (b - a) a s ∙ ap (λ (k : ℕ). drop k s) y))
       ∙ take-append-drop (b - a) (drop a s)
 
-  between-long : (a b : ℕ) → a ≤ b → b ≤ length s → length (between s a b) ≡ b - a
+  pub between-long : (a b : ℕ) → a ≤ b → b ≤ length s → length (between s a b) ≡ b - a
   between-long a b h g = length-take-le (b - a) (drop a s) (omega (arith, h, g, length-drop a s))
 
   -- parts one after the other
@@ -181,6 +181,7 @@ module _ (s : List ℕ) (p row column : ℕ) where
     pub inside : bedAt s p row column < length s
     pub before : p ≤ bedAt s p row column
     pub after : bedAt s p row column + 1 ≤ nextLine s p
+    pub further : bedAt s p row column + 2 ≤ nextLine s p
 
   spot : (mark : ℕ) → ((mark ≡ 1 → ⊥) → mark ≡ 2) → wordAt s p (holed mark) ≡ true → Spot
   spot mark o e =
@@ -208,6 +209,7 @@ module _ (s : List ℕ) (p row column : ℕ) where
         inside = omega (arith, w, l, k);
         before = omega arith;
         after = omega (arith, line-longer pl a, l, k);
+        further = omega (arith, line-longer pl a, l, k);
       }
 
   pub hole-spot : holeAt s p row column ≡ true → Spot
@@ -216,7 +218,7 @@ module _ (s : List ℕ) (p row column : ℕ) where
       by-test (wordAt s p (holed 1)) (λ a. spot 1 (λ d. absurd (d refl)) a) (λ a. spot 2 (λ d. refl) (or-right _ _ e a))
 
   -- with its own `?` it is the line
-  line-same : lineWith s p row column (question ∷ []) ≡ between s p (nextLine s p)
+  pub line-same : lineWith s p row column (question ∷ []) ≡ between s p (nextLine s p)
   unfolding lineWith
   line-same =
       by-test (holeAt s p row column)
@@ -231,7 +233,7 @@ module _ (s : List ℕ) (p row column : ℕ) where
       (λ e. pick-false _ _ e)
 
   -- a line with no hole is the same whatever is put
-  line-kept : (t u : List ℕ) → holeAt s p row column ≡ false → lineWith s p row column t ≡ lineWith s p row column u
+  pub line-kept : (t u : List ℕ) → holeAt s p row column ≡ false → lineWith s p row column t ≡ lineWith s p row column u
   unfolding lineWith
   line-kept t u e = pick-false _ _ e ∙ sym (pick-false _ _ e)
 

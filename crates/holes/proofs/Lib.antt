@@ -5,5 +5,6 @@ pub mod PutLaws
 pub mod RepairLaws
 pub mod ReaderLaws
 pub mod PrintLaws
+pub mod WrittenLaws
 pub mod RepairsLaws
 pub mod WorkedLaws

@@ -34,6 +34,7 @@ use Rattle.holes.proofs.HoleLaws.{head-long, hole-spot, all-same, kept,
 use Rattle.holes.proofs.PutLaws.{no-line}
 use Rattle.holes.proofs.RepairLaws.{seen-at, seen-low}
 use Rattle.holes.proofs.ReaderLaws.{line-one-stays, all-looked, beds-low}
+use Rattle.holes.proofs.WrittenLaws.{says-beds}
 
 -- ---- a sheet with no `?`
 
@@ -161,5 +162,6 @@ repairs s =
       hole-unknown = λ i l t. seen-at s (marksRead s) (bedsRead s) i l ∙ pick-true _ _ t;
       beds-seen = λ h e. seen-low s (marksRead s) (bedsRead s) (beds-low s e);
       all-looked = λ h e. all-looked s e;
+      says-beds = λ h e reached. says-beds s e reached;
       reader-twelve = λ lent fine i l t. twelve s i l t lent fine;
     }

@@ -11,8 +11,8 @@ use Rattle.reckon.specs.Lists.{joined, tabulate}
 use Rattle.grid.specs.Squares.{squares}
 use Rattle.text.specs.Reading.{tab, newline}
 use Rattle.text.specs.Writing.{decimal, fieldText, restText, Wrote}
-use Rattle.sheet.specs.Sheet.{Rooms, roomsFine, lineOne, shapeOf, said, sheetOf}
-use Rattle.sheet.specs.declared.lines.GridLine.{GridLine}
+use Rattle.sheet.specs.Sheet.{Rooms, rooms, roomsFine, lineOne, shapeOf, said, sheetOf}
+use Rattle.sheet.specs.Written.{sheetWritten}
 use Rattle.sheet.specs.declared.reading.Heading.{Heading}
 use Rattle.sheet.specs.declared.reading.Sheet.{Sheet}
 use Rattle.sheet.specs.declared.reading.Sheet.the-variants.{Read, Refused}
@@ -96,6 +96,11 @@ pub record PrintsRepair (s old new : List ℕ) (r : ℕ) : Type 0 where
 
 -- ---- laws
 
+-- what rooms hold, with other beds
+abbrev pub otherBeds : Rooms → List ℕ → Rooms
+otherBeds held beds =
+    rooms (held .cells .marks) beds (held .cells .roughness) (held .cells .rates) (held .cells .depths) (held .rain) (held .inflow)
+
 pub record Repairs (s : List ℕ) : Type 0 where
   -- "Nothing else in the sheet changes": with `?` for each `?` it is the sheet
   pub nothing-else : withBeds s (λ i. question ∷ []) ≡ s
@@ -111,6 +116,11 @@ pub record Repairs (s : List ℕ) : Type 0 where
   pub beds-seen : (h : Heading) → Read h ≡ sheetOf (plugged s) programRooms → BedsSeen (shapeOf s) (marksRead s) (seenBeds s)
   -- every square's line is looked at where the sheet is not refused
   pub all-looked : (h : Heading) → Read h ≡ sheetOf (plugged s) programRooms → lookedAt s ≡ squares (shapeOf s)
+  -- where every `?` is reached, the sheet that is written is that of all that the reader found, with the beds given
+  pub says-beds :
+      (h : Heading) → Read h ≡ sheetOf (plugged s) programRooms →
+      ((i : ℕ) → i < squares (shapeOf s) → isHole s i ≡ true → getD (bedsAfter s) i 0 ≡ noBed → ⊥) →
+      sheetAfter s ≡ sheetWritten h (otherBeds (said (plugged s)) (bedsAfter s))
   -- "the ordinary reader .. itself still gives 12 for `?`"
   pub reader-twelve :
       (lent : Rooms) → roomsFine (shapeOf s) (lineOne s .side) lent ≡ true → (i : ℕ) → i < squares (shapeOf s) → isHole s i ≡ true →
