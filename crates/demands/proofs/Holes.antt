@@ -13,6 +13,7 @@ use Rattle.holes.proofs.RoundLaws.{rounds-hold}
 use Rattle.holes.proofs.RepairsLaws.{repairs}
 use Rattle.holes.proofs.WorkedLaws.{rounds-worked, repair-worked}
 use Rattle.demands.specs.Holes.{RepairRight, HolesRight}
+use Rattle.demands.proofs.HolesRead.{reads-back}
 use Rattle.demands.proofs.Loader.{loader-refuses}
 
 pub repair-right : (s : List ℕ) → RepairRight s
@@ -25,6 +26,7 @@ repair-right s =
       written = λ l h e. pick-true _ _ (le-leb _ _ l) ∙ ap (repairedText s) e;
       kept = repairs s;
       rounds = λ h e. rounds-hold (shapeOf s) (marksRead s) (seenBeds s) (repairs s .beds-seen h e);
+      reads-back = reads-back s;
     }
 
 pub holes-right : HolesRight

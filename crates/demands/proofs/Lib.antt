@@ -10,6 +10,7 @@ pub mod Fields
 pub mod HatchLaws
 pub mod HatchRuns
 pub mod Holes
+pub mod HolesRead
 pub mod LineClock
 pub mod LinePlaces
 pub mod Loader
