@@ -10,10 +10,10 @@ use lib.Dec.{eqb, leb}
 use lib.ListN.{length, getD, set, drop-of-length-le}
 use lib.Seq.{ext-getD}
 use borrow.Author.Tests.{eq-eqb, ne-eqb, eqb-true, le-ltb, lt-ltb, le-leb, lt-leb}
-use Rattle.reckon.specs.Tests.{pick, allBelow, firstFailing}
+use Rattle.reckon.specs.Tests.{pick, allBelow}
 use Rattle.reckon.specs.Lists.{tabulate, filled, placed}
 use Rattle.reckon.proofs.TestLaws.{not-both, pick-true, pick-false, and-both, and-false, all-at, failing-at, failing-none}
-use Rattle.reckon.proofs.ListLaws.{length-tabulate, is-tabulate, length-filled, filled-in, filled-past, filled-skipped, filled-store, filled-keep, filled-none, is-filled}
+use Rattle.reckon.proofs.ListLaws.{length-tabulate, is-tabulate, length-filled, filled-in, filled-past, filled-skipped, filled-store, filled-keep, is-filled}
 use Rattle.grid.specs.Squares.{squares, within, beside, north, east, south, west}
 use Rattle.grid.specs.Marks.{closed}
 use Rattle.grid.specs.declared.squares.Shape.{Shape}

@@ -1,9 +1,9 @@
 -- Laws of a text with other beds for its `?`: how many squares are looked at; with `?` for each it is the text; where there is none it is the
 -- text whatever is put.
 -- Assumes nothing.
-use mathlib.Core.Path.{_≡_, refl, sym, ap, ap₂, subst, _∙_}
-use mathlib.Core.Bool.{Bool, true, false, _&&_, _||_}
-use mathlib.Core.List.{List, [], _∷_, _++_, append-assoc, append-nil}
+use mathlib.Core.Path.{_≡_, refl, sym, ap, subst, _∙_}
+use mathlib.Core.Bool.{Bool, true, false}
+use mathlib.Core.List.{List, [], _∷_, _++_}
 use Prim.Native.Nat.{ℕ, zero, suc, _+_, _-_, _*_, _/_, _%_, _≤_, _<_}
 use native.Mathlib.Nat.{mul-suc}
 use native.Mathlib.Omega.{arith}
@@ -13,7 +13,7 @@ use lib.Seq.{take-add, drop-drop, drop-cons, length-take-le}
 use borrow.Author.Tests.{le-leb, lt-leb, leb-true}
 use Rattle.reckon.specs.Tests.{pick, every}
 use Rattle.reckon.specs.Lists.{joined}
-use Rattle.reckon.proofs.TestLaws.{not-both, pick-true, pick-false, pick-both, or-right, every-fails, every-each, each-every}
+use Rattle.reckon.proofs.TestLaws.{not-both, pick-true, pick-false, or-right, every-fails, every-each, each-every}
 use Rattle.reckon.proofs.ListLaws.{joined-ext}
 use Rattle.grid.specs.Squares.{ShapeInRange, squares, shapeFine}
 use Rattle.grid.proofs.SquareLaws.{ranges-of-fine}
@@ -21,11 +21,11 @@ use Rattle.text.specs.Reading.{tab, newline, wordAt, lineLength, nextLine, line
 use Rattle.text.specs.Writing.{fieldsText}
 use Rattle.text.specs.inner.Standing.{plain, StandsAt}
 use Rattle.text.proofs.ReadingLaws.{by-test, word-within}
-use Rattle.text.proofs.StandLaws.{stands-word, stands-first, stands-second, byte-stands}
+use Rattle.text.proofs.StandLaws.{stands-word, stands-second, byte-stands}
 use Rattle.text.proofs.LineLaws.{plain-cons, plain-both, plain-fields, line-add}
 use Rattle.text.proofs.EndLaws.{next-within, start-within}
 use Rattle.sheet.specs.Lines.{cellWord, letterOf, lineHead}
-use Rattle.sheet.specs.Sheet.{lineOne, shapeOf, cellsAt}
+use Rattle.sheet.specs.Sheet.{shapeOf, cellsAt}
 use Rattle.sheet.specs.declared.lines.GridLine.{GridLine}
 use Rattle.programs.specs.Program.{programSquares}
 use Rattle.holes.specs.Holes.{question, between, upToBed, holeAt, bedAt, lineWith, lookedIn, lookedAt, startOf, isHole, withBeds}
@@ -238,7 +238,7 @@ module _ (s : List ℕ) (p row column : ℕ) where
   line-kept t u e = pick-false _ _ e ∙ sym (pick-false _ _ e)
 
   -- how long it is: one byte less and the bed's own
-  pub line-bounded :
+  line-bounded :
       p ≤ length s → (bed : List ℕ) (most : ℕ) → 1 ≤ most → length bed ≤ most → length (lineWith s p row column bed) + 1 ≤ nextLine s p - p + most
   unfolding lineWith
   line-bounded h bed most one few =

@@ -9,7 +9,6 @@ use lib.Seq.{length-take-le}
 use borrow.Author.Tests.{le-leb, lt-leb}
 use Rattle.reckon.proofs.TestLaws.{pick-true, pick-false}
 use Rattle.grid.specs.Squares.{squares}
-use Rattle.grid.specs.Marks.{closed}
 use Rattle.grid.specs.declared.squares.Shape.{Shape}
 use Rattle.text.specs.Writing.{Wrote}
 use Rattle.text.proofs.WritingLaws.{wrote-length}
@@ -23,7 +22,7 @@ use Rattle.programs.specs.Program.{mostText, programSquares, programRooms}
 use Rattle.programs.specs.Reading.{sheetWithin, ReadsWithin}
 use Rattle.programs.proofs.HeldLaws.{parts-said}
 use Rattle.holes.specs.Holes.{lookedAt, plugged}
-use Rattle.holes.specs.Repaired.{marksRead, bedsRead, repairedWith, repairedText, repairText, mostRepaired, PrintsRepair}
+use Rattle.holes.specs.Repaired.{marksRead, bedsRead, repairedText, repairText, mostRepaired, PrintsRepair}
 use Rattle.holes.specs.inner.Steps.{Repairable, PutsRepaired}
 use Rattle.holes.proofs.RepairLaws.{plug-short}
 use Rattle.holes.proofs.ReaderLaws.{heading-shape, few-squares, all-looked, in-range, beds-low, rooms-are}

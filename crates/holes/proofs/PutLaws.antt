@@ -1,9 +1,9 @@
 -- Laws of what is put into a room: a hole that is found, a line with a bed for it, the lines of all squares, and the list.
 -- Assumes nothing.
 use mathlib.Core.Path.{_≡_, refl, sym, ap, ap₂, subst, _∙_}
-use mathlib.Core.Bool.{Bool, true, false, _&&_, _||_}
+use mathlib.Core.Bool.{Bool, true, false, _||_}
 use mathlib.Core.List.{List, [], _∷_, _++_, append-assoc, append-nil}
-use Prim.Native.Nat.{ℕ, zero, suc, _+_, _-_, _*_, _/_, _%_, _^_, _≤_, _<_}
+use Prim.Native.Nat.{ℕ, zero, suc, _+_, _-_, _/_, _%_, _^_, _≤_, _<_}
 use native.Mathlib.Numerals.{add-one}
 use native.Mathlib.Omega.{arith}
 use lib.Dec.{eqb}
@@ -11,21 +11,19 @@ use lib.ListN.{length, getD, take, drop, length-append, length-drop}
 use lib.Seq.{take-all}
 use borrow.Author.Tests.{eq-eqb, ne-eqb}
 use Rattle.reckon.specs.Tests.{pick}
-use Rattle.reckon.proofs.TestLaws.{not-both, pick-true, pick-false, and-left, and-right, no-more}
+use Rattle.reckon.proofs.TestLaws.{not-both, pick-true, pick-false, no-more}
 use Rattle.text.specs.Reading.{tab, newline, wordAt, nextLine, lineFrom}
 use Rattle.text.specs.Writing.{decimal, fieldText, fieldsText, restText, Wrote}
-use Rattle.text.specs.inner.Standing.{StandsAt}
 use Rattle.text.proofs.ReadingLaws.{by-test, word-within}
 use Rattle.text.proofs.StandLaws.{stands-word, stands-both, stands-first, stands-second, word-stands}
 use Rattle.text.proofs.WritingLaws.{Left, left-all, left-fits, left-step, left-none, written-as, placed-none, wrote-length, wrote-both, fields-text-short}
 use Rattle.sheet.specs.Lines.{cellWord, letterOf, lineHead}
-use Rattle.sheet.specs.Sheet.{lineOne, shapeOf, cellsAt}
+use Rattle.sheet.specs.Sheet.{lineOne, cellsAt}
 use Rattle.sheet.proofs.JudgeLaws.{take-put}
 use Rattle.holes.specs.Rounds.{noBed}
 use Rattle.holes.specs.Holes.{question, between, upToBed, holeAt, bedAt, lineWith, lookedAt, startOf, isHole, withBeds}
 use Rattle.holes.specs.Repaired.{bedText, givenText, holeText}
 use Rattle.holes.specs.inner.Steps.{placeText, holeIn, Looked, linePut, bedsPut, cellsPut, listedLine}
-use Rattle.holes.specs.declared.holes.Hole.{Hole}
 use Rattle.holes.specs.declared.holes.Hole.the-variants.{At, None}
 use Rattle.holes.proofs.HoleLaws.{looked-some, start-in}
 

@@ -1,20 +1,16 @@
 -- Laws of the ordinary reader on a text with other beds for its `?`: line 1 stays, every square is looked at where it reads well, and a `?` is
 -- 12 to it.
 -- Assumes nothing.
-use mathlib.Core.Path.{_≡_, refl, sym, ap, ap₂, subst, _∙_}
-use mathlib.Core.Bool.{Bool, true, false}
+use mathlib.Core.Path.{_≡_, refl, sym, ap, subst, _∙_}
+use mathlib.Core.Bool.{true, false}
 use mathlib.Core.List.{List, [], _∷_, _++_, append-assoc}
-use Prim.Native.Nat.{ℕ, zero, suc, _+_, _-_, _/_, _%_, _≤_, _<_}
-use native.Mathlib.Nat.{not-suc-le-zero}
+use Prim.Native.Nat.{ℕ, _+_, _-_, _/_, _%_, _≤_, _<_}
 use native.Mathlib.Omega.{arith}
-use lib.Dec.{eqb, leb}
-use lib.ListN.{length, getD, take, drop, replicate, length-append, length-replicate}
+use lib.ListN.{length, getD, take, drop, replicate, length-replicate}
 use lib.Seq.{take-add, take-append-seam}
-use borrow.Author.Tests.{le-leb, lt-leb}
-use Rattle.reckon.specs.Tests.{pick}
-use Rattle.reckon.specs.Lists.{joined, filled}
+use Rattle.reckon.specs.Lists.{joined}
 use Rattle.reckon.specs.Ranges.{mostBed}
-use Rattle.reckon.proofs.TestLaws.{not-both, pick-true, pick-false, every-each, failing-le}
+use Rattle.reckon.proofs.TestLaws.{every-each}
 use Rattle.reckon.proofs.ListLaws.{length-filled}
 use Rattle.grid.specs.Squares.{ShapeInRange, squares, shapeFine}
 use Rattle.grid.specs.Marks.{closed}
@@ -25,19 +21,19 @@ use Rattle.text.specs.Reading as Reading
 use Rattle.text.specs.Writing.{lineText}
 use Rattle.text.specs.inner.Standing.{StandsAt}
 use Rattle.text.specs.declared.reading.Fields.{Fields}
-use Rattle.text.proofs.ReadingLaws.{by-test, by-lt}
+use Rattle.text.proofs.ReadingLaws.{by-lt}
 use Rattle.text.proofs.StandLaws.{front-stands}
 use Rattle.text.proofs.RoundTrip.{line-found, line-back}
 use Rattle.sheet.specs.Lines.{gridWord, gridFields, asGrid, gridLine}
-use Rattle.sheet.specs.Sheet.{Rooms, roomsFine, lineOne, lineTwo, shapeOf, cellsAt, cellsFilled, said, checksIn, checksOf, headingOf, sheetOf}
+use Rattle.sheet.specs.Sheet.{roomsFine, lineOne, lineTwo, shapeOf, cellsAt, cellsFilled, said, checksIn, checksOf, headingOf, sheetOf}
 use Rattle.sheet.specs.declared.lines.GridLine.{GridLine}
 use Rattle.sheet.specs.declared.reading.Heading.{Heading}
-use Rattle.sheet.specs.declared.reading.Sheet.the-variants.{Read, Refused}
+use Rattle.sheet.specs.declared.reading.Sheet.the-variants.{Read}
 use Rattle.sheet.proofs.KindLaws.{lined-next, row-lined}
 use Rattle.sheet.proofs.ReadLaws.{plain-grid}
 use Rattle.sheet.proofs.SheetLaws.{Well, well, rooms-shape, rooms-cells}
 use Rattle.programs.specs.Program.{programSquares, programRooms}
-use Rattle.holes.specs.Holes.{lookedAt, lineWith, startOf, isHole, withBeds, plugged}
+use Rattle.holes.specs.Holes.{lookedAt, lineWith, startOf, withBeds, plugged}
 use Rattle.holes.proofs.HoleLaws.{looked-some, looked-all, next-forth, kept}
 
 -- ---- line 1

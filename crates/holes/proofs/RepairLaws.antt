@@ -1,17 +1,15 @@
 -- Laws of what is printed of a text: the beds that are seen, the sheet and the list by what rooms hold, and how long they can get.
 -- Assumes nothing.
-use mathlib.Core.Path.{_≡_, refl, sym, ap, ap₂, subst, _∙_}
-use mathlib.Core.Bool.{Bool, true, false, not}
+use mathlib.Core.Path.{_≡_, sym, ap, ap₂, subst, _∙_}
+use mathlib.Core.Bool.{true, false, not}
 use mathlib.Core.List.{List, [], _∷_, _++_}
 use Prim.Native.Nat.{ℕ, zero, suc, _+_, _-_, _*_, _/_, _%_, _^_, _≤_, _<_}
 use native.Mathlib.Nat.{div-le-self, mod-le}
 use native.Mathlib.Omega.{arith}
-use lib.Dec.{eqb, leb}
-use lib.ListN.{length, getD, take, replicate, length-append, length-replicate, getD-replicate, List·getD-eq-default}
-use lib.Seq.{length-take-le}
-use borrow.Author.Tests.{eq-eqb, ne-eqb, le-leb, lt-leb}
+use lib.ListN.{length, getD, replicate, length-append, length-replicate, getD-replicate, List·getD-eq-default}
+use borrow.Author.Tests.{ne-eqb}
 use Rattle.reckon.specs.Tests.{pick}
-use Rattle.reckon.specs.Lists.{tabulate, filled, joined}
+use Rattle.reckon.specs.Lists.{filled, joined}
 use Rattle.reckon.specs.Ranges.{mostBed}
 use Rattle.reckon.proofs.TestLaws.{pick-true, pick-false, pick-both, failing-le}
 use Rattle.reckon.proofs.ListLaws.{length-tabulate, getD-tabulate, is-tabulate, length-filled, filled-in, filled-skipped, joined-ext}
@@ -19,14 +17,13 @@ use Rattle.grid.specs.Squares.{squares}
 use Rattle.grid.specs.Marks.{closed}
 use Rattle.grid.specs.declared.squares.Shape.{Shape}
 use Rattle.text.specs.Reading.{tab, newline}
-use Rattle.text.specs.Writing.{decimal, fieldText, fieldsText, restText, Wrote}
+use Rattle.text.specs.Writing.{decimal, fieldText, fieldsText, Wrote}
 use Rattle.text.proofs.ReadingLaws.{by-test, by-lt}
 use Rattle.text.proofs.WritingLaws.{decimal-small, decimal-short, fields-text-short, written-as}
 use Rattle.text.proofs.JoinedLaws.{joined-short}
 use Rattle.sheet.specs.Sheet.{lineOne, shapeOf}
-use Rattle.programs.specs.Program.{mostText, programSquares}
 use Rattle.holes.specs.Rounds.{noBed, filledBeds, roundFilling, BedsSeen}
-use Rattle.holes.specs.Holes.{question, holeAt, lookedAt, startOf, isHole, withBeds, plugged}
+use Rattle.holes.specs.Holes.{holeAt, lookedAt, startOf, isHole, withBeds, plugged}
 use Rattle.holes.specs.Repaired.{bedText, givenText, holeText, seenIn, bedsIn, listLine, repairedWith, mostRepaired}
 use Rattle.holes.specs.inner.Steps.{RoundsMade, Looked, bedsPut, listedLine, listed, Repairable, PutsRepaired}
 use Rattle.holes.proofs.RoundLaws.{by-eq, long}

@@ -7,13 +7,13 @@ use mathlib.Core.List.{List, [], _∷_, _++_, append-assoc, append-nil}
 use Prim.Native.Nat.{ℕ, zero, suc, _+_, _/_, _%_, _≤_, _<_}
 use native.Mathlib.Nat.{not-suc-le-zero}
 use native.Mathlib.Omega.{arith}
-use lib.Dec.{eqb, leb}
+use lib.Dec.{eqb}
 use lib.ListN.{length, getD, drop, length-append}
-use borrow.Author.Tests.{le-leb, lt-leb, eqb-true}
+use borrow.Author.Tests.{le-leb, lt-leb}
 use Rattle.reckon.specs.Lists.{joined}
 use Rattle.reckon.proofs.TestLaws.{not-both, pick-true, pick-false, no-more, failing-before, refusal-here, refusal-later}
 use Rattle.grid.specs.Squares.{squares}
-use Rattle.text.specs.Reading.{tab, newline, nextLine, lineFrom}
+use Rattle.text.specs.Reading.{tab, newline, nextLine}
 use Rattle.text.specs.Writing.{decimal, fieldText, fieldsText, restText}
 use Rattle.text.specs.inner.Standing.{StandsAt}
 use Rattle.text.proofs.ReadingLaws.{by-test, by-lt}
@@ -21,15 +21,14 @@ use Rattle.text.proofs.RoundTrip.{front-after}
 use Rattle.text.proofs.StandLaws.{stands-first, stands-second, byte-stands}
 use Rattle.text.proofs.WritingLaws.{decimal-small, decimal-large}
 use Rattle.sheet.specs.Lines.{lineHead, cellLine}
-use Rattle.sheet.specs.Sheet.{Rooms, roomsFine, cellFrom, lineOne, lineTwo, shapeOf, cellsAt, cellsRead, firstCell, badLine, checksOf, headingOf, judged, sheetOf}
+use Rattle.sheet.specs.Sheet.{Rooms, roomsFine, cellFrom, lineOne, lineTwo, shapeOf, cellsAt, cellsRead, badLine, checksOf, headingOf, judged, sheetOf}
 use Rattle.sheet.specs.declared.lines.CellLine.{CellLine}
 use Rattle.sheet.specs.declared.reading.Heading.{Heading}
 use Rattle.sheet.specs.declared.reading.Sheet.the-variants.{Read, Refused}
 use Rattle.sheet.proofs.LetterLaws.{groundOf, cell-stands}
 use Rattle.programs.specs.Program.{mostText, programRooms}
-use Rattle.holes.specs.Rounds.{noBed}
-use Rattle.holes.specs.Holes.{question, upToBed, holeAt, bedAt, lookedIn, lookedAt, startOf, isHole, withBeds, plugged}
-use Rattle.holes.specs.Repaired.{bedText, listLine, repairedWith, repairedText, repairText, marksRead, bedsRead, Repairs}
+use Rattle.holes.specs.Holes.{question, upToBed, holeAt, bedAt, lookedAt, startOf, isHole}
+use Rattle.holes.specs.Repaired.{listLine, repairedWith, repairedText, repairText, marksRead, bedsRead, Repairs}
 use Rattle.holes.proofs.HoleLaws.{head-long, hole-spot, all-same, kept, looked-some}
 use Rattle.holes.proofs.PutLaws.{no-line}
 use Rattle.holes.proofs.RepairLaws.{seen-at, seen-low}

@@ -2,19 +2,18 @@
 -- Assumes nothing.
 use mathlib.Core.Path.{_≡_, refl, sym, ap, subst, _∙_}
 use mathlib.Core.Bool.{Bool, true, false, not, _&&_}
-use mathlib.Core.List.{List, [], _∷_}
+use mathlib.Core.List.{List}
 use mathlib.Core.Logic.{_⊎_, inl, inr, ⊎-elim}
-use Prim.Native.Nat.{ℕ, zero, suc, _+_, _-_, _≤_, _<_, min}
+use Prim.Native.Nat.{ℕ, zero, suc, _+_, _-_, _≤_, _<_}
 use native.Mathlib.Nat.{not-suc-le-zero, add-zero, add-suc}
-use native.Mathlib.Decide.{ℕ-discrete}
 use native.Mathlib.Omega.{arith}
 use lib.Dec.{eqb}
 use lib.ListN.{length, getD, List·getD-eq-default}
 use lib.Seq.{ext-getD}
 use borrow.Author.Tests.{eq-eqb, ne-eqb, eqb-true, eqb-false, ltb-true}
 use Rattle.reckon.specs.Tests.{pick, allBelow}
-use Rattle.reckon.specs.Lists.{tabulate, sumBelow}
-use Rattle.reckon.proofs.TestLaws.{not-both, pick-true, pick-false, pick-both, and-left, and-right, and-both, all-at, all-some}
+use Rattle.reckon.specs.Lists.{sumBelow}
+use Rattle.reckon.proofs.TestLaws.{pick-true, pick-false, pick-both, and-left, and-right, and-both, all-at, all-some}
 use Rattle.reckon.proofs.ListLaws.{length-tabulate, getD-tabulate, sum-le, sum-mono}
 use Rattle.grid.specs.Squares.{squares, within, beside, north, east, south, west, sides}
 use Rattle.grid.specs.Marks.{closed}

@@ -2,7 +2,7 @@
 -- text that goes to the reader, and neither is a newline, so that its lines start where the sheet's own do.
 -- Assumes nothing.
 use mathlib.Core.Path.{_≡_, refl, sym, ap, ap₂, subst, _∙_}
-use mathlib.Core.Bool.{Bool, true, false}
+use mathlib.Core.Bool.{true, false}
 use mathlib.Core.List.{List, [], _∷_, _++_, append-assoc}
 use Prim.Native.Nat.{ℕ, zero, suc, _+_, _-_, _/_, _%_, _≤_, _<_}
 use native.Mathlib.Omega.{arith}
@@ -34,7 +34,7 @@ use Rattle.sheet.specs.declared.reading.Sheet.the-variants.{Read}
 use Rattle.sheet.proofs.WrittenLaws.{SheetStands, said-stands, stands-written}
 use Rattle.programs.specs.Program.{programRooms}
 use Rattle.holes.specs.Rounds.{noBed, afterRounds, filledBeds}
-use Rattle.holes.specs.Holes.{question, between, upToBed, holeAt, bedAt, lineWith, lookedAt, startOf, isHole, withBeds, plugged}
+use Rattle.holes.specs.Holes.{question, between, upToBed, bedAt, lineWith, lookedAt, startOf, isHole, withBeds, plugged}
 use Rattle.holes.specs.Repaired.{bedText, marksRead, bedsRead, seenBeds, bedsAfter, sheetAfter, otherBeds}
 use Rattle.holes.proofs.HoleLaws.{Spot, hole-spot, head-long, line-same, line-kept, between-long, start-next, start-zero, start-in, next-forth, all-same}
 use Rattle.holes.proofs.PutLaws.{known-text}
