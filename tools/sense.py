@@ -3,6 +3,7 @@
 and the steps; or, of a refusal, the likeliest reason. bin/meadow ends with it.
 sense.py SHEET ANSWER LOG: the same about what `hatchlog` printed of a sheet and a log. bin/hatchlog ends with it.
 sense.py --highest SHEET ANSWER: how deep the water of a sheet ever was, and when, by what `highest` printed. bin/highest ends with it.
+sense.py --repair SHEET ANSWER: how many beds were given, and which cannot be, by what `repair` printed. bin/repair ends with it.
 sense.py --drowned ANSWER DEPTH SHEET..: which square drowned most often, by what `drowned` printed of a list. bin/drowned ends with it.
 sense.py --boards ANSWER SHEET BOARDS: which marks were reached, by what `boards` printed of a sheet and its boards. bin/boards ends with it."""
 import sys
@@ -12,11 +13,14 @@ from meadow.boards.answers import shown_of
 from meadow.logs.nights import Night, blocks_of
 from meadow.peaks.heights import heights_of
 from meadow.peaks.tally import tally_of
+from meadow.sheets.guesses import repaired_of
+from meadow.sheets.holes import plugged
 from meadow.sheets.lines import Answer
 from meadow.sheets.pairs import balanced, bytes_as_text, pair_of
 from meadow.sheets.reading import read
 from meadow.words import board_reasons, log_reasons
 from meadow.words.drownings import heights_sense, tally_sense
+from meadow.words.guessing import repair_sense
 from meadow.words.levels import boards_sense
 from meadow.words.list_reasons import list_reasons
 from meadow.words.opening import texts_of
@@ -47,6 +51,15 @@ def answer_line(text, told):
 def heights_line(text, told):
     """About what `highest` printed."""
     return heights_sense(heights_of(text, told))
+
+
+def of_repair(text, told):
+    """About what `repair` printed: it refuses what the reader of sheets does with the beds filled in."""
+    refused = refusal(told)
+    if refused:
+        return say_refused(refused, "", reasons(plugged(text), *refused))
+    print(repair_sense(text, repaired_of(text, told)))
+    return 0
 
 
 def of_log(files, told):
@@ -88,13 +101,15 @@ def main():
         return of_boards(bytes_as_text(files[0]), *files[1:])
     if kind == "--highest" and len(files) == 2:
         return of_sheet(*map(bytes_as_text, files), heights_line)
+    if kind == "--repair" and len(files) == 2:
+        return of_repair(*map(bytes_as_text, files))
     if len(files) == 1:
         return of_sheet(bytes_as_text(kind), bytes_as_text(files[0]), answer_line)
     if len(files) == 2:
         return of_log((kind, files[1]), bytes_as_text(files[0]))
     print(
-        "usage: sense.py SHEET ANSWER [LOG], sense.py --highest SHEET ANSWER, sense.py --drowned ANSWER DEPTH SHEET.. or "
-        "sense.py --boards ANSWER SHEET BOARDS",
+        "usage: sense.py SHEET ANSWER [LOG], sense.py --highest SHEET ANSWER, sense.py --repair SHEET ANSWER, "
+        "sense.py --drowned ANSWER DEPTH SHEET.. or sense.py --boards ANSWER SHEET BOARDS",
         file=sys.stderr,
     )
     return 2
