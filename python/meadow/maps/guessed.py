@@ -4,7 +4,7 @@ from .shades import INK
 from .signs import words
 
 # how high the letter is, and how far it stays from the square's south-east corner
-HIGH, EDGE = 12, 3
+HIGH, EDGE = 11, 1
 
 
 def guess_sign(right, bottom, more=""):
@@ -23,4 +23,4 @@ def guess_signs(paper):
 def say_guesses(column, guesses, side):
     """What the mark means, and how much ground has it; nothing where nothing was guessed."""
     if guesses:
-        column.entry(lambda x, y: [guess_sign(x + 7, y + 9)], "ground guessed, not surveyed", area(len(guesses), side))
+        column.entry(lambda x, y: [guess_sign(x + 5, y + 5)], "ground guessed, not surveyed", area(len(guesses), side))
