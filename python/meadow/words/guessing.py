@@ -32,7 +32,8 @@ def givers(sheet, rounds, guess):
 def guess_words(sheet, rounds, guess):
     """A square that was guessed, its bed, and where that came from."""
     sides = [f"{side} ({square(place)}{', itself guessed' if place in rounds else ''})" for side, place in givers(sheet, rounds, guess)]
-    return f"{square(guess.place)}: guessed {height(guess.bed)} m, the bed to the {' and the '.join(sides)}"
+    origin = f"the bed to the {' and the '.join(sides)}" if sides else "which no neighbour has any more"
+    return f"{square(guess.place)}: guessed {height(guess.bed)} m, {origin}"
 
 
 def guesses_words(sheet, guesses, list_name):
