@@ -251,7 +251,7 @@ def hold_repair(checks, room):
             ("bin/repair known.sheet", 0, (room / "known.sheet").read_text(), "every bed is known: the sheet is printed as it is"),
             ("bin/repair samples/walled-meadow.sheet", 0, (SAMPLES / "walled-meadow.sheet").read_text(), "every bed is known"),
             ("bin/repair seen.sheet", 0, "x\n0\t1\t70\t1\n", "1 bed guessed in 1 round, listed after the sheet; tools/repair.py says from which"),
-            ("bin/repair parted.sheet", 0, "0\t0\t-\t-\n0\t2\t-\t-\n", "no bed guessed, listed after the sheet; 2 beds cannot be guessed"),
+            ("bin/repair parted.sheet", 0, "0\t0\t-\t-\n0\t2\t-\t-\n", "no bed guessed; 2 beds cannot be guessed"),
             ("bin/repair some.sheet", 0, "0\t0\t70\t1\n0\t3\t-\t-\n", "1 bed guessed in 1 round, listed after the sheet; 1 bed cannot be guessed"),
             ("bin/repair cut.sheet", 1, "refused\t12\t5\n", "refused by 12: line 5: "),
             ("bin/repair none", 1, "", "none"),

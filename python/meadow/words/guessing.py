@@ -61,7 +61,7 @@ def unreached_words(places):
 def unseen_words(holes, sheet_file):
     """A sheet made with `?` in it: the squares, and how they are given a bed."""
     yield f"{beds(len(holes))} not seen, ? in the sheet: {places_words(holes)}"
-    yield "meadow refuses such a sheet; repair gives each the lowest bed beside it, round by round, and says which:"
+    yield "meadow refuses such a sheet; this gives each the lowest bed beside it, round by round, and says from where:"
     mended = Path(sheet_file).with_stem(f"{Path(sheet_file).stem}-mended")
     yield f"    python3 tools/repair.py {sheet_file} {mended}"
     yield "or make the sheet again with --repair --replace; or measure them, or close them in a plan"
@@ -81,5 +81,5 @@ def repair_sense(text, repaired):
     if not holes:
         return "every bed is known: the sheet is printed as it is"
     rounds = [guess.round for guess in repaired.guesses if guess.round]
-    said = given_words(len(rounds), max(rounds)) if rounds else "no bed guessed"
-    return f"{said}, listed after the sheet; " + (unreached_words(unreached) if unreached else "tools/repair.py says from which neighbours")
+    said = f"{given_words(len(rounds), max(rounds))}, listed after the sheet" if rounds else "no bed guessed"
+    return f"{said}; " + (unreached_words(unreached) if unreached else "tools/repair.py says from which neighbours")
