@@ -29,6 +29,7 @@ FILES = {
     "plan.txt": "oox\nooe\n",
     "spaced.txt": "o, o, x\no, o, e\n",
     "wall.txt": "oox\nxoe\n",
+    "wall-unseen.txt": "ooo\noxe\n",
     "open.txt": "ooo\nooe\n",
     "odd.txt": "ooq\nooe\n",
     "short.txt": "oox\noo\n",
@@ -106,7 +107,8 @@ MADE = [
 REFUSED = [
     (["beds.csv", *USUAL], "give --side"),
     (["beds.asc", *USUAL, "--side", "10"], "an ESRI grid says its own side and corner"),
-    (["beds.asc", *RUN, "--exit", "0", "2"], "the exit at row 0, column 2 is on a closed square without a bed: write ? for its bed"),
+    (["beds.asc", *RUN, "--exit", "0", "2"], "the exit at row 0, column 2 is on a closed square without a bed: open it in a plan"),
+    (["unseen.asc", *RUN, "--plan", "wall-unseen.txt", "--exit", "1", "1"], "the exit at row 1, column 1 is on a closed square without a bed"),
     (["beds.asc", *USUAL, "--roughness", "unseen-n.csv"], "unseen-n.csv, row 1: '?' in column 2 is no number"),
     (["twice-unseen.csv", *RUN, "--side", "10"], "twice-unseen.csv, line 1: '??' is no number"),
     (["walled.csv", *RUN, "--side", "10", "--repair"], "1 bed cannot be guessed, since no open way leads to a known one: row 0, column 2: measure"),
@@ -241,6 +243,13 @@ def hold_repaired(checks, room):
     made = ran("make_sheet", "beds.asc", "r0.sheet", *USUAL, "--repair", "--replace", room=room)
     checks.hold(made.returncode == 0 and (room / "r0.sheet").read_text() == SHEET.replace(" ", "\t"), f"--repair of known beds: {made.stderr}")
     checks.hold(not (room / "r0.sheet.guessed").exists() and "guessed" not in made.stdout, "the list of an older sheet stays")
+    (room / "left.sheet.guessed").write_text("0\t1\t5\t1\n")
+    for given in ([], ["--repair"]):
+        made = ran("make_sheet", "unseen.asc", "left.sheet", *USUAL, *given, room=room)
+        checks.hold(made.returncode == 1 and "left.sheet.guessed is there already" in made.stderr, f"a list that is there is written over: {made.stdout}")
+    checks.hold((room / "left.sheet.guessed").read_text() == "0\t1\t5\t1\n" and not (room / "left.sheet").exists(), "a list that is there does not stay")
+    made = ran("make_sheet", "unseen.asc", "left.sheet", *USUAL, "--replace", room=room)
+    checks.hold(made.returncode == 0 and not (room / "left.sheet.guessed").exists(), "the list of an older sheet stays beside one with ?")
     made = ran("make_sheet", "all-but-one.csv", "many.sheet", "--side", "10", *RUN, "--repair", room=room)
     lines = made.stdout.splitlines()
     checks.hold("31 beds guessed in 10 rounds" in made.stdout, f"very many guesses: {made.stdout}")

@@ -12,7 +12,7 @@ import argparse
 from pathlib import Path
 
 from begin import ended
-from meadow.sheets.guesses import Repaired, guesses_file, put_guesses
+from meadow.sheets.guesses import Repaired, guesses_file, hold_no_list, put_guesses
 from meadow.sheets.holes import holes_in, plugged
 from meadow.sheets.lines import USUAL_RUN, Unreadable
 from meadow.sheets.reading import read
@@ -98,6 +98,7 @@ def main():
         raise Unreadable("meadow would refuse this sheet:\n" + "\n".join(reasons))
     if Path(given.sheet).exists() and not given.replace:
         raise Unreadable(f"{given.sheet} is there already: take another name, or give --replace")
+    hold_no_list(given.sheet, given.replace)
     repaired = whole_by_program(text) if given.repair else Repaired(text, [])
     Path(given.sheet).write_text(repaired.text, encoding="ascii")
     place_file(given.sheet).write_text(place_text(sheet, place), encoding="ascii")

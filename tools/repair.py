@@ -9,7 +9,7 @@ import argparse
 from pathlib import Path
 
 from begin import ended
-from meadow.sheets.guesses import guesses_file, put_guesses
+from meadow.sheets.guesses import guesses_file, hold_no_list, put_guesses
 from meadow.sheets.holes import holes_in, plugged
 from meadow.sheets.lines import Unreadable
 from meadow.sheets.pairs import bytes_as_text
@@ -34,9 +34,9 @@ def hold_free(said):
     """The survey's own sheet stays, and nothing that is there is written over unless it may be."""
     if Path(said.mended).resolve() == Path(said.sheet).resolve():
         raise Unreadable(f"{said.mended} is the sheet itself: take another name, so that what the survey saw stays")
-    for path in (said.mended, guesses_file(said.mended)):
-        if Path(path).exists() and not said.replace:
-            raise Unreadable(f"{path} is there already: take another name, or give --replace")
+    if Path(said.mended).exists() and not said.replace:
+        raise Unreadable(f"{said.mended} is there already: take another name, or give --replace")
+    hold_no_list(said.mended, said.replace)
 
 
 def put_place(sheet_file, mended_file):

@@ -61,6 +61,12 @@ def guesses_file(sheet_file):
     return Path(f"{sheet_file}{SUFFIX}")
 
 
+def hold_no_list(sheet_file, replace):
+    """No list of an older sheet of that name is there, or it may be written over."""
+    if guesses_file(sheet_file).exists() and not replace:
+        raise Unreadable(f"{guesses_file(sheet_file)} is there already: take another name, or give --replace")
+
+
 def put_guesses(sheet_file, guesses):
     """Writes the side file; where nothing was guessed, one of an older sheet of that name goes."""
     path = guesses_file(sheet_file)

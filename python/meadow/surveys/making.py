@@ -78,7 +78,8 @@ def marks_of(beds, plan, exits):
         if place not in marks:
             raise Unreadable(f"the exit at {square(place)} is off the grid")
         if marks[place] == CLOSED and beds.at(place) is None:
-            raise Unreadable(f"the exit at {square(place)} is on a closed square without a bed: write {UNSEEN} for its bed if it was not seen")
+            do = f"open it in a plan, or without one write {UNSEEN} for a bed that was not seen"
+            raise Unreadable(f"the exit at {square(place)} is on a closed square without a bed: {do}")
         marks = {**marks, place: "e"}
     return marks
 
