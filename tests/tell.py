@@ -206,7 +206,7 @@ def hold_guesses(checks, room):
     sheet.squares[0, 3]["bed"] = 1_000_000
     path.write_text(sheet.text(MINUTE))
     said = told(path).stdout.splitlines()[-1]
-    checks.hold(said == "row 0, column 2: guessed 2.00 m, which no neighbour has any more", f"of a guess whose neighbour was mended it is said: {said}")
+    checks.hold(said == "row 0, column 2: guessed 2.00 m, which no neighbour has any more", f"of a guess beside a changed bed: {said}")
     Path(f"{path}.guessed").write_text("0\t1\t2000001\t1\n")
     checks.hold("guessed.sheet.guessed has a bed of 2000001 for square 0 1" in told(path).stderr, "another sheet's list is taken")
 
