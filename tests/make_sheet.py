@@ -1,5 +1,6 @@
-"""tools/make_sheet.py on beds, plans and tables whose sheet is worked by hand, and on what cannot be one; tools/depths.py takes answers back
-to the map that the beds came from, micrometre by micrometre."""
+"""tools/make_sheet.py on beds, plans and tables whose sheet is worked by hand, and on what cannot be one; beds that were not seen, left as `?`
+or given by `repair`, and tools/repair.py, which says from which neighbours; tools/depths.py takes answers back to the map that the beds came
+from, micrometre by micrometre."""
 import shutil
 import subprocess
 import sys
@@ -28,6 +29,7 @@ FILES = {
     "plan.txt": "oox\nooe\n",
     "spaced.txt": "o, o, x\no, o, e\n",
     "wall.txt": "oox\nxoe\n",
+    "wall-unseen.txt": "ooo\noxe\n",
     "open.txt": "ooo\nooe\n",
     "odd.txt": "ooq\nooe\n",
     "short.txt": "oox\noo\n",
@@ -38,6 +40,15 @@ FILES = {
     "no-corner.asc": HEAD.replace("yllcorner -12.25\n", "") + BEDS,
     "uneven.csv": "1.2,1.1\n1.15\n",
     "half.asc": HEAD.replace("cellsize 10", "cellsize 2.5") + BEDS,
+    "unseen.csv": "1,2;?;\n1,15;?;1,0000005\n",
+    "unseen.asc": HEAD + "1.2 ? -9999\n1.15 ? 1.0000005\n",
+    "bare-mouth.csv": "1.2,1.1,\n1.15,1.0500004,?\n",
+    "later.csv": "1.5,?,?,\n,,?,1.25\n",
+    "both.csv": "1.5,?,1.5\n",
+    "walled.csv": "1.5,,?\n",
+    "twice-unseen.csv": "1.5,??\n",
+    "all-but-one.csv": "\n".join(["1.5" + ",?" * 7, *[",".join("?" * 8)] * 3]) + "\n",
+    "unseen-n.csv": "0.03,?,0.03\n0.03,0.03,0.03\n",
     "large.csv": "\n".join([",".join(["1"] * 33)] * 32) + "\n",
     "empty.csv": "",
 }
@@ -96,7 +107,12 @@ MADE = [
 REFUSED = [
     (["beds.csv", *USUAL], "give --side"),
     (["beds.asc", *USUAL, "--side", "10"], "an ESRI grid says its own side and corner"),
-    (["beds.asc", *RUN, "--plan", "open.txt"], "row 0, column 2 is not closed, and its bed has no number"),
+    (["beds.asc", *RUN, "--exit", "0", "2"], "the exit at row 0, column 2 is on a closed square without a bed: open it in a plan"),
+    (["unseen.asc", *RUN, "--plan", "wall-unseen.txt", "--exit", "1", "1"], "the exit at row 1, column 1 is on a closed square without a bed"),
+    (["beds.asc", *USUAL, "--roughness", "unseen-n.csv"], "unseen-n.csv, row 1: '?' in column 2 is no number"),
+    (["twice-unseen.csv", *RUN, "--side", "10"], "twice-unseen.csv, line 1: '??' is no number"),
+    (["walled.csv", *RUN, "--side", "10", "--repair"], "1 bed cannot be guessed, since no open way leads to a known one: row 0, column 2: measure"),
+    (["unseen.csv", *USUAL, "--side", "10", "--repair", "--roughness", "35"], "line 4: row 0, column 1: the roughness is 350,000"),
     (["beds.asc", *RUN, "--plan", "odd.txt"], "odd.txt, row 1: 'q' is no mark"),
     (["beds.asc", *RUN, "--plan", "short.txt"], "short.txt, row 2: it has 2 letters, and the beds have 3 columns"),
     (["beds.asc", *RUN, "--plan", "one-row.txt"], "one-row.txt: it has 1 rows, and the beds have 2"),
@@ -124,6 +140,53 @@ REFUSED = [
     (["beds.asc", *USUAL, "--run", "edge", "10001"], "the edge slope is 10,001"),
     (["nosuch.asc", *USUAL], "No such file"),
 ]
+# what is given, the sheet with beds that were not seen, the one that `repair` makes of it, its list, and what is said of each guess
+UNSEEN_SHEET = edited(("1100000 350", "? 350"), ("1050000 350", "? 350"))
+GUESSED_SHEET = edited(("1100000 350", "1200000 350"), ("1050000 350", "1000001 350"))
+TWO_GUESSES = "0 1 1200000 1\n1 1 1000001 1\n"
+TWO_SAID = [
+    "2 beds guessed in 1 round, each the lowest beside it",
+    "row 0, column 1: guessed 1.20 m, the bed to the west (row 0, column 0)",
+    "row 1, column 1: guessed 1.00 m, the bed to the east (row 1, column 2)",
+]
+OPENED = edited(("cell 0 2 x", "cell 0 2 o ? 350 0 0"))
+OPENED_SAID = ["1 bed guessed in 1 round", "row 0, column 2: guessed 1.00 m, the bed to the south (row 1, column 2)"]
+SMALL = "grid {} 10\nrun 10 500 10000 60000 600000 10000 1\n"
+UNSEEN = [
+    (["unseen.csv", *USUAL, *OF_A_CSV], UNSEEN_SHEET, GUESSED_SHEET, TWO_GUESSES, TWO_SAID),
+    (["unseen.asc", *USUAL], UNSEEN_SHEET, GUESSED_SHEET, TWO_GUESSES, TWO_SAID),
+    (["unseen.asc", *RUN, *TABLES, "--plan", "plan.txt"], UNSEEN_SHEET, GUESSED_SHEET, TWO_GUESSES, TWO_SAID),
+    (["beds.asc", *RUN, *TABLES, "--plan", "open.txt"], OPENED, OPENED.replace("o ?", "o 1000001"), "0 2 1000001 1\n", OPENED_SAID),
+    (["beds.csv", *RUN, *TABLES, *OF_A_CSV, "--plan", "open.txt"], OPENED, OPENED.replace("o ?", "o 1000001"), "0 2 1000001 1\n", OPENED_SAID),
+    (
+        ["bare-mouth.csv", *USUAL, *OF_A_CSV],
+        edited(("1000001", "?")),
+        edited(("1000001", "1050000")),
+        "1 2 1050000 1\n",
+        ["row 1, column 2: guessed 1.05 m, the bed to the west (row 1, column 1)"],
+    ),
+    (
+        ["later.csv", *RUN, "--side", "10"],
+        SMALL.format("2 4") + "cell 0 0 o 1500000 350 0 0\ncell 0 1 o ? 350 0 0\ncell 0 2 o ? 350 0 0\ncell 0 3 x\n"
+        "cell 1 0 x\ncell 1 1 x\ncell 1 2 o ? 350 0 0\ncell 1 3 o 1250000 350 0 0\n",
+        SMALL.format("2 4") + "cell 0 0 o 1500000 350 0 0\ncell 0 1 o 1500000 350 0 0\ncell 0 2 o 1250000 350 0 0\ncell 0 3 x\n"
+        "cell 1 0 x\ncell 1 1 x\ncell 1 2 o 1250000 350 0 0\ncell 1 3 o 1250000 350 0 0\n",
+        "0 1 1500000 1\n0 2 1250000 2\n1 2 1250000 1\n",
+        [
+            "3 beds guessed in 2 rounds",
+            "row 0, column 1: guessed 1.50 m, the bed to the west (row 0, column 0)\n",
+            "row 0, column 2: guessed 1.25 m, the bed to the south (row 1, column 2, itself guessed)\n",
+            "row 1, column 2: guessed 1.25 m, the bed to the east (row 1, column 3)\n",
+        ],
+    ),
+    (
+        ["both.csv", *RUN, "--side", "10"],
+        SMALL.format("1 3") + "cell 0 0 o 1500000 350 0 0\ncell 0 1 o ? 350 0 0\ncell 0 2 o 1500000 350 0 0\n",
+        SMALL.format("1 3") + "cell 0 0 o 1500000 350 0 0\ncell 0 1 o 1500000 350 0 0\ncell 0 2 o 1500000 350 0 0\n",
+        "0 1 1500000 1\n",
+        ["row 0, column 1: guessed 1.50 m, the bed to the east (row 0, column 2) and the west (row 0, column 0)\n"],
+    ),
+]
 
 
 def ran(tool, *words, room):
@@ -144,6 +207,80 @@ def hold_made(checks, room):
     checks.hold((room / "0.sheet").read_text() == SHEET.replace(" ", "\t"), "a sheet that is there is not left as it was")
     made = ran("make_sheet", "full.asc", "1.sheet", *RUN, "--replace", room=room)
     checks.hold(made.returncode == 0 and "0\t2\to\t1300000" in (room / "1.sheet").read_text(), "--replace does not write over")
+
+
+def hold_unseen(checks, room):
+    """Beds that were not seen stay `?`, and the command that gives them is said; it gives them, and says from which neighbours."""
+    for at, (given, sheet, mended, guesses, said) in enumerate(UNSEEN):
+        made = ran("make_sheet", given[0], f"u{at}.sheet", *given[1:], room=room)
+        text = (room / f"u{at}.sheet").read_text() if made.returncode == 0 else made.stderr
+        checks.hold(text == sheet.replace(" ", "\t"), f"{given} makes {text}")
+        holes = sheet.count("?")
+        wanted = f"{holes} bed{'s' * (holes > 1)} not seen", f"python3 tools/repair.py u{at}.sheet u{at}-mended.sheet\n"
+        checks.hold(all(words in made.stdout for words in wanted), f"{given}: it is not said how beds are given: {made.stdout}")
+        checks.hold(not (room / f"u{at}.sheet.guessed").exists(), f"{given}: something is said to be guessed")
+        made = ran("repair", f"u{at}.sheet", f"u{at}-mended.sheet", room=room)
+        hold_guessed(checks, room, given, made, f"u{at}-mended.sheet", mended, guesses, said)
+        checks.hold((room / f"u{at}-mended.place").read_text() == (room / f"u{at}.place").read_text(), f"{given}: mended it lies elsewhere")
+
+
+def hold_guessed(checks, room, given, made, name, sheet, guesses, said):
+    """A sheet with beds that were given, its list, and the words."""
+    if checks.hold(made.returncode == 0, f"{given}: beds are not given: {made.stderr}"):
+        for path, wanted in ((name, sheet), (f"{name}.guessed", guesses)):
+            written = (room / path).read_text()
+            checks.hold(written == wanted.replace(" ", "\t"), f"{given} gives another {path}: {written}")
+        for words in (f"made {name}", f"{name}.guessed", *said):
+            checks.hold(words in made.stdout, f"{given}: it is not said: {words!r}, but {made.stdout}")
+
+
+def hold_repaired(checks, room):
+    """With --repair the sheet is whole at once, and told; without guesses an older list of its name goes."""
+    for at, (given, _, mended, guesses, said) in enumerate(UNSEEN):
+        made = ran("make_sheet", given[0], f"r{at}.sheet", *given[1:], "--repair", room=room)
+        hold_guessed(checks, room, given, made, f"r{at}.sheet", mended, guesses, said)
+        checks.hold("run to 10 min: at most 1,200 steps" in made.stdout and "not seen" not in made.stdout, f"{given}: the sheet is not told")
+    made = ran("make_sheet", "beds.asc", "r0.sheet", *USUAL, "--repair", "--replace", room=room)
+    checks.hold(made.returncode == 0 and (room / "r0.sheet").read_text() == SHEET.replace(" ", "\t"), f"--repair of known beds: {made.stderr}")
+    checks.hold(not (room / "r0.sheet.guessed").exists() and "guessed" not in made.stdout, "the list of an older sheet stays")
+    (room / "left.sheet.guessed").write_text("0\t1\t5\t1\n")
+    for given in ([], ["--repair"]):
+        made = ran("make_sheet", "unseen.asc", "left.sheet", *USUAL, *given, room=room)
+        checks.hold(made.returncode == 1 and "left.sheet.guessed is there already" in made.stderr, f"a list is written over: {made.stdout}")
+    checks.hold((room / "left.sheet.guessed").read_text() == "0\t1\t5\t1\n", "a list that is there does not stay")
+    checks.hold(not (room / "left.sheet").exists(), "a sheet is written beside a list that is there")
+    made = ran("make_sheet", "unseen.asc", "left.sheet", *USUAL, "--replace", room=room)
+    checks.hold(made.returncode == 0 and not (room / "left.sheet.guessed").exists(), "the list of an older sheet stays beside one with ?")
+    made = ran("make_sheet", "all-but-one.csv", "many.sheet", "--side", "10", *RUN, "--repair", room=room)
+    lines = made.stdout.splitlines()
+    checks.hold("31 beds guessed in 10 rounds" in made.stdout, f"very many guesses: {made.stdout}")
+    told = lines[-2].startswith("row 2, column 4: ") and lines[-1] == "and 11 more: many.sheet.guessed lists them"
+    checks.hold(told, f"very many guesses: {lines[-2:]}")
+
+
+def hold_not_mended(checks, room):
+    """What tools/repair.py cannot mend, or must not write over, is said, and nothing is written."""
+    parted = SMALL.format("1 3") + "cell 0 0 x\ncell 0 1 o ? 350 0 0\ncell 0 2 o ? 350 0 0\n"
+    damaged = {"parted": parted, "rough": UNSEEN_SHEET.replace("? 350", "? 0"), "cut": UNSEEN_SHEET.replace("? 350", "?")}
+    for name, text in damaged.items():
+        (room / f"{name}.sheet").write_text(text.replace(" ", "\t"))
+    cases = [
+        (["parted.sheet", "none.sheet"], "2 beds cannot be guessed, since no open way leads to a known one: row 0, column 1; row 0, column 2: "),
+        (["rough.sheet", "none.sheet"], "line 4: row 0, column 1: the roughness is 0: write 1 to 10,000"),
+        (["cut.sheet", "none.sheet"], "line 4: it has 6 fields after its word and should have 7: say the rate"),
+        (["0.sheet", "none.sheet"], "every bed of 0.sheet is known: there is nothing to mend"),
+        (["u0.sheet", "u0.sheet"], "u0.sheet is the sheet itself: take another name"),
+        (["u0.sheet", "u0.sheet", "--replace"], "u0.sheet is the sheet itself: take another name"),
+        (["u0.sheet", "u0-mended.sheet"], "u0-mended.sheet is there already: take another name, or give --replace"),
+        (["none", "none.sheet"], "No such file"),
+    ]
+    for given, why in cases:
+        made = ran("repair", *given, room=room)
+        checks.hold(made.returncode == 1 and why in made.stderr and made.stdout == "", f"repair.py {given}: {made.stderr!r}, not {why!r}")
+    checks.hold(not list(room.glob("none.*")), "repair.py writes where it cannot mend")
+    checks.hold((room / "u0.sheet").read_text() == UNSEEN_SHEET.replace(" ", "\t"), "the survey's own sheet is not left as it was")
+    made = ran("repair", "u0.sheet", "u0-mended.sheet", "--replace", room=room)
+    checks.hold(made.returncode == 0, f"repair.py --replace does not write over: {made.stderr}")
 
 
 def hold_refused(checks, room):
@@ -217,6 +354,9 @@ def main():
         for name, text in FILES.items():
             (room / name).write_bytes(text.encode())
         hold_made(checks, room)
+        hold_unseen(checks, room)
+        hold_repaired(checks, room)
+        hold_not_mended(checks, room)
         hold_refused(checks, room)
         hold_grid(checks, room)
         hold_csv(checks, room)

@@ -2,7 +2,8 @@
 hatch and standing square, and the answer's volumes; each square tells its depth; the shades are right in black and white; an answer that
 is not the sheet's, a part of one and a refusal have no map. The map of a log has the water at its end and the log's hatches, with the rates
 that stand; what was not printed of the log has none. The map of a winter has in each square how many sheets drowned it, the more the darker;
-what was not printed of a list of that meadow, or for that depth, has none."""
+what was not printed of a list of that meadow, or for that depth, has none. Ground that was guessed has its mark on each kind of map, by the list
+beside the sheet; another sheet's list is refused."""
 import subprocess
 import sys
 import tempfile
@@ -165,6 +166,68 @@ def hold_edition(checks, room):
     path.write_text(held.text(end))
     counts = found(drawn(path, SAMPLES / "held-pond.out").stdout)
     checks.hold((counts["standing"], counts["edition"]) == (0, 1), f"the map of edition 3 has {counts}")
+
+
+def guessed_of(sheet_file, *places):
+    """Writes the list beside a sheet, of its own beds at some places."""
+    sheet, _ = read(sheet_file.read_text())
+    Path(f"{sheet_file}.guessed").write_text("".join(f"{row}\t{column}\t{sheet.bed((row, column))}\t1\n" for row, column in places))
+
+
+def hold_guessed(checks, room):
+    """A mark in each square that was guessed, on the maps of a sheet, of a log and of a winter; none without a list; the words by hand."""
+    cases = [
+        (SAMPLES / "held-pond.sheet", [SAMPLES / "held-pond.out"], [(1, 1), (3, 1)], "row 1, column 1: 68 cm deep, ground 0.51 m, guessed", "50 m²"),
+        (
+            SAMPLES / "walled-evening.sheet",
+            ["--log", SAMPLES / "walled-evening.log"],
+            [(5, 1), (1, 0)],
+            "row 5, column 1: 6.5 cm deep, ground 2.12 m, guessed",
+            "3,200 m²",
+        ),
+        (
+            WINTER / "1-november.sheet",
+            [WINTER / "winter.list.out", "--often"],
+            [(0, 1), (1, 0)],
+            "row 0, column 1: drowned in 2 of 6 sheets; deepest 12 cm, by sheet 6; ground 2.92 m, guessed",
+            "3,200 m²",
+        ),
+    ]
+    for source, more, places, told, area in cases:
+        sheet = Path(room) / source.name
+        sheet.write_bytes(source.read_bytes())
+        bare = drawn(sheet, *more).stdout
+        checks.hold(bare != "" and "guessed" not in bare, f"{source.name}: without a list something is guessed")
+        guessed_of(sheet, *places)
+        made = drawn(sheet, *more)
+        if checks.hold(made.returncode == 0, f"{source.name}: guessed ground is not drawn: {made.stderr}"):
+            marks = [(part.text, part.get("pointer-events")) for part in classed(made.stdout, "guessed")]
+            checks.hold(marks == [("?", "none")] * 2, f"{source.name}: guessed ground is marked by {marks}")
+            said = letters(made.stdout)
+            checks.hold(told in said, f"{source.name}: the map does not say: {told}")
+            checks.hold(sum(", guessed" in words for words in said if words) == 2, f"{source.name}: other ground is said to be guessed")
+            checks.hold("ground guessed, not surveyed" in said and area in said, f"{source.name}: the legend does not say what the mark means")
+
+
+def hold_lists(checks, room):
+    """A list that is not the sheet's is refused in words."""
+    sheet = Path(room) / "house.sheet"
+    sheet.write_text(house().text(MINUTE))
+    wrong = {
+        "house.sheet.guessed has a bed of 5 for square 0 2, and the sheet a bed of 0": "0\t2\t5\t1\n",
+        "a bed of 0 for square 0 1, and the sheet no bed": "0\t1\t0\t1\n",
+        "a bed of 0 for square 0 3, and the sheet no bed": "0\t0\t0\t1\n0\t3\t0\t1\n",
+        "no bed for square 0 0, and the sheet a bed of 0": "0\t0\t-\t-\n",
+        "house.sheet.guessed, line 2: '0\\t2\\t0' is no line of repair's list": "0\t0\t0\t1\n0\t2\t0\n",
+    }
+    for why, text in wrong.items():
+        Path(f"{sheet}.guessed").write_text(text)
+        made = drawn(sheet)
+        refused = made.returncode == 1 and made.stdout == "" and why in made.stderr and made.stderr.count("\n") == 1
+        checks.hold(refused, f"a list with {why} is taken: {made.stderr!r}")
+    Path(f"{sheet}.guessed").write_text("0\t2\t0\t1\n")
+    checks.hold(drawn(sheet).returncode == 0, "the right list is not taken")
+    Path(f"{sheet}.guessed").unlink()
 
 
 def house():
@@ -436,6 +499,8 @@ def main():
         hold_classes(checks, room)
         hold_hatches(checks, room)
         hold_edition(checks, room)
+        hold_guessed(checks, room)
+        hold_lists(checks, room)
         hold_pairs(checks, room)
         hold_refused(checks, room)
         hold_log_hatches(checks, room)

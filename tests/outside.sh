@@ -3,8 +3,8 @@
 # call with document 01 as tests/outside/reference.rs has it, and a run with boards with document 02 as tests/outside/watching.rs does. Words go
 # to the Rust program: --long for a long run, --seed N, --rounds N, --endless. Rust programs of their own hold what the programs print to document
 # 02: of hatch logs as tests/outside/evening.rs has it, of lists of sheets and the heights of single ones as tests/outside/winter.rs does, and of
-# boards as tests/outside/watching.rs does. Another one holds the survey office's sets in Python to tests/outside/survey.rs. A board lies in memory
-# as C and Rust both say.
+# boards as tests/outside/watching.rs does. Others hold the survey office's sets in Python to tests/outside/survey.rs, and what `repair` prints of
+# beds that were not seen to tests/outside/holes.rs. A board lies in memory as C and Rust both say.
 set -u
 cd "$(dirname "$0")/.." || exit 1
 top=$PWD
@@ -33,13 +33,15 @@ winters=$built/winters
 heights=$built/heights
 levels=$built/levels
 surveys=$built/surveys
-rm -rf "$damaged" "$evenings" "$winters" "$heights" "$levels" "$surveys"
-mkdir -p "$damaged" "$evenings" "$winters" "$heights" "$levels" "$surveys"
+unseen=$built/unseen
+rm -rf "$damaged" "$evenings" "$winters" "$heights" "$levels" "$surveys" "$unseen"
+mkdir -p "$damaged" "$evenings" "$winters" "$heights" "$levels" "$surveys" "$unseen"
 
 # cases: what the tests work in Python, written for the Rust programs
 cases() {
     bin/test damaged --write "$damaged" && bin/test hatchlog --write "$evenings" && bin/test drowned --write "$winters" &&
-        bin/test highest --write "$heights" && bin/test boards --write "$levels" && bin/test sets --write "$surveys"
+        bin/test highest --write "$heights" && bin/test boards --write "$levels" && bin/test sets --write "$surveys" &&
+        bin/test repair --write "$unseen"
 }
 
 # programs: those in C, and those in Rust
@@ -48,7 +50,7 @@ programs() {
     for name in header display; do
         build_c "$name" || return 1
     done
-    for name in compare logs lists boards sets layout; do
+    for name in compare logs lists boards sets repairs layout; do
         build "$name" || return 1
     done
 }
@@ -70,6 +72,7 @@ told logs logs samples/*.log "$evenings"/*.log
 told heights lists samples/winter/*.list "$heights"/*.sheet
 told levels boards samples/winter/*.boards "$levels"/*.boards
 told moves sets "$surveys"/*.note "$surveys"/*.sheet
+told holes repairs "$unseen"/*.sheet
 told c-layout display layout
 told rust-layout layout
 cmp "$built/c-layout.log" "$built/rust-layout.log" || failed=$((failed + 1))
@@ -86,8 +89,9 @@ tops=$(number_of "$built/heights.log" "outside: " " lists and heights, no differ
 lists=$(number_of "$built/winters.log" "outside: " " lists and heights, no difference")
 boards=$(number_of "$built/levels.log" "outside: " " boards' texts, no difference")
 moves=$(number_of "$built/moves.log" "outside: " " sets and sheets moved, no difference")
+holes=$(number_of "$built/holes.log" "outside: " " sheets repaired, no difference")
 made=0
-for count in "$functions" "$places" "$calls" "$logs" "$tops" "$lists" "$boards" "$moves"; do
+for count in "$functions" "$places" "$calls" "$logs" "$tops" "$lists" "$boards" "$moves" "$holes"; do
     [ "${count:-0}" -gt 0 ] || failed=$((failed + 1))
     made=$((made + ${count:-0}))
 done

@@ -1,4 +1,5 @@
-"""tools/tell.py on sheets, steps and an account worked by hand, on what is likely a slip, on the samples, and on answers that are wrong."""
+"""tools/tell.py on sheets, steps and an account worked by hand, on what is likely a slip, on ground that was guessed, on the samples, and on answers
+that are wrong."""
 import re
 import subprocess
 import sys
@@ -186,6 +187,30 @@ def hold_slips(checks, room):
         checks.hold(said.returncode == 0 and right, f"{wanted or 'no slip'}: {found}{said.stderr}")
 
 
+def hold_guesses(checks, room):
+    """Ground that was guessed is told after the slips, by the list beside the sheet; another sheet's list is refused."""
+    path = Path(room) / "guessed.sheet"
+    sheet = Sheet(1, 4, 10)
+    for column, bed in enumerate((3_000_000, 2_000_000, 2_000_000, 2_000_000)):
+        sheet.put((0, column), bed, 300)
+    path.write_text(sheet.text(MINUTE))
+    checks.hold("guessed" not in told(path).stdout, "without a list something is said to be guessed")
+    Path(f"{path}.guessed").write_text("0\t1\t2000000\t2\n0\t2\t2000000\t1\n")
+    said = told(path).stdout.splitlines()[-3:]
+    wanted = [
+        "2 beds guessed in 2 rounds, each the lowest beside it: look at them before you trust the water",
+        "row 0, column 1: guessed 2.00 m, the bed to the east (row 0, column 2, itself guessed)",
+        "row 0, column 2: guessed 2.00 m, the bed to the east (row 0, column 3)",
+    ]
+    checks.hold(said == wanted, f"of guessed ground it is said: {said}")
+    sheet.squares[0, 3]["bed"] = 1_000_000
+    path.write_text(sheet.text(MINUTE))
+    said = told(path).stdout.splitlines()[-1]
+    checks.hold(said == "row 0, column 2: guessed 2.00 m, which no neighbour has any more", f"of a guess beside a changed bed: {said}")
+    Path(f"{path}.guessed").write_text("0\t1\t2000001\t1\n")
+    checks.hold("guessed.sheet.guessed has a bed of 2000001 for square 0 1" in told(path).stderr, "another sheet's list is taken")
+
+
 def hold_samples(checks):
     """Every sample balances; an answer to another sheet is refused."""
     for sheet in sorted(SAMPLES.glob("*.sheet")):
@@ -206,6 +231,7 @@ def main():
         hold_steps(checks, room)
         hold_words(checks, room)
         hold_slips(checks, room)
+        hold_guesses(checks, room)
     hold_samples(checks)
     checks.end()
 

@@ -1,6 +1,6 @@
 """Every command of docs/TOOLS.md prints what stands below it there, and each tool has an example; README's first command prints the answer
-byte for byte and ends with one line of sense, and its next makes the map; bin/meadow, bin/hatchlog, bin/drowned, bin/highest and bin/boards say
-what is wrong where there is no answer."""
+byte for byte and ends with one line of sense, and its next makes the map; bin/meadow, bin/hatchlog, bin/drowned, bin/highest, bin/boards and
+bin/repair say what is wrong where there is no answer."""
 import re
 import shutil
 import subprocess
@@ -12,7 +12,8 @@ from meadow.counted import Checks
 from meadow.logs.evening import records_kept
 from meadow.peaks import heights
 from meadow.programs import TOP
-from meadow.sheets.lines import SQUARE, line_of
+from meadow.sheets.holes import repaired
+from meadow.sheets.lines import CLOSED, SQUARE, Sheet, line_of
 from meadow.sheets.reading import MOST_SQUARES
 
 PAGE, README = TOP / "docs" / "TOOLS.md", TOP / "README.md"
@@ -20,7 +21,7 @@ SAMPLES = TOP / "samples"
 # what tools begin with, those that look after the project itself, and the one that the programs' own scripts end with; all others are for the
 # warden and the keeper
 OWN = {"architecture", "begin", "believed", "dev", "edits", "header", "pictures", "places", "sense", "speed", "unused", "walks"}
-PROGRAMS = [f"bin/{name}" for name in ("meadow", "hatchlog", "drowned", "highest", "boards", "to_survey", "from_survey")]
+PROGRAMS = [f"bin/{name}" for name in ("meadow", "hatchlog", "drowned", "highest", "boards", "repair", "to_survey", "from_survey")]
 FOR_PEOPLE = [*PROGRAMS, *(f"tools/{path.name}" for path in sorted((TOP / "tools").glob("*.py")) if path.stem not in OWN)]
 LEFT_OUT = "..."
 # a sheet's only square
@@ -232,6 +233,36 @@ def hold_boards(checks, room):
     )
 
 
+def hold_repair(checks, room):
+    """bin/repair: what the program prints and one line; sheets that are refused, and what is not printed of a sheet."""
+    beds = {"known": "70 60 x", "seen": "70 ? x", "parted": "? x ?", "some": "? 70 x ?", "cut": "70 ? x"}
+    for name, row in beds.items():
+        sheet = Sheet(1, len(row.split()), 1)
+        for column, bed in enumerate(row.split()):
+            if bed != CLOSED:
+                sheet.put((0, column), bed, 300)
+        text = sheet.text(0)
+        (room / f"{name}.sheet").write_text(text[:-1] if name == "cut" else text)
+    (room / "seen.out").write_text(repaired((room / "seen.sheet").read_bytes()))
+    hold_commands(
+        checks,
+        room,
+        [
+            ("bin/repair known.sheet", 0, (room / "known.sheet").read_text(), "every bed is known: the sheet is printed as it is"),
+            ("bin/repair samples/walled-meadow.sheet", 0, (SAMPLES / "walled-meadow.sheet").read_text(), "every bed is known"),
+            ("bin/repair seen.sheet", 0, "x\n0\t1\t70\t1\n", "1 bed guessed in 1 round, listed after the sheet; tools/repair.py says from which"),
+            ("bin/repair parted.sheet", 0, "0\t0\t-\t-\n0\t2\t-\t-\n", "no bed guessed; 2 beds cannot be guessed"),
+            ("bin/repair some.sheet", 0, "0\t0\t70\t1\n0\t3\t-\t-\n", "1 bed guessed in 1 round, listed after the sheet; 1 bed cannot be guessed"),
+            ("bin/repair cut.sheet", 1, "refused\t12\t5\n", "refused by 12: line 5: "),
+            ("bin/repair none", 1, "", "none"),
+            ("python3 tools/sense.py --repair known.sheet seen.out", 1, "", "this is not what repair prints of this sheet"),
+            ("bin/repair", 2, "", "usage: bin/repair SHEET"),
+        ],
+    )
+    why = ran("python3 tools/why.py seen.sheet", room)[1]
+    checks.hold("line 4: the bed: ? stands for what the survey did not see" in why and "tools/repair.py" in why, f"why.py of a bed with ?: {why}")
+
+
 def hold_kept(checks):
     """How many steps the page says can be taken back."""
     (told,) = re.findall(r"^\*\*How many steps can be taken back\*\* depends on the squares: (.*?)\. ", PAGE.read_text(encoding="utf-8"), re.M)
@@ -247,7 +278,7 @@ def main():
     checks = Checks("tools")
     with tempfile.TemporaryDirectory() as folder:
         room = room_in(folder)
-        for part in (hold_page, hold_readme, hold_samples, hold_refusals, hold_logs, hold_winter, hold_heights, hold_boards):
+        for part in (hold_page, hold_readme, hold_samples, hold_refusals, hold_logs, hold_winter, hold_heights, hold_boards, hold_repair):
             part(checks, room)
     hold_kept(checks)
     checks.end()

@@ -4,16 +4,22 @@
 BEDS is a grid of heights in metres, an ESRI ASCII grid with any corner or a CSV. A square is closed where a plan of letters has x or, without
 a plan, where the beds have no number. Roughness is Manning's n, rain in mm an hour, hatches in litres a second, times as h:min or h:min:s,
 rows and columns counted from 0, from the north and from the west. A depth, roughness or soak rate is one number or a file with a grid.
+A bed that is ?, or that has no number where a plan does not close it, was not seen. With --repair the program `repair` gives such beds, and
+what was guessed is told and listed beside the sheet; without it they stay ? in the sheet, and what gives them is said.
 Prints the sheet in a person's units, and what in it is likely a slip. No sheet that is there already is written over without --replace.
 """
 import argparse
 from pathlib import Path
 
 from begin import ended
+from meadow.sheets.guesses import Repaired, guesses_file, hold_no_list, put_guesses
+from meadow.sheets.holes import holes_in, plugged
 from meadow.sheets.lines import USUAL_RUN, Unreadable
+from meadow.sheets.reading import read
 from meadow.surveys.grids import grid_in, number
 from meadow.surveys.making import MILLIMETRE_AN_HOUR, clock, hold_shape, index, litres, marks_of, plan_in, sheet_of, spread, whole
 from meadow.surveys.places import Place, place_file, place_text
+from meadow.words.guessing import guesses_words, unseen_words, whole_by_program
 from meadow.words.reasons import why_not
 from meadow.words.telling import telling
 
@@ -37,6 +43,7 @@ def words():
     asked.add_argument("--side", metavar="M", help="of a CSV: the side of a square")
     asked.add_argument("--corner", nargs=2, metavar=("X", "Y"), help="of a CSV: its south-west corner, 0 0 where it is not said")
     asked.add_argument("--run", nargs=2, action="append", default=[], metavar=("NAME", "NUMBER"), help=f"of the run line, in its own units: {USUAL}")
+    asked.add_argument("--repair", action="store_true", help="let the program repair give the beds that were not seen")
     asked.add_argument("--replace", action="store_true", help="write over a sheet that is there already")
     return asked.parse_args()
 
@@ -60,7 +67,7 @@ def rules(given):
 
 def made(given):
     """The sheet, its end, and where it lies."""
-    beds = grid_in(given.beds)
+    beds = grid_in(given.beds, may_be_unseen=True)
     side, place = where(given, beds)
     hold_shape(beds, side)
     shape = beds.shape()
@@ -74,19 +81,31 @@ def made(given):
     return sheet, clock(given.end), place
 
 
+def told(given, repaired, end):
+    """What is said of the sheet that was made: all of it where every bed is known, else how the others are given."""
+    if holes_in(repaired.text):
+        return unseen_words(holes_in(repaired.text), given.sheet)
+    sheet, _ = read(repaired.text)
+    return [*telling(sheet, end), *guesses_words(sheet, repaired.guesses, guesses_file(given.sheet))]
+
+
 def main():
     given = words()
     sheet, end, place = made(given)
     text = sheet.text(end)
-    reasons = why_not(text)
+    reasons = why_not(plugged(text))
     if reasons:
         raise Unreadable("meadow would refuse this sheet:\n" + "\n".join(reasons))
     if Path(given.sheet).exists() and not given.replace:
         raise Unreadable(f"{given.sheet} is there already: take another name, or give --replace")
-    Path(given.sheet).write_text(text, encoding="ascii")
+    hold_no_list(given.sheet, given.replace)
+    repaired = whole_by_program(text) if given.repair else Repaired(text, [])
+    Path(given.sheet).write_text(repaired.text, encoding="ascii")
     place_file(given.sheet).write_text(place_text(sheet, place), encoding="ascii")
-    print(f"made {given.sheet} and {place_file(given.sheet)}")
-    print(*telling(sheet, end), sep="\n")
+    put_guesses(given.sheet, repaired.guesses)
+    listed = f", and the list {guesses_file(given.sheet)}" if repaired.guesses else ""
+    print(f"made {given.sheet} and {place_file(given.sheet)}{listed}")
+    print(*told(given, repaired, end), sep="\n")
     return 0
 
 

@@ -5,6 +5,8 @@ map.py SHEET --log LOG > MAP.svg: runs `hatchlog` on a sheet and a log and draws
 map.py SHEET ANSWER --log LOG > MAP.svg: draws the end of what `hatchlog` has printed already.
 map.py --often SHEET ANSWER [--depth DEPTH] > MAP.svg: draws how often each square drowned, by what `drowned` printed of a list that SHEET is
 of; the depth that was asked stands on the map where it is said. python/meadow/maps/often.py says what it shows.
+
+Where a side file SHEET.guessed says which ground was guessed, as tools/repair.py and tools/make_sheet.py write it, the map marks that ground.
 """
 import argparse
 import sys
@@ -15,6 +17,7 @@ from meadow.logs.nights import night_in
 from meadow.maps.drawing import svg
 from meadow.maps.often import often_svg
 from meadow.peaks.tally import tally_of
+from meadow.sheets.guesses import guesses_beside
 from meadow.sheets.pairs import balanced, bytes_as_text, pair_in
 from meadow.sheets.reading import read
 
@@ -30,10 +33,12 @@ def main():
     if said.often and (said.log or not said.answer) or said.depth is not None and not said.often:
         words.error("--often needs SHEET and ANSWER, and no log; --depth goes with it")
     if said.often:
-        sys.stdout.write(often_svg(read(bytes_as_text(said.sheet))[0], tally_of(bytes_as_text(said.answer)), Path(said.answer).name.split(".")[0], said.depth))
+        sheet, tally = read(bytes_as_text(said.sheet))[0], tally_of(bytes_as_text(said.answer))
+        guesses = guesses_beside(said.sheet, sheet)
+        sys.stdout.write(often_svg(sheet, tally, Path(said.answer).name.split(".")[0], said.depth, guesses))
         return 0
     pair = night_in(said.sheet, said.log, said.answer).whole() if said.log else pair_in(said.sheet, said.answer)
-    sys.stdout.write(svg(balanced(pair), Path(said.log or said.sheet).stem))
+    sys.stdout.write(svg(balanced(pair), Path(said.log or said.sheet).stem, guesses_beside(said.sheet, pair.sheet)))
     return 0
 
 

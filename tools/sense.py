@@ -3,6 +3,7 @@
 and the steps; or, of a refusal, the likeliest reason. bin/meadow ends with it.
 sense.py SHEET ANSWER LOG: the same about what `hatchlog` printed of a sheet and a log. bin/hatchlog ends with it.
 sense.py --highest SHEET ANSWER: how deep the water of a sheet ever was, and when, by what `highest` printed. bin/highest ends with it.
+sense.py --repair SHEET ANSWER: how many beds were given, and which cannot be, by what `repair` printed. bin/repair ends with it.
 sense.py --drowned ANSWER DEPTH SHEET..: which square drowned most often, by what `drowned` printed of a list. bin/drowned ends with it.
 sense.py --boards ANSWER SHEET BOARDS: which marks were reached, by what `boards` printed of a sheet and its boards. bin/boards ends with it.
 sense.py --to-survey ANSWER SHEET NOTE BED DEPTH ROUGHNESS RATE: the set that `to_survey` made of a sheet. bin/to_survey ends with it.
@@ -14,6 +15,8 @@ from meadow.boards.answers import shown_of
 from meadow.logs.nights import Night, blocks_of
 from meadow.peaks.heights import heights_of
 from meadow.peaks.tally import tally_of
+from meadow.sheets.guesses import repaired_of
+from meadow.sheets.holes import plugged
 from meadow.sheets.lines import Answer
 from meadow.sheets.pairs import balanced, bytes_as_text, pair_of
 from meadow.sheets.reading import read
@@ -21,6 +24,7 @@ from meadow.surveys.set_reasons import moving_reasons, set_reasons
 from meadow.surveys.sets import MOST_SQUARES, Set, set_paths
 from meadow.words import board_reasons, log_reasons
 from meadow.words.drownings import heights_sense, tally_sense
+from meadow.words.guessing import repair_sense
 from meadow.words.levels import boards_sense
 from meadow.words.list_reasons import list_reasons
 from meadow.words.opening import texts_of
@@ -51,6 +55,15 @@ def answer_line(text, told):
 def heights_line(text, told):
     """About what `highest` printed."""
     return heights_sense(heights_of(text, told))
+
+
+def of_repair(text, told):
+    """About what `repair` printed: it refuses what the reader of sheets does with the beds filled in."""
+    refused = refusal(told)
+    if refused:
+        return say_refused(refused, "", reasons(plugged(text), *refused))
+    print(repair_sense(text, repaired_of(text, told)))
+    return 0
 
 
 def of_log(files, told):
@@ -120,13 +133,16 @@ def main():
         return of_moving_back(bytes_as_text(files[0]), *files[1:])
     if kind == "--highest" and len(files) == 2:
         return of_sheet(*map(bytes_as_text, files), heights_line)
+    if kind == "--repair" and len(files) == 2:
+        return of_repair(*map(bytes_as_text, files))
     if len(files) == 1:
         return of_sheet(bytes_as_text(kind), bytes_as_text(files[0]), answer_line)
     if len(files) == 2:
         return of_log((kind, files[1]), bytes_as_text(files[0]))
     print(
-        "usage: sense.py SHEET ANSWER [LOG], sense.py --highest SHEET ANSWER, sense.py --drowned ANSWER DEPTH SHEET.., "
-        "sense.py --boards ANSWER SHEET BOARDS, sense.py --to-survey ANSWER SHEET NOTE BED DEPTH ROUGHNESS RATE or "
+        "usage: sense.py SHEET ANSWER [LOG], sense.py --highest SHEET ANSWER, sense.py --repair SHEET ANSWER, "
+        "sense.py --drowned ANSWER DEPTH SHEET.., sense.py --boards ANSWER SHEET BOARDS, "
+        "sense.py --to-survey ANSWER SHEET NOTE BED DEPTH ROUGHNESS RATE or "
         "sense.py --from-survey ANSWER NOTE BED DEPTH ROUGHNESS RATE",
         file=sys.stderr,
     )

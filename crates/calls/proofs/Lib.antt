@@ -2,5 +2,6 @@ pub mod EveningLaws
 pub mod ExportedLaws
 pub mod LibraryLaws
 pub mod ListedLaws
+pub mod RepairingLaws
 pub mod SurveyedLaws
 pub mod WatchedLaws

@@ -3,5 +3,6 @@ pub mod exported;
 pub mod hatch_log;
 pub mod library;
 pub mod listed;
+pub mod repairing;
 pub mod surveyed;
 pub mod watched;

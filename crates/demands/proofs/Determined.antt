@@ -21,7 +21,7 @@ use Rattle.text.proofs.Determined.{written}
 use Rattle.sheet.specs.Sheet.{Rooms, Reads, roomsAfter}
 use Rattle.sheet.specs.declared.reading.Sheet.{Sheet}
 use Rattle.exports.specs.Steps.{ExportsStep, ExportsRun}
-use Rattle.demands.specs.Determined.{LedgerDetermined, ChecksDetermined, FloodDetermined, SightDetermined, SheetDetermined, ProgramsDetermined, PeaksDetermined, SurveyDetermined, DisplayDetermined, DisplayExportsDetermined, LevelsDetermined, ListsDetermined, EveningsDetermined, ExportsDetermined, Determined}
+use Rattle.demands.specs.Determined.{LedgerDetermined, ChecksDetermined, FloodDetermined, SightDetermined, SheetDetermined, ProgramsDetermined, PeaksDetermined, SurveyDetermined, HolesDetermined, DisplayDetermined, DisplayExportsDetermined, LevelsDetermined, ListsDetermined, EveningsDetermined, ExportsDetermined, Determined}
 use Rattle.peaks.specs.Peaks.{RunsPeaking}
 use Rattle.display.proofs.Determined as Display
 use Rattle.display_exports.proofs.Determined.{exports-boards-one}
@@ -129,6 +129,9 @@ survey-determined =
       to-part = λ text part old a b x y. λ j. ((x .answer ∙ sym (y .answer)) j, (x .room ∙ sym (y .room)) j);
       from-set = λ t old a b x y. λ j. ((x .answer ∙ sym (y .answer)) j, (x .room ∙ sym (y .room)) j);
     }
+
+holes-determined : HolesDetermined
+holes-determined = record { repair-of = λ text old a b x y. written a b (x .wrote) (y .wrote) }
 
 display-determined : DisplayDetermined
 display-determined =
@@ -276,6 +279,7 @@ determined =
       programs = programs-determined;
       peaks = peaks-determined;
       survey = survey-determined;
+      holes = holes-determined;
       display = display-determined;
       display-exports = display-exports-determined;
       levels = levels-determined;

@@ -9,6 +9,8 @@ pub mod Exported
 pub mod Fields
 pub mod HatchLaws
 pub mod HatchRuns
+pub mod Holes
+pub mod HolesRead
 pub mod LineClock
 pub mod LinePlaces
 pub mod Loader

@@ -29,6 +29,7 @@ use Rattle.exports.specs.Sights.{ExportsArrow, ExportsWet}
 use Rattle.exports.specs.Sheets.{ExportsRead, ExportsMeadow}
 use Rattle.peaks.specs.Peaks.{RunsPeaking}
 use Rattle.peaks.specs.Highest.{highestText}
+use Rattle.holes.specs.Repaired.{PrintsRepair}
 use Rattle.survey.specs.Sets.{Set}
 use Rattle.survey.specs.Moving.{MovesPart, MovesSet}
 use Rattle.survey.specs.declared.moving.Part.{Part}
@@ -88,6 +89,9 @@ pub record PeaksDetermined : Type 0 where
 pub record SurveyDetermined : Type 0 where
   pub to-part : (text : List ℕ) (part : Part) (old : List ℕ) → One {Out = Moved × List ℕ} (λ o. MovesPart text part old (o .0) (o .1))
   pub from-set : (t : Set) (old : List ℕ) → One {Out = Moved × List ℕ} (λ o. MovesSet t old (o .0) (o .1))
+
+pub record HolesDetermined : Type 0 where
+  pub repair-of : (text old : List ℕ) → One {Out = ℕ × List ℕ} (λ o. PrintsRepair text old (o .1) (o .0))
 
 -- a run with boards, by value and lent
 pub record DisplayDetermined : Type 0 where
@@ -162,6 +166,7 @@ pub record Determined : Type 0 where
   pub programs : ProgramsDetermined
   pub peaks : PeaksDetermined
   pub survey : SurveyDetermined
+  pub holes : HolesDetermined
   pub display : DisplayDetermined
   pub display-exports : DisplayExportsDetermined
   pub levels : LevelsDetermined

@@ -9,6 +9,7 @@ pub mod EnginesAgree
 pub mod Exported
 pub mod Fields
 pub mod HatchLog
+pub mod Holes
 pub mod Loader
 pub mod Played
 pub mod StepCount

@@ -2,8 +2,8 @@
 
 Water is blue by classes of depth, the deeper the darker; a film under 1 mm is a dot on its ground; dry ground is nearly white, with
 contours; closed squares are hatched; exits have an arrow. A hatch has its number, filled where it gives water up to the end's clock.
-Standing squares have a diamond, filled where the square falls by 1 mm or more on some side. Each square says its depth to a pointer that
-rests on it. No depth is computed: those that the answer has are drawn.
+Standing squares have a diamond, filled where the square falls by 1 mm or more on some side. Ground that was guessed has a question mark.
+Each square says its depth to a pointer that rests on it. No depth is computed: those that the answer has are drawn.
 """
 from html import escape
 
@@ -12,6 +12,7 @@ from ..sheets.standing import STEEP, standing_squares
 from ..words.hatches import hatches_in
 from ..words.units import depth, height, square, time
 from .contours import contours, heights_of
+from .guessed import guess_signs
 from .legend import LEGEND, legend
 from .shades import CLASSES, CONTOUR, CONTOUR_NAME, INK, LINES, PALE, WALL_PAPER, WALL_STROKE, class_of, ground
 from .signs import box, diamond, exit_sign, film_dot, hatch_sign, words
@@ -32,10 +33,10 @@ BARS = [k * 10**power for power in range(4) for k in (1, 2, 5)]
 
 
 class Paper:
-    """A sheet on paper: how large a square is drawn, and where it lies. The fewer squares, the larger they are."""
+    """A sheet on paper: how large a square is drawn, and where it lies. The fewer squares, the larger they are. `guesses` are of its ground."""
 
-    def __init__(self, sheet):
-        self.sheet = sheet
+    def __init__(self, sheet, guesses=()):
+        self.sheet, self.guesses = sheet, {guess.place: guess for guess in guesses}
         self.size = max(LEAST_SQUARE, min(MOST_SQUARE, FILLED // max(sheet.rows, sheet.columns)))
 
     def corner(self, place):
@@ -58,12 +59,13 @@ class Paper:
         return f"M{x} {y}v{self.size}"
 
 
-def told(place, values, deep):
+def told(paper, place, deep):
     """What a square says to a pointer that rests on it."""
+    values = paper.sheet.squares[place]
     if values["mark"] == CLOSED:
         return f"{square(place)}: closed"
     water = f"{depth(deep)} deep" if deep > 0 else "dry"
-    return f"{square(place)}: {water}, ground {height(values['bed'])} m"
+    return f"{square(place)}: {water}, ground {height(values['bed'])} m" + (", guessed" if place in paper.guesses else "")
 
 
 def square_at(paper, place, deep, ends):
@@ -75,7 +77,7 @@ def square_at(paper, place, deep, ends):
         kind, fill = "wet", CLASSES[class_of(deep)][1]
     else:
         kind, fill = "film" if deep > 0 else "dry", ground(values["bed"], *ends)
-    drawn = box(*paper.corner(place), paper.size, paper.size, fill, f' class="{kind}"', told(place, values, deep))
+    drawn = box(*paper.corner(place), paper.size, paper.size, fill, f' class="{kind}"', told(paper, place, deep))
     return drawn + film_dot(*paper.middle(place)) if kind == "film" else drawn
 
 
@@ -138,7 +140,7 @@ def hatch_signs(paper, pair):
     hatches = hatches_in(pair)
     for place in sorted({hatch.place for hatch in hatches}):
         here = [hatch for hatch in hatches if hatch.place == place]
-        below = told(place, pair.sheet.squares[place], pair.answer.depths[place])
+        below = told(paper, place, pair.answer.depths[place])
         said = "; ".join([*(f"hatch {hatch.number}: {hatch.openings()}" for hatch in here), below])
         yield hatch_sign(*paper.middle(place), "+".join(str(hatch.number) for hatch in here), any(hatch.runs_at(pair.end) for hatch in here), said)
 
@@ -151,7 +153,7 @@ def ground_and_water(paper, pair, standing):
     yield "</g>" + UNTOUCHED
     yield from (*contour_lines(paper), outline(paper), *squares_signs(paper, standing))
     yield "</g>"
-    yield from hatch_signs(paper, pair)
+    yield from (*hatch_signs(paper, pair), *guess_signs(paper))
 
 
 def beside_it(paper):
@@ -170,8 +172,8 @@ def framed(paper, title, drawn, beside, needed):
     return "\n".join(parts) + "\n"
 
 
-def svg(pair, name):
-    """The map's text; `name` stands in its title."""
-    paper, standing = Paper(pair.sheet), standing_squares(pair.sheet, pair.answer)
-    beside, needed = legend(*beside_it(paper), pair, standing)
+def svg(pair, name, guesses=()):
+    """The map's text; `name` stands in its title, and `guesses` are of the sheet's ground."""
+    paper, standing = Paper(pair.sheet, guesses), standing_squares(pair.sheet, pair.answer)
+    beside, needed = legend(*beside_it(paper), pair, standing, guesses)
     return framed(paper, f"{name}: water after {time(pair.end)}", ground_and_water(paper, pair, standing), beside, needed)

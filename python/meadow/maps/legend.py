@@ -8,6 +8,7 @@ from ..words.hatches import hatches_in
 from ..words.sense import deepest_words, volumes
 from ..words.units import area, height, rain_rate, span, square, steps, time, volume
 from .contours import gap_of, heights_of
+from .guessed import say_guesses
 from .shades import CLASSES, FILM_NAME, HATCH, PALE, class_of, ground
 from .signs import box, diamond, exit_sign, film_dot, hatch_circle, north_arrow, words
 
@@ -115,11 +116,12 @@ def say_tables(column, pair):
         column.say(f"and {len(lines) - MOST_LISTED} more: {where}", "", SMALL, gap=-2)
 
 
-def legend(x, y, pair, standing):
+def legend(x, y, pair, standing, guesses=()):
     """The legend's parts, and how far down it reaches."""
     column = Column(x, y)
     say_depths(column, pair)
     say_signs(column, standing, pair.sheet.run["edition"])
+    say_guesses(column, guesses, pair.sheet.side)
     say_totals(column, pair, standing)
     say_tables(column, pair)
     return [north_arrow(x + LEGEND - 20, y + 6), *column.drawn], column.y

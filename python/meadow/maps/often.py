@@ -2,8 +2,8 @@
 and white.
 
 In each square stands how many sheets had it as deep as was asked; the more of them, the darker the square. A square that never drowned is nearly
-white and has no number. Closed squares are hatched, and a thick line at the rim is an exit, which leaves the number to be seen. Nothing is
-counted that the answer does not say.
+white and has no number. Closed squares are hatched, and a thick line at the rim is an exit, which leaves the number to be seen. Ground that was
+guessed has a question mark. Nothing is counted that the answer does not say.
 """
 from ..sheets.lines import CLOSED, Unreadable
 from ..sheets.pairs import hold_squares
@@ -11,6 +11,7 @@ from ..words.drownings import deepest_of_all, most_often_words, sheets
 from ..words.units import area, depth, height, square
 from .contours import heights_of
 from .drawing import UNTOUCHED, Paper, beside_it, framed, outline
+from .guessed import guess_signs, say_guesses
 from .legend import LEGEND, SMALL, Column, swatch
 from .shades import CLASSES, EXIT, INK, LINES, ground
 from .signs import box, north_arrow, words
@@ -53,20 +54,21 @@ def hold_pair(sheet, tally, wet_depth):
         hold_depth(tally, wet_depth)
 
 
-def told(place, values, tally):
+def told(paper, place, tally):
     """What a square says to a pointer that rests on it."""
+    values = paper.sheet.squares[place]
     if values["mark"] == CLOSED:
         return f"{square(place)}: closed"
     drowned = tally.squares[place]
     often = f"drowned in {drowned.count} of {sheets(tally.ran)}" if drowned.count else "never drowned"
     water = f"deepest {depth(drowned.deepest)}, by sheet {drowned.first}" if drowned.deepest else "always dry"
-    return f"{square(place)}: {often}; {water}; ground {height(values['bed'])} m"
+    return f"{square(place)}: {often}; {water}; ground {height(values['bed'])} m" + (", guessed" if place in paper.guesses else "")
 
 
 def square_at(paper, place, tally, ends):
     """A square with its number; `ends` are the lowest and the highest bed."""
     values = paper.sheet.squares[place]
-    said = told(place, values, tally)
+    said = told(paper, place, tally)
     if values["mark"] == CLOSED:
         return box(*paper.corner(place), paper.size, paper.size, "url(#wall)", ' class="wall"', said)
     count = tally.squares[place].count
@@ -101,7 +103,7 @@ def squares_drawn(paper, tally):
     yield from (square_at(paper, place, tally, ends) for place in sorted(paper.sheet.squares))
     yield "</g>" + UNTOUCHED
     yield from (exit_line(open_sides(paper, place), ' class="exit"') for place in paper.sheet.exits())
-    yield outline(paper)
+    yield from (outline(paper), *guess_signs(paper))
     yield "</g>"
 
 
@@ -123,13 +125,14 @@ def say_list(column, tally):
         column.say(f"and {len(tally.refused) - MOST_LISTED} more", size=SMALL, gap=-2)
 
 
-def legend(x, y, sheet, tally, deep_words):
+def legend(x, y, sheet, tally, deep_words, guesses):
     """The legend's parts, and how far down it reaches."""
     column = Column(x, y)
     say_shares(column, tally, sheet.side)
     column.y += 6
     column.entry(swatch("url(#wall)"), "closed: no water enters")
     column.entry(lambda x, y: [exit_line(f"M{x - 9:g} {y:g}h18")], "exit, at the rim")
+    say_guesses(column, guesses, sheet.side)
     column.say(f"the number in a square: how many of the {sheets(tally.ran)} had it {deep_words} at any time of their run", gap=8)
     column.say(most_often_words(tally), gap=6)
     deepest = deepest_of_all(tally)
@@ -141,10 +144,11 @@ def legend(x, y, sheet, tally, deep_words):
     return [north_arrow(x + LEGEND - 20, y + 6), *column.drawn], column.y
 
 
-def often_svg(sheet, tally, name, wet_depth=None):
-    """The map's text, of a sheet of the winter and the tally of its list; `name` stands in its title, and so does the depth where it is said."""
+def often_svg(sheet, tally, name, wet_depth=None, guesses=()):
+    """The map's text, of a sheet of the winter and the tally of its list; `name` stands in its title, and so does the depth where it is said.
+    `guesses` are of the sheet's ground."""
     hold_pair(sheet, tally, wet_depth)
-    paper = Paper(sheet)
+    paper = Paper(sheet, guesses)
     deep_words = "as deep as was asked" if wet_depth is None else f"{depth(wet_depth)} deep or deeper"
-    beside, needed = legend(*beside_it(paper), sheet, tally, deep_words)
+    beside, needed = legend(*beside_it(paper), sheet, tally, deep_words, guesses)
     return framed(paper, f"{name}: how often each square was {deep_words}", squares_drawn(paper, tally), beside, needed)

@@ -2,13 +2,15 @@
 
 An ESRI grid has ncols, nrows, the south-west corner (or the centre of the south-west square), cellsize, NODATA_value, and then its rows
 from the north. A CSV has one line a row; its fields are parted by semicolons, tabs or commas, and by the first two a decimal comma may be
-written; an empty field, or -9999, is no number. Corners are kept digit by digit as they were written.
+written; an empty field, or -9999, is no number. A `?` stands for one that the survey could not see. Corners are kept digit by digit as they
+were written.
 """
 import re
 from decimal import Decimal, InvalidOperation
 from pathlib import Path
 from typing import NamedTuple
 
+from ..sheets.holes import UNSEEN
 from ..sheets.lines import Unreadable
 
 NO_DATA = Decimal(-9999)
@@ -19,11 +21,13 @@ HEADS = ("ncols", "nrows", "cellsize", "nodata_value", *CORNERS, *CORNERS.values
 
 
 class Grid(NamedTuple):
-    """Rows of numbers from the north, None where there is none; and where it lies, None where the file does not say."""
+    """Rows of numbers from the north, None where there is none; where it lies, None where the file does not say; and the squares that the
+    survey could not see, which have no number either."""
 
     rows: list
     side: Decimal = None
     corner: tuple = None
+    unseen: frozenset = frozenset()
 
     def shape(self):
         """How many rows and columns it has."""
@@ -60,9 +64,15 @@ def head_of(lines, name):
 
 
 def value_of(text, where, empty):
-    """A square's number; None where there is none."""
-    value = None if text.lower() in NOT_A_NUMBER else number(text, where)
+    """A square's number; None where there is none, and `?` as it is."""
+    value = text if text == UNSEEN else None if text.lower() in NOT_A_NUMBER else number(text, where)
     return None if value == empty else value
+
+
+def grid_of(rows, side=None, corner=None):
+    """The grid of rows in which a `?` may stand."""
+    unseen = frozenset((row, column) for row, values in enumerate(rows) for column, value in enumerate(values) if value == UNSEEN)
+    return Grid([[None if value == UNSEEN else value for value in values] for values in rows], side, corner, unseen)
 
 
 def corner_of(heads, name):
@@ -87,7 +97,7 @@ def esri(text, name):
     rows, columns = int(heads["nrows"]), int(heads["ncols"])
     if rows < 1 or columns < 1 or len(values) != rows * columns:
         raise Unreadable(f"{name}: {rows} rows of {columns} columns are {rows * columns} numbers, and it has {len(values)}")
-    return Grid([values[at : at + columns] for at in range(0, len(values), columns)], heads["cellsize"], corner_of(heads, name))
+    return grid_of([values[at : at + columns] for at in range(0, len(values), columns)], heads["cellsize"], corner_of(heads, name))
 
 
 def csv(text, name):
@@ -99,10 +109,10 @@ def csv(text, name):
         fields = [field.strip() for field in line.split(parted_by)]
         if parted_by != ",":
             fields = [field.replace(",", ".") for field in fields]
-        values = [None if field == "" else number(field, f"{name}, line {at}") for field in fields]
+        values = [None if field == "" else field if field == UNSEEN else number(field, f"{name}, line {at}") for field in fields]
         rows.append([None if value == NO_DATA else value for value in values])
     hold_even(rows, name)
-    return Grid(rows)
+    return grid_of(rows)
 
 
 def hold_even(rows, name):
@@ -114,11 +124,15 @@ def hold_even(rows, name):
             raise Unreadable(f"{name}, row {at}: it has {len(row)} squares, and the first row {len(rows[0])}")
 
 
-def grid_in(path):
-    """The grid in a file, of either kind."""
+def grid_in(path, may_be_unseen=False):
+    """The grid in a file, of either kind; a `?` is no number where it may not be."""
     name, text = Path(path).name, Path(path).read_text(encoding="utf-8-sig")
     first = re.match(r"\s*(\w*)", text)[1].lower()
-    return (esri if first in HEADS else csv)(text, name)
+    grid = (esri if first in HEADS else csv)(text, name)
+    if grid.unseen and not may_be_unseen:
+        row, column = min(grid.unseen)
+        raise Unreadable(f"{name}, row {row + 1}: {UNSEEN!r} in column {column + 1} is no number")
+    return grid
 
 
 def plain(value):

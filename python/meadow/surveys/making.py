@@ -1,13 +1,15 @@
 """A sheet made from what people have: beds in metres, a plan of letters, n, mm/h, l/s, and times as h:min.
 
 Heights are rounded to the micrometre, roughness to ten-thousandths, rates to µm an hour; a hatch is in whole litres a second and never
-rounded. A square is closed where the plan says x or, where there is no plan, where the bed has no number.
+rounded. A square is closed where the plan says x or, where there is no plan, where the bed has no number. A bed that is `?`, or that has no
+number where a plan does not close it, was not seen: it stays `?` in the sheet, for `repair` to give.
 """
 import re
 from decimal import ROUND_FLOOR, ROUND_HALF_UP, Decimal, InvalidOperation
 from pathlib import Path
 
 from ..rule.ranges import RANGES, fine
+from ..sheets.holes import UNSEEN
 from ..sheets.lines import CLOSED, HOUR, MARKS, MINUTE, SECOND, Sheet, Unreadable
 from ..sheets.reading import MOST_SQUARES
 from ..words.units import square
@@ -63,17 +65,22 @@ def plan_in(path, shape):
     return {(row, column): mark for row, marks in enumerate(rows) for column, mark in enumerate(marks)}
 
 
-def marks_of(beds, plan, exits):
-    """The mark of each square, by a plan or by the rule that a square without a bed is closed, with exits put by hand."""
+def marks_by_beds(beds):
+    """The mark of each square where there is no plan: closed where it has no bed, but for those that the survey could not see."""
     places = [(row, column) for row in range(beds.shape()[0]) for column in range(beds.shape()[1])]
-    marks = plan or {place: CLOSED if beds.at(place) is None else "o" for place in places}
+    return {place: CLOSED if beds.at(place) is None and place not in beds.unseen else "o" for place in places}
+
+
+def marks_of(beds, plan, exits):
+    """The mark of each square, by a plan or by the beds, with exits put by hand."""
+    marks = plan or marks_by_beds(beds)
     for place in exits:
         if place not in marks:
             raise Unreadable(f"the exit at {square(place)} is off the grid")
+        if marks[place] == CLOSED and beds.at(place) is None:
+            do = f"open it in a plan, or without one write {UNSEEN} for a bed that was not seen"
+            raise Unreadable(f"the exit at {square(place)} is on a closed square without a bed: {do}")
         marks = {**marks, place: "e"}
-    for place in places:
-        if marks[place] != CLOSED and beds.at(place) is None:
-            raise Unreadable(f"{square(place)} is not closed, and its bed has no number")
     return marks
 
 
@@ -125,5 +132,6 @@ def sheet_of(beds, side, marks, datum, roughness, depth, soak, run):
         if mark != CLOSED:
             index_of_n, deep = value_at(roughness, place, MANNING, "roughness"), value_at(depth, place, METRE, "depth")
             rate = value_at(soak, place, MILLIMETRE_AN_HOUR, "soak rate")
-            sheet.put(place, bed_at(beds, place, datum), index_of_n, deep, mark, rate=rate)
+            bed = UNSEEN if beds.at(place) is None else bed_at(beds, place, datum)
+            sheet.put(place, bed, index_of_n, deep, mark, rate=rate)
     return sheet

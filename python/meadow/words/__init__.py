@@ -4,6 +4,7 @@
     sense        one line about an answer
     drownings    one line about a winter's sheets, and one about how high one sheet's water stood
     levels       one line about level boards, and when a mark was first reached
+    guessing     which beds were guessed, and from which neighbours
     hatches      the hatches of a sheet
     telling      a sheet in a person's units
     doubts       what in a sheet is likely a slip

@@ -28,7 +28,7 @@ NUMBERS = [
     (r"\d{1,3}(,\d{3})+", "{text} has commas between its digits: write {plain}"),
     (r"\d*[.,]\d+", "{text} is a decimal: write {whole}"),
     (r"\d+([.,]\d+)?[eE][+-]?\d+", "{text} is in the short form of a spreadsheet: write all its digits"),
-    (r"\?", "? stands for what the survey did not see: give a height, or close the square"),
+    (r"\?", "? stands for what the survey did not see: say it, or close the square; beds are guessed by tools/repair.py"),
     (r"", "it is empty: say a number"),
 ]
 # by how much a person's metres and Manning's n are multiplied

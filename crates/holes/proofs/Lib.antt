@@ -1,0 +1,10 @@
+pub mod RoundLaws
+pub mod FillLaws
+pub mod HoleLaws
+pub mod PutLaws
+pub mod RepairLaws
+pub mod ReaderLaws
+pub mod PrintLaws
+pub mod WrittenLaws
+pub mod RepairsLaws
+pub mod WorkedLaws
