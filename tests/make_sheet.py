@@ -43,7 +43,7 @@ FILES = {
 }
 # tabs shown as spaces
 SHEET = """grid 2 3 10
-run 10 500 10000 60000 600000 10000 1
+run 10 80 10000 60000 600000 67 1
 cell 0 0 o 1200000 350 0 0
 cell 0 1 o 1100000 350 0 0
 cell 0 2 x
@@ -88,7 +88,7 @@ MADE = [
     ),
     (
         ["beds.asc", *USUAL, "--run", "edge", "50", "--run", "longest", "20000"],
-        edited(("500 10000 60000 600000 10000", "500 20000 60000 600000 50")),
+        edited(("80 10000 60000 600000 67", "80 20000 60000 600000 50")),
         PLACE,
     ),
 ]
@@ -112,16 +112,16 @@ REFUSED = [
     (["half.asc", *USUAL], "squares of 2.5 m: a side is 1 to 100 whole metres"),
     (["large.csv", *RUN, "--side", "10"], "32 rows of 33 are too many"),
     (["beds.asc", *USUAL, "--roughness", "plan.txt"], "plan.txt, line 1: 'oox' is no number"),
-    (["beds.asc", *USUAL, "--roughness", "35"], "line 3: row 0, column 0: the roughness is 350,000: write 1 to 10,000"),
+    (["beds.asc", *USUAL, "--roughness", "35"], "--roughness 35: n is 35 at row 0, column 0, and must be 0.0001 to 1; 0.035 is a meadow's"),
     (["beds.asc", *USUAL, "--depth", "uneven.csv"], "uneven.csv, row 2"),
     (["beds.asc", *USUAL, "--depth", "large.csv"], "large.csv: it has 32 rows of 33, and the beds 2 of 3"),
     (["beds.asc", *USUAL, "--hatch", "0", "0", "0:01", "0:05", "30.5"], "30.5 is between 30 and 31"),
-    (["beds.asc", *USUAL, "--hatch", "0", "2", "0:01", "0:05", "30"], "line 12: the hatch at row 0, column 2 stands on a closed square"),
-    (["beds.asc", *USUAL, "--rain", "0:05", "0:01", "20"], "before it begins"),
+    (["beds.asc", *USUAL, "--hatch", "0", "2", "0:01", "0:05", "30"], "--hatch 0 2 0:01 0:05 30: row 0, column 2 is closed: move the hatch"),
+    (["beds.asc", *USUAL, "--rain", "0:05", "0:01", "20"], "--rain 0:05 0:01 20: it ends before it begins"),
     (["beds.asc", *USUAL, "--rain", "5", "10", "20"], "'5' is no time"),
-    (["beds.asc", *USUAL, "--end", "0:10:30"], "write 600000 (10 min) or 660000 (11 min)"),
+    (["beds.asc", *USUAL, "--end", "0:10:30"], "--end 0:10:30 is no multiple of the update time, 0:01: write 0:10 or 0:11"),
     (["beds.asc", *USUAL, "--run", "end", "5"], "a run line has no 'end'"),
-    (["beds.asc", *USUAL, "--run", "edge", "10001"], "the edge slope is 10,001"),
+    (["beds.asc", *USUAL, "--run", "edge", "10001"], "--run edge 10001: the edge slope is 0 to 10,000"),
     (["nosuch.asc", *USUAL], "No such file"),
 ]
 
@@ -135,10 +135,10 @@ def hold_made(checks, room):
     for at, (given, sheet, place) in enumerate(MADE):
         made = ran("make_sheet", given[0], f"{at}.sheet", *given[1:], room=room)
         if checks.hold(made.returncode == 0, f"{given} makes no sheet: {made.stderr}"):
-            for kind, wanted in (("sheet", sheet.replace(" ", "\t")), ("place", place)):
+            for kind, wanted in (("sheet", sheet.replace(" ", "\t")), ("sheet.place", place)):
                 written = (room / f"{at}.{kind}").read_text()
                 checks.hold(written == wanted, f"{given} makes another {kind}: {written}")
-            checks.hold("run to 10 min: at most 1,200 steps" in made.stdout, f"{given}: the sheet is not told")
+            checks.hold("run to 10 min: at most 7,500 steps" in made.stdout, f"{given}: the sheet is not told")
     made = ran("make_sheet", "full.asc", "0.sheet", *RUN, room=room)
     checks.hold(made.returncode == 1 and "is there already" in made.stderr, "a sheet that is there is written over")
     checks.hold((room / "0.sheet").read_text() == SHEET.replace(" ", "\t"), "a sheet that is there is not left as it was")
@@ -163,7 +163,7 @@ def hold_grid(checks, room):
     bare = ran("depths", "walled-meadow.sheet", room=room)
     checks.hold(bare.returncode == 0 and "the corner is taken as 0 0" in bare.stderr, "that there is no side file is not said")
     shape = "ncols 30\nnrows 30\nxllcorner 5.500\nyllcorner 1234567.25\ncellsize 10\nNODATA_value -9999\n"
-    (room / "walled-meadow.place").write_text(shape + "datum 100.5\n")
+    (room / "walled-meadow.sheet.place").write_text(shape + "datum 100.5\n")
     made = ran("depths", "walled-meadow.sheet", "walled-meadow.out", room=room)
     checks.hold(made.returncode == 0 and made.stderr == "", f"depths.py: {made.stderr}")
     checks.hold(made.stdout.startswith(shape), "the head is not that of the side file")
@@ -202,10 +202,10 @@ def hold_pairs(checks, room):
     """Another sheet's answer and another sheet's side file are refused."""
     other = ran("depths", "0.sheet", "walled-meadow.out", room=room)
     checks.hold(other.returncode == 1 and "another sheet's" in other.stderr and other.stdout == "", "another sheet's answer is taken")
-    shutil.copy(room / "0.place", room / "walled-meadow.place")
+    shutil.copy(room / "0.sheet.place", room / "walled-meadow.sheet.place")
     other = ran("depths", "walled-meadow.sheet", room=room)
     checks.hold(other.returncode == 1 and "is another sheet's" in other.stderr and other.stdout == "", "another sheet's side file is taken")
-    (room / "0.place").write_text(PLACE.replace("datum 0\n", ""))
+    (room / "0.sheet.place").write_text(PLACE.replace("datum 0\n", ""))
     other = ran("depths", "0.sheet", room=room)
     checks.hold(other.returncode == 1 and "line 7" in other.stderr, "a side file without a datum is taken")
 
