@@ -1,5 +1,6 @@
 #!/usr/bin/env python3
-"""map.py SHEET > MAP.svg: runs `meadow` on a sheet and draws a map of what it answers; python/meadow/maps/drawing.py says what it shows.
+"""map.py SHEET > MAP.svg: runs `meadow`, `highest` and `hatchlog` on a sheet and draws a map of the water at its end, with what was before it;
+python/meadow/maps/drawing.py says what it shows.
 map.py SHEET ANSWER > MAP.svg: draws an answer that is there already; what was answered to another sheet is refused.
 map.py SHEET --log LOG > MAP.svg: runs `hatchlog` on a sheet and a log and draws the water at the log's end, with the log's hatches.
 map.py SHEET ANSWER --log LOG > MAP.svg: draws the end of what `hatchlog` has printed already.
@@ -15,7 +16,8 @@ from meadow.logs.nights import night_in
 from meadow.maps.drawing import svg
 from meadow.maps.often import often_svg
 from meadow.peaks.tally import tally_of
-from meadow.sheets.pairs import balanced, bytes_as_text, pair_in
+from meadow.peaks.wholes import whole_in
+from meadow.sheets.pairs import balanced, bytes_as_text
 from meadow.sheets.reading import read
 
 
@@ -32,8 +34,11 @@ def main():
     if said.often:
         sys.stdout.write(often_svg(read(bytes_as_text(said.sheet))[0], tally_of(bytes_as_text(said.answer)), Path(said.answer).name.split(".")[0], said.depth))
         return 0
-    pair = night_in(said.sheet, said.log, said.answer).whole() if said.log else pair_in(said.sheet, said.answer)
-    sys.stdout.write(svg(balanced(pair), Path(said.log or said.sheet).stem))
+    if said.log:
+        sys.stdout.write(svg(balanced(night_in(said.sheet, said.log, said.answer).whole()), Path(said.log).stem))
+        return 0
+    whole = whole_in(said.sheet, said.answer)
+    sys.stdout.write(svg(whole.pair, Path(said.sheet).stem, whole))
     return 0
 
 
