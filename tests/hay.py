@@ -154,10 +154,13 @@ def side_files(checks, room):
 
 def held(checks, room):
     """Steps held at the shortest: told by tell with an answer, by bin/meadow and by the map; a shortest that suits the side is not held."""
+    # the figures of docs/VALIDATION.md's short table
+    figures = {500: ("732 m³ gone by exits", "257 at the end"), 20: ("1,278 m³ gone by exits", "181 at the end")}
     for shortest, wanted in ((500, "held at the shortest, 500 ms, for 27 min of 30 min, and the water asks for "), (20, None)):
         name = room.write("held.sheet", hay_meadow(shortest=shortest).text(30 * MINUTE))
         run = room.ran("bin/meadow", name)
         room.write("held.out", run.stdout)
+        checks.hold(all(figure in run.stderr for figure in figures[shortest]), f"a shortest of {shortest} ms: {run.stderr}")
         said = {"bin/meadow": run.stderr, "tell": room.ran("tell", name, "held.out").stdout, "the map": room.on_map(name, "held.out")}
         for tool, words in said.items():
             right = "held at the shortest" not in words if wanted is None else wanted in words and "run with a shorter one" in words
@@ -232,10 +235,15 @@ def only_the_end(checks, room):
     kinds = [part.get("class") for part in picture.iter()]
     checks.hold(kinds.count("dried") == ever > 100, f"{kinds.count('dried')} squares are drawn as dried, and {ever} are")
     told = [part.text for part in picture.iter() if part.tag.endswith("}title")]
-    were = sum("; highest " in text for text in told)
+    were = sum(text.startswith("row") and "; highest " in text for text in told)
     checks.hold(were == sum(peak.depth > 0 for peak in heights.peaks.values()), f"{were} squares tell a pointer how high they stood")
-    wet = [text for text in told if "1 cm deep or deeper for" in text]
+    wet = [text for text in told if text.startswith("row") and "1 cm deep or deeper for" in text]
     checks.hold(ever - 5 <= len(wet) <= ever, f"{len(wet)} squares tell a pointer for how long they were wet, and {ever} were")
+    soaked = Sheet(1, 1, 10)
+    soaked.put((0, 0), 0, 350, 26_000, rate=1_000_000)
+    said = room.ran("bin/meadow", room.write("soaked.sheet", soaked.text(10 * MINUTE))).stderr
+    wanted = "dry now, after 10 min; highest 2.6 cm at row 0, column 0, at the start; 1 cm deep or deeper: 1 square at some time, none at the end; 60 steps"
+    checks.hold(wanted in said, f"a square that has soaked dry: {said}")
     dry = hay_meadow(litres=0)
     checks.hold("all dry, after" in room.ran("bin/meadow", room.write("dry.sheet", dry.text(30 * MINUTE))).stderr, "a meadow that never was wet is dry now")
 

@@ -135,12 +135,12 @@ def squares_signs(paper, standing):
     return drawn + [diamond(*paper.middle(found[:2]), found[4] >= STEEP, ' class="standing"') for found in standing]
 
 
-def hatch_signs(paper, pair):
+def hatch_signs(paper, pair, whole):
     """The hatches, each with its square's depth and its own openings for a pointer that rests on it; those of one square have one sign."""
     hatches = hatches_in(pair)
     for place in sorted({hatch.place for hatch in hatches}):
         here = [hatch for hatch in hatches if hatch.place == place]
-        below = told(place, pair.sheet.squares[place], pair.answer.depths[place])
+        below = told(place, pair.sheet.squares[place], pair.answer.depths[place]) + (run_told(place, whole) if whole else "")
         said = "; ".join([*(f"hatch {hatch.number}: {hatch.openings()}" for hatch in here), below])
         yield hatch_sign(*paper.middle(place), "+".join(str(hatch.number) for hatch in here), any(hatch.runs_at(pair.end) for hatch in here), said)
 
@@ -158,9 +158,9 @@ def ground_and_water(paper, pair, standing, whole):
     yield f'<g stroke="{LINES}" stroke-width="0.5">'
     yield from squares_drawn(paper, pair, whole)
     yield "</g>" + UNTOUCHED
-    yield from (*contour_lines(paper), outline(paper), *squares_signs(paper, standing), *caution_signs(paper, pair, whole))
+    yield from (*contour_lines(paper), outline(paper), *caution_signs(paper, pair, whole), *squares_signs(paper, standing))
     yield "</g>"
-    yield from hatch_signs(paper, pair)
+    yield from hatch_signs(paper, pair, whole)
 
 
 def beside_it(paper):
