@@ -228,7 +228,8 @@ def only_the_end(checks, room):
     ever = sum(peak.depth >= WET for peak in heights.peaks.values())
     place, peak = max(heights.peaks.items(), key=lambda found: found[1].depth)
     line = run.stderr.splitlines()[1]
-    for wanted in (f"highest {depth(peak.depth)} at {square(place)}, after", f"1 cm deep or deeper: {ever} squares at some time, none at the end, the longest for "):
+    squares = f"1 cm deep or deeper: {ever} squares at some time, none at the end, the longest for "
+    for wanted in (f"highest {depth(peak.depth)} at {square(place)}, after", squares):
         checks.hold(wanted in line, f"bin/meadow does not say {wanted!r}: {line}")
         checks.hold(wanted in room.on_map(name), f"the map does not say {wanted!r}")
     picture = tree.fromstring(room.ran("map", name).stdout)
@@ -286,7 +287,8 @@ def mouths(checks, room):
         gentle.put((0, column), 1_000_000 + 1_500 * column, 350, mark="e" if column == 0 else "o")
     checks.hold(mouth_rules(gentle, {})[0] == {"edge": 3, "tolerance": 1}, f"a ditch of 3 in 10,000: {mouth_rules(gentle, {})}")
     gentle.put((0, 19), 900_000, 350, mark="e")
-    checks.hold(mouth_rules(gentle, {"tolerance": 0})[0] == {"edge": 3, "tolerance": 0}, "of two ditches the steeper is taken, or a tolerance that is said is not")
+    rules = mouth_rules(gentle, {"tolerance": 0})[0]
+    checks.hold(rules == {"edge": 3, "tolerance": 0}, f"of two ditches, and with a tolerance that is said: {rules}")
 
 
 def holes(checks, room):
@@ -358,7 +360,8 @@ def helps(checks, room):
     for script in (*scripts, *(TOP / "bin" / name for name in ("boards", "drowned", "hatchlog", "highest", "meadow", "run", "speed", "setup", "test"))):
         command = [sys.executable, script] if script.suffix else [script]
         done = subprocess.run([*command, "--help"], capture_output=True, text=True, cwd=room.folder)
-        checks.hold(done.returncode == 0 and (script.stem in done.stdout or "usage" in done.stdout), f"{script.name} --help: status {done.returncode}, {done.stdout[:60]!r}{done.stderr[:60]!r}")
+        right = done.returncode == 0 and (script.stem in done.stdout or "usage" in done.stdout)
+        checks.hold(right, f"{script.name} --help: status {done.returncode}, {done.stdout[:60]!r}{done.stderr[:60]!r}")
 
 
 def long_run():
@@ -372,6 +375,8 @@ def ends_when_told(checks, room):
     for number in (signal.SIGTERM, signal.SIGINT):
         run = subprocess.Popen([TOP / "bin" / "meadow", name], stdout=subprocess.PIPE, stderr=subprocess.PIPE, text=True, cwd=room.folder)
         before, life = run.stderr.readline(), run.stderr.readline()
+        while life and not life.startswith("at "):
+            life = run.stderr.readline()
         started = [int(child) for child in Path(f"/proc/{run.pid}/task/{run.pid}/children").read_text().split()]
         run.send_signal(number)
         status = run.wait(10)

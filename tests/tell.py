@@ -174,6 +174,10 @@ def relief_slips():
     for square in low.squares.values():
         square["bed"] = max(0, square["bed"] - 1)
     yield low, None
+    # a 0 is told of up to half of the ground, a pit up to a quarter
+    half = [(row, column) for row in range(7) for column in range(4)]
+    yield basin(half), "bed 0 at row 0, column 0 and 27 more squares"
+    yield basin(half, 1), None
     # a channel to an exit is no pit, and the same without its exit is one
     ditch = basin([(3, column) for column in range(9)], 500_000)
     yield ditch, "a pit at row 3, column 0 and 8 more squares"
@@ -214,8 +218,9 @@ def slips():
     yield edited(nothing, update=1_000), 10_000, None
     # 60 m west of the exit; one square more is 70 m by the diagonal's length
     yield edited(hatch(1, 0, 0, MINUTE, 30)), 10 * MINUTE, "hatch 1,0 is 60 m from the exit at row 1, column 6: the edge slope 50 decides"
-    yield edited(hatch(1, 0, 0, MINUTE, 30), edge=10_000), 10 * MINUTE, "1,300 m² of ground lie within 60 m of an exit, hatch 1,0 among them, and the edge slope is 10,000"
-    yield edited(nothing, edge=10_000), 10 * MINUTE, "1,300 m² of ground lie within 60 m of an exit, and the edge slope is 10,000: such an exit drains like a cliff"
+    cliff = "1,300 m² of ground lie within 60 m of an exit{}, and the edge slope is 10,000: such an exit drains like a cliff"
+    yield edited(hatch(1, 0, 0, MINUTE, 30), edge=10_000), 10 * MINUTE, cliff.format(", hatch 1,0 among them")
+    yield edited(nothing, edge=10_000), 10 * MINUTE, cliff.format("")
     yield edited(nothing, edge=9_999), 10 * MINUTE, None
     yield edited(hatch(1, 0, 0, MINUTE, 30), edge=0), 10 * MINUTE, None
     yield edited(hatch(0, 0, 0, MINUTE, 30)), 10 * MINUTE, None

@@ -22,7 +22,8 @@ from meadow.words.telling import telling
 
 
 def main():
-    words = argparse.ArgumentParser(prog="tell.py", description="a sheet in a person's units, and what in it is likely a slip; with an answer also the water account")
+    what = "a sheet in a person's units, and what in it is likely a slip; with an answer also the water account"
+    words = argparse.ArgumentParser(prog="tell.py", description=what)
     words.add_argument("sheet", metavar="SHEET")
     words.add_argument("answer", metavar="ANSWER", nargs="?", help="what meadow has printed of the sheet")
     said = words.parse_args()

@@ -67,7 +67,8 @@ def wait_for(runs, text):
 
 
 def main():
-    words = argparse.ArgumentParser(prog="bin/meadow", description="runs meadow on a sheet; standard output is the program's, and standard error says what it means")
+    what = "runs meadow on a sheet; standard output is the program's, and standard error says what it means"
+    words = argparse.ArgumentParser(prog="bin/meadow", description=what)
     words.add_argument("sheet", metavar="SHEET")
     text = sheet_text(words.parse_args().sheet)
     with runs_of(text) as runs:

@@ -69,14 +69,15 @@ def step_doubts(sheet, _end):
         yield f"{said}: let the shortest be {most} ms or less, and the longest more than it"
 
 
-def away_from_exit(sheet, place):
+def away_from(exits, place, side):
     """How far a square is from the nearest exit, from middle to middle in m, and that exit."""
-    return min((sheet.side * hypot(place[0] - mouth[0], place[1] - mouth[1]), mouth) for mouth in sheet.exits())
+    return min((side * hypot(place[0] - mouth[0], place[1] - mouth[1]), mouth) for mouth in exits)
 
 
 def cliff_doubts(sheet):
     """Ground near an exit at the steepest edge slope."""
-    near = [place for place in sheet.ground() if away_from_exit(sheet, place)[0] <= NEAR_AN_EXIT]
+    exits = sheet.exits()
+    near = [place for place in sheet.ground() if away_from(exits, place, sheet.side)[0] <= NEAR_AN_EXIT]
     hatches = [f"hatch {row},{column}" for row, column in (hatch.place for hatch in hatches_of(sheet)) if (row, column) in near]
     among = f", {', '.join(hatches)} among them" if hatches else ""
     said = f"{area(len(near), sheet.side)} of ground lie within {NEAR_AN_EXIT} m of an exit{among}, and the edge slope is {sheet.run['edge']:,}"
@@ -92,7 +93,7 @@ def exit_doubts(sheet, _end):
         yield from cliff_doubts(sheet)
         return
     for hatch in hatches_of(sheet):
-        away, nearest = away_from_exit(sheet, hatch.place)
+        away, nearest = away_from(sheet.exits(), hatch.place, sheet.side)
         if away <= NEAR_AN_EXIT:
             row, column = hatch.place
             yield f"hatch {row},{column} is {away:.0f} m from the exit at {square(nearest)}: the edge slope {edge} decides the water there"
@@ -121,9 +122,11 @@ def relief_doubts(sheet, _end):
         yield f"{said}, and water drains into it as into a pit; close it if it is a house, or give its height"
     told = {place for piece in nothing for place in piece.places}
     for piece in pits_and_spikes(sheet):
-        if not told.issuperset(piece.places):
-            kind, off, why = ("a pit", "below", ", and water drains into it; close it if it is a house, or mend") if piece.below > 0 else ("a spike", "above", ": mend")
-            yield f"{kind} at {piece_words(sheet, piece.places)}, {height(abs(piece.below))} m or more {off} all ground beside it{why} its bed"
+        where = f"{piece_words(sheet, piece.places)}, {height(abs(piece.below))} m or more"
+        if piece.below < 0:
+            yield f"a spike at {where} above all ground beside it: mend its bed"
+        elif not told.issuperset(piece.places):
+            yield f"a pit at {where} below all ground beside it, and water drains into it; close it if it is a house, or mend its bed"
 
 
 def wall_doubts(sheet, _end):
@@ -141,7 +144,8 @@ def hole_doubts(sheet, _end):
         said = f"closed alone amid open ground: {piece_words(sheet, lone)}: a hole in a survey becomes a wall"
         yield f"{said}; if it is no house, give its height, or write ? for its bed and let repair fill it"
     if open_in_line:
-        yield f"open alone in a line of closed squares: {piece_words(sheet, open_in_line)}: water goes through as by a door; close it if the wall has none"
+        said = f"open alone in a line of closed squares: {piece_words(sheet, open_in_line)}"
+        yield f"{said}: water goes through as by a door; close it if the wall has none"
 
 
 def odd_places(sheet):
@@ -150,7 +154,9 @@ def odd_places(sheet):
     return sorted(odd.union(lone_squares(sheet), gaps(sheet)))
 
 
-DOUBTS = (relief_doubts, rain_doubts, never_doubts, roughness_doubts, flat_doubts, end_doubts, step_doubts, exit_doubts, rule_doubts, wall_doubts, hole_doubts)
+OF_THE_GROUND = (relief_doubts, wall_doubts, hole_doubts, roughness_doubts, flat_doubts)
+OF_THE_RUN = (rain_doubts, never_doubts, end_doubts, step_doubts, exit_doubts, rule_doubts)
+DOUBTS = (*OF_THE_GROUND, *OF_THE_RUN)
 
 
 def doubts(sheet, end):

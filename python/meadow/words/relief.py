@@ -2,7 +2,8 @@
 millimetres. Water drains into such a pit, and the ground below it comes out dry.
 
 A pit or a spike is parted from the meadow on every side by a step: 2 m or more, and more than twice what the middle half of all beds differ by,
-so that hills are left alone. It is a quarter of the ground at the most, and a pit with an exit is a channel. A bed of exactly 0, as surveys write no data, is told from 50 cm on.
+so that hills are left alone. It is a quarter of the ground at the most, and a pit with an exit is a channel. A bed of exactly 0, as surveys write
+no data, is told from 50 cm on, and up to half of the ground.
 """
 from typing import NamedTuple
 
@@ -12,8 +13,8 @@ from .enclosed import pieces
 
 # in µm
 LEAST_STEP, LEAST_STEP_OF_ZERO = 2_000_000, 500_000
-# the part of the ground that is the meadow's own
-MOST_PARTS = 4
+# a slip is at the most such a part of the ground: a half, a quarter
+HALF, QUARTER = 2, 4
 
 
 class Apart(NamedTuple):
@@ -36,17 +37,18 @@ def falls_round(m, piece):
     return [m.beds[near] - m.beds[square] for square, near in beside if m.marks[near] != CLOSED]
 
 
-def apart(m, step):
-    """The pieces that a step parts from all ground beside them, but for those that are too large for a slip."""
+def apart(m, step, part):
+    """The pieces that a step parts from all ground beside them, each at the most a part of the ground."""
+    most = len(m.ground()) // part
     for piece in pieces(m, lambda one, other: abs(m.beds[one] - m.beds[other]) < step):
         falls = falls_round(m, piece)
-        if MOST_PARTS * len(piece) <= len(m.ground()) and falls and (min(falls) > 0 or max(falls) < 0):
+        if len(piece) <= most and falls and (min(falls) > 0 or max(falls) < 0):
             yield Apart([divmod(square, m.columns) for square in piece], min(falls) if min(falls) > 0 else max(falls))
 
 
 def zeros(sheet):
     """Pieces whose every bed is exactly 0, in ground that lies higher."""
-    found = apart(meadow_of(sheet), LEAST_STEP_OF_ZERO)
+    found = apart(meadow_of(sheet), LEAST_STEP_OF_ZERO, HALF)
     return [piece for piece in found if piece.below > 0 and not any(sheet.bed(place) for place in piece.places)]
 
 
@@ -54,5 +56,5 @@ def pits_and_spikes(sheet):
     """Pieces far below all ground beside them that have no exit, and pieces far above it."""
     m = meadow_of(sheet)
     exits = set(sheet.exits())
-    found = apart(m, step_of([m.beds[square] for square in m.ground()])) if m.ground() else []
+    found = apart(m, step_of([m.beds[square] for square in m.ground()]), QUARTER) if m.ground() else []
     return [piece for piece in found if piece.below < 0 or not exits.intersection(piece.places)]

@@ -94,7 +94,8 @@ def number_slip(name, text):
     for pattern, words in NUMBERS:
         if re.fullmatch(pattern, text, re.ASCII):
             plain = text.replace(",", "").lstrip("0") or "0"
-            told = {"text": text.replace(KEPT_SPACE, " "), "plain": plain, "below": BELOW.get(name, "write it without"), "unit": UNITS.get(name, "in the sheet's own unit")}
+            told = {"text": text.replace(KEPT_SPACE, " "), "plain": plain}
+            told |= {"below": BELOW.get(name, "write it without"), "unit": UNITS.get(name, "in the sheet's own unit")}
             return f"the {name}: " + words.format(whole=whole(name, text) if "{whole}" in words else "", **told)
     return f"the {name}: {shown(text)} is no number"
 
