@@ -321,7 +321,9 @@ ASKED = [
     (["--depth", "101"], "--depth 101: the depth in m is 101 at row 0, column 0, and must be 0 to 100; in metres"),
     (["--soak", "-1"], "--soak -1: the soak rate in mm/h is -1 at row 0, column 0, and must be 0 to 1,000"),
     (["--run", "shortest", "20000"], "--run: the longest step, 10,000 ms, is under the shortest, 20,000 ms"),
-    (["--run", "edge", "a"], "'a' is no whole number for --run edge"),
+    (["--run", "edge", "a"], "--run edge a: it is a whole number, in the sheet's own unit"),
+    (["--roughness", "0,035"], "--roughness 0,035: a decimal has a point: write 0.035"),
+    (["--soak", "loam"], "--soak loam: it is no number, and there is no such file"),
 ]
 # a survey that is none of ours, and the first words of what is said of it
 SURVEYS = {
@@ -350,7 +352,7 @@ def arguments(checks, room):
     right = done.returncode == 0 and (room.folder / "depths.prj").read_text() == "LOCAL_CS[\"a grid of our own\"]\n"
     checks.hold(right, f"the .prj file does not come back: {done.stderr}")
     checks.hold((room.folder / "depths.asc").read_text() == room.ran("depths", "with.sheet").stdout, "--to writes other depths")
-    again = room.ran("depths", "zero.sheet", "--to", "depths.asc")
+    again = room.ran("depths", "--csv", "with.sheet", "--to", "depths.asc")
     checks.hold(again.returncode == 1 and "depths.asc is there already" in again.stderr, f"depths are written over: {again.stderr}")
 
 

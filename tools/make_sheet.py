@@ -13,10 +13,10 @@ from pathlib import Path
 
 from begin import ended
 from meadow.sheets.lines import USUAL_RUN, Unreadable
-from meadow.surveys.asking import hold_asked
+from meadow.surveys.asking import hold_asked, run_number, spread_asked
 from meadow.surveys.bringing import projection_of
 from meadow.surveys.grids import grid_in, number
-from meadow.surveys.making import MILLIMETRE_AN_HOUR, clock, hold_shape, index, litres, marks_of, plan_in, sheet_of, spread, suiting_shortest, whole
+from meadow.surveys.making import MILLIMETRE_AN_HOUR, clock, hold_shape, index, litres, marks_of, plan_in, sheet_of, suiting_shortest, whole
 from meadow.surveys.mouths import mouth_rules
 from meadow.surveys.places import Place, place_file, place_text, write_new
 from meadow.words.reasons import why_not
@@ -61,7 +61,7 @@ def rules(given):
     for name, _ in given.run:
         if name not in USUAL_RUN:
             raise Unreadable(f"a run line has no {name!r}: {', '.join(USUAL_RUN)}")
-    return {name: index(text, f"whole number for --run {name}") for name, text in given.run}
+    return {name: run_number(name, text) for name, text in given.run}
 
 
 def made(given):
@@ -72,7 +72,7 @@ def made(given):
     shape = beds.shape()
     exits = [(index(row, "row"), index(column, "column")) for row, column in given.exit]
     marks = marks_of(beds, plan_in(given.plan, shape) if given.plan else None, exits)
-    grids = (spread(text, shape) for text in (given.roughness, given.depth, given.soak))
+    grids = (spread_asked(word, getattr(given, word), shape) for word in ("roughness", "depth", "soak"))
     said = rules(given)
     sheet = sheet_of(beds, side, marks, place.datum, *grids, {"shortest": suiting_shortest(int(side)), **said})
     sheet.rain = [(clock(start), clock(stop), whole(number(rate, "the rain"), MILLIMETRE_AN_HOUR)) for start, stop, rate in given.rain]

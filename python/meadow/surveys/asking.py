@@ -1,9 +1,13 @@
 """What is asked of a sheet on a command line, judged in the words of what was asked and not in those of a line that is never written."""
+import re
+from pathlib import Path
+
 from ..rule.ranges import MOST_ROWS_OF_A_TABLE, RANGES, fine
 from ..sheets.lines import CLOSED, HOUR, INFLOW, MINUTE, RAIN, SECOND, SHEET_LINES, Unreadable
+from ..sheets.reading import number_well
 from ..words.faults import SAID, good_ends
 from ..words.units import square
-from .making import MANNING, METRE, MILLIMETRE_AN_HOUR
+from .making import MANNING, METRE, MILLIMETRE_AN_HOUR, spread
 
 # a field of a square: the word that asks for it, its range, what it is called, and how its number is made of a person's
 OF_A_SQUARE = {
@@ -16,6 +20,24 @@ OF_A_SQUARE = {
 def asked(word, *values):
     """A word of the command line with its values."""
     return " ".join([word, *map(str, values)])
+
+
+def run_number(name, text):
+    """A field of the run line."""
+    if not number_well(text):
+        raise Unreadable(f"{asked('--run', name, text)}: it is a whole number, in the sheet's own unit")
+    return int(text)
+
+
+def spread_asked(name, text, shape):
+    """A number for every square, or the grid of a file of that name."""
+    decimal = re.fullmatch(r"(\d+),(\d+)", text)
+    if decimal and not Path(text).exists():
+        raise Unreadable(f"{asked(f'--{name}', text)}: a decimal has a point: write {decimal[1]}.{decimal[2]}")
+    try:
+        return spread(text, shape)
+    except FileNotFoundError:
+        raise Unreadable(f"{asked(f'--{name}', text)}: it is no number, and there is no such file") from None
 
 
 def clock_text(ms):
