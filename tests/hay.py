@@ -165,6 +165,11 @@ def held(checks, room):
         for tool, words in said.items():
             right = "held at the shortest" not in words if wanted is None else wanted in words and "run with a shorter one" in words
             checks.hold(right, f"a shortest of {shortest} ms: {tool} says {words}")
+    full = hay_meadow(shortest=500)
+    full.inflow = [(*full.inflow[0][:4], 14)] * 64
+    said = room.ran("bin/meadow", room.write("full.sheet", full.text(30 * MINUTE))).stderr
+    right = re.search(r"mind: likely held at the shortest, 500 ms: 3,3\d\d steps of at most 3,600: .*: run with a shorter one", said)
+    checks.hold(right and "the longest for" not in said, f"64 rows of inflow, and steps held: {said}")
     for side, wanted in ((1, 1), (2, 3), (5, 20), (10, 80), (25, 500), (100, 500)):
         checks.hold(suiting_shortest(side) == wanted, f"squares of {side} m have a shortest of {suiting_shortest(side)} ms")
     room.write("five.asc", survey())

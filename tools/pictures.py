@@ -11,10 +11,10 @@ from meadow.maps.often import often_svg
 from meadow.maps.staffs import staffs_svg
 from meadow.peaks.lists import list_in
 from meadow.peaks.tally import tally_of
+from meadow.peaks.wholes import whole_in
 from meadow.programs import TOP
 from meadow.rule.worked_square import AMOUNTS, DROPS
 from meadow.sheets.grounds import worked
-from meadow.peaks.wholes import whole_in
 from meadow.sheets.pairs import balanced, bytes_as_text, pair_of
 from meadow.sheets.reading import read
 

@@ -48,21 +48,17 @@ def come_to(runs):
 
 
 def wait_for(runs, text):
-    """Waits for every program, with a sign of life from time to time; `meadow`'s answer is written as soon as it is there."""
-    began, wait, written = time.monotonic(), FIRST_SIGN, False
+    """Waits for one program after the other, with a sign of life ever more seldom; `meadow` is the first, and its answer is written at once."""
+    began, wait = time.monotonic(), FIRST_SIGN
     due = began + wait
-    while not all([run.ended_within(0) for run in runs.values()]) or not written:
-        waiting = [run for run in runs.values() if not run.ended_within(0)]
-        if waiting:
-            (runs[END] if runs[END] in waiting else waiting[0]).ended_within(max(0, due - time.monotonic()))
-        if runs[END].ended_within(0) and not written:
-            sys.stdout.buffer.write(runs[END].whole())
-            sys.stdout.buffer.flush()
-            written = True
-        if time.monotonic() >= due:
+    for name, run in runs.items():
+        while not run.ended_within(max(0, due - time.monotonic())):
             say(life_words(text, come_to(runs), time.monotonic() - began))
             wait = min(2 * wait, MOST_BETWEEN)
             due = time.monotonic() + wait
+        if name == END:
+            sys.stdout.buffer.write(run.whole())
+            sys.stdout.buffer.flush()
     return {name: run.whole().decode("ascii") for name, run in runs.items()}
 
 
@@ -71,8 +67,8 @@ def main():
     words = argparse.ArgumentParser(prog="bin/meadow", description=what)
     words.add_argument("sheet", metavar="SHEET")
     text = sheet_text(words.parse_args().sheet)
+    say_before(text)
     with runs_of(text) as runs:
-        say_before(text)
         told = wait_for(runs, text)
     refused = refusal(told[END])
     if refused:

@@ -65,7 +65,7 @@ def say_whole(column, pair, whole):
     looks = f" (looked at every {time(whole.course.every())})" if whole.wet else ""
     for words in filter(None, (highest_words(whole), wet_words(whole) + looks)):
         column.say(words, ' class="highest"')
-    if words := held_words(whole.course, pair.end):
+    if words := held_words(whole):
         column.say(words, WARNED)
 
 

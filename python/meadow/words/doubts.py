@@ -142,7 +142,7 @@ def hole_doubts(sheet, _end):
     lone, open_in_line = lone_squares(sheet), gaps(sheet)
     if lone:
         said = f"closed alone amid open ground: {piece_words(sheet, lone)}: a hole in a survey becomes a wall"
-        yield f"{said}; if it is no house, give its height, or write ? for its bed and let repair fill it"
+        yield f"{said}; if it is no house, give its height, or ? for its bed, which repair guesses"
     if open_in_line:
         said = f"open alone in a line of closed squares: {piece_words(sheet, open_in_line)}"
         yield f"{said}: water goes through as by a door; close it if the wall has none"
