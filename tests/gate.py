@@ -178,6 +178,23 @@ def runner(checks, room):
     os.utime(room.top / "crates/low/src/lib.rt", (2**33, 2**33))
     checks.hold(told()[1:] == building, "bin/run does not build again when a source below is newer")
     checks.hold(sorted(path.name for path in room.top.glob(".*")) == [".ci"], "bin/run leaves something behind")
+    without_the_kit(checks, room)
+
+
+def without_the_kit(checks, room):
+    """What is built runs without the kit on x86-64; what is not, and what wants the emulator, says so. `--build` runs nothing."""
+    (room.stand_ins / "rt").unlink()
+    path = ":".join([str(room.stand_ins), *(folder for folder in os.environ["PATH"].split(":") if not (Path(folder) / "rt").exists())])
+    room.write("target/bin/tool", 'echo "ran bare"')
+    os.utime(room.top / "target/bin/tool", (2**33 + 10, 2**33 + 10))
+    for machine, wanted in (("x86_64", (0, "ran bare\n")), ("aarch64", (1, "bin/run: tool is a program for x86-64, and on this machine it needs"))):
+        room.stand_in("uname", f"echo {machine}")
+        status, printed = room.ran("bin/run", "tool", PATH=path)
+        checks.hold(status == wanted[0] and printed.startswith(wanted[1]), f"bin/run without the kit on {machine}: status {status}, {printed!r}")
+    checks.hold(room.ran("bin/run", "--build", "tool", PATH=path) == (0, ""), "bin/run --build runs what is built, or wants the kit for it")
+    os.utime(room.top / "crates/low/src/lib.rt", (2**33 + 20, 2**33 + 20))
+    status, printed = room.ran("bin/run", "tool", PATH=path)
+    checks.hold(status == 1 and "there is no rt on the path to build it" in printed, f"bin/run without the kit, a source newer: status {status}, {printed!r}")
 
 
 def main():

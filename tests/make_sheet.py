@@ -54,7 +54,7 @@ FILES = {
 }
 # tabs shown as spaces
 SHEET = """grid 2 3 10
-run 10 500 10000 60000 600000 10000 1
+run 10 80 10000 60000 600000 67 1
 cell 0 0 o 1200000 350 0 0
 cell 0 1 o 1100000 350 0 0
 cell 0 2 x
@@ -99,7 +99,7 @@ MADE = [
     ),
     (
         ["beds.asc", *USUAL, "--run", "edge", "50", "--run", "longest", "20000"],
-        edited(("500 10000 60000 600000 10000", "500 20000 60000 600000 50")),
+        edited(("80 10000 60000 600000 67", "80 20000 60000 600000 50")),
         PLACE,
     ),
 ]
@@ -112,7 +112,9 @@ REFUSED = [
     (["beds.asc", *USUAL, "--roughness", "unseen-n.csv"], "unseen-n.csv, row 1: '?' in column 2 is no number"),
     (["twice-unseen.csv", *RUN, "--side", "10"], "twice-unseen.csv, line 1: '??' is no number"),
     (["walled.csv", *RUN, "--side", "10", "--repair"], "1 bed cannot be guessed, since no open way leads to a known one: row 0, column 2: measure"),
-    (["unseen.csv", *USUAL, "--side", "10", "--repair", "--roughness", "35"], "line 4: row 0, column 1: the roughness is 350,000"),
+    (["unseen.csv", *USUAL, "--side", "10", "--repair", "--roughness", "35"], "--roughness 35: n is 35 at row 0, column 0"),
+    (["unseen.asc", *USUAL], "the survey did not see the ground before the exit at row 1, column 2, nor its edge slope: give --run edge"),
+    (["bare-mouth.csv", *USUAL, "--side", "10"], "the survey did not see the ground before the exit at row 1, column 2"),
     (["beds.asc", *RUN, "--plan", "odd.txt"], "odd.txt, row 1: 'q' is no mark"),
     (["beds.asc", *RUN, "--plan", "short.txt"], "short.txt, row 2: it has 2 letters, and the beds have 3 columns"),
     (["beds.asc", *RUN, "--plan", "one-row.txt"], "one-row.txt: it has 1 rows, and the beds have 2"),
@@ -128,16 +130,16 @@ REFUSED = [
     (["half.asc", *USUAL], "squares of 2.5 m: a side is 1 to 100 whole metres"),
     (["large.csv", *RUN, "--side", "10"], "32 rows of 33 are too many"),
     (["beds.asc", *USUAL, "--roughness", "plan.txt"], "plan.txt, line 1: 'oox' is no number"),
-    (["beds.asc", *USUAL, "--roughness", "35"], "line 3: row 0, column 0: the roughness is 350,000: write 1 to 10,000"),
+    (["beds.asc", *USUAL, "--roughness", "35"], "--roughness 35: n is 35 at row 0, column 0, and must be 0.0001 to 1; 0.035 is a meadow's"),
     (["beds.asc", *USUAL, "--depth", "uneven.csv"], "uneven.csv, row 2"),
     (["beds.asc", *USUAL, "--depth", "large.csv"], "large.csv: it has 32 rows of 33, and the beds 2 of 3"),
     (["beds.asc", *USUAL, "--hatch", "0", "0", "0:01", "0:05", "30.5"], "30.5 is between 30 and 31"),
-    (["beds.asc", *USUAL, "--hatch", "0", "2", "0:01", "0:05", "30"], "line 12: the hatch at row 0, column 2 stands on a closed square"),
-    (["beds.asc", *USUAL, "--rain", "0:05", "0:01", "20"], "before it begins"),
+    (["beds.asc", *USUAL, "--hatch", "0", "2", "0:01", "0:05", "30"], "--hatch 0 2 0:01 0:05 30: row 0, column 2 is closed: move the hatch"),
+    (["beds.asc", *USUAL, "--rain", "0:05", "0:01", "20"], "--rain 0:05 0:01 20: it ends before it begins"),
     (["beds.asc", *USUAL, "--rain", "5", "10", "20"], "'5' is no time"),
-    (["beds.asc", *USUAL, "--end", "0:10:30"], "write 600000 (10 min) or 660000 (11 min)"),
+    (["beds.asc", *USUAL, "--end", "0:10:30"], "--end 0:10:30 is no multiple of the update time, 0:01: write 0:10 or 0:11"),
     (["beds.asc", *USUAL, "--run", "end", "5"], "a run line has no 'end'"),
-    (["beds.asc", *USUAL, "--run", "edge", "10001"], "the edge slope is 10,001"),
+    (["beds.asc", *USUAL, "--run", "edge", "10001"], "--run edge 10001: the edge slope is 0 to 10,000"),
     (["nosuch.asc", *USUAL], "No such file"),
 ]
 # what is given, the sheet with beds that were not seen, the one that `repair` makes of it, its list, and what is said of each guess
@@ -151,15 +153,17 @@ TWO_SAID = [
 ]
 OPENED = edited(("cell 0 2 x", "cell 0 2 o ? 350 0 0"))
 OPENED_SAID = ["1 bed guessed in 1 round", "row 0, column 2: guessed 1.00 m, the bed to the south (row 1, column 2)"]
-SMALL = "grid {} 10\nrun 10 500 10000 60000 600000 10000 1\n"
+SMALL = "grid {} 10\nrun 10 80 10000 60000 600000 10000 1\n"
+# where the ground before an exit was not seen its edge slope is asked for; of the guessed ground it is the same
+EDGE = ["--run", "edge", "67"]
 UNSEEN = [
-    (["unseen.csv", *USUAL, *OF_A_CSV], UNSEEN_SHEET, GUESSED_SHEET, TWO_GUESSES, TWO_SAID),
-    (["unseen.asc", *USUAL], UNSEEN_SHEET, GUESSED_SHEET, TWO_GUESSES, TWO_SAID),
-    (["unseen.asc", *RUN, *TABLES, "--plan", "plan.txt"], UNSEEN_SHEET, GUESSED_SHEET, TWO_GUESSES, TWO_SAID),
-    (["beds.asc", *RUN, *TABLES, "--plan", "open.txt"], OPENED, OPENED.replace("o ?", "o 1000001"), "0 2 1000001 1\n", OPENED_SAID),
-    (["beds.csv", *RUN, *TABLES, *OF_A_CSV, "--plan", "open.txt"], OPENED, OPENED.replace("o ?", "o 1000001"), "0 2 1000001 1\n", OPENED_SAID),
+    (["unseen.csv", *USUAL, *EDGE, *OF_A_CSV], UNSEEN_SHEET, GUESSED_SHEET, TWO_GUESSES, TWO_SAID),
+    (["unseen.asc", *USUAL, *EDGE], UNSEEN_SHEET, GUESSED_SHEET, TWO_GUESSES, TWO_SAID),
+    (["unseen.asc", *RUN, *EDGE, *TABLES, "--plan", "plan.txt"], UNSEEN_SHEET, GUESSED_SHEET, TWO_GUESSES, TWO_SAID),
+    (["beds.asc", *RUN, *EDGE, *TABLES, "--plan", "open.txt"], OPENED, OPENED.replace("o ?", "o 1000001"), "0 2 1000001 1\n", OPENED_SAID),
+    (["beds.csv", *RUN, *EDGE, *TABLES, *OF_A_CSV, "--plan", "open.txt"], OPENED, OPENED.replace("o ?", "o 1000001"), "0 2 1000001 1\n", OPENED_SAID),
     (
-        ["bare-mouth.csv", *USUAL, *OF_A_CSV],
+        ["bare-mouth.csv", *USUAL, *EDGE, *OF_A_CSV],
         edited(("1000001", "?")),
         edited(("1000001", "1050000")),
         "1 2 1050000 1\n",
@@ -198,10 +202,10 @@ def hold_made(checks, room):
     for at, (given, sheet, place) in enumerate(MADE):
         made = ran("make_sheet", given[0], f"{at}.sheet", *given[1:], room=room)
         if checks.hold(made.returncode == 0, f"{given} makes no sheet: {made.stderr}"):
-            for kind, wanted in (("sheet", sheet.replace(" ", "\t")), ("place", place)):
+            for kind, wanted in (("sheet", sheet.replace(" ", "\t")), ("sheet.place", place)):
                 written = (room / f"{at}.{kind}").read_text()
                 checks.hold(written == wanted, f"{given} makes another {kind}: {written}")
-            checks.hold("run to 10 min: at most 1,200 steps" in made.stdout, f"{given}: the sheet is not told")
+            checks.hold("run to 10 min: at most 7,500 steps" in made.stdout, f"{given}: the sheet is not told")
     made = ran("make_sheet", "full.asc", "0.sheet", *RUN, room=room)
     checks.hold(made.returncode == 1 and "is there already" in made.stderr, "a sheet that is there is written over")
     checks.hold((room / "0.sheet").read_text() == SHEET.replace(" ", "\t"), "a sheet that is there is not left as it was")
@@ -221,7 +225,7 @@ def hold_unseen(checks, room):
         checks.hold(not (room / f"u{at}.sheet.guessed").exists(), f"{given}: something is said to be guessed")
         made = ran("repair", f"u{at}.sheet", f"u{at}-mended.sheet", room=room)
         hold_guessed(checks, room, given, made, f"u{at}-mended.sheet", mended, guesses, said)
-        checks.hold((room / f"u{at}-mended.place").read_text() == (room / f"u{at}.place").read_text(), f"{given}: mended it lies elsewhere")
+        checks.hold((room / f"u{at}-mended.sheet.place").read_text() == (room / f"u{at}.sheet.place").read_text(), f"{given}: mended it lies elsewhere")
 
 
 def hold_guessed(checks, room, given, made, name, sheet, guesses, said):
@@ -239,17 +243,19 @@ def hold_repaired(checks, room):
     for at, (given, _, mended, guesses, said) in enumerate(UNSEEN):
         made = ran("make_sheet", given[0], f"r{at}.sheet", *given[1:], "--repair", room=room)
         hold_guessed(checks, room, given, made, f"r{at}.sheet", mended, guesses, said)
-        checks.hold("run to 10 min: at most 1,200 steps" in made.stdout and "not seen" not in made.stdout, f"{given}: the sheet is not told")
+        checks.hold("run to 10 min: at most 7,500 steps" in made.stdout and "not seen" not in made.stdout, f"{given}: the sheet is not told")
     made = ran("make_sheet", "beds.asc", "r0.sheet", *USUAL, "--repair", "--replace", room=room)
     checks.hold(made.returncode == 0 and (room / "r0.sheet").read_text() == SHEET.replace(" ", "\t"), f"--repair of known beds: {made.stderr}")
     checks.hold(not (room / "r0.sheet.guessed").exists() and "guessed" not in made.stdout, "the list of an older sheet stays")
+    made = ran("make_sheet", "unseen.csv", "fall.sheet", *USUAL, *OF_A_CSV, "--repair", room=room)
+    checks.hold((room / "fall.sheet").read_text() == GUESSED_SHEET.replace(" ", "\t"), "the edge slope is not that of the guessed ground")
     (room / "left.sheet.guessed").write_text("0\t1\t5\t1\n")
     for given in ([], ["--repair"]):
-        made = ran("make_sheet", "unseen.asc", "left.sheet", *USUAL, *given, room=room)
+        made = ran("make_sheet", "unseen.asc", "left.sheet", *USUAL, *EDGE, *given, room=room)
         checks.hold(made.returncode == 1 and "left.sheet.guessed is there already" in made.stderr, f"a list is written over: {made.stdout}")
     checks.hold((room / "left.sheet.guessed").read_text() == "0\t1\t5\t1\n", "a list that is there does not stay")
     checks.hold(not (room / "left.sheet").exists(), "a sheet is written beside a list that is there")
-    made = ran("make_sheet", "unseen.asc", "left.sheet", *USUAL, "--replace", room=room)
+    made = ran("make_sheet", "unseen.asc", "left.sheet", *USUAL, *EDGE, "--replace", room=room)
     checks.hold(made.returncode == 0 and not (room / "left.sheet.guessed").exists(), "the list of an older sheet stays beside one with ?")
     made = ran("make_sheet", "all-but-one.csv", "many.sheet", "--side", "10", *RUN, "--repair", room=room)
     lines = made.stdout.splitlines()
@@ -271,7 +277,7 @@ def hold_not_mended(checks, room):
         (["0.sheet", "none.sheet"], "every bed of 0.sheet is known: there is nothing to mend"),
         (["u0.sheet", "u0.sheet"], "u0.sheet is the sheet itself: take another name"),
         (["u0.sheet", "u0.sheet", "--replace"], "u0.sheet is the sheet itself: take another name"),
-        (["u0.sheet", "u0-mended.sheet"], "u0-mended.sheet is there already: take another name, or give --replace"),
+        (["u0.sheet", "rough.sheet"], "rough.sheet is there already: take another name, or give --replace"),
         (["none", "none.sheet"], "No such file"),
     ]
     for given, why in cases:
@@ -279,7 +285,7 @@ def hold_not_mended(checks, room):
         checks.hold(made.returncode == 1 and why in made.stderr and made.stdout == "", f"repair.py {given}: {made.stderr!r}, not {why!r}")
     checks.hold(not list(room.glob("none.*")), "repair.py writes where it cannot mend")
     checks.hold((room / "u0.sheet").read_text() == UNSEEN_SHEET.replace(" ", "\t"), "the survey's own sheet is not left as it was")
-    made = ran("repair", "u0.sheet", "u0-mended.sheet", "--replace", room=room)
+    made = ran("repair", "u0.sheet", "rough.sheet", "--replace", room=room)
     checks.hold(made.returncode == 0, f"repair.py --replace does not write over: {made.stderr}")
 
 
@@ -300,7 +306,7 @@ def hold_grid(checks, room):
     bare = ran("depths", "walled-meadow.sheet", room=room)
     checks.hold(bare.returncode == 0 and "the corner is taken as 0 0" in bare.stderr, "that there is no side file is not said")
     shape = "ncols 30\nnrows 30\nxllcorner 5.500\nyllcorner 1234567.25\ncellsize 10\nNODATA_value -9999\n"
-    (room / "walled-meadow.place").write_text(shape + "datum 100.5\n")
+    (room / "walled-meadow.sheet.place").write_text(shape + "datum 100.5\n")
     made = ran("depths", "walled-meadow.sheet", "walled-meadow.out", room=room)
     checks.hold(made.returncode == 0 and made.stderr == "", f"depths.py: {made.stderr}")
     checks.hold(made.stdout.startswith(shape), "the head is not that of the side file")
@@ -339,10 +345,10 @@ def hold_pairs(checks, room):
     """Another sheet's answer and another sheet's side file are refused."""
     other = ran("depths", "0.sheet", "walled-meadow.out", room=room)
     checks.hold(other.returncode == 1 and "another sheet's" in other.stderr and other.stdout == "", "another sheet's answer is taken")
-    shutil.copy(room / "0.place", room / "walled-meadow.place")
+    shutil.copy(room / "0.sheet.place", room / "walled-meadow.sheet.place")
     other = ran("depths", "walled-meadow.sheet", room=room)
     checks.hold(other.returncode == 1 and "is another sheet's" in other.stderr and other.stdout == "", "another sheet's side file is taken")
-    (room / "0.place").write_text(PLACE.replace("datum 0\n", ""))
+    (room / "0.sheet.place").write_text(PLACE.replace("datum 0\n", ""))
     other = ran("depths", "0.sheet", room=room)
     checks.hold(other.returncode == 1 and "line 7" in other.stderr, "a side file without a datum is taken")
 

@@ -87,7 +87,7 @@ REFUSED = [
     (["bed", "half.asc"], "squares of 2.5 m: a side is 1 to 100 whole metres"),
     (["bed", "nearly.asc"], "squares of 9.999999999997 m: a side is 1 to 100 whole metres"),
     (["bed", "long.asc"], "2 rows of 65 are too many: 64 each and 4,096 squares at most"),
-    (["bed", "oblong.asc"], "it has no cellsize"),
+    (["bed", "oblong.asc"], "oblong.asc: it has dx 10 and dy 5 for one cellsize: make its squares square"),
     (["bed", "few.asc"], "2 rows of 3 columns are 6 numbers, and it has 2"),
     (["bed", "letters.asc"], "letters.asc, line 7: '1,1' is no number"),
     (["bed", "no-corner.asc"], "it says no yllcorner"),
@@ -95,7 +95,7 @@ REFUSED = [
     (["bed", "empty.asc"], "empty.asc: it is empty"),
     (["bed", "nosuch.asc"], "No such file"),
     (["bed", "theirs.asc", "--datum", "low"], "the datum: 'low' is no number"),
-    (["depth", "theirs.asc"], "there is no made.place: bring the bed first"),
+    (["depth", "theirs.asc"], "there is no made.asc.place: bring the bed first"),
     (["depth", "theirs.asc", "--place", "none.place"], "there is no none.place"),
     (["depth", "theirs.asc", "--place", "odd.place"], "odd.place, line 8: it should be a line of a .prj file"),
     (["depth", "theirs.asc", "--place", "set.place", "--datum", "100"], "only a bed has a datum"),
@@ -107,7 +107,7 @@ REFUSED = [
     (["roughness", "half-n.asc", "--place", "set.place"], "row 0, column 1: a roughness is a whole number, and this is 333.5"),
     (["roughness", "low-n.asc", "--place", "set.place"], "row 0, column 1: a roughness of 0 is not 1 to 10,000"),
     (["rate", "fast.asc", "--place", "set.place"], "row 1, column 0: a rate of 1000001 is not 0 to 1,000,000"),
-    (["--back", "bed", "ours.asc"], "there is no ours.place"),
+    (["--back", "bed", "ours.asc"], "there is no ours.asc.place"),
     (["--back", "bed", "theirs.asc", "--place", "set.place"], "theirs.asc, line 3: this is no bed in the office's form"),
     (["--back", "bed", "not-ours.asc", "--place", "set.place"], "not-ours.asc, line 8: this is no bed in the office's form"),
     (["--back", "roughness", "ours.asc", "--place", "set.place"], "ours.asc, line 7: this is no roughness in the office's form"),
@@ -138,17 +138,17 @@ def hold_made(checks, room):
         told = made(room, "bed", [given])
         if checks.hold(told.returncode == 0 and "2 rounded to the micrometre" in told.stdout, f"{given}: {told.stdout}{told.stderr}"):
             checks.hold((room / "made.asc").read_text() == OURS, f"{given} becomes {(room / 'made.asc').read_text()}")
-            place = esri((room / "made.place").read_text().replace("datum 0\n", "0 " * 6), given)
+            place = esri((room / "made.asc.place").read_text().replace("datum 0\n", "0 " * 6), given)
             checks.hold((place.corner, place.side) == ((Decimal("432100.5"), Decimal("-12.25")), 10), f"{given} lies at {place.corner}")
             (room / "made.asc").unlink()
-            (room / "made.place").unlink()
+            (room / "made.asc.place").unlink()
     for name, given, wanted in MADE:
         told = made(room, name, [*given, "--replace"])
         checks.hold(told.returncode == 0, f"{name} {given}: {told.stderr}")
         checks.hold((room / "made.asc").read_text() == wanted, f"{name} {given} becomes {(room / 'made.asc').read_text()}")
         (room / "made.asc").unlink()
     checks.hold((room / "set.place").read_text() == FILES["set.place"], "the side file is not left as it was")
-    (room / "made.place").unlink()
+    (room / "made.asc.place").unlink()
 
 
 def hold_refused(checks, room):
@@ -165,12 +165,12 @@ def hold_kept(checks, room):
     """What is there already is not written over without --replace; the same text again is no harm."""
     for _ in range(2):
         checks.hold(made(room, "bed", ["theirs.asc"]).returncode == 0, "a grid is not made, or not made again")
-    for words, there in ((["high.asc", "--datum", "100"], "made.place"), (["polder.asc", "--datum", "-3"], "made.asc")):
+    for words, there in ((["high.asc", "--datum", "100"], "made.asc.place"), (["polder.asc", "--datum", "-3"], "made.asc")):
         told = made(room, "bed", words)
         checks.hold(told.returncode == 1 and f"{there} is there already" in told.stderr, f"{there} is written over: {told.stderr}")
-    checks.hold((room / "made.asc").read_text() == OURS and (room / "made.place").read_text() == PLACE, "what is there is not left as it was")
+    checks.hold((room / "made.asc").read_text() == OURS and (room / "made.asc.place").read_text() == PLACE, "what is there is not left as it was")
     checks.hold(made(room, "bed", ["high.asc", "--datum", "100", "--replace"]).returncode == 0, "--replace does not write over")
-    checks.hold((room / "made.place").read_text() == PLACE.replace("datum 0", "datum 100"), "--replace leaves the side file")
+    checks.hold((room / "made.asc.place").read_text() == PLACE.replace("datum 0", "datum 100"), "--replace leaves the side file")
 
 
 def hold_back(checks, room):
@@ -180,12 +180,12 @@ def hold_back(checks, room):
         checks.hold(told.returncode == 0 and (room / "back.asc").read_text() == HEAD + rows, f"{name} comes back as {told.stderr}")
     checks.hold(not (room / "back.prj").exists(), "a .prj file is written where the survey has none")
     checks.hold(made(room, "bed", ["with.asc"], "put.asc").returncode == 0, "a grid with a .prj file is not brought")
-    checks.hold((room / "put.place").read_text() == PLACE + "".join(f"prj {line}\n" for line in PROJECTION.splitlines()), "the .prj file is not kept")
+    checks.hold((room / "put.asc.place").read_text() == PLACE + "".join(f"prj {line}\n" for line in PROJECTION.splitlines()), "the .prj file is not kept")
     told = ran(room, "--back", "bed", "put.asc", "back.asc", "--replace")
     checks.hold(told.returncode == 0 and (room / "back.prj").read_text() == PROJECTION, f"the .prj file does not come back: {told.stderr}")
-    told = made(room, "depth", ["with.asc", "--place", "put.place"], "depth.asc")
+    told = made(room, "depth", ["with.asc", "--place", "put.asc.place"], "depth.asc")
     checks.hold(told.returncode == 0, f"a depth with the bed's .prj file is not brought: {told.stderr}")
-    told = made(room, "depth", ["other.asc", "--place", "put.place"], "other-depth.asc")
+    told = made(room, "depth", ["other.asc", "--place", "put.asc.place"], "other-depth.asc")
     checks.hold(told.returncode == 1 and "its .prj file is not the one" in told.stderr, "a depth with another .prj file is brought")
 
 

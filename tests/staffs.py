@@ -182,17 +182,17 @@ def hold_pairs(checks):
 
 
 def hold_tool(checks):
-    """The tool says what is wrong in one line, with its status."""
+    """The tool says what is wrong in one line, after a line of usage where its words are wrong, with its status."""
     with tempfile.TemporaryDirectory() as folder:
         bad = Path(folder) / "bad.boards"
         bad.write_text("0\t9\t5\n")
         for words, status, why in (
             ((SHEET, bad), 1, "boards: boards refuses this: refused\t13\t0; tools/why.py SHEET --boards BOARDS says why\n"),
             ((SHEET, Path(folder) / "none"), 1, "No such file"),
-            ((SHEET,), 2, "usage: boards.py SHEET BOARDS\n"),
+            ((SHEET,), 2, "usage: boards.py [-h] SHEET BOARDS\n"),
         ):
             made = drawn(*words)
-            right = made.returncode == status and made.stdout == "" and why in made.stderr and made.stderr.count("\n") == 1
+            right = made.returncode == status and made.stdout == "" and why in made.stderr and made.stderr.count("\n") == status
             checks.hold(right, f"{words}: status {made.returncode}, {made.stderr!r}")
 
 

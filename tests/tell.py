@@ -8,7 +8,8 @@ from pathlib import Path
 
 from meadow.counted import Checks
 from meadow.programs import TOP
-from meadow.sheets.lines import HOUR, MINUTE, Sheet, answer_text
+from meadow.sheets.account import account, lines_of
+from meadow.sheets.lines import HOUR, MINUTE, Answer, Sheet, answer_text
 from meadow.words import units
 
 TOOL = TOP / "tools" / "tell.py"
@@ -27,23 +28,22 @@ def amounts(said):
     return {line[:14].strip(): int(line.split("m³")[1].split("µm")[0].replace(",", "")) for line in lines}
 
 
-def hold_by_hand(checks, room):
+def hold_by_hand(checks):
     """Two squares of 10 m and a wall for an hour: 1 mm and 2 mm at the start, rain of 3,600 µm/h, a hatch of 1 l/s for the first minute.
     Rain gives 3,600 each, the hatch 60,000 l over 100 m² = 600 µm; together 10,800. The wall's rain is not counted."""
     sheet = Sheet(1, 3, 10, tolerance=10, shortest=1_000, longest=10_000, update=MINUTE)
     sheet.put((0, 0), 0, 300, 1_000, rate=500)
     sheet.put((0, 1), 0, 300, 2_000, "e")
     sheet.rain, sheet.inflow = [(0, HOUR, 3_600)], [(0, 0, 0, MINUTE, 1)]
-    text, answer = Path(room) / "sheet", Path(room) / "out"
-    text.write_text(sheet.text(HOUR))
     for last, right in ((5_000, True), (5_001, False), (4_999, False)):
-        answer.write_text(answer_text({(0, 0): 4_000, (0, 1): last}, {"outflow": 1_300, "soaked": 500, "steps": 1, "clock": HOUR}))
-        said = told(text, answer)
+        totals = {"outflow": 1_300, "soaked": 500, "steps": 1, "clock": HOUR}
+        made = account(sheet, HOUR, Answer(answer_text({(0, 0): 4_000, (0, 1): last}, totals)))
+        said = "".join(f"{line}\n" for line in lines_of(made))
         wanted = {"on the meadow": 4_000 + last, "gone by exits": 1_300, "soaked": 500, "there is": 5_800 + last}
         wanted |= {"at the start": 3_000, "rain": 7_200, "hatches": 600, "came": 10_800}
-        checks.hold(amounts(said.stdout) == wanted, f"an account with {last} in the east: not as worked by hand")
-        checks.hold(f"{(4_000 + last) / 10_000:.3f} m³" in said.stdout, f"an account with {last} in the east: its m³")
-        checks.hold((said.returncode == 0) == right and (BALANCED in said.stdout) == right, f"an account with {last} in the east: balanced or not")
+        checks.hold(amounts(said) == wanted, f"an account with {last} in the east: not as worked by hand")
+        checks.hold(f"{(4_000 + last) / 10_000:.3f} m³" in said, f"an account with {last} in the east: its m³")
+        checks.hold((made.off() == 0) == right and (BALANCED in said) == right, f"an account with {last} in the east: balanced or not")
 
 
 def hold_steps(checks, room):
@@ -141,6 +141,60 @@ def edited(change, **run):
     return sheet
 
 
+def basin(holes=(), bed=0, **run):
+    """Seven rows of nine squares of 10 m from 2.60 to 3.00 m, where some squares have another bed."""
+    sheet = Sheet(7, 9, 10, **{"edge": 50, **run})
+    for row, column in sheet.squares:
+        sheet.put((row, column), 3_000_000 - 50_000 * column, 350)
+    for place in holes:
+        sheet.put(place, bed, 350)
+    return sheet
+
+
+def closed(sheet, *places):
+    """A sheet with some squares closed."""
+    sheet.squares |= {place: {"mark": "x"} for place in places}
+    return sheet
+
+
+def relief_slips():
+    """Beds that are likely no heights, and walls that are likely none: the sheet, and what is said of it; None: nothing."""
+    house = [(2, 3), (2, 4), (3, 3)]
+    # the ground beside it is at least 2.75 m high, and the step that parts a pit 2 m
+    yield basin(house), "bed 0 at row 2, column 3 and 2 more squares, 300 m², 2.75 m or more below all ground beside it: surveys write no data so"
+    yield basin(house, 1), "a pit at row 2, column 3 and 2 more squares, 300 m², 2.75 m or more below all ground beside it, and water drains into it"
+    yield basin([(2, 3)], 800_000), "a pit at row 2, column 3, 100 m², 2.00 m or more below"
+    yield basin([(2, 3)], 800_001), None
+    yield basin([(2, 3)], 4_900_000), "a spike at row 2, column 3, 100 m², 2.00 m or more above all ground beside it: mend its bed"
+    yield basin([(2, 3)], 4_899_999), None
+    # of a 0 it is told from 50 cm on
+    low = basin([(2, 3)])
+    for square in low.squares.values():
+        square["bed"] = max(0, square["bed"] - 2_300_000)
+    yield low, "bed 0 at row 2, column 3, 100 m², 0.50 m or more below"
+    for square in low.squares.values():
+        square["bed"] = max(0, square["bed"] - 1)
+    yield low, None
+    # a 0 is told of up to half of the ground, a pit up to a quarter
+    half = [(row, column) for row in range(7) for column in range(4)]
+    yield basin(half), "bed 0 at row 0, column 0 and 27 more squares"
+    yield basin(half, 1), None
+    # a channel to an exit is no pit, and the same without its exit is one
+    ditch = basin([(3, column) for column in range(9)], 500_000)
+    yield ditch, "a pit at row 3, column 0 and 8 more squares"
+    ditch.squares[3, 8]["mark"] = "e"
+    yield ditch, None
+    yield closed(basin(), (3, 4)), "closed alone amid open ground: row 3, column 4, 100 m²: a hole in a survey becomes a wall"
+    yield closed(basin(), (3, 4), (3, 5)), None
+    yield closed(basin(), (0, 4)), None
+    wall = [(3, column) for column in (1, 2, 3, 5)]
+    yield closed(basin(), *wall), "open alone in a line of closed squares: row 3, column 4, 100 m²: water goes through as by a door"
+    yield closed(basin(), *((column, row) for row, column in wall)), "open alone in a line of closed squares: row 4, column 3, 100 m²"
+    yield closed(basin(), (3, 3), (3, 5), (2, 3), (2, 5)), None
+    # a lane between two houses, two squares long
+    yield closed(basin(), *wall, *((4, column) for _, column in wall)), None
+
+
 def set_all(name, value):
     """A change of a field of every square."""
     return lambda sheet: [square.update({name: value}) for square in sheet.squares.values()]
@@ -148,6 +202,7 @@ def set_all(name, value):
 
 def slips():
     """What is likely a slip: the sheet, its end, and what is said of it; None: nothing."""
+    yield from ((sheet, 10 * MINUTE, wanted) for sheet, wanted in relief_slips())
     nothing = lambda sheet: None
     rain = lambda rate: lambda sheet: sheet.rain.append((0, MINUTE, rate))
     hatch = lambda *row: lambda sheet: sheet.inflow.append(row)
@@ -164,7 +219,10 @@ def slips():
     yield edited(nothing, update=1_000), 10_000, None
     # 60 m west of the exit; one square more is 70 m by the diagonal's length
     yield edited(hatch(1, 0, 0, MINUTE, 30)), 10 * MINUTE, "hatch 1,0 is 60 m from the exit at row 1, column 6: the edge slope 50 decides"
-    yield edited(hatch(1, 0, 0, MINUTE, 30), edge=10_000), 10 * MINUTE, "drains like a cliff"
+    cliff = "1,300 m² of ground lie within 60 m of an exit{}, and the edge slope is 10,000: such an exit drains like a cliff"
+    yield edited(hatch(1, 0, 0, MINUTE, 30), edge=10_000), 10 * MINUTE, cliff.format(", hatch 1,0 among them")
+    yield edited(nothing, edge=10_000), 10 * MINUTE, cliff.format("")
+    yield edited(nothing, edge=9_999), 10 * MINUTE, None
     yield edited(hatch(1, 0, 0, MINUTE, 30), edge=0), 10 * MINUTE, None
     yield edited(hatch(0, 0, 0, MINUTE, 30)), 10 * MINUTE, None
     yield edited(hatch(0, 0, 10 * MINUTE, 20 * MINUTE, 30)), 10 * MINUTE, "line 17: this inflow gives nothing in a run to 10 min"
@@ -226,8 +284,8 @@ def hold_samples(checks):
 def main():
     checks = Checks("tell")
     hold_units(checks)
+    hold_by_hand(checks)
     with tempfile.TemporaryDirectory() as room:
-        hold_by_hand(checks, room)
         hold_steps(checks, room)
         hold_words(checks, room)
         hold_slips(checks, room)

@@ -15,12 +15,13 @@ from meadow.programs import TOP
 from meadow.sheets.holes import repaired
 from meadow.sheets.lines import CLOSED, SQUARE, Sheet, line_of
 from meadow.sheets.reading import MOST_SQUARES
+from meadow.words.reasons import IN_THE_RUN
 
 PAGE, README = TOP / "docs" / "TOOLS.md", TOP / "README.md"
 SAMPLES = TOP / "samples"
 # what tools begin with, those that look after the project itself, and the one that the programs' own scripts end with; all others are for the
 # warden and the keeper
-OWN = {"architecture", "begin", "believed", "dev", "edits", "header", "pictures", "places", "sense", "speed", "unused", "walks"}
+OWN = {"architecture", "begin", "believed", "dev", "edits", "header", "pictures", "places", "sense", "speed", "unused", "walks", "watched"}
 PROGRAMS = [f"bin/{name}" for name in ("meadow", "hatchlog", "drowned", "highest", "boards", "repair", "to_survey", "from_survey")]
 FOR_PEOPLE = [*PROGRAMS, *(f"tools/{path.name}" for path in sorted((TOP / "tools").glob("*.py")) if path.stem not in OWN)]
 LEFT_OUT = "..."
@@ -89,23 +90,24 @@ def hold_readme(checks, room):
     checks.hold(commands[:2] == ["bin/meadow samples/walled-meadow.sheet", "bash .ci/run"], f"README.md begins with {commands[:2]}")
     status, printed, sense = ran(commands[0], room)
     checks.hold(status == 0 and printed == (SAMPLES / "walled-meadow.out").read_text(), "README.md's first command does not print the answer")
-    checks.hold(sense.count("\n") == 1 and sense.strip() == commands[2], f"README.md's first command ends with {sense!r}, not {commands[2]!r}")
-    status, _, complained = ran(commands[3], room)
-    checks.hold(status == 0 and complained == "" and commands[3].startswith("python3 tools/map.py"), f"README.md's next command: {complained}")
+    checks.hold(sense.splitlines() == commands[2:5], f"README.md's first command says {sense!r}, not {commands[2:5]!r}")
+    status, _, complained = ran(commands[5], room)
+    checks.hold(status == 0 and complained == "" and commands[5].startswith("python3 tools/map.py"), f"README.md's next command: {complained}")
     drawn = (room / "map.svg").read_text() if (room / "map.svg").exists() else ""
     checks.hold(drawn == (TOP / "docs" / "pictures" / "walled-meadow.svg").read_text(), "README.md's next command does not make its picture")
 
 
 def hold_samples(checks, room):
-    """Of each sample the answer byte for byte, and one line."""
+    """Of each sample the answer byte for byte; on standard error what there is to do, one line of sense, and then cautions and slips."""
     for sheet in sorted(SAMPLES.glob("*.sheet")):
         status, printed, sense = ran(f"bin/meadow samples/{sheet.name}", room)
         checks.hold(status == 0 and printed == sheet.with_suffix(".out").read_text(), f"bin/meadow of {sheet.name} prints something else")
-        checks.hold(re.fullmatch(r"[^\n]+; [\d,]+ steps?\n", sense), f"bin/meadow of {sheet.name} ends with {sense!r}")
+        wanted = r"run to [^\n]+ steps? on [^\n]+\n[^\n]+; [\d,]+ steps?\n((mind|likely a slip): [^\n]+\n)*"
+        checks.hold(re.fullmatch(wanted, sense), f"bin/meadow of {sheet.name} says {sense!r}")
 
 
 def hold_refusals(checks, room):
-    """A refusal is printed as it is, its reason is the one line, and the status is 1."""
+    """A refusal is printed as it is, its reason is the last line, alone but where there was a run, and the status is 1."""
     named = {name: (base, edits, answer) for name, base, _, edits, answer in CASES}
     wanted = {"carriage-return": "carriage return", "end-no-multiple": "write 1000", "exit-off-the-rim": "row 1, column 1"}
     for name, why in {**wanted, "run-refused-too-deep": "100 m deep"}.items():
@@ -113,7 +115,8 @@ def hold_refusals(checks, room):
         (room / "damaged.sheet").write_bytes(sheet_of(base, edits).encode("ascii"))
         status, printed, sense = ran("bin/meadow damaged.sheet", room)
         checks.hold(status == 1 and printed == answer_of(answer), f"bin/meadow of {name}: status {status}, {printed!r}")
-        right = sense.startswith(f"refused by {answer[0]}: ") and why in sense and sense.count("\n") == 1
+        *before, reason = sense.splitlines()
+        right = reason.startswith(f"refused by {answer[0]}: ") and why in reason and len(before) == (answer[0] in IN_THE_RUN)
         checks.hold(right, f"bin/meadow of {name}: {sense!r}")
     status, printed, sense = ran("bin/meadow nosuch.sheet", room)
     checks.hold(status == 1 and printed == "" and "nosuch.sheet" in sense, f"bin/meadow of no file: status {status}, {sense!r}")

@@ -110,7 +110,7 @@ PLACES = {
     "two-rain-before-rules": BAD_RAIN,
     "two-rain-before-edition": BAD_RAIN,
     "bytes-65536": ["line 1: its word is 0000", "line 1: the last line has no newline"],
-    "bytes-65537": ["it has 65,537 bytes, and at most 65,536 are read"],
+    "bytes-65537": ["it has more than 65,536 bytes, the most that are read"],
 }
 DOCUMENT = BASES["document 01"]
 
@@ -141,7 +141,6 @@ SLIPS = [
     ("the short form", field(3, "bed", "1E+06")(DOCUMENT), ["line 3: the bed: 1E+06 is in the short form"]),
     ("letters for a number", field(3, "bed", "low")(DOCUMENT), ["line 3: the bed: low is no number"]),
     ("quotation marks", field(3, "bed", '"0"')(DOCUMENT), ["line 3: it has quotation marks"]),
-    ("a remark", before("# our meadow")(DOCUMENT), ["line 1: it has a space", "a sheet has no room for remarks"]),
     ("a word misspelt", word(3, "cel")(DOCUMENT), ["line 3: its word is cel: did you mean cell?"]),
     ("a word in its neighbour's place", word(2, "rain")(DOCUMENT), ["line 2: a rain line does not stand here: run does"]),
     ("rows and columns swapped", field(1, "columns", 1)(field(1, "rows", 2)(DOCUMENT)), ["swapped in line 1", "write grid→1→2→1"]),
@@ -167,6 +166,28 @@ SLIPS = [
         grown_too_deep(),
         ["more than 100 m deep between 11 min and 12 min", "at 11 min the deepest is row 0, column 0, with 90.18 m"],
     ),
+]
+
+
+def with_hatch(litres):
+    """The document's sheet with a hatch of so many litres."""
+    return field(5, "litres", litres)(after(A_HATCH)(DOCUMENT))
+
+
+# slips whose first sentence must be the right one, in the same form: it begins with the first of the words
+FIRST = [
+    ("a remark", before("# our meadow")(DOCUMENT), ["line 1: a sheet has no room for remarks: delete it"]),
+    ("a remark at a line's end", field(3, "rate", "0 # the bank")(DOCUMENT), ["line 3: it has a remark at its end", "take away #·the·bank"]),
+    ("a capital X", on_line(4, lambda fields: [*fields[:3], "X"])(DOCUMENT), ["line 4: the mark X is in upper case: write x"]),
+    ("a hatch below 0", with_hatch("-50"), ["line 5: the litres: -50 has a sign, and no number is below 0: a hatch lets water in; an exit lets it out"]),
+    ("litres with their unit", with_hatch("50 l/s"), ["line 5: the litres: 50 l/s has a unit: write the number alone, in litres a second"]),
+    ("litres with their unit close by", with_hatch("50l/s"), ["line 5: the litres: 50l/s has a unit"]),
+    (
+        "an end in seconds",
+        Sheet(1, 1, 10).text(600),
+        ["line 2: the end, 600 ms, is less than the update time, 60,000 ms, and likely in seconds: write 600000 (10 min)"],
+    ),
+    ("an end in minutes", Sheet(1, 1, 10).text(10), ["line 2: the end, 10 ms, is less", "likely in minutes: write 600000 (10 min)"]),
 ]
 
 
@@ -196,9 +217,11 @@ def hold_table(checks, room):
 
 
 def hold_slips(checks, room):
-    """Slips that the table has not."""
-    for name, text, wanted in SLIPS:
+    """Slips that the table has not; where it matters, the first sentence is the right one."""
+    for name, text, wanted in SLIPS + FIRST:
         said = told(text, room)
+        if (name, text, wanted) in FIRST:
+            checks.hold(said.stdout.splitlines()[1].startswith(wanted[0]), f"{name}: the first sentence is another: {said.stdout}")
         checks.hold(said.returncode == 1 and said.stderr == "", f"{name}: status {said.returncode}, {said.stderr!r}")
         for words in wanted:
             checks.hold(words in said.stdout, f"{name}: not told: {words}: {said.stdout}")
@@ -448,7 +471,7 @@ LISTS = [
         "0",
         ["longer"],
         [
-            "sheet 1, longer: refused by 12: it has 65,537 bytes, and at most 65,536 are read: fewer squares, or fewer rain and inflow lines",
+            "sheet 1, longer: refused by 12: it has more than 65,536 bytes, the most that are read: fewer squares, or fewer rain and inflow lines",
             "0 sheets run, 1 refused",
         ],
     ),

@@ -1,5 +1,6 @@
 #!/usr/bin/env python3
-"""map.py SHEET > MAP.svg: runs `meadow` on a sheet and draws a map of what it answers; python/meadow/maps/drawing.py says what it shows.
+"""map.py SHEET > MAP.svg: runs `meadow`, `highest` and `hatchlog` on a sheet and draws a map of the water at its end, with what was before it;
+python/meadow/maps/drawing.py says what it shows.
 map.py SHEET ANSWER > MAP.svg: draws an answer that is there already; what was answered to another sheet is refused.
 map.py SHEET --log LOG > MAP.svg: runs `hatchlog` on a sheet and a log and draws the water at the log's end, with the log's hatches.
 map.py SHEET ANSWER --log LOG > MAP.svg: draws the end of what `hatchlog` has printed already.
@@ -17,8 +18,9 @@ from meadow.logs.nights import night_in
 from meadow.maps.drawing import svg
 from meadow.maps.often import often_svg
 from meadow.peaks.tally import tally_of
+from meadow.peaks.wholes import whole_in
 from meadow.sheets.guesses import guesses_beside
-from meadow.sheets.pairs import balanced, bytes_as_text, pair_in
+from meadow.sheets.pairs import balanced, bytes_as_text
 from meadow.sheets.reading import read
 
 
@@ -37,8 +39,12 @@ def main():
         guesses = guesses_beside(said.sheet, sheet)
         sys.stdout.write(often_svg(sheet, tally, Path(said.answer).name.split(".")[0], said.depth, guesses))
         return 0
-    pair = night_in(said.sheet, said.log, said.answer).whole() if said.log else pair_in(said.sheet, said.answer)
-    sys.stdout.write(svg(balanced(pair), Path(said.log or said.sheet).stem, guesses_beside(said.sheet, pair.sheet)))
+    if said.log:
+        pair = balanced(night_in(said.sheet, said.log, said.answer).whole())
+        sys.stdout.write(svg(pair, Path(said.log).stem, guesses=guesses_beside(said.sheet, pair.sheet)))
+        return 0
+    whole = whole_in(said.sheet, said.answer)
+    sys.stdout.write(svg(whole.pair, Path(said.sheet).stem, whole, guesses_beside(said.sheet, whole.pair.sheet)))
     return 0
 
 

@@ -15,7 +15,7 @@ from meadow.sheets.lines import Unreadable
 from meadow.surveys.bringing import at_corner, brought, hold_place, office_in, place_said, projection_of, rounded, text_back
 from meadow.surveys.grids import grid_in, number
 from meadow.surveys.office import office_text
-from meadow.surveys.places import LETTERS, Place, place_file, place_text
+from meadow.surveys.places import Place, place_file, place_text, projection_text, write_new
 from meadow.surveys.sets import GRIDS
 
 
@@ -26,17 +26,10 @@ def words():
     asked.add_argument("given", metavar="THEIRS", help="an ESRI ASCII grid with any corner; with --back one in the office's form")
     asked.add_argument("made", metavar="OURS", help="the grid to make")
     asked.add_argument("--back", action="store_true", help="from the office's form to the survey's corner")
-    asked.add_argument("--place", metavar="FILE", help="the set's side file; where it is not said, .place for OURS' own ending")
+    asked.add_argument("--place", metavar="FILE", help="the set's side file; where it is not said, OURS and .place after it")
     asked.add_argument("--datum", metavar="M", help="of a bed: the height that is 0 in the set, below the lowest")
     asked.add_argument("--replace", action="store_true", help="write over what is there already")
     return asked.parse_args()
-
-
-def hold_new(files, replace):
-    """Nothing is written over, but by a text that is there already."""
-    for path, text in files.items():
-        if path.exists() and not replace and path.read_text(**LETTERS) != text:
-            raise Unreadable(f"{path} is there already: take another name, or give --replace")
 
 
 def place_of_set(given, path, grid, office):
@@ -72,7 +65,7 @@ def taken_back(given, path):
     place = place_said(path, office)
     files = {Path(given.made): text_back(office, given.name, place)}
     if place.projection:
-        files[Path(given.made).with_suffix(".prj")] = "".join(f"{line}\n" for line in place.projection)
+        files[Path(given.made).with_suffix(".prj")] = projection_text(place)
     return files, f"{office.rows} by {office.columns} squares of {office.side} m, at {at_corner(place.corner)}"
 
 
@@ -80,9 +73,7 @@ def main():
     given = words()
     path = Path(given.place) if given.place else place_file(given.given if given.back else given.made)
     files, told = (taken_back if given.back else brought_in)(given, path)
-    hold_new(files, given.replace)
-    for file, text in files.items():
-        file.write_text(text, **LETTERS)
+    write_new(files, given.replace)
     print(f"made {' and '.join(map(str, files))}: {told}")
     return 0
 

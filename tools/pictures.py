@@ -11,10 +11,11 @@ from meadow.maps.often import often_svg
 from meadow.maps.staffs import staffs_svg
 from meadow.peaks.lists import list_in
 from meadow.peaks.tally import tally_of
+from meadow.peaks.wholes import whole_in
 from meadow.programs import TOP
 from meadow.rule.worked_square import AMOUNTS, DROPS
 from meadow.sheets.grounds import worked
-from meadow.sheets.pairs import balanced, bytes_as_text, pair_in, pair_of
+from meadow.sheets.pairs import balanced, bytes_as_text, pair_of
 from meadow.sheets.reading import read
 
 WATER, WALL, GROUND, INK, PALE = "#9ecae1", "#4a4a4a", "#e9ddb8", "#222222", "#777777"
@@ -144,7 +145,8 @@ def wet_shares():
 def walled_meadow():
     """The map of the sample with its answer."""
     sheet, answer = (TOP / "samples" / f"walled-meadow.{kind}" for kind in ("sheet", "out"))
-    return svg(balanced(pair_in(sheet, answer)), sheet.stem)
+    whole = whole_in(sheet, answer)
+    return svg(whole.pair, sheet.stem, whole)
 
 
 def winter():

@@ -14,7 +14,7 @@ from meadow.sheets.holes import holes_in, plugged
 from meadow.sheets.lines import Unreadable
 from meadow.sheets.pairs import bytes_as_text
 from meadow.sheets.reading import read
-from meadow.surveys.places import place_file
+from meadow.surveys.places import LETTERS, place_file, write_new
 from meadow.words.guessing import guesses_words, whole_by_program
 from meadow.words.reasons import why_not
 
@@ -30,32 +30,29 @@ def mended(sheet_file):
     return whole_by_program(text)
 
 
-def hold_free(said):
-    """The survey's own sheet stays, and nothing that is there is written over unless it may be."""
+def hold_apart(said):
+    """The survey's own sheet stays."""
     if Path(said.mended).resolve() == Path(said.sheet).resolve():
         raise Unreadable(f"{said.mended} is the sheet itself: take another name, so that what the survey saw stays")
-    if Path(said.mended).exists() and not said.replace:
-        raise Unreadable(f"{said.mended} is there already: take another name, or give --replace")
-    hold_no_list(said.mended, said.replace)
 
 
-def put_place(sheet_file, mended_file):
-    """The mended sheet lies where the survey's does."""
-    if place_file(sheet_file).exists():
-        place_file(mended_file).write_bytes(place_file(sheet_file).read_bytes())
+def files_of(said, repaired):
+    """The mended sheet, which lies where the survey's does."""
+    files, place = {Path(said.mended): repaired.text}, place_file(said.sheet)
+    return {**files, place_file(said.mended): place.read_text(**LETTERS)} if place.exists() else files
 
 
 def main():
     words = argparse.ArgumentParser(prog="repair.py", description="gives the beds that the survey could not see, and says from which neighbours")
     words.add_argument("sheet", metavar="SHEET", help="a sheet with ? for some beds")
     words.add_argument("mended", metavar="MENDED", help="the sheet to make; its side file has .guessed after the whole name")
-    words.add_argument("--replace", action="store_true", help="write over a sheet that is there already")
+    words.add_argument("--replace", action="store_true", help="write over a sheet and side files that are there already")
     said = words.parse_args()
     repaired = mended(said.sheet)
-    hold_free(said)
-    Path(said.mended).write_text(repaired.text, encoding="ascii")
+    hold_apart(said)
+    hold_no_list(said.mended, repaired.guesses, said.replace)
+    write_new(files_of(said, repaired), said.replace)
     put_guesses(said.mended, repaired.guesses)
-    put_place(said.sheet, said.mended)
     print(f"made {said.mended} and {guesses_file(said.mended)}")
     print(*guesses_words(read(repaired.text)[0], repaired.guesses, guesses_file(said.mended)), sep="\n")
     return 0

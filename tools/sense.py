@@ -1,7 +1,6 @@
 #!/usr/bin/env python3
-"""sense.py SHEET ANSWER: one line of sense about what `meadow` printed of a sheet: how much water is where, the deepest place, the clock
-and the steps; or, of a refusal, the likeliest reason. bin/meadow ends with it.
-sense.py SHEET ANSWER LOG: the same about what `hatchlog` printed of a sheet and a log. bin/hatchlog ends with it.
+"""sense.py SHEET ANSWER LOG: one line of sense about what `hatchlog` printed of a sheet and a log: how much water is where, the deepest place, the
+clock and the steps; or, of a refusal, the likeliest reason. bin/hatchlog ends with it.
 sense.py --highest SHEET ANSWER: how deep the water of a sheet ever was, and when, by what `highest` printed. bin/highest ends with it.
 sense.py --repair SHEET ANSWER: how many beds were given, and which cannot be, by what `repair` printed. bin/repair ends with it.
 sense.py --drowned ANSWER DEPTH SHEET..: which square drowned most often, by what `drowned` printed of a list. bin/drowned ends with it.
@@ -17,8 +16,7 @@ from meadow.peaks.heights import heights_of
 from meadow.peaks.tally import tally_of
 from meadow.sheets.guesses import repaired_of
 from meadow.sheets.holes import plugged
-from meadow.sheets.lines import Answer
-from meadow.sheets.pairs import balanced, bytes_as_text, pair_of
+from meadow.sheets.pairs import balanced, bytes_as_text
 from meadow.sheets.reading import read
 from meadow.surveys.set_reasons import moving_reasons, set_reasons
 from meadow.surveys.sets import MOST_SQUARES, Set, set_paths
@@ -29,7 +27,7 @@ from meadow.words.levels import boards_sense
 from meadow.words.list_reasons import list_reasons
 from meadow.words.opening import texts_of
 from meadow.words.reasons import reasons, refusal
-from meadow.words.sense import night_sense, sense
+from meadow.words.sense import night_sense
 
 
 def say_refused(refused, of, why):
@@ -38,23 +36,13 @@ def say_refused(refused, of, why):
     return 1
 
 
-def of_sheet(text, told, said):
-    """About what was printed of a sheet, `said` being the line about an answer that is no refusal."""
+def of_heights(text, told):
+    """About what `highest` printed."""
     refused = refusal(told)
     if refused:
         return say_refused(refused, "", reasons(text, *refused))
-    print(said(text, told))
+    print(heights_sense(heights_of(text, told)))
     return 0
-
-
-def answer_line(text, told):
-    """About `meadow`'s answer."""
-    return sense(balanced(pair_of(*read(text), Answer(told))))
-
-
-def heights_line(text, told):
-    """About what `highest` printed."""
-    return heights_sense(heights_of(text, told))
 
 
 def of_repair(text, told):
@@ -132,15 +120,13 @@ def main():
     if kind == "--from-survey" and len(files) == 6:
         return of_moving_back(bytes_as_text(files[0]), *files[1:])
     if kind == "--highest" and len(files) == 2:
-        return of_sheet(*map(bytes_as_text, files), heights_line)
+        return of_heights(*map(bytes_as_text, files))
     if kind == "--repair" and len(files) == 2:
         return of_repair(*map(bytes_as_text, files))
-    if len(files) == 1:
-        return of_sheet(bytes_as_text(kind), bytes_as_text(files[0]), answer_line)
     if len(files) == 2:
         return of_log((kind, files[1]), bytes_as_text(files[0]))
     print(
-        "usage: sense.py SHEET ANSWER [LOG], sense.py --highest SHEET ANSWER, sense.py --repair SHEET ANSWER, "
+        "usage: sense.py SHEET ANSWER LOG, sense.py --highest SHEET ANSWER, sense.py --repair SHEET ANSWER, "
         "sense.py --drowned ANSWER DEPTH SHEET.., sense.py --boards ANSWER SHEET BOARDS, "
         "sense.py --to-survey ANSWER SHEET NOTE BED DEPTH ROUGHNESS RATE or "
         "sense.py --from-survey ANSWER NOTE BED DEPTH ROUGHNESS RATE",

@@ -5,18 +5,19 @@ Prints `standing` and the count, `steep` and how many of them fall by 1 mm or mo
 `square`, row, column, depth, least drop and greatest drop in µm. python/meadow/sheets/standing.py says what a standing square is. A sheet
 of edition 2 or 3 has none. What was answered to another sheet is refused.
 """
-import sys
+import argparse
 
 from begin import ended
-from meadow.sheets.pairs import balanced, pair_in
+from meadow.sheets.pairs import pair_in
 from meadow.sheets.standing import STEEP, standing_squares
 
 
 def main():
-    if len(sys.argv) not in (2, 3):
-        print("usage: standing.py SHEET [ANSWER]", file=sys.stderr)
-        return 2
-    pair = balanced(pair_in(*sys.argv[1:]))
+    words = argparse.ArgumentParser(prog="standing.py", description="counts and lists the squares whose water the rule holds, and not the ground")
+    words.add_argument("sheet", metavar="SHEET")
+    words.add_argument("answer", metavar="ANSWER", nargs="?", help="what meadow has printed of the sheet")
+    said = words.parse_args()
+    pair = pair_in(said.sheet, said.answer)
     found = standing_squares(pair.sheet, pair.answer)
     print(f"standing\t{len(found)}")
     print(f"steep\t{sum(square[4] >= STEEP for square in found)}")

@@ -17,7 +17,7 @@ from meadow.peaks.lists import listed
 from meadow.peaks.tally import tally_of
 from meadow.programs import printed, printed_of_named
 from meadow.sheets.lines import Answer
-from meadow.sheets.pairs import bytes_as_text, pair_of
+from meadow.sheets.pairs import pair_of, sheet_text
 from meadow.sheets.reading import read
 from meadow.surveys.set_reasons import set_reasons
 from meadow.surveys.sets import MOST_SQUARES, Set, set_paths
@@ -40,7 +40,7 @@ def say(refused, of, why):
 
 def of_sheet(sheet_file):
     """What `meadow` makes of a sheet."""
-    text = bytes_as_text(sheet_file)
+    text = sheet_text(sheet_file)
     answer = printed("meadow", text.encode("latin-1")).decode("ascii")
     refused = refusal(answer)
     if refused:

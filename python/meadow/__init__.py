@@ -10,6 +10,6 @@
 
 And beside them:
 
-    programs     the built programs, and scripts that end quietly
+    programs     the built programs, alone and side by side, and scripts that end quietly
     counted      tests that say how many checks they made
 """

@@ -1,8 +1,11 @@
 """The built programs, and scripts that end as a reader of their output would have it."""
 import functools
 import os
+import signal
 import subprocess
 import sys
+import threading
+from contextlib import contextmanager
 from pathlib import Path
 
 from .rule.refusals import Refused
@@ -37,11 +40,76 @@ def meadow(text):
     return Answer(printed("meadow", text.encode()).decode())
 
 
+class Started:
+    """A program under way: what it prints is kept as it comes."""
+
+    def __init__(self, name, given):
+        pipes = {"stdin": subprocess.PIPE, "stdout": subprocess.PIPE}
+        self.process = subprocess.Popen([TOP / "bin" / "run", name], start_new_session=True, **pipes)
+        self.parts = []
+        self.reader = threading.Thread(target=self.read, daemon=True)
+        self.reader.start()
+        with self.process.stdin as its_input:
+            its_input.write(given)
+
+    def read(self):
+        """Takes what is printed until there is no more."""
+        while part := self.process.stdout.read1(65_536):
+            self.parts.append(part)
+
+    def so_far(self):
+        """What it has printed by now."""
+        return b"".join(self.parts)
+
+    def ended_within(self, seconds):
+        """Whether it has ended, at the latest after so many seconds."""
+        self.reader.join(seconds)
+        return not self.reader.is_alive()
+
+    def whole(self):
+        """All that it prints."""
+        self.reader.join()
+        if self.process.wait() != 0:
+            raise subprocess.CalledProcessError(self.process.returncode, self.process.args)
+        return self.so_far()
+
+    def stop(self):
+        """Ends it, and whatever it started, where it has not ended."""
+        if self.process.poll() is None:
+            os.killpg(self.process.pid, signal.SIGTERM)
+            self.process.wait()
+
+
+def built(*names):
+    """Builds programs that are to be started side by side, where they are not built yet."""
+    subprocess.run([TOP / "bin" / "run", "--build", *names], check=True, stdin=subprocess.DEVNULL)
+
+
+@contextmanager
+def side_by_side(given):
+    """Built programs started side by side, by name with the bytes that each is given; none is left running."""
+    runs = {}
+    try:
+        for name, text in given.items():
+            runs[name] = Started(name, text)
+        yield runs
+    finally:
+        for run in runs.values():
+            run.stop()
+
+
+def interrupted(number, _frame):
+    """A signal that ends a script ends what it started too, on the way out."""
+    raise SystemExit(128 + number)
+
+
 def ended(main, name):
     """Ends a script with the status that `main` gives. What it prints is UTF-8 whatever the machine's letters are; a text that cannot be
-    read is said in one line, and where nobody reads the output any more the script ends and says nothing."""
+    read is said in one line, and where nobody reads the output any more the script ends and says nothing. So it does on Ctrl-C and SIGTERM."""
     for stream in (sys.stdout, sys.stderr):
         stream.reconfigure(encoding="utf-8")
+    for number in (signal.SIGINT, signal.SIGTERM):
+        signal.signal(number, interrupted)
     try:
         status = main()
         sys.stdout.flush()

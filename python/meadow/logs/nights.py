@@ -12,7 +12,7 @@ from ..rule.ranges import LAST_CLOCK
 from ..rule.steps import inflow_by
 from ..sheets.account import Account, account
 from ..sheets.lines import ANSWER_LINES, REFUSED, TOTALS, Answer, Unreadable, values_of
-from ..sheets.pairs import bytes_as_text, hold_squares
+from ..sheets.pairs import balanced, bytes_as_text, hold_squares
 from ..sheets.reading import meadow_of, read
 from .entries import BACK, HATCH, entries_in
 from .evening import records_kept
@@ -142,12 +142,17 @@ class Night:
 
 
 def night_in(sheet_file, log_file, told_file=None):
-    """The night in files; where what was printed is not there, `hatchlog` is run."""
-    told = bytes_as_text(told_file) if told_file else told_of(sheet_file, log_file)
+    """The night in files, as `hatchlog` prints it; where something is there already, it must be the same."""
+    given = told_of(sheet_file, log_file)
+    told = bytes_as_text(told_file) if told_file else given
     answers, refused = blocks_of(told)
     if refused and not answers:
         raise Unreadable(REFUSES.format(*refused))
-    return Night(read(bytes_as_text(sheet_file))[0], bytes_as_text(log_file), told)
+    night = Night(read(bytes_as_text(sheet_file))[0], bytes_as_text(log_file), told)
+    if told != given:
+        balanced(night.whole())
+        raise Unreadable("this was printed of another sheet or another log, or was changed: hatchlog prints something else of these two")
+    return night
 
 
 def told_of(sheet_file, log_file):

@@ -2,8 +2,9 @@
 
 Water is blue by classes of depth, the deeper the darker; a film under 1 mm is a dot on its ground; dry ground is nearly white, with
 contours; closed squares are hatched; exits have an arrow. A hatch has its number, filled where it gives water up to the end's clock.
-Standing squares have a diamond, filled where the square falls by 1 mm or more on some side. Ground that was guessed has a question mark.
-Each square says its depth to a pointer that rests on it. No depth is computed: those that the answer has are drawn.
+Standing squares have a diamond, filled where the square falls by 1 mm or more on some side. A square that was wet at some time of the run and is
+not at its end has a wave, one whose bed or mark is likely a slip a triangle; ground that was guessed has a question mark. Each square says its depth
+to a pointer that rests on it, how high it ever stood, and for how long it was wet. No depth is computed: those that the programs print are drawn.
 """
 from html import escape
 
@@ -11,6 +12,7 @@ from ..sheets.lines import CLOSED
 from ..sheets.standing import STEEP, standing_squares
 from ..words.hatches import hatches_in
 from ..words.units import depth, height, square, time
+from .cautions import caution_signs, run_told
 from .contours import contours, heights_of
 from .guessed import guess_signs
 from .legend import LEGEND, legend
@@ -68,8 +70,8 @@ def told(paper, place, deep):
     return f"{square(place)}: {water}, ground {height(values['bed'])} m" + (", guessed" if place in paper.guesses else "")
 
 
-def square_at(paper, place, deep, ends):
-    """A square of the sheet with the answer's water; `ends` are the lowest and the highest bed."""
+def square_at(paper, place, deep, ends, more=""):
+    """A square of the sheet with the answer's water; `ends` are the lowest and the highest bed, and `more` is told to a pointer too."""
     values = paper.sheet.squares[place]
     if values["mark"] == CLOSED:
         kind, fill = "wall", "url(#wall)"
@@ -77,7 +79,7 @@ def square_at(paper, place, deep, ends):
         kind, fill = "wet", CLASSES[class_of(deep)][1]
     else:
         kind, fill = "film" if deep > 0 else "dry", ground(values["bed"], *ends)
-    drawn = box(*paper.corner(place), paper.size, paper.size, fill, f' class="{kind}"', told(paper, place, deep))
+    drawn = box(*paper.corner(place), paper.size, paper.size, fill, f' class="{kind}"', told(paper, place, deep) + more)
     return drawn + film_dot(*paper.middle(place)) if kind == "film" else drawn
 
 
@@ -135,25 +137,32 @@ def squares_signs(paper, standing):
     return drawn + [diamond(*paper.middle(found[:2]), found[4] >= STEEP, ' class="standing"') for found in standing]
 
 
-def hatch_signs(paper, pair):
+def hatch_signs(paper, pair, whole):
     """The hatches, each with its square's depth and its own openings for a pointer that rests on it; those of one square have one sign."""
     hatches = hatches_in(pair)
     for place in sorted({hatch.place for hatch in hatches}):
         here = [hatch for hatch in hatches if hatch.place == place]
-        below = told(paper, place, pair.answer.depths[place])
+        below = told(paper, place, pair.answer.depths[place]) + (run_told(place, whole) if whole else "")
         said = "; ".join([*(f"hatch {hatch.number}: {hatch.openings()}" for hatch in here), below])
         yield hatch_sign(*paper.middle(place), "+".join(str(hatch.number) for hatch in here), any(hatch.runs_at(pair.end) for hatch in here), said)
 
 
-def ground_and_water(paper, pair, standing):
-    """The map itself: squares, contours, walls, exits, standing squares and hatches."""
-    ends = heights_of(pair.sheet)
+def squares_drawn(paper, pair, whole):
+    """Each square with its water, and what it tells of the whole run."""
+    ends, depths = heights_of(pair.sheet), pair.answer.depths
+    for place in sorted(pair.sheet.squares):
+        more = run_told(place, whole) if whole and place in depths else ""
+        yield square_at(paper, place, depths.get(place, 0), ends, more)
+
+
+def ground_and_water(paper, pair, standing, whole):
+    """The map itself: squares, contours, walls, exits, standing squares, what must be minded, and hatches."""
     yield f'<g stroke="{LINES}" stroke-width="0.5">'
-    yield from (square_at(paper, place, pair.answer.depths.get(place, 0), ends) for place in sorted(pair.sheet.squares))
+    yield from squares_drawn(paper, pair, whole)
     yield "</g>" + UNTOUCHED
-    yield from (*contour_lines(paper), outline(paper), *squares_signs(paper, standing))
+    yield from (*contour_lines(paper), outline(paper), *caution_signs(paper, pair, whole), *squares_signs(paper, standing))
     yield "</g>"
-    yield from (*hatch_signs(paper, pair), *guess_signs(paper))
+    yield from (*hatch_signs(paper, pair, whole), *guess_signs(paper))
 
 
 def beside_it(paper):
@@ -172,8 +181,8 @@ def framed(paper, title, drawn, beside, needed):
     return "\n".join(parts) + "\n"
 
 
-def svg(pair, name, guesses=()):
-    """The map's text; `name` stands in its title, and `guesses` are of the sheet's ground."""
+def svg(pair, name, whole=None, guesses=()):
+    """The map's text; `name` stands in its title. Where the run is seen whole, the map tells of all of it; `guesses` are of the sheet's ground."""
     paper, standing = Paper(pair.sheet, guesses), standing_squares(pair.sheet, pair.answer)
-    beside, needed = legend(*beside_it(paper), pair, standing, guesses)
-    return framed(paper, f"{name}: water after {time(pair.end)}", ground_and_water(paper, pair, standing), beside, needed)
+    beside, needed = legend(*beside_it(paper), pair, standing, whole, guesses)
+    return framed(paper, f"{name}: water after {time(pair.end)}", ground_and_water(paper, pair, standing, whole), beside, needed)

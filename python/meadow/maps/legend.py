@@ -4,9 +4,11 @@ from textwrap import wrap
 from ..logs.nights import Night
 from ..rule.weighing import WEIGHTED
 from ..sheets.standing import STEEP
+from ..words.cautions import standing_words
 from ..words.hatches import hatches_in
 from ..words.sense import deepest_words, volumes
-from ..words.units import area, height, rain_rate, span, square, steps, time, volume
+from ..words.units import area, height, rain_rate, span, steps, time, volume
+from .cautions import say_caution_signs, say_doubts, say_whole, wall_words
 from .contours import gap_of, heights_of
 from .guessed import say_guesses
 from .shades import CLASSES, FILM_NAME, HATCH, PALE, class_of, ground
@@ -15,8 +17,8 @@ from .signs import box, diamond, exit_sign, film_dot, hatch_circle, north_arrow,
 LEGEND = 350
 LINE = 19
 USUAL, SMALL = 12, 11
-# how wide a letter is at the most, in parts of its height
-LETTER = 0.55
+# how wide a letter is at the most, in parts of its height, and a bold one
+LETTER, BOLD_LETTER = 0.55, 0.68
 # the most hatches and showers that are listed one by one
 MOST_LISTED = 12
 
@@ -30,7 +32,7 @@ class Column:
     def say(self, text, more="", size=USUAL, gap=0):
         """Letters of a size, on as many lines as they need."""
         self.y += gap
-        for line in wrap(text, int(LEGEND / (LETTER * size))):
+        for line in wrap(text, int(LEGEND / ((BOLD_LETTER if "bold" in more else LETTER) * size))):
             self.y += size + 6
             self.drawn.append(words(self.x, self.y, line, f' font-size="{size}"{more}'))
 
@@ -64,10 +66,11 @@ def say_depths(column, pair):
         column.entry(swatch(colour), name, area(sum(class_of(deep) == at for deep in depths), side))
 
 
-def say_signs(column, standing, edition):
+def say_signs(column, pair, standing):
     """Walls, exits, hatches, and standing squares as signs."""
+    edition = pair.sheet.run["edition"]
     column.y += 6
-    column.entry(swatch("url(#wall)"), "closed: no water enters")
+    column.entry(swatch("url(#wall)"), wall_words(pair))
     column.entry(lambda x, y: [exit_sign(x, y)], "exit")
     for runs, name in ((True, "hatch, drawn at this clock"), (False, "hatch, shut at this clock")):
         column.entry(lambda x, y: [hatch_circle(x, y, 7, runs)], name)
@@ -77,15 +80,6 @@ def say_signs(column, standing, edition):
     for steep, name in ((True, "standing, falls by 1 mm or more"), (False, "standing, falls by less")):
         count = sum((found[4] >= STEEP) == steep for found in standing)
         column.entry(lambda x, y: [diamond(x, y, steep)], f"{name}: {count}")
-
-
-def standing_words(standing):
-    """What standing squares mean for a reader."""
-    if not standing:
-        return "no square stands"
-    steep = sum(found[4] >= STEEP for found in standing)
-    which = f"; {square(standing[0][:2])} is the steepest" if steep else ""
-    return f"{len(standing)} squares stand, {steep} steep{which}: the rule holds their water, not the ground"
 
 
 def say_totals(column, pair, standing):
@@ -116,12 +110,15 @@ def say_tables(column, pair):
         column.say(f"and {len(lines) - MOST_LISTED} more: {where}", "", SMALL, gap=-2)
 
 
-def legend(x, y, pair, standing, guesses=()):
+def legend(x, y, pair, standing, whole, guesses=()):
     """The legend's parts, and how far down it reaches."""
     column = Column(x, y)
     say_depths(column, pair)
-    say_signs(column, standing, pair.sheet.run["edition"])
+    say_caution_signs(column, pair, whole)
+    say_signs(column, pair, standing)
     say_guesses(column, guesses, pair.sheet.side)
     say_totals(column, pair, standing)
+    say_whole(column, pair, whole)
     say_tables(column, pair)
+    say_doubts(column, pair)
     return [north_arrow(x + LEGEND - 20, y + 6), *column.drawn], column.y

@@ -28,6 +28,19 @@ def diamond(x, y, steep, more=""):
     )
 
 
+def wave(x, y, more=""):
+    """Water that was there: two waves on a white edge, which leave their ground to be seen."""
+    path = f"M{x - 7:g} {y - 2:g}q3.5 -5 7 0t7 0M{x - 7:g} {y + 4:g}q3.5 -5 7 0t7 0"
+    return f'<path d="{path}" fill="none" stroke="#ffffff" stroke-width="4"/><path d="{path}" fill="none" stroke="{FILM}" stroke-width="1.6"{more}/>'
+
+
+def doubt_sign(x, y, more=""):
+    """A bed or a mark that is likely a slip: a triangle with a stroke and a dot."""
+    edge = f"M{x:g} {y - 8:g}l8.5 15h-17z"
+    inside = f"M{x:g} {y - 3:g}v5M{x:g} {y + 3.6:g}v1.6"
+    return f'<path d="{edge}" fill="#ffffff" stroke="{INK}" stroke-width="1.6"{more}/><path d="{inside}" stroke="{INK}" stroke-width="1.8"/>'
+
+
 def exit_sign(x, y, quarters=0, more=""):
     """An exit: an arrow on a white edge, east or so many quarter turns from it, clockwise."""
     turned = f' transform="rotate({90 * quarters} {x:g} {y:g})"' if quarters else ""

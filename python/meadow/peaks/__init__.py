@@ -5,4 +5,9 @@
     lists        the list at the standard input of `drowned`: a depth and sheets' names
     tally        how often each square drowned in the sheets of a list, how deep, and by which sheet; what `drowned` prints of it, and read back
     winters      a list's sheets one after the other, accepted or refused
+
+And of one run, read from what the programs print of it:
+
+    courses      looks at the run from time to time: how long squares were wet, and steps held at the shortest
+    wholes       the run seen whole: its end, how high the water ever stood, and its course
 """

@@ -10,11 +10,16 @@ def candidates(side, tolerance, depth, roughness, drops):
     return [50_000 * side * side * roughness * slope(side, drop) // (depth * height(depth)) for drop in steep]
 
 
-def fresh_length(m):
-    """The least candidate of all squares, held between shortest and longest; the longest if there is none."""
+def wanted_length(m):
+    """The least candidate of all squares; None if there is none."""
     side, tolerance = m.rules["side"], m.rules["tolerance"]
-    found = [c for i in m.ground() for c in candidates(side, tolerance, m.depths[i], m.roughness[i], drops(m, i))]
-    return max(m.rules["shortest"], min([m.rules["longest"], *found]))
+    return min((c for i in m.ground() for c in candidates(side, tolerance, m.depths[i], m.roughness[i], drops(m, i))), default=None)
+
+
+def fresh_length(m):
+    """The least candidate, held between shortest and longest; the longest if there is none."""
+    wanted = wanted_length(m)
+    return m.rules["longest"] if wanted is None else max(m.rules["shortest"], min(m.rules["longest"], wanted))
 
 
 def length(m):

@@ -61,10 +61,11 @@ def guesses_file(sheet_file):
     return Path(f"{sheet_file}{SUFFIX}")
 
 
-def hold_no_list(sheet_file, replace):
-    """No list of an older sheet of that name is there, or it may be written over."""
-    if guesses_file(sheet_file).exists() and not replace:
-        raise Unreadable(f"{guesses_file(sheet_file)} is there already: take another name, or give --replace")
+def hold_no_list(sheet_file, guesses, replace):
+    """No other list is there under that name, or it may be written over."""
+    path = guesses_file(sheet_file)
+    if path.exists() and not replace and path.read_text(encoding="ascii") != list_text(guesses):
+        raise Unreadable(f"{path} is there already: take another name, or give --replace")
 
 
 def put_guesses(sheet_file, guesses):

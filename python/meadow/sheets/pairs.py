@@ -1,7 +1,7 @@
 """A sheet and what `meadow` answered to it, held together: what was answered to another sheet is refused.
 
-The answer's squares are exactly the sheet's squares that are not closed, and its clock is the sheet's end. A sheet with one number changed
-since it was run may still pass both; then the water account tells it, which balances for every answer that is the sheet's own.
+An answer is the sheet's where `meadow` gives it, byte for byte: it is run and compared. Of one that is not it is said why, as far as that shows:
+its squares are not those that the sheet has not closed, its clock is not the sheet's end, its water account does not balance, or a depth differs.
 """
 from pathlib import Path
 from typing import NamedTuple
@@ -10,7 +10,7 @@ from ..programs import printed
 from ..rule.refusals import check
 from .account import account
 from .lines import Answer, Sheet, Unreadable
-from .reading import meadow_of, read
+from .reading import MOST_BYTES, meadow_of, read
 
 
 class Pair(NamedTuple):
@@ -62,9 +62,28 @@ def bytes_as_text(path):
     return Path(path).read_bytes().decode("latin-1")
 
 
+def sheet_text(path):
+    """A sheet's bytes likewise, read once, and no more of them than show that they are too many: a pipe will do, and one without an end too."""
+    with open(path, "rb") as file:
+        return file.read(MOST_BYTES + 1).decode("latin-1")
+
+
+def hold_same(text, told, given):
+    """What is there already, `told`, is what `meadow` gave of a sheet's text."""
+    if told == given:
+        return
+    theirs = balanced(pair_of(*read(text), Answer(told))).answer
+    ours = Answer(given)
+    for row, column in sorted(place for place, deep in ours.depths.items() if theirs.depths[place] != deep):
+        deep = f"{theirs.depths[row, column]:,} µm, and meadow gives this sheet {ours.depths[row, column]:,} µm"
+        raise Unreadable(f"the answer is another sheet's, or was changed: square {row} {column} has {deep}")
+    raise Unreadable("the answer is another sheet's, or was changed: meadow gives this sheet other totals")
+
+
 def pair_in(sheet_file, answer_file=None):
-    """The pair in two files; where there is no answer, `meadow` is run on the sheet."""
-    text = bytes_as_text(sheet_file)
-    told = bytes_as_text(answer_file) if answer_file else printed("meadow", text.encode("latin-1")).decode("ascii")
-    answer = Answer(told)
-    return pair_of(*read(text), answer)
+    """The pair of a sheet in a file and what `meadow` gives it; where an answer is there already, it must be the same."""
+    text = sheet_text(sheet_file)
+    given = printed("meadow", text.encode("latin-1")).decode("ascii")
+    if answer_file:
+        hold_same(text, bytes_as_text(answer_file), given)
+    return balanced(pair_of(*read(text), Answer(given)))

@@ -17,6 +17,10 @@ NO_DATA = Decimal(-9999)
 CORNERS = {"xllcorner": "xllcenter", "yllcorner": "yllcenter"}
 # how map programs write NODATA where it is no number
 NOT_A_NUMBER = ("nan", "-nan")
+# the sides of squares that are not square, and the least side in m that is one
+OBLONG, LEAST_SIDE = ("dx", "dy"), Decimal("0.1")
+# how a TIFF begins, in either order of its bytes
+TIFF = (b"II*\0", b"MM\0*", b"II+\0", b"MM\0+")
 HEADS = ("ncols", "nrows", "cellsize", "nodata_value", *CORNERS, *CORNERS.values())
 
 
@@ -45,7 +49,8 @@ def number(text, where):
     except InvalidOperation:
         value = None
     if value is None or not value.is_finite():
-        raise Unreadable(f"{where}: {text!r} is no number")
+        unit = re.fullmatch(r"(\S*\d) ?[A-Za-z%][A-Za-z0-9%/]*", text)
+        raise Unreadable(f"{where}: {text!r} is no number" + (f": write {unit[1]}, without its unit" if unit else ""))
     return value
 
 
@@ -85,10 +90,26 @@ def corner_of(heads, name):
     return tuple(found)
 
 
+def hold_one_side(lines, name):
+    """A grid has one side for its squares; with two, dx and dy, they are oblong."""
+    sides = dict(line.split()[:2] for line in lines if line.split()[:1] and line.split()[0].lower() in OBLONG and len(line.split()) == 2)
+    if sides:
+        said = " and ".join(f"{side} {long}" for side, long in sides.items())
+        raise Unreadable(f"{name}: it has {said} for one cellsize: make its squares square, by gdalwarp -tr 5 5 say")
+
+
+def hold_metres(grid):
+    """A grid is in metres: one with a side far under a metre, at a corner that can be one, is in degrees."""
+    if grid.side is not None and grid.side < LEAST_SIDE and abs(grid.corner[0]) <= 360 and abs(grid.corner[1]) <= 90:
+        said = f"squares of {grid.side} at {grid.corner[0]} {grid.corner[1]}: this grid is in degrees, and a sheet in metres"
+        raise Unreadable(f"{said}: bring it into a grid of metres, by gdalwarp -t_srs EPSG:25832 -tr 5 5 say")
+
+
 def esri(text, name):
     """An ESRI ASCII grid."""
     lines = text.splitlines()
     heads, first = head_of(lines, name)
+    hold_one_side(lines[first : first + len(OBLONG)], name)
     for head in ("ncols", "nrows", "cellsize"):
         if head not in heads:
             raise Unreadable(f"{name}: it has no {head}")
@@ -126,7 +147,10 @@ def hold_even(rows, name):
 
 def grid_in(path, may_be_unseen=False):
     """The grid in a file, of either kind; a `?` is no number where it may not be."""
-    name, text = Path(path).name, Path(path).read_text(encoding="utf-8-sig")
+    name, given = Path(path).name, Path(path).read_bytes()
+    if given.startswith(TIFF):
+        raise Unreadable(f"{name} is a GeoTIFF: make an ESRI ASCII grid of it, by gdal_translate -of AAIGrid {name} {Path(name).stem}.asc say")
+    text = given.decode("utf-8-sig")
     first = re.match(r"\s*(\w*)", text)[1].lower()
     grid = (esri if first in HEADS else csv)(text, name)
     if grid.unseen and not may_be_unseen:

@@ -5,18 +5,21 @@ rounded. A square is closed where the plan says x or, where there is no plan, wh
 number where a plan does not close it, was not seen: it stays `?` in the sheet, for `repair` to give.
 """
 import re
-from decimal import ROUND_FLOOR, ROUND_HALF_UP, Decimal, InvalidOperation
+from decimal import ROUND_HALF_UP, Decimal, InvalidOperation
 from pathlib import Path
 
-from ..rule.ranges import RANGES, fine
+from ..rule.ranges import fine
 from ..sheets.holes import UNSEEN
-from ..sheets.lines import CLOSED, HOUR, MARKS, MINUTE, SECOND, Sheet, Unreadable
+from ..sheets.lines import CLOSED, HOUR, MARKS, MINUTE, SECOND, USUAL_RUN, Sheet, Unreadable
 from ..sheets.reading import MOST_SQUARES
 from ..words.units import square
-from .grids import Grid, grid_in, number
+from .grids import Grid, grid_in, hold_metres, number
+from .no_data import off_words
 
 # the sheet's units in a person's: µm in a metre, ten-thousandths, µm an hour in a mm an hour
 METRE, MANNING, MILLIMETRE_AN_HOUR = 1_000_000, 10_000, 1_000
+# 20 ms in squares of 5 m, in ms for each square metre
+SUITS_A_SQUARE_METRE = 4, 5
 CLOCK = re.compile(r"(\d+):([0-5]\d)(?::([0-5]\d))?")
 
 
@@ -24,7 +27,8 @@ def clock(text):
     """A time as h:min or h:min:s, in ms."""
     found = CLOCK.fullmatch(text)
     if not found:
-        raise Unreadable(f"{text!r} is no time: write hours and minutes, as 0:10, or also seconds, as 0:01:30")
+        seconds = f"; {text} seconds are {int(text) // 3600}:{int(text) // 60 % 60:02d}:{int(text) % 60:02d}" if re.fullmatch(r"\d{1,6}", text) else ""
+        raise Unreadable(f"{text!r} is no time: write hours and minutes, as 0:10, or also seconds, as 0:01:30{seconds}")
     hours, minutes, seconds = (int(part or 0) for part in found.groups())
     return hours * HOUR + minutes * MINUTE + seconds * SECOND
 
@@ -107,10 +111,7 @@ def bed_at(beds, place, datum):
     """A square's bed over the datum, in the range that a sheet has."""
     bed = whole(beds.at(place) - datum, METRE)
     if not fine("bed", bed):
-        highest = RANGES["bed"][1] // METRE
-        least = min(value for row in beds.rows for value in row if value is not None).to_integral_value(ROUND_FLOOR)
-        said = f"{square(place)}: a bed of {beds.at(place)} m is not 0 to {highest:,} m above {datum} m"
-        raise Unreadable(f"{said}: give --datum {least}, or a little less")
+        raise Unreadable(off_words(beds, place, datum))
     return bed
 
 
@@ -119,10 +120,16 @@ def hold_shape(beds, side, most_squares=MOST_SQUARES):
     rows, columns = beds.shape()
     if not (fine("rows", rows) and fine("columns", columns)) or rows * columns > most_squares:
         raise Unreadable(f"{rows} rows of {columns} are too many: 64 each and {most_squares:,} squares at most; cut the grid, or take larger squares")
+    hold_metres(beds)
     if side is None:
         raise Unreadable("a CSV does not say how large its squares are: give --side")
     if side != side.to_integral_value() or not fine("side", int(side)):
         raise Unreadable(f"squares of {side} m: a side is 1 to 100 whole metres")
+
+
+def suiting_shortest(side):
+    """The shortest step in ms that suits squares of a side in m: the rule's own goes with the square of the side (docs/VALIDATION.md, g)."""
+    return min(USUAL_RUN["shortest"], max(1, SUITS_A_SQUARE_METRE[0] * side * side // SUITS_A_SQUARE_METRE[1]))
 
 
 def sheet_of(beds, side, marks, datum, roughness, depth, soak, run):

@@ -1,4 +1,5 @@
-"""Where on a map a sheet lies: the side file that stands beside it, with the corner and the height that its beds count from.
+"""Where on a map a sheet lies: the side file that stands beside it, with the corner and the height that its beds count from. It has the sheet's
+whole name and .place after it, so that no two sheets share one.
 
 It is written as the head of an ESRI grid, and one line more: `datum`, the height in metres that is 0 in the sheet. Where the survey has a
 projection, a .prj file beside its grid, its lines follow, each after the word `prj`.
@@ -33,13 +34,33 @@ class Place(NamedTuple):
 
 def place_file(sheet_file):
     """The side file of a sheet."""
-    return Path(sheet_file).with_suffix(SUFFIX)
+    return Path(f"{sheet_file}{SUFFIX}")
+
+
+def older_place_file(sheet_file):
+    """What the side file of a sheet was called before it had the sheet's whole name; None where there is none."""
+    path = Path(sheet_file).with_suffix(SUFFIX)
+    return path if path.exists() else None
+
+
+def write_new(files, replace):
+    """Writes texts by their paths. Nothing is written over that says something else, without a word for it."""
+    for path, text in files.items():
+        if path.exists() and not replace and path.read_text(**LETTERS) != text:
+            raise Unreadable(f"{path} is there already: take another name, or give --replace")
+    for path, text in files.items():
+        path.write_text(text, **LETTERS)
 
 
 def place_text(sheet, place):
     """The side file's text, of a sheet or of a grid with the shape and side of one."""
     head = head_text((sheet.rows, sheet.columns), sheet.side, place.corner)
     return head + f"{DATUM} {plain(place.datum)}\n" + "".join(f"{PROJECTION}{line}\n" for line in place.projection)
+
+
+def projection_text(place):
+    """What stands in the survey's .prj file."""
+    return "".join(f"{line}\n" for line in place.projection)
 
 
 def place_in(path, sheet, what="sheet"):

@@ -10,7 +10,7 @@ from .faults import Fault, out_of_range, place_faults
 from .list_reasons import depth_slip
 from .opening import file_faults, is_the_sheets
 from .reasons import IN_THE_RUN, NOT_FOUND, first_told, reasons
-from .slips import mended, number_slip, shown
+from .slips import REMARKS, mended, number_slip, shown
 
 # how a line is written
 FORM = "→".join(Asked._fields)
@@ -31,7 +31,7 @@ def line_slips(line, every):
     said = [field for field in fields if field]
     if not said:
         return [*slips, "it is blank: delete it"]
-    if said[0].startswith(("#", "//", ";")):
+    if said[0].startswith(REMARKS):
         return [*slips, "a list of boards has no room for remarks: delete it"]
     if said != fields and len(said) == len(Asked._fields):
         slips.append("it has a tab too many, two in a row or one at its end: delete it")

@@ -11,6 +11,8 @@ from ..sheets.lines import INFLOW, RAIN
 from .enclosed import walled_in
 from .faults import RUN_LINE, rows_with_lines
 from .hatches import hatches_of
+from .holes import gaps, lone_squares
+from .relief import pits_and_spikes, zeros
 from .units import area, height, rain_rate, roughness, square, time
 
 # rain in µm an hour, roughness in ten-thousandths, distance in m, ms for each metre
@@ -67,18 +69,34 @@ def step_doubts(sheet, _end):
         yield f"{said}: let the shortest be {most} ms or less, and the longest more than it"
 
 
+def away_from(exits, place, side):
+    """How far a square is from the nearest exit, from middle to middle in m, and that exit."""
+    return min((side * hypot(place[0] - mouth[0], place[1] - mouth[1]), mouth) for mouth in exits)
+
+
+def cliff_doubts(sheet):
+    """Ground near an exit at the steepest edge slope."""
+    exits = sheet.exits()
+    near = [place for place in sheet.ground() if away_from(exits, place, sheet.side)[0] <= NEAR_AN_EXIT]
+    hatches = [f"hatch {row},{column}" for row, column in (hatch.place for hatch in hatches_of(sheet)) if (row, column) in near]
+    among = f", {', '.join(hatches)} among them" if hatches else ""
+    said = f"{area(len(near), sheet.side)} of ground lie within {NEAR_AN_EXIT} m of an exit{among}, and the edge slope is {sheet.run['edge']:,}"
+    yield f"{said}: such an exit drains like a cliff, and the water near it is too shallow: give the slope of the ditch's bed, 10 for 1 in 1,000"
+
+
 def exit_doubts(sheet, _end):
-    """Hatches near an exit, where the water follows the edge slope more than the ground."""
+    """Ground near an exit, where the water follows the edge slope more than the ground: all of it at the steepest, else that of a hatch."""
     edge = sheet.run["edge"]
     if edge == 0 or not sheet.exits():
         return
-    steepest = edge == RANGES["edge"][1]
-    why = "such an exit drains like a cliff, and the water near it is too shallow" if steepest else f"the edge slope {edge} decides the water there"
+    if edge == RANGES["edge"][1]:
+        yield from cliff_doubts(sheet)
+        return
     for hatch in hatches_of(sheet):
-        row, column = hatch.place
-        away, nearest = min((sheet.side * hypot(row - place[0], column - place[1]), place) for place in sheet.exits())
+        away, nearest = away_from(sheet.exits(), hatch.place, sheet.side)
         if away <= NEAR_AN_EXIT:
-            yield f"hatch {row},{column} is {away:.0f} m from the exit at {square(nearest)}: {why}"
+            row, column = hatch.place
+            yield f"hatch {row},{column} is {away:.0f} m from the exit at {square(nearest)}: the edge slope {edge} decides the water there"
 
 
 def rule_doubts(sheet, _end):
@@ -90,16 +108,55 @@ def rule_doubts(sheet, _end):
         yield f"line {RUN_LINE}: edition {edition} is there to be compared with edition 1: its water does not come to rest"
 
 
+def piece_words(sheet, places):
+    """A piece of ground by its first square, with its area."""
+    more = f" and {len(places) - 1} more square{'' if len(places) == 2 else 's'}" if len(places) > 1 else ""
+    return f"{square(places[0])}{more}, {area(len(places), sheet.side)}"
+
+
+def relief_doubts(sheet, _end):
+    """Beds that are likely no heights: 0 in ground that lies elsewhere, pits and spikes."""
+    nothing = zeros(sheet)
+    for piece in nothing:
+        said = f"bed 0 at {piece_words(sheet, piece.places)}, {height(piece.below)} m or more below all ground beside it: surveys write no data so"
+        yield f"{said}, and water drains into it as into a pit; close it if it is a house, or give its height"
+    told = {place for piece in nothing for place in piece.places}
+    for piece in pits_and_spikes(sheet):
+        where = f"{piece_words(sheet, piece.places)}, {height(abs(piece.below))} m or more"
+        if piece.below < 0:
+            yield f"a spike at {where} above all ground beside it: mend its bed"
+        elif not told.issuperset(piece.places):
+            yield f"a pit at {where} below all ground beside it, and water drains into it; close it if it is a house, or mend its bed"
+
+
 def wall_doubts(sheet, _end):
     """Ground that is walled in on all sides, and what wets it."""
     for piece in walled_in(sheet):
-        said = f"{square(piece[0])}" + (f" and {len(piece) - 1} more squares" if len(piece) > 1 else "")
         rained = any(rate for _, _, rate in sheet.rain)
         why = "rain wets a house that is walled only in outline" if rained else "no water comes or goes there over the ground"
-        yield f"walled in on all sides: {said}, {area(len(piece), sheet.side)}: {why}; close them if they are a house"
+        yield f"walled in on all sides: {piece_words(sheet, piece)}: {why}; close them if they are a house"
 
 
-DOUBTS = (rain_doubts, never_doubts, roughness_doubts, flat_doubts, end_doubts, step_doubts, exit_doubts, rule_doubts, wall_doubts)
+def hole_doubts(sheet, _end):
+    """A closed square that is likely a hole in the survey, and an open one that is likely a gap in a wall."""
+    lone, open_in_line = lone_squares(sheet), gaps(sheet)
+    if lone:
+        said = f"closed alone amid open ground: {piece_words(sheet, lone)}: a hole in a survey becomes a wall"
+        yield f"{said}; if it is no house, give its height, or ? for its bed, which repair guesses"
+    if open_in_line:
+        said = f"open alone in a line of closed squares: {piece_words(sheet, open_in_line)}"
+        yield f"{said}: water goes through as by a door; close it if the wall has none"
+
+
+def odd_places(sheet):
+    """The squares whose bed or mark is likely a slip."""
+    odd = {place for piece in (*zeros(sheet), *pits_and_spikes(sheet)) for place in piece.places}
+    return sorted(odd.union(lone_squares(sheet), gaps(sheet)))
+
+
+OF_THE_GROUND = (relief_doubts, wall_doubts, hole_doubts, roughness_doubts, flat_doubts)
+OF_THE_RUN = (rain_doubts, never_doubts, end_doubts, step_doubts, exit_doubts, rule_doubts)
+DOUBTS = (*OF_THE_GROUND, *OF_THE_RUN)
 
 
 def doubts(sheet, end):

@@ -3,13 +3,11 @@
 The meadow itself is the largest piece of ground that hangs together; another piece without an exit is walled in on all sides, as a house
 is whose outline alone is closed.
 """
-
-
 from ..sheets.reading import meadow_of
 
 
-def pieces(m):
-    """The pieces of a meadow's ground that hang together, each as its squares in their order."""
+def pieces(m, joined=lambda one, other: True):
+    """The pieces of a meadow's ground that hang together, each as its squares in their order; two squares side by side do where they are joined."""
     left, found = set(m.ground()), []
     for first in m.ground():
         if first not in left:
@@ -17,7 +15,7 @@ def pieces(m):
         left.remove(first)
         piece = [first]
         for square in piece:
-            near = [other for other in m.beside(square) if other in left]
+            near = [other for other in m.beside(square) if other in left and joined(square, other)]
             left.difference_update(near)
             piece += near
         found.append(sorted(piece))

@@ -5,7 +5,7 @@ The number is `meadow`'s; what is looked for here are the places that it can be 
 from typing import NamedTuple
 
 from ..rule.ranges import LAST_CLOCK, MOST_ROWS_OF_A_TABLE, RANGES, fine
-from ..sheets.lines import CLOSED, GRID, INFLOW, RAIN, SHEET_LINES
+from ..sheets.lines import CLOSED, GRID, INFLOW, MINUTE, RAIN, SECOND, SHEET_LINES
 from ..sheets.reading import MOST_SQUARES, Lines, meadow_of, read
 from .units import square, time
 
@@ -125,13 +125,24 @@ def good_ends(end, update):
     return [good for good in (below, below + update) if good <= LAST_CLOCK]
 
 
+def likely_unit(end, update):
+    """The unit that an end was likely written in, with what it is in ms; None where it is no such slip."""
+    for unit, times in (("seconds", SECOND), ("minutes", MINUTE)):
+        if 0 < end < update and end * times % update == 0 and end * times <= LAST_CLOCK:
+            return unit, end * times
+    return None
+
+
 def run_faults(sheet, end):
     """Of 5: the run line."""
     yield from out_of_range(RUN_LINE, {**sheet.run, "end": end})
     shortest, longest, update = (sheet.run[name] for name in ("shortest", "longest", "update"))
     if shortest > longest:
         yield Fault(RUN_LINE, f"the longest step, {longest:,} ms, is under the shortest, {shortest:,} ms", "swap the two, or mend one")
-    if fine("update", update) and end % update != 0:
+    if fine("update", update) and (meant := likely_unit(end, update)):
+        said = f"the end, {end:,} ms, is less than the update time, {update:,} ms, and likely in {meant[0]}"
+        yield Fault(RUN_LINE, said, f"write {meant[1]} ({time(meant[1])})")
+    elif fine("update", update) and end % update != 0:
         nearest = " or ".join(f"{good} ({time(good)})" for good in good_ends(end, update))
         yield Fault(RUN_LINE, f"the end, {end:,} ms, is no multiple of the update time, {update:,} ms", f"write {nearest}")
 

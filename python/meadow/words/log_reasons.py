@@ -16,7 +16,7 @@ from .faults import good_ends, out_of_range, place_faults
 from .opening import file_faults, is_the_sheets
 from .reasons import IN_THE_RUN, NOT_FOUND, reasons
 from .sense import deepest
-from .slips import mended, number_slip, shown
+from .slips import REMARKS, mended, number_slip, shown
 from .units import depth, square, steps, time
 
 # how a line of each kind is written
@@ -36,7 +36,7 @@ def word_slip(word):
     """The slip where a line begins neither with a word of a log nor with a number."""
     if word == "":
         return "it is blank: delete it"
-    if word.startswith(("#", "//", ";")):
+    if word.startswith(REMARKS):
         return "a log has no room for remarks: delete it"
     if word.lower() in (HATCH, BACK):
         return f"the word {word} is not in small letters: write {word.lower()}"

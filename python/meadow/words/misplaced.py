@@ -6,7 +6,7 @@ from typing import NamedTuple
 from ..sheets.lines import CLOSED, GRID, INFLOW, RAIN, RUN, SHEET_LINES, SQUARE, place_of, values_of
 from ..sheets.reading import MOST_BYTES, Lines, fields_well
 from .faults import FIRST_SQUARE, RUN_LINE
-from .slips import field_slips, mended, shown
+from .slips import field_slips, mended, remark_slip, shown
 from .units import square
 
 
@@ -87,8 +87,6 @@ def word_slip(word, due, every):
     """The slip where a line has not the word of a kind that is due."""
     if word == "":
         return "it is blank: delete it"
-    if word.startswith(("#", "//", ";")):
-        return "a sheet has no room for remarks: delete it"
     if word.lower() in SHEET_LINES and word != word.lower():
         return f"the word {word} is not in small letters: write {word.lower()}"
     if word == RAIN and due.kinds == [INFLOW]:
@@ -103,6 +101,8 @@ def word_slip(word, due, every):
 
 def slips_in(line, due, every):
     """The slips of a line that is there."""
+    if remark := remark_slip(line):
+        return [remark]
     line, slips = mended(line, every)
     word, *fields = line.split("\t")
     if due.grid and squares_said([line]):
@@ -116,7 +116,7 @@ def slips_in(line, due, every):
 def slips_at(text, number):
     """The likely slips where a text was refused by 12 with a line."""
     if number == 0:
-        return [f"it has {len(text):,} bytes, and at most {MOST_BYTES:,} are read: fewer squares, or fewer rain and inflow lines"]
+        return [f"it has more than {MOST_BYTES:,} bytes, the most that are read: fewer squares, or fewer rain and inflow lines"]
     if "\0" in text:
         return ["the file is saved as UTF-16: save it as plain text or UTF-8"]
     every, due = lines_in(text), wanted(text, number)

@@ -1,5 +1,8 @@
-"""One line of sense about an answer: how much water is where, the deepest place, the clock and the steps."""
-from .units import depth, square, steps, time, volume
+"""One line of sense about an answer: how much water is where, the deepest place, the clock and the steps; of a run that is seen whole also how
+high the water ever stood, and how long squares were wet."""
+from ..peaks.courses import WET
+from .drownings import about
+from .units import depth, graduation, square, squares, steps, time, volume
 
 
 def deepest(answer):
@@ -21,6 +24,45 @@ def volumes(told):
     """On the meadow, gone by exits and soaked, of an account, each by its name in m³."""
     amounts = (("on the meadow", told.ground), ("gone by exits", told.exits), ("soaked", told.soaked))
     return {name: told.cubic_metres(amount) for name, amount in amounts}
+
+
+def highest(heights):
+    """The place and the peak of the highest water, the first of several; None where every square is closed, or dry all the time."""
+    place = max(sorted(heights.peaks), key=lambda place: heights.peaks[place].depth, default=None)
+    return None if place is None or heights.peaks[place].depth == 0 else (place, heights.peaks[place])
+
+
+def highest_words(whole):
+    """The highest water of a run in words, and when it was; nothing where there never was any."""
+    found = highest(whole.heights)
+    if found is None:
+        return ""
+    place, peak = found
+    when = f"after {about(peak.clock)}" if peak.clock else "at the start"
+    return f"highest {depth(peak.depth)} at {square(place)}, {when}"
+
+
+def ever_wet(whole):
+    """The places that were wet at some time of a run, and those that are at its end."""
+    ever, now = ({place for place, deep in depths.items() if deep >= WET} for depths in (whole.heights.depths, whole.pair.answer.depths))
+    return ever, now
+
+
+def wet_words(whole):
+    """How many squares were wet at some time, how many are now, and the longest time; nothing where none was."""
+    ever, now = ever_wet(whole)
+    if not ever:
+        return ""
+    long = f", the longest for {time(max(whole.wet.values()))}" if whole.wet else ""
+    return f"{graduation(WET)} deep or deeper: {squares(len(ever))} at some time, {len(now) or 'none'} at the end{long}"
+
+
+def whole_sense(whole):
+    """The line about a run that is seen whole."""
+    said, rest = sense(whole.pair).rsplit("; ", 1)
+    if highest(whole.heights):
+        said = said.replace("all dry", "dry now")
+    return "; ".join(filter(None, [said, highest_words(whole), wet_words(whole), rest]))
 
 
 def sense(pair):

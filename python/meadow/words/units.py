@@ -99,6 +99,11 @@ def steps(count):
     return f"{count:,} step{'' if count == 1 else 's'}"
 
 
+def squares(count):
+    """So many squares."""
+    return f"{count:,} square{'' if count == 1 else 's'}"
+
+
 def square(place):
     """A square by its place."""
     return f"row {place[0]}, column {place[1]}"
