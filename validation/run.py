@@ -12,17 +12,23 @@ sys.path.insert(0, str(Path(__file__).resolve().parent.parent / "python"))
 
 import analytical_wave
 import basin
+import beach
 import ditch_mouth
+import drained_plane
 import editions
 import lake
 import long_step
+import loss_rate
+import plane_wetting
 import pond
+import rain_terrain
 import soaking
 import thin_water
 import turns
 import update_time
 import walls
 import wetting_front
+import which_steps
 from meadow.counted import Checks
 from meadow.programs import TOP, ended
 from shared import Wrong
@@ -42,6 +48,12 @@ PARTS = {
     "editions": editions,
     "soak": soaking,
     "front": wetting_front,
+    "plane": plane_wetting,
+    "beach": beach,
+    "terrain": rain_terrain,
+    "drain": drained_plane,
+    "loss": loss_rate,
+    "lines": which_steps,
 }
 
 
