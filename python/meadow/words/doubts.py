@@ -11,6 +11,7 @@ from ..sheets.lines import INFLOW, RAIN
 from .enclosed import walled_in
 from .faults import RUN_LINE, rows_with_lines
 from .hatches import hatches_of
+from .run_lines import run_line_faults
 from .units import area, height, rain_rate, roughness, square, time
 
 # rain in µm an hour, roughness in ten-thousandths, distance in m, ms for each metre
@@ -90,6 +91,11 @@ def rule_doubts(sheet, _end):
         yield f"line {RUN_LINE}: edition {edition} is there to be compared with edition 1: its water does not come to rest"
 
 
+def run_line_doubts(sheet, _end):
+    """A run line that does not suit the squares, the ground or the ponds."""
+    return [f"line {RUN_LINE}: {fault}" for fault in run_line_faults(sheet)]
+
+
 def wall_doubts(sheet, _end):
     """Ground that is walled in on all sides, and what wets it."""
     for piece in walled_in(sheet):
@@ -99,7 +105,7 @@ def wall_doubts(sheet, _end):
         yield f"walled in on all sides: {said}, {area(len(piece), sheet.side)}: {why}; close them if they are a house"
 
 
-DOUBTS = (rain_doubts, never_doubts, roughness_doubts, flat_doubts, end_doubts, step_doubts, exit_doubts, rule_doubts, wall_doubts)
+DOUBTS = (rain_doubts, never_doubts, roughness_doubts, flat_doubts, end_doubts, step_doubts, exit_doubts, rule_doubts, run_line_doubts, wall_doubts)
 
 
 def doubts(sheet, end):
