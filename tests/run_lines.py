@@ -1,5 +1,5 @@
 """Which run line suits which meadow (meadow.words.run_lines): figures worked by hand, the rule at the depths that it says stand still, faults
-told just where they begin, and the program `meadow` on ponds by run lines that are told and by those that suit."""
+told just where they begin, the page's table of shortest steps, and the program `meadow` on ponds by run lines that are told and by those that suit."""
 import subprocess
 import sys
 import tempfile
@@ -57,6 +57,20 @@ def hold_by_hand(checks):
         checks.hold(not given[2] or shortest in (1, 500) or shortest <= longest_shortest(*given) < 2.5 * shortest, f"{given} has a longer shortest step")
 
 
+def hold_page(checks):
+    """The table of shortest steps on the page is as the module has it, for n 0.035."""
+    lines = (TOP / "docs" / "VALIDATION.md").read_text(encoding="utf-8").splitlines()
+    at = next(number for number, line in enumerate(lines) if line.startswith("| side, m |"))
+    heads, rows = (
+        [[cell.strip() for cell in line.strip("|").split("|")] for line in lines[first:last]] for first, last in ((at, at + 1), (at + 2, at + 7))
+    )
+    depths = [round(1e6 * float(head.removesuffix(" m"))) for head in heads[0][1:]]
+    checks.hold(len(depths) == 5, "the page has not five depths")
+    for side, *cells in rows:
+        found = [suited(int(side.split()[0]), 350, depth)["shortest"] for depth in depths]
+        checks.hold(list(map(int, cells)) == found, f"the page has {cells} for squares of {side} m, and {found} suit")
+
+
 def hold_still(checks):
     """On a slope of 1 in 1,000 nothing leaves water a twentieth thinner than is said, and something leaves water a twentieth deeper."""
     for side in (1, 5, 10, 50, 100):
@@ -98,6 +112,7 @@ def hold_ponds(checks):
 def main():
     checks = Checks("run_lines")
     hold_by_hand(checks)
+    hold_page(checks)
     hold_still(checks)
     hold_faults(checks)
     hold_ponds(checks)

@@ -12,6 +12,7 @@ HIGHEST, HALF_PERIOD = 4.0, 3_000
 # s: how long one step of the unrounded flood is, and by roughness the times of Table 2 at which water still comes in
 EACH = 2
 TIMES = {100: (400, 1_100), 200: (400, 1_100), 400: (400, 1_100), 800: (400, 1_100, 1_900)}
+# with the log's own hatch 64 rows of inflow
 INFLOW_ROWS = 63
 # the shortest steps tried in ms, against the shortest there is
 TRIED, TRUE = (1_000, 100, 10), 1

@@ -47,6 +47,7 @@ def held(sheet, answer):
 
 
 def row(side, step, edition):
+    """The wobble early on, what has gone, and what stands late."""
     sheet = plane(side, **limits(0, step, step, MINUTE), edition=edition)
     early, late = answers_at(sheet, (EARLY, LATE))
     bent = list(bends(sheet, early))
@@ -57,6 +58,7 @@ def row(side, step, edition):
 
 
 def rows(long):
+    """Each step by each edition; edition 2, which is their way, follows Table 3."""
     for side, steps in (TABLE_3 if long else {20: (50, 100)}).items():
         for step in steps:
             found = [row(side, step, edition) for edition in EDITIONS]

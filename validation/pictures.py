@@ -1,5 +1,5 @@
 #!/usr/bin/env python3
-"""pictures.py [NAME ..]: makes the pictures of docs/VALIDATION.md, all or those named, under docs/pictures/, from runs of the programs."""
+"""pictures.py [NAME ..]: makes the pictures of docs/FIGURES.md, all or those named, under docs/pictures/, from runs of the programs."""
 import sys
 from pathlib import Path
 

@@ -19,8 +19,8 @@ LINES = {
     "shortest 500, update 1 s": limits(1, 500, 10_000, SECOND),
     "tolerance 0, shortest 10, update 1 s": limits(0, 10, SECOND, SECOND),
 }
-# the line that freezes takes long, and has frozen by then
-FROZEN, FROZEN_BY = "tolerance 0, shortest 10, update 1 s", 100
+# the line that freezes takes long, and stands still between the last two of these times
+FROZEN, FROZEN_TIMES = "tolerance 0, shortest 10, update 1 s", (40, 60, 100, 120)
 
 
 def bed(row, column):
@@ -67,6 +67,6 @@ def figures(long):
     claim_as_told(usual)
     more = []
     if long:
-        more += [*rows("usual", 3, SNAPSHOTS), *rows("shortest 500, update 1 s", 1, SNAPSHOTS), *rows(FROZEN, 1, (40, 60, 80, FROZEN_BY))]
+        more += [*rows("usual", 3, SNAPSHOTS), *rows("shortest 500, update 1 s", 1, SNAPSHOTS), *rows(FROZEN, 1, FROZEN_TIMES)]
         claim(more[-1][4:] == more[-2][4:], "nothing is frozen")
     yield from table(heads, usual + more)

@@ -1,9 +1,13 @@
 """Which run line suits which meadow: ditches and ponds let go by usual steps, by the shortest there are, and by steps that suit them."""
+import math
+from functools import partial
+
 import drained_plane
 import pond
 from diffusive import Channel
+from long_step import level_meadow
 from meadow.programs import meadow
-from meadow.sheets.grounds import HELD_MOUTH, POND_ROUGHNESS, opened_pond
+from meadow.sheets.grounds import HELD_MOUTH, POND_ROUGHNESS, drowned_meadow, opened_pond
 from meadow.sheets.lines import HOUR, MINUTE, SECOND, Sheet
 from meadow.words.run_lines import suited
 from shared import USUAL, answers_at, claim, limits, table
@@ -37,6 +41,7 @@ def unrounded(side, depth, seconds):
 
 
 def ditch_row(side, depth):
+    """The share that leaves a ditch by each run line, and the steps of three of them; the suited one is near the unrounded share."""
     seconds, fields = SIDES[side], suited(side, ROUGHNESS, depth)
     true = unrounded(side, depth, seconds)
     shares, steps = [], []
@@ -58,10 +63,6 @@ def ditch_rows(long):
             yield ditch_row(side, depth)
 
 
-def plane(side, **run):
-    return drained_plane.plane(side, **run)
-
-
 def level_pond(**run):
     """The pond of section (f) put level and opened at a mouth that held it when it was not."""
     sheet = opened_pond(pond.made_level(pond.settled()), HELD_MOUTH)
@@ -69,16 +70,17 @@ def level_pond(**run):
     return sheet
 
 
-# name: the sheet by its run line, its side, roughness and depth, and the fixed steps in ms that stand for short ones
+# name: what makes the sheet of a run line, its side, roughness and depth, and the fixed steps in ms that stand for short ones
 PONDS = {
     "pond, 5 m": (level_pond, 5, POND_ROUGHNESS, 670_000, 5),
-    "plane, 20 m": (lambda **run: plane(20, **run), 20, drained_plane.ROUGHNESS, drained_plane.DEEP, 10),
-    "plane, 10 m": (lambda **run: plane(10, **run), 10, drained_plane.ROUGHNESS, drained_plane.DEEP, 10),
+    "plane, 20 m": (partial(drained_plane.plane, 20), 20, drained_plane.ROUGHNESS, drained_plane.DEEP, 10),
+    "plane, 10 m": (partial(drained_plane.plane, 10), 10, drained_plane.ROUGHNESS, drained_plane.DEEP, 10),
 }
 ENDS = (MINUTE, 10 * MINUTE, HOUR)
 
 
 def pond_row(name, made, steps, run, edition, ends=ENDS):
+    """What has gone at each end, and what stands at the last."""
     sheet = made(**run, edition=edition)
     whole = sum(sheet.depth(place) for place in sheet.ground())
     answers = answers_at(sheet, ends)
@@ -96,6 +98,29 @@ def pond_rows(long):
             yield from (pond_row(name, made, steps, run, edition) for edition in (1, 3))
 
 
+def hatched(name, run):
+    """The answer of a meadow with hatches, by a run line."""
+    if name == "level meadow, 30 min":
+        return meadow(level_meadow(run).text(30 * MINUTE))
+    return meadow(drowned_meadow(**run).text(3 * MINUTE))
+
+
+# name: the roughness and the depth that the suited line is chosen by; the squares are of 10 m
+HATCHED = {"walled-meadow, 3 min": (300, 450_000), "level meadow, 30 min": (350, 140_000)}
+
+
+def hatch_rows(long):
+    """How far each run line is off a tolerance of 0, steps from 1 ms and an update time of 1 s, which is right where hatches are drawn."""
+    for name in HATCHED if long else list(HATCHED)[:1]:
+        first = hatched(name, limits(0, 1, MINUTE, SECOND))
+        lines = {"usual": USUAL, "usual, update time 1 s": {"update": SECOND}, "suited": suited(10, *HATCHED[name])}
+        for steps, run in lines.items():
+            answer = hatched(name, run)
+            off = [abs(depth - first.depths[place]) for place, depth in answer.depths.items()]
+            mean = math.sqrt(sum(each**2 for each in off) / len(off))
+            yield (name, steps, answer.steps, first.steps, f"{max(off) / 1_000:.1f}", f"{mean / 1_000:.2f}")
+
+
 def figures(long):
     heads = ["D, m", "depth, m", "seconds", "unrounded", "usual", "tolerance 0, from 1 ms", "all 1 ms", "suited", "its shortest, ms"]
     heads += ["steps, usual", "tolerance 0", "suited"]
@@ -105,3 +130,8 @@ def figures(long):
     yield ""
     heads = ["pond", "steps of", "edition", "steps", "gone in 1 min", "10 min", "1 h", "steep standing squares", "water in them"]
     yield from table(heads, pond_rows(long))
+    yield ""
+    yield "Meadows with hatches:"
+    yield ""
+    heads = ["meadow", "steps of", "steps", "tolerance 0, from 1 ms", "off it by at most, mm", "root mean square, mm"]
+    yield from table(heads, hatch_rows(long))

@@ -1,4 +1,4 @@
-"""Which run line suits which meadow, and what is wrong with one that does not: what docs/VALIDATION.md (n) found by figures, in one place.
+"""Which run line suits which meadow, and what is wrong with one that does not: what docs/FIGURES.md (n) found by figures, in one place.
 
 Two things go wrong. A shortest step that is long for the depth lets a pond empty too slowly, and looks calm. Steps of a few ms keep thin
 water where it is, since amounts are in whole µm; at a slope tolerance of 0 water that is nearly at rest asks for the shortest steps for ever.
