@@ -9,7 +9,7 @@ from meadow.counted import Checks
 from meadow.programs import TOP, meadow
 from meadow.rule.weighing import WEIGHTED, weigh
 from meadow.sheets.lines import MINUTE, Sheet
-from meadow.words.run_lines import longest_shortest, run_line_faults, still_up_to, suited
+from meadow.words.run_lines import longest_shortest, pond_line, run_line_faults, still_up_to, suited
 
 TOOL = TOP / "tools" / "tell.py"
 LONG, THIN, AT_REST = "is long for", "every step is at most", "nearly at rest goes by the shortest step"
@@ -55,6 +55,13 @@ def hold_by_hand(checks):
         found = suited(*given)
         checks.hold(found == {"tolerance": 1, "shortest": shortest, "longest": 10_000, "update": 1_000}, f"{given} is suited by {found}")
         checks.hold(not given[2] or shortest in (1, 500) or shortest <= longest_shortest(*given) < 2.5 * shortest, f"{given} has a longer shortest step")
+
+
+def hold_chosen(checks):
+    """What make_sheet takes for the water of the start: the suited line where the sheet's own shortest step is too long for it, else nothing."""
+    checks.hold(pond_line(pond()) == suited(10, 500, 3_000_000), "a deep pond does not get the line that suits it")
+    checks.hold(pond_line(pond(shortest=50)) == {}, "a pond whose shortest step suits gets another line")
+    checks.hold(pond_line(pond(depth=0)) == {} and pond_line(pond(depth=10_000)) == {}, "dry ground or a film gets a pond's line")
 
 
 def hold_page(checks):
@@ -112,6 +119,7 @@ def hold_ponds(checks):
 def main():
     checks = Checks("run_lines")
     hold_by_hand(checks)
+    hold_chosen(checks)
     hold_page(checks)
     hold_still(checks)
     hold_faults(checks)

@@ -28,6 +28,13 @@ def suited(side, roughness, deepest):
     return {**SUITED, "shortest": max([ms for ms in SHORTEST if ms <= most], default=SHORTEST[0])}
 
 
+def pond_line(sheet):
+    """The fields of the run line that suit the water of a sheet's start; none where its own shortest step is short enough for it."""
+    deepest = max((sheet.depth(place) for place in sheet.ground()), default=0)
+    better = suited(sheet.side, least_roughness(sheet), deepest) if deepest else sheet.run
+    return better if better["shortest"] < sheet.run["shortest"] else {}
+
+
 def still_up_to(side, roughness, ms):
     """How deep water may be, in µm, that does not move in steps of so many ms on a slope of 1 in 1,000: less than 1 µm passes."""
     return (side * 10**9 * roughness / (100 * GENTLE_ROOT * ms)) ** (3 / 5)
