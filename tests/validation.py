@@ -1,4 +1,4 @@
-"""The short form of the validation: the built `meadow` gives the figures that docs/VALIDATION.md has."""
+"""The short form of the validation: the built programs give the figures that docs/FIGURES.md has."""
 from meadow.programs import ended
 from run import main
 

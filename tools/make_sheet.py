@@ -26,6 +26,7 @@ from meadow.surveys.mouths import mouth_rules
 from meadow.surveys.places import Place, place_file, place_text, write_new
 from meadow.words.guessing import guesses_words, unseen_words, whole_by_program
 from meadow.words.reasons import why_not
+from meadow.words.run_lines import pond_line
 from meadow.words.telling import telling
 
 OWN = {"shortest": "by the side", "edge": "as the ground falls to the exits", "tolerance": "10, or half of the edge slope"}
@@ -88,8 +89,9 @@ def made(given):
     end = clock(given.end)
     hold_asked(sheet, end, given)
     sheet, guesses = with_guesses(sheet, end) if given.repair else (sheet, [])
-    mouths, told = mouth_rules(sheet, said)
-    sheet.run |= mouths
+    chosen = {**pond_line(sheet), **said}
+    mouths, told = mouth_rules(sheet, chosen)
+    sheet.run |= {**chosen, **mouths}
     return sheet, end, place, told, guesses
 
 

@@ -1,11 +1,12 @@
 #!/usr/bin/env python3
-"""pictures.py: makes the pictures of docs/VALIDATION.md, under docs/pictures/, from runs of `meadow`."""
+"""pictures.py [NAME ..]: makes the pictures of docs/FIGURES.md, all or those named, under docs/pictures/, from runs of the programs."""
 import sys
 from pathlib import Path
 
 sys.path.insert(0, str(Path(__file__).resolve().parent.parent / "python"))
 
 from analytical_wave import WAVES, compare, fold, wave_depth, wave_sheet
+from charts import BLUE, GREEN, GREY, RED, Chart
 from ditch_mouth import BED_EDGE, BELOW_EDGE, FLOW, SQUARES, normal_depth, profile
 from editions import FIXED, wave as wave_by
 from long_step import RUNS, level_meadow
@@ -15,55 +16,12 @@ from meadow.sheets.grounds import HELD_MOUTH, opened_pond
 from meadow.sheets.lines import HOUR, MINUTE, SECOND
 from meadow.sheets.pairs import pair_of
 from meadow.sheets.reading import read
+from paper_pictures import PAPER_PICTURES
 from pond import settled
 from shared import limits
 from soaking import SAMPLE
 
 FOLDER = TOP / "docs" / "pictures"
-WIDTH, HEIGHT = 640, 300
-LEFT, RIGHT, ABOVE, BELOW = 48, 24, 28, 44
-BLUE, RED, GREY, GREEN = "#08519c", "#d7301f", "#777777", "#238b45"
-
-
-class Chart:
-    """Lines and dots over an x axis and a y axis, each a list of the values that are marked on it."""
-
-    def __init__(self, across, up, name_across, name_up):
-        self.across, self.up = across, up
-        head = f'<svg xmlns="http://www.w3.org/2000/svg" width="{WIDTH}" height="{HEIGHT}" font-family="sans-serif" font-size="12">'
-        self.drawn = [head, f'<rect width="{WIDTH}" height="{HEIGHT}" fill="#ffffff"/>']
-        for value in across:
-            self.drawn.append(f'<path d="M{self.x(value)} {ABOVE}V{HEIGHT - BELOW}" stroke="#e5e5e5"/>')
-            self.write(self.x(value), HEIGHT - BELOW + 16, f"{value:,}")
-        for value in up:
-            self.drawn.append(f'<path d="M{LEFT} {self.y(value)}H{WIDTH - RIGHT}" stroke="#e5e5e5"/>')
-            self.write(LEFT - 6, self.y(value) + 4, f"{value:g}", "end")
-        self.write(WIDTH / 2, HEIGHT - 8, name_across)
-        self.write(LEFT, ABOVE - 12, name_up, "start")
-
-    def x(self, value):
-        first, last = self.across[0], self.across[-1]
-        return round(LEFT + (value - first) / (last - first) * (WIDTH - LEFT - RIGHT), 1)
-
-    def y(self, value):
-        first, last = self.up[0], self.up[-1]
-        return round(HEIGHT - BELOW - (value - first) / (last - first) * (HEIGHT - ABOVE - BELOW), 1)
-
-    def write(self, x, y, text, anchor="middle", fill="#000000"):
-        self.drawn.append(f'<text x="{x}" y="{y}" text-anchor="{anchor}" fill="{fill}">{text}</text>')
-
-    def line(self, points, colour, dashes="none"):
-        path = "M" + "L".join(f"{self.x(x)} {self.y(y)}" for x, y in points)
-        self.drawn.append(f'<path d="{path}" fill="none" stroke="{colour}" stroke-width="1.5" stroke-dasharray="{dashes}"/>')
-
-    def dots(self, points, colour):
-        self.drawn += [f'<circle cx="{self.x(x)}" cy="{self.y(y)}" r="2.2" fill="{colour}"/>' for x, y in points]
-
-    def name(self, x, y, text, colour):
-        self.write(self.x(x), self.y(y), text, "start", colour)
-
-    def text(self):
-        return "\n".join(self.drawn + ["</svg>"]) + "\n"
 
 
 def wave():
@@ -125,13 +83,14 @@ PICTURES = {
     "usual-steps.svg": lambda: map_of("usual steps", level_meadow(RUNS["usual"]), 30 * MINUTE),
     "long-steps.svg": lambda: map_of("steps of 60 s", level_meadow(RUNS["all 60 s"]), 30 * MINUTE),
     "soaking-meadow.svg": lambda: map_of("soaking meadow", *read(SAMPLE.read_text(encoding="ascii"))),
+    **PAPER_PICTURES,
 }
 
 
 def main():
     FOLDER.mkdir(exist_ok=True)
-    for name, made in PICTURES.items():
-        (FOLDER / name).write_text(made(), encoding="utf-8")
+    for name in sys.argv[1:] or PICTURES:
+        (FOLDER / name).write_text(PICTURES[name](), encoding="utf-8")
         print(f"docs/pictures/{name}")
     return 0
 

@@ -1,5 +1,5 @@
 #!/usr/bin/env python3
-"""run.py [--long] [PART ..]: works the figures of docs/VALIDATION.md with `meadow` and prints them.
+"""run.py [--long] [PART ..]: works the figures of docs/FIGURES.md with the proved programs and prints them.
 
 Without --long it is the short form that the gate runs. It fails where a claim of a part does not hold, where a row of a table that it
 prints does not stand in the part's section of the page and, in the long form, where the page has a row that was not printed.
@@ -12,22 +12,28 @@ sys.path.insert(0, str(Path(__file__).resolve().parent.parent / "python"))
 
 import analytical_wave
 import basin
+import beach
 import ditch_mouth
+import drained_plane
 import editions
 import lake
 import long_step
+import loss_rate
+import plane_wetting
 import pond
+import rain_terrain
 import soaking
 import thin_water
 import turns
 import update_time
 import walls
 import wetting_front
+import which_steps
 from meadow.counted import Checks
 from meadow.programs import TOP, ended
 from shared import Wrong
 
-PAGE = TOP / "docs" / "VALIDATION.md"
+PAGE = TOP / "docs" / "FIGURES.md"
 PARTS = {
     "wave": analytical_wave,
     "update": update_time,
@@ -42,6 +48,12 @@ PARTS = {
     "editions": editions,
     "soak": soaking,
     "front": wetting_front,
+    "plane": plane_wetting,
+    "beach": beach,
+    "terrain": rain_terrain,
+    "drain": drained_plane,
+    "loss": loss_rate,
+    "lines": which_steps,
 }
 
 
@@ -73,12 +85,12 @@ def run_part(name, long, checks):
             print(line, flush=True)
             if line.startswith("|"):
                 printed.add(line)
-                checks.hold(line in told, f"{name}: not in docs/VALIDATION.md: {line}")
+                checks.hold(line in told, f"{name}: not in docs/FIGURES.md: {line}")
         checks.hold(printed != set(), f"{name}: no figure was printed")
     except Wrong as fault:
         checks.hold(False, f"{name}: {fault}")
     for row in sorted(told - printed) if long else []:
-        checks.hold(False, f"{name}: in docs/VALIDATION.md, but not printed: {row}")
+        checks.hold(False, f"{name}: in docs/FIGURES.md, but not printed: {row}")
 
 
 def main():

@@ -1,4 +1,9 @@
-"""What every part of the validation shares: claims, tables of the page, step limits by name, and uneven ground."""
+"""What every part of the validation shares: claims, tables of the page, step limits by name, answers at several clocks, and uneven ground."""
+import tempfile
+from pathlib import Path
+
+from meadow.logs.nights import blocks_of
+from meadow.programs import printed_of_named
 
 
 class Wrong(Exception):
@@ -17,6 +22,19 @@ def limits(tolerance, shortest, longest, update):
 
 
 USUAL = {}
+
+
+def answers_at(sheet, clocks):
+    """The answers at several clocks, in their order, of one run by `hatchlog`: the log writes the rate 0 of a hatch at each of them."""
+    row, column = sheet.ground()[0]
+    log = [f"hatch\t1\t{row}\t{column}", *(f"{clock}\t1\t0" for clock in clocks)]
+    with tempfile.TemporaryDirectory() as room:
+        names = Path(room) / "sheet", Path(room) / "log"
+        for name, text in zip(names, (sheet.text(clocks[-1]), "\n".join(log) + "\n")):
+            name.write_text(text, encoding="ascii")
+        answers, refused = blocks_of(printed_of_named("hatchlog", *names))
+    claim(refused is None and len(answers) == len(clocks), f"hatchlog refuses the run: {refused}")
+    return answers
 
 
 def uneven(place, most):

@@ -12,6 +12,7 @@
     doubts       what in a sheet is likely a slip
     relief       ground that is likely none: pits and spikes
     holes        closed squares that are likely holes in a survey, and gaps in walls
+    run_lines    which run line suits which meadow, and what is wrong with one that does not
     enclosed     ground that is walled in
     reasons      why a sheet is refused: faults (the places of 1 to 5), misplaced (the line of 12), slips (inside that line)
     opening      why a file cannot be opened, and whether a refusal is the sheet's own

@@ -13,6 +13,7 @@ from .faults import RUN_LINE, rows_with_lines
 from .hatches import hatches_of
 from .holes import gaps, lone_squares
 from .relief import pits_and_spikes, zeros
+from .run_lines import run_line_faults
 from .units import area, height, rain_rate, roughness, square, time
 
 # rain in µm an hour, roughness in ten-thousandths, distance in m, ms for each metre
@@ -129,6 +130,11 @@ def relief_doubts(sheet, _end):
             yield f"a pit at {where} below all ground beside it, and water drains into it; close it if it is a house, or mend its bed"
 
 
+def run_line_doubts(sheet, _end):
+    """A run line that does not suit the squares, the ground or the ponds."""
+    return [f"line {RUN_LINE}: {fault}" for fault in run_line_faults(sheet)]
+
+
 def wall_doubts(sheet, _end):
     """Ground that is walled in on all sides, and what wets it."""
     for piece in walled_in(sheet):
@@ -155,7 +161,7 @@ def odd_places(sheet):
 
 
 OF_THE_GROUND = (relief_doubts, wall_doubts, hole_doubts, roughness_doubts, flat_doubts)
-OF_THE_RUN = (rain_doubts, never_doubts, end_doubts, step_doubts, exit_doubts, rule_doubts)
+OF_THE_RUN = (rain_doubts, never_doubts, end_doubts, step_doubts, exit_doubts, rule_doubts, run_line_doubts)
 DOUBTS = (*OF_THE_GROUND, *OF_THE_RUN)
 
 
