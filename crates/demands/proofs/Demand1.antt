@@ -20,6 +20,7 @@ use Rattle.demands.specs.Demand1.{ExactlyWhen, RefusalsLeave, Demand1}
 use Rattle.demands.proofs.Table.{table-says}
 use Rattle.demands.proofs.Determined.{determined}
 use Rattle.demands.proofs.Loader.{loader-refuses}
+use Rattle.flood.proofs.RunInTwoLaws.{run-in-two}
 use Rattle.demands.proofs.RunStops.{run-stops}
 use Rattle.demands.proofs.Exported.{exports-exactly-when, exports-leave}
 
@@ -60,4 +61,5 @@ demand-1 =
       exports-leave = exports-leave;
       refusals-leave = refusals-leave;
       run-stops = run-stops;
+      run-in-two = λ p g first end w b f s z. record { same = run-in-two p g first end w b f s z };
     }

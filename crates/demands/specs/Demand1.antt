@@ -17,7 +17,7 @@ use Rattle.checks.specs.Refusals.{stepChecks, runChecks}
 use Rattle.checks.specs.Bounds.{boundsRefusals, boundsNumber}
 use Rattle.flood.specs.Step.{stepNumber, stepped}
 use Rattle.checks.specs.Fresh.{freshRefusals, freshNumber, freshLasts}
-use Rattle.flood.specs.Run.{Ended, ended, runTo, stepsOn}
+use Rattle.flood.specs.Run.{Ended, ended, goneOn, runTo, stepsOn}
 use Rattle.sight.specs.Arrows.{arrowRefusals, arrowNumber}
 use Rattle.sight.specs.WetRows.{WetRowed, wetRefusals, wetNumber}
 use Rattle.sight.specs.declared.wet_rows.Wet.{Wet}
@@ -66,6 +66,10 @@ pub record StopsBefore (p : Plan) (g : Given) (end : ℕ) (w : World) (e : Ended
   -- and that is none of its checks' numbers
   pub late : (e .number ≡ 0 → ⊥) → lastCheck < e .number
 
+-- a run to one clock and then to another is the run to the second: its number, its steps and its world
+pub record InTwo (p : Plan) (g : Given) (first end : ℕ) (w : World) : Type 0 where
+  pub same : runTo p g end w ≡ goneOn (runTo p g first w .steps) (runTo p g end (runTo p g first w .world))
+
 -- ---- all of it
 
 pub record Demand1 : Type 0 where
@@ -76,3 +80,6 @@ pub record Demand1 : Type 0 where
   pub exports-exactly-when : (p : Plan) → ExportsExactlyWhen p
   pub exports-leave : (p : Plan) → ExportsLeave p
   pub run-stops : (p : Plan) (g : Given) (end : ℕ) (w : World) → refusal (runChecks p g end w) ≡ 0 → StopsBefore p g end w (runTo p g end w)
+  pub run-in-two :
+      (p : Plan) (g : Given) (first end : ℕ) (w : World) → first ≤ end → refusal (runChecks p g first w) ≡ 0 → refusal (runChecks p g end w) ≡ 0 →
+      runTo p g first w .number ≡ 0 → InTwo p g first end w

@@ -2,7 +2,7 @@
 -- Assumes nothing.
 use mathlib.Core.Path.{_≡_}
 use mathlib.Core.List.{List}
-use Prim.Native.Nat.{ℕ, zero, suc, _-_}
+use Prim.Native.Nat.{ℕ, zero, suc, _+_, _-_}
 use lib.Dec.{ltb}
 use Rattle.reckon.specs.Tests.{pick, refusal}
 use Rattle.ledger.specs.Runs.{Plan, World, world}
@@ -26,6 +26,10 @@ ended n k w = record { number = n; steps = k; world = w }
 unfoldable pub goOn : ℕ → ℕ → World → Ended → Ended
 goOn zero made before rest = rest
 goOn (suc n) made before rest = ended (suc n) made before
+
+-- a run that goes on after so many steps
+abbrev pub goneOn : ℕ → Ended → Ended
+goneOn made e = ended (e .number) (made + e .steps) (e .world)
 
 module _ (p : Plan) (g : Given) (end : ℕ) where
   -- "A run to an end makes steps while clock < end": at most `most` more, after those made (`run-ends`, `run-refused` and `run-steps` are this sentence with no bound)
