@@ -109,7 +109,7 @@ module _ (n : ℕ) (f : ℕ → Sight) where
       let o = filled-whole _ _ (S .north-so) h in
       λ j. sights (k j) (e j) (o j)
 
-laid-ext : (n : ℕ) (f g : ℕ → Sight) → ((i : ℕ) → i < n → f i ≡ g i) → laidOut n f ≡ laidOut n g
+pub laid-ext : (n : ℕ) (f g : ℕ → Sight) → ((i : ℕ) → i < n → f i ≡ g i) → laidOut n f ≡ laidOut n g
 unfolding laidOut
 laid-ext n f g h =
     let k = each-ext n (λ i. kindOf (f i)) (λ i. kindOf (g i)) (λ i l. ap kindOf (h i l)) in
