@@ -16,5 +16,6 @@ pub mod Played
 pub mod RunStops
 pub mod StepCount
 pub mod Table
+pub mod TakenBack
 pub mod WetAre
 pub mod WorkedCases

@@ -13,5 +13,6 @@ pub mod Loader
 pub mod Played
 pub mod StepCount
 pub mod Table
+pub mod TakenBack
 pub mod WetAre
 pub mod Worked
