@@ -23,7 +23,7 @@ from rattle.specs import Specs
 
 TOP = Path(__file__).resolve().parent.parent
 # a little above what there is; a request that lands may raise it. 2,300 was set for all of document 02, and is passed: see docs/CHANGES.md
-MOST = 2480
+MOST = 2520
 WORKED = "Worked"
 BELIEVED, LAYER, IDLE, INNER = "believed", "layers", "reached by nothing", "inner"
 

@@ -12,7 +12,8 @@ use Rattle.reckon.specs.Tests.{refusal}
 use Rattle.reckon.specs.Lists.{placed}
 use Rattle.reckon.proofs.TestLaws.{not-both, each-every, pick-true}
 use Rattle.reckon.proofs.ListLaws.{filled-in}
-use Rattle.grid.specs.Squares.{squares}
+use Rattle.grid.specs.Squares.{squares, squareAt}
+use Rattle.grid.proofs.SquareLaws.{square-within, row-of, column-of}
 use Rattle.grid.specs.Masks.{wetMasks}
 use Rattle.grid.specs.declared.walks.Walk.{Walk}
 use Rattle.rule.specs.Length.{isUpdate}
@@ -35,7 +36,10 @@ use Rattle.flood.specs.declared.run.Ran.{Ran}
 use Rattle.checks.specs.declared.bounds.StepBounds.{StepBounds}
 use Rattle.checks.specs.declared.bounds.Bounds.{Bounds}
 use Rattle.checks.specs.declared.bounds.Bounds.the-variants.{Bounded}
+use Rattle.sight.specs.AllArrows.{Sights, kindOf, arrowIn, laidOut, seenSquare, SeesAll}
 use Rattle.sight.specs.Arrows.{Sees, arrowNumber, seenAt, seenBy}
+use Rattle.sight.specs.Speeds.{zero64}
+use Rattle.sight.proofs.AllArrowsLaws.{getD-each}
 use Rattle.sight.specs.WetRows.{WetRowed, onesOver, wetNumber, counted}
 use Rattle.sight.specs.declared.arrows.Sight.{Sight}
 use Rattle.sight.specs.declared.wet_rows.Wet.{Wet}
@@ -55,7 +59,7 @@ use Rattle.demands.specs.Demand1.{StopsBefore}
 use Rattle.demands.specs.Demand2.{StepGives}
 use Rattle.demands.specs.Played.{runAfter}
 use Rattle.demands.specs.WetAre.{WetAre}
-use Rattle.calls.specs.Library.{AfterStep, AfterRun, AfterBack, AfterFresh, AfterBounds, AfterArrow, AfterWet, AfterRead, AfterMeadow}
+use Rattle.calls.specs.Library.{AfterStep, AfterRun, AfterBack, AfterFresh, AfterBounds, AfterArrow, AfterAllArrows, AfterWet, AfterRead, AfterMeadow}
 use Rattle.demands.proofs.Demand1.{demand-1}
 use Rattle.demands.proofs.Demand2.{demand-2}
 use Rattle.demands.proofs.Demand3.{demand-3}
@@ -181,6 +185,46 @@ after-arrow p D w row column {a} s =
   where
     number : sightNumber a < 100 → sightNumber a ≡ arrowNumber p D w row column
     number l = ap sightNumber s ∙ seen-number (arrowNumber p D w row column) _ _ _ _ (subst (λ (x : Sight). sightNumber x < 100) s l)
+
+-- what is laid out for a square
+laid-at : (n : ℕ) (f : ℕ → Sight) {i : ℕ} → i < n →
+    (getD (laidOut n f .kinds) i 0 ≡ kindOf (f i))
+    × ((getD (laidOut n f .east) i zero64 ≡ arrowIn (f i) .east) × (getD (laidOut n f .north) i zero64 ≡ arrowIn (f i) .north))
+unfolding laidOut
+laid-at n f {i} h =
+    (getD-each n (λ k. kindOf (f k)) 0 i h, (getD-each n (λ k. arrowIn (f k) .east) zero64 i h, getD-each n (λ k. arrowIn (f k) .north) zero64 i h))
+
+-- asked by its row and column
+seen-here : (p : Plan) (D : ℕ) (w : World) {row column : ℕ} → row < p .shape .rows → column < p .shape .columns →
+    seenSquare p D w (squareAt (p .shape) row column) ≡ seenAt p D w row column
+unfolding seenSquare
+seen-here p D w {row} {column} h g =
+    let r = row-of (p .shape) row g in
+    let c = column-of (p .shape) row g in
+    λ k. seenAt p D w (r k) (c k)
+
+-- the arrows of all squares
+pub after-all : {p : Plan} {D : ℕ} {w : World} {old new : Sights} {n : ℕ} → SeesAll p D w old n new → AfterAllArrows p D w old n new
+after-all {p} {D} {w} {old} {new} {n} s =
+    record {
+      exactly-when = rw (s .number-is) (demand-1 .exactly-when p .all-arrows D w old);
+      as-it-was = demand-1 .refusals-leave p .all-arrows D w old new n s;
+      seen = λ z row column h g. each (s .rooms-are ∙ pick-true _ _ (eq-eqb _ _ (sym (s .number-is) ∙ z))) row column h g;
+    }
+  where
+    each : new ≡ laidOut (squares (p .shape)) (seenSquare p D w) → (row column : ℕ) → row < p .shape .rows → column < p .shape .columns →
+        let i = squareAt (p .shape) row column in
+        (getD (new .kinds) i 0 ≡ kindOf (seenAt p D w row column))
+        × ((getD (new .east) i zero64 ≡ arrowIn (seenAt p D w row column) .east) × (getD (new .north) i zero64 ≡ arrowIn (seenAt p D w row column) .north))
+    each e row column h g =
+        let at = laid-at (squares (p .shape)) (seenSquare p D w) (square-within (p .shape) h g) in
+        let here = seen-here p D w h g in (
+          ap (λ (x : Sights). getD (x .kinds) (squareAt (p .shape) row column) 0) e ∙ (at .0 ∙ ap kindOf here),
+          (
+            ap (λ (x : Sights). getD (x .east) (squareAt (p .shape) row column) zero64) e ∙ (at .1 .0 ∙ ap (λ (x : Sight). arrowIn x .east) here),
+            ap (λ (x : Sights). getD (x .north) (squareAt (p .shape) row column) zero64) e ∙ (at .1 .1 ∙ ap (λ (x : Sight). arrowIn x .north) here),
+          ),
+        )
 
 -- a count, or a refusal's number
 wet-number : (n ones : ℕ) → wetNumberOf (counted n ones) ≡ n

@@ -7,7 +7,7 @@ use mathlib.Core.List.{List, _++_}
 use Prim.Native.Nat.{ℕ, _%_, _≤_, _<_}
 use lib.ListN.{length, getD, take, drop}
 use Rattle.reckon.specs.Tests.{refusal}
-use Rattle.grid.specs.Squares.{squares}
+use Rattle.grid.specs.Squares.{squares, squareAt}
 use Rattle.rule.specs.Bounds.{mostSteps, leastSteps}
 use Rattle.rule.specs.declared.rules.Rules.{Rules}
 use Rattle.ledger.specs.Runs.{Plan, World, world, seenOf}
@@ -29,7 +29,9 @@ use Rattle.flood.specs.declared.run.Ran.{Ran}
 use Rattle.checks.specs.declared.bounds.StepBounds.{StepBounds}
 use Rattle.checks.specs.declared.bounds.Bounds.{Bounds}
 use Rattle.checks.specs.declared.bounds.Bounds.the-variants.{Bounded}
+use Rattle.sight.specs.AllArrows.{Sights, kindOf, arrowIn, allRefusals}
 use Rattle.sight.specs.Arrows.{arrowRefusals, seenAt}
+use Rattle.sight.specs.Speeds.{zero64}
 use Rattle.sight.specs.WetRows.{wetRefusals}
 use Rattle.sight.specs.declared.arrows.Sight.{Sight}
 use Rattle.sight.specs.declared.wet_rows.Wet.{Wet}
@@ -115,6 +117,16 @@ pub record AfterBounds (r : Rules) (clock end : ℕ) (a : Bounds) : Type 0 where
 pub record AfterArrow (p : Plan) (D : ℕ) (w : World) (row column : ℕ) (a : Sight) : Type 0 where
   pub exactly-when : sightNumber a < 100 → TableSays (arrowRefusals p D w row column) (sightNumber a)
   pub seen : a ≡ seenAt p D w row column
+
+-- all squares at once: n is the number that came back
+pub record AfterAllArrows (p : Plan) (D : ℕ) (w : World) (old : Sights) (n : ℕ) (new : Sights) : Type 0 where
+  pub exactly-when : TableSays (allRefusals p D w old) n
+  pub as-it-was : (n ≡ 0 → ⊥) → new ≡ old
+  -- "each square's answer that of `arrow`": its kind and both speeds, by row and column
+  pub seen : n ≡ 0 → (row column : ℕ) → row < p .shape .rows → column < p .shape .columns →
+      let i = squareAt (p .shape) row column in
+      (getD (new .kinds) i 0 ≡ kindOf (seenAt p D w row column))
+      × ((getD (new .east) i zero64 ≡ arrowIn (seenAt p D w row column) .east) × (getD (new .north) i zero64 ≡ arrowIn (seenAt p D w row column) .north))
 
 pub record AfterWet (p : Plan) (depths : List ℕ) (least : ℕ) (old : List ℕ) (a : Wet) (rows : List ℕ) : Type 0 where
   pub exactly-when : TableSays (wetRefusals p depths least (length old)) (wetNumberOf a)

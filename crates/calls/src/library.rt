@@ -18,6 +18,7 @@ use programs::meadow::meadow_of;
 use rule::rules::Rules;
 use sheet::reading::Sheet;
 use sheet::reading::read;
+use sight::all_arrows::all_arrows;
 use sight::arrows::Sight;
 use sight::arrows::arrow;
 use sight::wet_rows::Wet;
@@ -26,11 +27,12 @@ ghost use Rattle.ledger.specs.Runs.{plan, world, seenOf};
 ghost use Rattle.ledger.specs.Record.{ringOf};
 ghost use Rattle.checks.specs.Given.{given, ground};
 ghost use Rattle.checks.specs.Refusals.{runChecks, stepChecks};
+ghost use Rattle.sight.specs.AllArrows.{sights};
 ghost use Rattle.sight.specs.Arrows.{view};
 ghost use Rattle.sheet.specs.Sheet.{rooms};
 ghost use Rattle.demands.specs.Table.{TableSays};
 ghost use Rattle.demands.specs.Played.{runAfter};
-ghost use Rattle.calls.specs.Library.{AfterArrow, AfterBack, AfterBounds, AfterFresh, AfterMeadow, AfterRead, AfterRun, AfterStep, AfterWet};
+ghost use Rattle.calls.specs.Library.{AfterAllArrows, AfterArrow, AfterBack, AfterBounds, AfterFresh, AfterMeadow, AfterRead, AfterRun, AfterStep, AfterWet};
 
 // ---- steps, runs and take-backs
 
@@ -218,6 +220,32 @@ pub fn after_arrow(
     ensures { λ r. ⌜ AfterArrow (plan shape (now (marks .entry))) «square_side» (view (now (depths .entry)) (now (records .entry)) run) row column r ⌝ }
 {
     arrow(shape, square_side, run, marks, depths, records, row, column)
+}
+
+pub fn after_all_arrows(
+    shape: Shape,
+    square_side: u64,
+    run: Run,
+    marks: &[u8],
+    depths: &[u32],
+    records: &[u32],
+    kinds: &mut [u8],
+    east: &mut [f64],
+    north: &mut [f64],
+) -> u32
+    ensures { λ r. ⌜ AfterAllArrows (plan shape (now (marks .entry))) «square_side» (view (now (depths .entry)) (now (records .entry)) run) (sights (now (kinds .entry)) (now (east .entry)) (now (north .entry))) r (sights (now (kinds .exit)) (now (east .exit)) (now (north .exit))) ⌝ }
+{
+    all_arrows(
+        shape,
+        square_side,
+        run,
+        marks,
+        depths,
+        records,
+        kinds,
+        east,
+        north,
+    )
 }
 
 pub fn after_wet_rows(

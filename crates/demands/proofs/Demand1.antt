@@ -15,6 +15,7 @@ use Rattle.checks.specs.Fresh.{freshRefusals, freshNumber, freshLasts}
 use Rattle.flood.proofs.RunToLaws.{refused-is, run-checked}
 use Rattle.sight.specs.Refusals.{sharedRefusals}
 use Rattle.sight.specs.Arrows.{arrowEarlyRefusals, arrowRefusals, arrowNumber}
+use Rattle.sight.specs.AllArrows.{allRefusals, allNumber}
 use Rattle.sight.specs.WetRows.{wetRefusals, wetNumber}
 use Rattle.demands.specs.Demand1.{ExactlyWhen, RefusalsLeave, Demand1}
 use Rattle.demands.proofs.Table.{table-says}
@@ -27,7 +28,7 @@ use Rattle.demands.proofs.Exported.{exports-exactly-when, exports-leave
 -- ---- refusals
 
 exactly-when : (p : Plan) → ExactlyWhen p
-unfolding stepNumber checkRefusals lateRefusals backNumber earlyRefusals backRefusals freshNumber freshRefusals boundsNumber boundsRefusals arrowNumber arrowRefusals arrowEarlyRefusals sharedRefusals wetNumber wetRefusals
+unfolding stepNumber checkRefusals lateRefusals backNumber earlyRefusals backRefusals freshNumber freshRefusals boundsNumber boundsRefusals arrowNumber arrowRefusals arrowEarlyRefusals sharedRefusals allNumber allRefusals wetNumber wetRefusals
 exactly-when p =
     record {
       step = λ g w. table-says _ tt;
@@ -37,6 +38,7 @@ exactly-when p =
       check-step = λ g w. table-says _ tt;
       step-bounds = λ r clock end. table-says _ tt;
       arrow = λ D w row column. table-says _ tt;
+      all-arrows = λ D w old. table-says _ tt;
       wet-rows = λ depths least numbers. table-says _ tt;
     }
 
@@ -48,6 +50,7 @@ refusals-leave p =
       take-back = refused-stays p;
       fresh = λ r lasts records d. pick-false _ _ (ne-eqb _ _ d);
       run-to = λ g end w d. sym (run-checked p g end w refl d);
+      all-arrows = λ D w old new n x d. x .rooms-are ∙ pick-false _ _ (ne-eqb _ _ (λ z. d (x .number-is ∙ z)));
       wet-rows = λ depths least old a rows x d. x .rows-are ∙ pick-false _ _ (ne-eqb _ _ d);
     }
 

@@ -45,7 +45,7 @@ use Rattle.checks.specs.Refusals.{groundsFine, checkRefusals, runChecks}
 use Rattle.flood.specs.Step.{stepNumber, stepped}
 use Rattle.checks.specs.Fresh.{freshRefusals, freshNumber, freshRun, freshLasts}
 use Rattle.flood.specs.Run.{Ended, ended, goOn, runFrom, runTo}
-use Rattle.sight.proofs.Alike.{AlikeDepths, AlikeRecords, arrow-alike, wet-alike}
+use Rattle.sight.proofs.Alike.{AlikeDepths, AlikeRecords, arrow-alike, all-arrows-alike, wet-alike}
 use Rattle.checks.proofs.CheckLaws.{ready, ring-is}
 use Rattle.moves.proofs.MoveLaws.{leaves-open, soaked-open, lost-covered, flood-walled, off-none}
 use Rattle.flood.proofs.RunToLaws.{made-is, refused-is, checks-passed}
@@ -532,6 +532,7 @@ module _ (p : Plan) where
         );
         check = check-same;
         arrow = λ D depths others room rest u row column d l r. arrow-alike p D room rest u row column (seen-depths d) l (seen-record r);
+        all-arrows = λ D depths others room rest u old new n d l r x. all-arrows-alike p D room rest u (seen-depths d) l (seen-record r) x;
         wet-rows = λ depths others least old a rows d x. wet-alike p (seen-depths d) x;
       }
 

@@ -58,10 +58,10 @@ same-number (suc n) zero a b e = absurd (not-done e)
 same-number (suc n) (suc m) a b e = cc
 
 module _ (p : Plan) where
-  abbrev E : Engine
+  abbrev pub E : Engine
   E = engine p (floodRule p)
 
-  abbrev state : World → State E
+  abbrev pub state : World → State E
   state w = stateOf p (floodRule p) w
 
   -- ---- a step and a take-back of the engine are the flood's
@@ -71,7 +71,7 @@ module _ (p : Plan) where
     unfolding stepNumber
     step-is = step-bridge p w (floodRule p) g
 
-    step-made : stepNumber p g w ≡ 0 → step E g (state w) ≡ done (state (stepped p g w))
+    pub step-made : stepNumber p g w ≡ 0 → step E g (state w) ≡ done (state (stepped p g w))
     unfolding outcome
     step-made z = step-is ∙ rw (z, made-is p g w z)
 
@@ -91,7 +91,7 @@ module _ (p : Plan) where
   -- ---- a run of the engine is the flood's
 
   module _ (g : Given) (end : ℕ) where
-    abbrev more : Seen → Bool
+    abbrev pub more : Seen → Bool
     more v = ltb (v .clock) end
 
     -- it comes to the flood's world after the flood's number of steps
@@ -112,11 +112,11 @@ module _ (p : Plan) where
         go true (suc n) e h = rw (step-refused g w e, e) (record { state-is = refl; steps-are = refl })
 
     -- the most steps that the run may make: none where rows 1 to 6 refuse it
-    abbrev allowed : ℕ → ℕ → ℕ
+    abbrev pub allowed : ℕ → ℕ → ℕ
     allowed zero n = n
     allowed (suc k) n = 0
 
-    abbrev most : World → ℕ
+    abbrev pub most : World → ℕ
     most w = allowed (refusal (runChecks p g end w)) (end - w .run .clock)
 
     same-run-to : (w : World) → SameRun (runOn E g more (most w) (state w) 0) (runTo p g end w)
@@ -129,11 +129,11 @@ module _ (p : Plan) where
 
   -- ---- a series of the flood is one of the engine
 
-  abbrev trail : Trail p → Any.Trail E
+  abbrev pub trail : Trail p → Any.Trail E
   trail x = record { at = state (x .at); standing = x .standing; peak = x .peak }
 
   -- the call of the engine, which depends on the world that the series has come to
-  abbrev callOf : Call → World → Any.Call E
+  abbrev pub callOf : Call → World → Any.Call E
   callOf (stepping g) w = Any.stepping g
   callOf (running g end) w = Any.running g (more g end) (most g end w)
   callOf takingBack w = Any.takingBack
@@ -199,13 +199,13 @@ module _ (p : Plan) where
             run-stands E g (more g end) (most g end (x .at)) (trail x)
             ∙ ap (λ (n : ℕ). replicate n g ++ x .standing) (same .steps-are)
 
-    called-is : (c : Call) → Any.called E (callOf c (x .at)) (trail x) ≡ trail (called p c x)
+    pub called-is : (c : Call) → Any.called E (callOf c (x .at)) (trail x) ≡ trail (called p c x)
     called-is (stepping g) = step-called g (stepNumber p g (x .at)) refl
     called-is (running g end) = run-called g end
     called-is takingBack = back-called (backNumber p (x .at)) refl
 
   -- some series of the engine comes to where a series of the flood comes to
-  series-is : (cs : List Call) (x : Trail p) → length (x .standing) ≤ x .peak →
+  pub series-is : (cs : List Call) (x : Trail p) → length (x .standing) ≤ x .peak →
       (ds : List (Any.Call E)) × (Any.series E ds (trail x) ≡ trail (series p cs x))
   unfolding Any.series series
   series-is [] x h = ([], refl)
@@ -216,11 +216,11 @@ module _ (p : Plan) where
   -- ---- the steps still standing, made alone
 
   module _ (f : World) where
-    record Alone (gs : List Given) (s : State E) : Type 0 where
-      state-is : s ≡ state (alone p gs f)
-      all-made : AllMade p gs f
+    pub record Alone (gs : List Given) (s : State E) : Type 0 where
+      pub state-is : s ≡ state (alone p gs f)
+      pub all-made : AllMade p gs f
 
-    alone-is : (gs : List Given) (s : State E) → replay E gs (state f) ≡ done s → Alone gs s
+    pub alone-is : (gs : List Given) (s : State E) → replay E gs (state f) ≡ done s → Alone gs s
     unfolding replay alone andThen
     alone-is [] s e = record { state-is = cc; all-made = tt }
     alone-is (g ∷ gs) s e = go (replay E gs (state f)) refl (alone-is gs)
@@ -243,7 +243,7 @@ module _ (p : Plan) where
 
     -- ---- demand 3
 
-    same-next : (g : Given) (s : State E) (w v : World) → s ≡ state v → shown E (step E g (state w)) ≡ shown E (step E g s) →
+    pub same-next : (g : Given) (s : State E) (w v : World) → s ≡ state v → shown E (step E g (state w)) ≡ shown E (step E g s) →
         stepNumber p g w ≡ stepNumber p g v
     same-next g s w v q e =
         same-number (stepNumber p g w) (stepNumber p g v) _ _

@@ -108,7 +108,12 @@ pub flood-determined : FloodDetermined
 flood-determined = record { step = λ p g w. step-one; run-to = λ p g end w. run-one }
 
 sight-determined : SightDetermined
-sight-determined = record { arrow = λ p D w row column. exactly; wet-rows = λ p depths least old. wet-one }
+sight-determined =
+    record {
+      arrow = λ p D w row column. exactly;
+      all-arrows = λ p D w old a b x y. (λ j. ((x .number-is ∙ sym (y .number-is)) j, (x .rooms-are ∙ sym (y .rooms-are)) j));
+      wet-rows = λ p depths least old. wet-one;
+    }
 
 sheet-determined : SheetDetermined
 sheet-determined = record { read = λ text before. read-one }

@@ -19,5 +19,6 @@ pub mod RunStops
 pub mod StepCount
 pub mod Surveys
 pub mod Table
+pub mod TakenBack
 pub mod WetAre
 pub mod WorkedCases

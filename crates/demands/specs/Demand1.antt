@@ -18,6 +18,7 @@ use Rattle.checks.specs.Bounds.{boundsRefusals, boundsNumber}
 use Rattle.flood.specs.Step.{stepNumber, stepped}
 use Rattle.checks.specs.Fresh.{freshRefusals, freshNumber, freshLasts}
 use Rattle.flood.specs.Run.{Ended, ended, goneOn, runTo, stepsOn}
+use Rattle.sight.specs.AllArrows.{Sights, allRefusals, allNumber, SeesAll}
 use Rattle.sight.specs.Arrows.{arrowRefusals, arrowNumber}
 use Rattle.sight.specs.WetRows.{WetRowed, wetRefusals, wetNumber}
 use Rattle.sight.specs.declared.wet_rows.Wet.{Wet}
@@ -39,6 +40,7 @@ pub record ExactlyWhen (p : Plan) : Type 0 where
   -- what is told before a run
   pub step-bounds : (r : Rules) (clock end : ℕ) → TableSays (boundsRefusals r clock end) (boundsNumber r clock end)
   pub arrow : (D : ℕ) (w : World) (row column : ℕ) → TableSays (arrowRefusals p D w row column) (arrowNumber p D w row column)
+  pub all-arrows : (D : ℕ) (w : World) (old : Sights) → TableSays (allRefusals p D w old) (allNumber p D w old)
   pub wet-rows : (depths : List ℕ) (least numbers : ℕ) → TableSays (wetRefusals p depths least numbers) (wetNumber p depths least numbers)
 
 -- ---- "the run and everything lent stay as they were"
@@ -49,6 +51,7 @@ pub record RefusalsLeave (p : Plan) : Type 0 where
   pub fresh : (r : Rules) (lasts records : List ℕ) → (freshNumber p r lasts records ≡ 0 → ⊥) → freshLasts p r lasts records ≡ lasts
   -- refused by its checks
   pub run-to : (g : Given) (end : ℕ) (w : World) → (refusal (runChecks p g end w) ≡ 0 → ⊥) → runTo p g end w ≡ ended (refusal (runChecks p g end w)) 0 w
+  pub all-arrows : (D : ℕ) (w : World) (old new : Sights) (n : ℕ) → SeesAll p D w old n new → (n ≡ 0 → ⊥) → new ≡ old
   pub wet-rows : (depths : List ℕ) (least : ℕ) (old : List ℕ) (a : Wet) (rows : List ℕ) → WetRowed p depths least old a rows →
       (wetNumber p depths least (length old) ≡ 0 → ⊥) → rows ≡ old
 

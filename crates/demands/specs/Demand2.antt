@@ -27,6 +27,7 @@ use Rattle.moves.specs.Drops.{dropsOf}
 use Rattle.moves.specs.Moves.{candidates, stepMoves}
 use Rattle.checks.specs.Refusals.{runChecks}
 use Rattle.flood.specs.Step.{stepNumber, stepped}
+use Rattle.sight.specs.AllArrows.{Sights, SeesAll}
 use Rattle.sight.specs.Arrows.{view, seenAt}
 use Rattle.sight.specs.WetRows.{WetRowed}
 use Rattle.sight.specs.declared.wet_rows.Wet.{Wet}
@@ -142,6 +143,10 @@ module _ (p : Plan) where
     pub arrow : (D : ℕ) (depths others room rest : List ℕ) (u : Run) (row column : ℕ) → SameOpen p depths others → length room ≡ length rest →
         SameRecord p (newestRecord p (view depths room u)) (newestRecord p (view others rest u)) →
         seenAt p D (view depths room u) row column ≡ seenAt p D (view others rest u) row column
+    -- of all squares at once: the number and the three rooms
+    pub all-arrows : (D : ℕ) (depths others room rest : List ℕ) (u : Run) (old new : Sights) (n : ℕ) → SameOpen p depths others →
+        length room ≡ length rest → SameRecord p (newestRecord p (view depths room u)) (newestRecord p (view others rest u)) →
+        SeesAll p D (view depths room u) old n new → SeesAll p D (view others rest u) old n new
     pub wet-rows : (depths others : List ℕ) (least : ℕ) (old : List ℕ) (a : Wet) (rows : List ℕ) → SameOpen p depths others →
         WetRowed p depths least old a rows → WetRowed p others least old a rows
 

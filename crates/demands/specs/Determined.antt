@@ -17,6 +17,7 @@ use Rattle.checks.specs.Bounds.{BoundsSteps}
 use Rattle.checks.specs.Fresh.{Freshens}
 use Rattle.flood.specs.Run.{RunsTo}
 use Rattle.flood.specs.declared.run.Ran.{Ran}
+use Rattle.sight.specs.AllArrows.{Sights, SeesAll}
 use Rattle.sight.specs.Arrows.{Sees}
 use Rattle.sight.specs.WetRows.{WetRowed}
 use Rattle.sight.specs.declared.wet_rows.Wet.{Wet}
@@ -69,8 +70,10 @@ pub record FloodDetermined : Type 0 where
   pub run-to : (p : Plan) (g : Given) (end : ℕ) (w : World) →
       One {Out = Ran × (List ℕ × (List ℕ × List ℕ))} (λ o. RunsTo p g end w (o .0) (o .1 .0) (o .1 .1 .0) (o .1 .1 .1))
 
+-- what `all_arrows` leaves in its three rooms stands together
 pub record SightDetermined : Type 0 where
   pub arrow : (p : Plan) (D : ℕ) (w : World) (row column : ℕ) → One (Sees p D w row column)
+  pub all-arrows : (p : Plan) (D : ℕ) (w : World) (old : Sights) → One {Out = ℕ × Sights} (λ o. SeesAll p D w old (o .0) (o .1))
   pub wet-rows : (p : Plan) (depths : List ℕ) (least : ℕ) (old : List ℕ) → One {Out = Wet × List ℕ} (λ o. WetRowed p depths least old (o .0) (o .1))
 
 -- what `read` leaves in its seven rooms stands together

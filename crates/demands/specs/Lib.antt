@@ -15,5 +15,6 @@ pub mod Played
 pub mod StepCount
 pub mod Surveys
 pub mod Table
+pub mod TakenBack
 pub mod WetAre
 pub mod Worked

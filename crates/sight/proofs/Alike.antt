@@ -1,9 +1,9 @@
 -- No answer depends on what a closed square holds: each of its numbers stands behind a choice that does not take it.
 -- Assumes nothing.
-use mathlib.Core.Path.{_≡_, refl, ap, ap₂, _∙_}
+use mathlib.Core.Path.{_≡_, refl, sym, ap, ap₂, _∙_}
 use mathlib.Core.Bool.{Bool, true, false, _&&_, _||_, not}
 use mathlib.Core.List.{List, [], _∷_, _++_}
-use Prim.Native.Nat.{ℕ, zero, suc, _+_, _<_}
+use Prim.Native.Nat.{ℕ, zero, suc, _+_, _/_, _%_, _<_}
 use native.Mathlib.Omega.{arith}
 use lib.Dec.{eqb, leb}
 use lib.ListN.{length, getD}
@@ -24,9 +24,12 @@ use Rattle.ledger.specs.Checks.{oneEach, timesFine}
 use Rattle.sight.specs.Refusals.{depthsFine, sharedRefusals}
 use Rattle.sight.specs.Speeds.{sideSpeed, arrowOf}
 use Rattle.sight.specs.Arrows.{netNone, outThrough, nearDepth, throughSide, allStill, arrowBy, sighted, seenBy, view, askedFine, arrowEarlyRefusals, arrowRefusals, arrowNumber, seenAt}
+use Rattle.sight.specs.AllArrows.{Sights, laidOut, seenSquare, allRefusals, allNumber, SeesAll}
 use Rattle.sight.specs.WetRows.{onesOver, wetRefusals, wetNumber, counted, WetRowed}
 use Rattle.sight.specs.declared.speeds.Arrow.{Arrow}
 use Rattle.sight.specs.declared.wet_rows.Wet.{Wet}
+use Rattle.sight.proofs.ArrowLaws.{numberIn, number-kept}
+use Rattle.sight.proofs.AllArrowsLaws.{laid-ext}
 
 -- depths that are alike, as many
 pub record AlikeDepths (p : Plan) (a b : List ℕ) : Type 0 where
@@ -145,3 +148,31 @@ arrow-alike p D {d} {e} r s run row column h m g =
     ++ (11 unless times k ∷ [])) in
     ap (λ (n : ℕ). seenBy n p D d (newestRecord p (view d r run)) (squareAt (p .shape) row column)) number
     ∙ seen-alike p D h g (arrowNumber p D (view e s run) row column) (squareAt (p .shape) row column)
+
+-- the arrows of all squares: the same number and the same rooms
+module _ (p : Plan) (D : ℕ) {d e : List ℕ} (r s : List ℕ) (run : Run) (h : AlikeDepths p d e) (m : length r ≡ length s)
+    (g : AlikeRecords p (newestRecord p (view d r run)) (newestRecord p (view e s run))) where
+  seen-same : (i : ℕ) → seenSquare p D (view d r run) i ≡ seenSquare p D (view e s run) i
+  unfolding seenSquare
+  seen-same i = arrow-alike p D r s run (i / p .shape .columns) (i % p .shape .columns) h m g
+
+  first-same : arrowNumber p D (view d r run) 0 0 ≡ arrowNumber p D (view e s run) 0 0
+  unfolding seenAt seenBy
+  first-same =
+      sym (number-kept (arrowNumber p D (view d r run) 0 0) _ _ _ _)
+      ∙ (ap numberIn (arrow-alike p D r s run 0 0 h m g) ∙ number-kept (arrowNumber p D (view e s run) 0 0) _ _ _ _)
+
+  all-number-alike : (old : Sights) → allNumber p D (view d r run) old ≡ allNumber p D (view e s run) old
+  unfolding allNumber allRefusals arrowNumber refusal
+  all-number-alike old =
+      ap (λ (n : ℕ). pick (every (eqb (length (old .kinds)) (length (p .marks)) ∷ eqb (length (old .east)) (length (p .marks)) ∷ eqb (length (old .north)) (length (p .marks)) ∷ [])) n 1)
+      first-same
+
+  pub all-arrows-alike : {old new : Sights} {n : ℕ} → SeesAll p D (view d r run) old n new → SeesAll p D (view e s run) old n new
+  all-arrows-alike {old} x =
+      record {
+        number-is = x .number-is ∙ all-number-alike old;
+        rooms-are =
+            x .rooms-are
+            ∙ ap₂ (λ (k : ℕ) (l : Sights). pick (eqb k 0) l old) (all-number-alike old) (laid-ext (squares (p .shape)) _ _ (λ i l. seen-same i));
+      }

@@ -276,26 +276,34 @@ module _ (p : Plan) (D : ℕ) (w : World) (row column : ℕ) {n : ℕ} (e : n �
         newest-in = run-ring _ (w .run) (late .0) .newest-below;
       }
 
+  pub number-early : (n ≡ 0 → ⊥) → n ≡ arrowNumber p D w row column
+  unfolding arrowNumber arrowRefusals arrowEarlyRefusals sharedRefusals
+  number-early h = e ∙ sym (refusal-first _ _ tt (λ z. h (e ∙ z)))
+
   pub seen-refused : (n ≡ 0 → ⊥) → Refused n ≡ seenAt p D w row column
-  unfolding seenAt seenBy arrowNumber arrowRefusals arrowEarlyRefusals sharedRefusals
-  seen-refused h = sighted-refused _ _ _ n _ (e ∙ sym (refusal-first _ _ tt (λ z. h (e ∙ z)))) h
+  unfolding seenAt seenBy
+  seen-refused h = sighted-refused _ _ _ n _ (number-early h) h
 
   module _ (z : n ≡ 0) {rec : List ℕ} (r : rec ≡ newestRecord p w) {fine : Bool} (f : fine ≡ timesFine rec) where
+    pub number-late : fine ≡ false → 11 ≡ arrowNumber p D w row column
+    unfolding arrowNumber arrowRefusals arrowEarlyRefusals sharedRefusals
+    number-late b =
+        sym (refusal-second (arrowEarlyRefusals p D w row column) _ tt (sym e ∙ z) ∙ refusal-here 11 _ (ap timesFine (sym r) ∙ (sym f ∙ b)))
+
+    pub number-none : fine ≡ true → 0 ≡ arrowNumber p D w row column
+    unfolding arrowNumber arrowRefusals arrowEarlyRefusals sharedRefusals
+    number-none b =
+        sym (refusal-second (arrowEarlyRefusals p D w row column) _ tt (sym e ∙ z) ∙ passed-refusal _ (ap timesFine (sym r) ∙ (sym f ∙ b), tt))
+
     pub seen-late : fine ≡ false → Refused 11 ≡ seenAt p D w row column
-    unfolding seenAt seenBy arrowNumber arrowRefusals arrowEarlyRefusals sharedRefusals
-    seen-late b =
-        sighted-refused _ _ _ 11 _
-        (sym (refusal-second (arrowEarlyRefusals p D w row column) _ tt (sym e ∙ z) ∙ refusal-here 11 _ (ap timesFine (sym r) ∙ (sym f ∙ b))))
-        (λ q. absurd (omega arith))
+    unfolding seenAt seenBy
+    seen-late b = sighted-refused _ _ _ 11 _ (number-late b) (λ q. absurd (omega arith))
 
     pub seen-is :
         {i : ℕ} {a : Sight} → fine ≡ true → i ≡ squareAt (p .shape) row column → a ≡ seenBy 0 p D (w .depths) rec i →
         a ≡ seenAt p D w row column
-    unfolding seenAt arrowNumber arrowRefusals arrowEarlyRefusals sharedRefusals
-    seen-is {i} b g q =
-        let passed : 0 ≡ refusal (arrowRefusals p D w row column) =
-        sym (refusal-second (arrowEarlyRefusals p D w row column) _ tt (sym e ∙ z) ∙ passed-refusal _ (ap timesFine (sym r) ∙ (sym f ∙ b), tt)) in
-        q ∙ (λ k. seenBy (passed k) p D (w .depths) (r k) (g k))
+    unfolding seenAt
+    seen-is {i} b g q = q ∙ (λ k. seenBy (number-none b k) p D (w .depths) (r k) (g k))
 
     pub timed : fine ≡ true → D ≤ mostSide → Timed D rec
     unfolding timesFine

@@ -1,4 +1,5 @@
 pub mod Alike
+pub mod AllArrowsLaws
 pub mod ArrowLaws
 pub mod Determined
 pub mod RefusalLaws

@@ -1,3 +1,4 @@
+pub mod AllArrows
 pub mod Arrows
 pub mod inner
 pub mod Refusals

@@ -57,7 +57,7 @@ fn asked_fine(shape: Shape, square_side: u64, row: usize, column: usize) -> bool
 }
 
 // The number of the first refusal before 11, 0 for none.
-fn early_refusal(
+pub(crate) fn early_refusal(
     shape: Shape,
     square_side: u64,
     run: Run,
@@ -145,7 +145,7 @@ fn are_still(north: Through, east: Through, south: Through, west: Through) -> bo
 }
 
 // What is seen of a square by a record.
-fn seen(
+pub(crate) fn seen(
     shape: Shape,
     square_side: u64,
     marks: &[u8],

@@ -2,8 +2,10 @@
 //
 //   speeds     Arrow; inside: the speed through a side, in f64, rounded once
 //   arrows     Sight; arrow
+//   all_arrows all_arrows: the arrows of a whole grid, checked once
 //   wet_rows   Wet; ones_in, wet_rows
 //   refusals   inside: the refusals 1 to 3, which both calls share
+pub mod all_arrows;
 pub mod arrows;
 mod refusals;
 pub mod speeds;

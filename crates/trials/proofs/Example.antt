@@ -82,3 +82,10 @@ both-back :
     (start counter (record { seen = 5; room = 9 ∷ 9 ∷ []; kept = 0; newest = 1 })) .at .seen ≡ 5
 unfolding series step takeBack andThen pick every placed recordIn slotAfter slotBefore ringFine
 both-back = refl
+
+-- 7 stands; 3 and 2 are tried after it and taken back: 12 is seen again
+tried-and-back :
+    series counter (stepping 7 ∷ stepping 3 ∷ stepping 2 ∷ takingBack ∷ takingBack ∷ [])
+    (start counter (record { seen = 5; room = 9 ∷ 9 ∷ []; kept = 0; newest = 1 })) .at .seen ≡ 12
+unfolding series step takeBack andThen pick every placed recordIn slotAfter slotBefore ringFine
+tried-and-back = refl

@@ -2,6 +2,7 @@ pub mod Along
 pub mod AloneLaws
 pub mod Determined
 pub mod Example
+pub mod Laid
 pub mod RingLaws
 pub mod RoomLaws
 pub mod RunLaws

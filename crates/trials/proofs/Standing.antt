@@ -2,7 +2,7 @@
 -- Assumes nothing.
 use mathlib.Core.Path.{_≡_, refl, sym, ap, ap₂, _∙_, subst}
 use mathlib.Core.Bool.{true}
-use mathlib.Core.List.{List, [], _∷_}
+use mathlib.Core.List.{List, [], _∷_, _++_}
 use Prim.Native.Nat.{ℕ, zero, suc, _+_, _-_, _≤_, _<_, max}
 use native.Mathlib.Decide.{decLt}
 use native.Mathlib.Omega.{arith}
@@ -13,6 +13,12 @@ use Rattle.trials.specs.inner.Owes.{Laws}
 use Rattle.trials.proofs.RingLaws.{none-fails, ago-none, ago-more}
 use Rattle.trials.proofs.StepLaws.{not-done, RingOf, ring-is-fine, Made, step-made, made-step, some-slot, seen-after, newest-after, kept-after, slots-after, ring-made, before-newest, newest-record, older-record, back-made}
 use Rattle.trials.proofs.AloneLaws.{Alone, Last, alone, last, alone-ring, lookAt, same-look}
+
+module _ (E : Engine) where
+  -- so many take-backs, one after the other
+  abbrev pub backs : ℕ → List (Call E)
+  backs zero = []
+  backs (suc n) = takingBack ∷ backs n
 
 module _ (E : Engine) (L : Laws E) (f : State E) (F : Fresh E f) where
   abbrev K : ℕ
@@ -296,3 +302,43 @@ module _ (E : Engine) (L : Laws E) (f : State E) (F : Fresh E f) where
   -- DEMAND 3: any series from a fresh run
   pub never-made : (cs : List (Call E)) → Stands E f (series E cs (start E f))
   never-made cs = stands (series E cs (start E f)) (series-good cs (start E f) start-good)
+
+  -- ---- a trial taken back was never made: what came after a series
+
+  record Undone (is : List (E .Inputs)) (z : Trail E) : Type 0 where
+    good : Good z
+    stands-on : z .standing ≡ is
+
+  undone : (us is : List (E .Inputs)) (y : Trail E) → Good y → y .standing ≡ us ++ is → length us ≤ y .at .kept →
+      Undone is (series E (backs E (length us)) y)
+  unfolding series
+  undone [] is y I e h = record { good = I; stands-on = e }
+  undone (u ∷ us) is y I e h = go (undone us is) (y .at .kept) refl
+    where
+      go : ((z : Trail E) → Good z → z .standing ≡ us ++ is → length us ≤ z .at .kept → Undone is (series E (backs E (length us)) z)) → (k : ℕ) → y .at .kept ≡ k →
+          Undone is (series E (backs E (length us)) (afterBack E y (takeBack E (y .at))))
+      go more zero q = absurd (omega arith)
+      go more (suc left) q =
+          let b : Back (y .at) left (older E (y .standing)) (y .peak) = back-kept (y .at) left (y .standing) (y .peak) q I in
+          let then : Trail E = record { at = restored E K (y .at) left (b .old); standing = older E (y .standing); peak = y .peak } in
+          rw (b .is-made) (more then (b .then-same) (ap (older E) e) (omega arith))
+
+  abbrev fromDone : State E → Outcome (State E) → State E
+  fromDone d (refused n) = d
+  fromDone d (done s) = s
+
+  -- after any calls, and any further ones by which `us` stand besides and none of the first was taken back: so many take-backs, and what is
+  -- seen is what was seen before them
+  pub taken-back : (cs ts : List (Call E)) (us : List (E .Inputs)) →
+      series E ts (series E cs (start E f)) .standing ≡ us ++ series E cs (start E f) .standing →
+      length us ≤ series E ts (series E cs (start E f)) .at .kept →
+      series E (backs E (length us)) (series E ts (series E cs (start E f))) .at .seen ≡ series E cs (start E f) .at .seen
+  taken-back cs ts us e h =
+      let x : Trail E = series E cs (start E f) in
+      let I : Good x = series-good cs (start E f) start-good in
+      let z : Trail E = series E (backs E (length us)) (series E ts x) in
+      let U : Undone (x .standing) z = undone us (x .standing) (series E ts x) (series-good ts x I) e h in
+      let again : replay E (x .standing) f ≡ done (U .good .run-alone) =
+      subst (λ (is : List (E .Inputs)). replay E is f ≡ done (U .good .run-alone)) (U .stands-on) (U .good .again) in
+      let same : U .good .run-alone ≡ I .run-alone = ap (fromDone (I .run-alone)) (sym again ∙ I .again) in
+      U .good .same-seen ∙ (ap (λ (s : State E). s .seen) same ∙ sym (I .same-seen))

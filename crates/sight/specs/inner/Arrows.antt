@@ -4,6 +4,7 @@ use mathlib.Core.Path.{_≡_}
 use mathlib.Core.Bool.{true}
 use mathlib.Core.List.{List}
 use Prim.Native.Nat.{ℕ, _+_, _≤_, _<_, _^_}
+use lib.Ieee.{Float}
 use lib.ListN.{length, getD}
 use Rattle.reckon.specs.Ranges.{mostSide, mostDepth, mostLength}
 use Rattle.grid.specs.Squares.{squares}
@@ -42,3 +43,9 @@ pub record Ranged (D lasted : ℕ) (t : Through) : Type 0 where
   pub back-small : t .back < 2 ^ 32
   pub deep-some : 0 < t .deep
   pub deep-to : t .deep ≤ mostDepth + mostDepth
+
+-- the rooms for the arrows of all squares, one number a square each
+pub record RoomsLong (n : ℕ) (kinds : List ℕ) (east north : List Float) : Type 0 where
+  pub kinds-long : length kinds ≡ n
+  pub east-long : length east ≡ n
+  pub north-long : length north ≡ n

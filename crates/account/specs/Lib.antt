@@ -1,0 +1,3 @@
+pub mod Account
+pub mod inner
+pub mod Worked
