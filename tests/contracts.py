@@ -16,6 +16,8 @@ EXPORTED = "flood_"
 # Rooms of which a contract promises nothing, because nobody reads what is left in them (docs/CONTRACTS.md says why), and slices that a
 # `requires` asks to say only what the record says already, so that nothing depends on them.
 NOT_SAID = {(crate, name, slice) for crate, name in (("settling", "settle::settle"), ("flood", "step::step_on")) for slice in ("room", "left", "worked", "senders")}
+# what becomes of a text that is written to a file is the system's to say
+NOT_SAID.add(("files", "write_named", "text"))
 
 
 # What comes of a file is the system's to say: what these functions give is not determined by what they are lent, so that no record has a field
