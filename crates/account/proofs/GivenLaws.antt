@@ -18,7 +18,7 @@ use Rattle.ledger.specs.Flows.{shut}
 use Rattle.checks.specs.Given.{Given}
 use Rattle.adding.specs.Added.{addedFor}
 use Rattle.adding.specs.inner.Added.{Between}
-use Rattle.account.specs.inner.Given.{mostGiven, GivenTo}
+use Rattle.account.specs.inner.Given.{GivenTo}
 
 -- a square's water is a 32-bit number, or 0
 pub water-small : (closed : Bool) {depth : ℕ} → depth < 2 ^ 32 → pick closed 0 depth < 2 ^ 32

@@ -9,7 +9,7 @@ use reckon::tables::inflow_added;
 use reckon::tables::rain_added;
 use rule::rules::Rules;
 ghost use mathlib.Core.Path.{_≡_};
-ghost use Prim.Native.Nat.{_<_, _≤_};
+ghost use Prim.Native.Nat.{_<_};
 ghost use lib.ListN.{getD, length};
 ghost use Rattle.reckon.specs.Tests.{pick};
 ghost use Rattle.reckon.specs.Tables.{rainAdded};

@@ -2,33 +2,33 @@
 -- reads well, and says the beds given and all else as before.
 -- Assumes nothing.
 use mathlib.Core.Path.{_≡_, refl, sym, ap, ap₂, subst, _∙_}
-use mathlib.Core.Bool.{Bool, true, false, _||_}
+use mathlib.Core.Bool.{true, false}
 use mathlib.Core.List.{List, [], _∷_, _++_, append-assoc}
 use Prim.Native.Nat.{ℕ, zero, suc, _+_, _/_, _%_, _≤_, _<_}
 use native.Mathlib.Nat.{div-le-self, mod-le}
 use native.Mathlib.Omega.{arith}
-use lib.Dec.{eqb, leb}
+use lib.Dec.{eqb}
 use lib.ListN.{length, getD, replicate, length-append, length-replicate, getD-replicate}
 use lib.Seq.{ext-getD}
 use borrow.Author.Tests.{eq-eqb, ne-eqb, eqb-false, le-leb}
-use Rattle.reckon.specs.Tests.{pick, every}
+use Rattle.reckon.specs.Tests.{pick}
 use Rattle.reckon.specs.Lists.{tabulate, filled}
 use Rattle.reckon.specs.Ranges.{mostBed}
-use Rattle.reckon.proofs.TestLaws.{not-both, pick-true, pick-false, failing-none, passed-refusal, refusal-passed, every-each, each-every, all-of, all-at, or-of, or-right}
+use Rattle.reckon.proofs.TestLaws.{pick-true, pick-false, failing-none, passed-refusal, refusal-passed, every-each, each-every, all-of, all-at, or-of, or-right}
 use Rattle.reckon.proofs.ListLaws.{length-filled, filled-in, filled-skipped}
 use Rattle.grid.specs.Squares.{squares}
 use Rattle.grid.specs.Marks.{closed}
 use Rattle.grid.specs.declared.squares.Shape.{Shape}
-use Rattle.text.specs.Reading.{tab, newline, mostNumber, isByte, wordAt, isDigit, readFields, asFields, padded, readRest, lineFrom}
+use Rattle.text.specs.Reading.{tab, newline, mostNumber, isByte, wordAt, isDigit, readFields, asFields, padded, lineFrom}
 use Rattle.text.specs.Reading.Reading.{read}
 use Rattle.text.specs.Reading as Reading
 use Rattle.text.specs.Writing.{fieldsText, restText}
-use Rattle.text.specs.inner.Standing.{plain, Readable, StandsAt}
+use Rattle.text.specs.inner.Standing.{Readable, StandsAt}
 use Rattle.text.proofs.ReadingLaws.{by-test, by-lt, byte-here}
 use Rattle.text.proofs.RoundTrip.{fields-back, rest-back, tab-alone}
 use Rattle.text.proofs.StandLaws.{stands-first, stands-second, stands-within, byte-stands, word-stands}
 use Rattle.text.proofs.LineLaws.{plain-both, plain-fields}
-use Rattle.sheet.specs.Lines.{cellWord, xLetter, oLetter, eLetter, letterOf, lineHead, noCell, closedCell, asOpen, openCell, markedCell, placedCell, cellLine}
+use Rattle.sheet.specs.Lines.{cellWord, xLetter, oLetter, letterOf, lineHead, closedCell, asOpen, openCell, markedCell, placedCell, cellLine}
 use Rattle.sheet.specs.declared.lines.CellLine.{CellLine}
 use Rattle.sheet.specs.Sheet.{Rooms, rooms, cellFrom, closedFrom, cellsRead, lineOne, lineTwo, shapeOf, cellsAt, afterAll, badLine, cellsFilled, said, roomsFine, planIn, checksIn, checksOf, headingOf, judged, sheetOf}
 use Rattle.sheet.specs.Written.{groundAt, cellWritten, linesWritten, sheetWritten}

@@ -11,7 +11,7 @@ use Rattle.trials.specs.inner.Series as Any
 use Rattle.trials.proofs.StepLaws.{not-done}
 use Rattle.trials.proofs.Standing as Standing
 use Rattle.trials.proofs.Laid.{laid}
-use Rattle.ledger.specs.Runs.{Plan, World, Seen, seenOf}
+use Rattle.ledger.specs.Runs.{Plan, World, seenOf}
 use Rattle.ledger.proofs.EngineLaws.{engine-laws}
 use Rattle.checks.specs.Given.{Given}
 use Rattle.flood.specs.Step.{stepNumber}

@@ -1,20 +1,16 @@
 -- Laws of a line that was read: the fields as they are handed back are those of the reading, and the kinds are tried in their order.
 -- Assumes nothing.
 use mathlib.Core.Path.{_≡_, refl, sym, ap, _∙_}
-use mathlib.Core.Bool.{Bool, true, false}
-use mathlib.Core.List.{List, []}
+use mathlib.Core.Bool.{true, false}
+use mathlib.Core.List.{List}
 use Prim.Native.Nat.{ℕ}
-use lib.Dec.{eqb}
-use lib.ListN.{length, getD}
+use lib.ListN.{length}
 use borrow.Author.Tests.{eq-eqb, ne-eqb}
-use Rattle.reckon.specs.Lists.{tabulate}
 use Rattle.reckon.specs.Tests.{pick}
 use Rattle.reckon.proofs.TestLaws.{not-both, pick-true, pick-false}
 use Rattle.text.specs.Reading.{Reading, asFields, padded, readLine}
 use Rattle.text.specs.Reading.Reading.{read, unread}
 use Rattle.text.specs.declared.reading.Fields.{Fields}
-use Rattle.hatches.specs.Lines.{asHatch, asBack}
-use Rattle.hatches.specs.declared.lines.Entry.the-variants.{Hatch, Back}
 use Rattle.desk.specs.Orders.{toTheEnd, readWhole, orderFrom}
 use Rattle.desk.specs.declared.orders.Order.{Order}
 

@@ -24,7 +24,7 @@ use Rattle.ledger.specs.Checks.{oneEach, timesFine}
 use Rattle.sight.specs.Refusals.{depthsFine, sharedRefusals}
 use Rattle.sight.specs.Speeds.{sideSpeed, arrowOf}
 use Rattle.sight.specs.Arrows.{netNone, outThrough, nearDepth, throughSide, allStill, arrowBy, sighted, seenBy, view, askedFine, arrowEarlyRefusals, arrowRefusals, arrowNumber, seenAt}
-use Rattle.sight.specs.AllArrows.{Sights, laidOut, seenSquare, allRefusals, allNumber, SeesAll}
+use Rattle.sight.specs.AllArrows.{Sights, seenSquare, allRefusals, allNumber, SeesAll}
 use Rattle.sight.specs.WetRows.{onesOver, wetRefusals, wetNumber, counted, WetRowed}
 use Rattle.sight.specs.declared.speeds.Arrow.{Arrow}
 use Rattle.sight.specs.declared.wet_rows.Wet.{Wet}

@@ -3,7 +3,7 @@
 use mathlib.Core.Path.{_≡_, refl, sym, ap, ap₂, _∙_}
 use mathlib.Core.Bool.{Bool, true, false}
 use mathlib.Core.List.{List, [], _∷_}
-use Prim.Native.Nat.{ℕ, zero, suc, _+_, _/_, _%_, _≤_, _<_}
+use Prim.Native.Nat.{ℕ, zero, suc, _+_, _/_, _≤_, _<_}
 use native.Mathlib.Decide.{decLt}
 use native.Mathlib.Nat.{div-lt-iff-lt-mul}
 use native.Mathlib.Omega.{arith}
@@ -12,9 +12,9 @@ use lib.Ieee.{Float}
 use lib.ListN.{length, getD, set, length-set}
 use lib.Seq.{getD-set-same, getD-set-other, ext-getD}
 use borrow.Author.Tests.{eq-eqb, ne-eqb, lt-ltb, eqb-true}
-use Rattle.reckon.specs.Tests.{every, refusal, _unless_}
+use Rattle.reckon.specs.Tests.{every, refusal}
 use Rattle.reckon.specs.Ranges.{mostSide}
-use Rattle.reckon.proofs.TestLaws.{pick-true, pick-false, every-each, refusal-here, refusal-later, refusal-first, refusal-second, passed-refusal}
+use Rattle.reckon.proofs.TestLaws.{pick-true, pick-false, every-each, refusal-here, refusal-later}
 use Rattle.grid.specs.Squares.{squares, ShapeInRange}
 use Rattle.grid.specs.declared.squares.Shape.{Shape}
 use Rattle.grid.proofs.SquareLaws.{square-in, column-within}
@@ -22,11 +22,9 @@ use Rattle.ledger.specs.Runs.{Plan, World}
 use Rattle.ledger.specs.Record.{newestRecord}
 use Rattle.ledger.specs.Checks.{timesFine}
 use Rattle.sight.specs.Speeds.{zero64}
-use Rattle.sight.specs.Refusals.{sharedRefusals}
 use Rattle.sight.specs.inner.Arrows.{RoomsLong}
 use Rattle.sight.specs.Arrows.{seenBy, askedFine, arrowEarlyRefusals, arrowRefusals, arrowNumber, seenAt}
 use Rattle.sight.specs.AllArrows.{kindOf, arrowIn, eachOf, Sights, sights, laidOut, seenSquare, allRefusals, allNumber, SeesAll}
-use Rattle.sight.specs.declared.speeds.Arrow.{Arrow}
 use Rattle.sight.specs.declared.arrows.Sight.{Sight}
 use Rattle.sight.proofs.ArrowLaws.{number-early, number-late, number-none}
 

@@ -4,10 +4,9 @@
 use mathlib.Core.Path.{_≡_, refl, sym, ap, _∙_}
 use mathlib.Core.Bool.{true}
 use mathlib.Core.List.{List, [], _∷_}
-use Prim.Native.Nat.{ℕ}
 use Rattle.trials.specs.inner.Series.{Outcome, refused, done, andThen, Engine, State, fine, stepped, step, replay, shown}
 use Rattle.trials.specs.inner.Owes.{Laws}
-use Rattle.trials.proofs.StepLaws.{Made, step-made, ring-made, ring-is-fine}
+use Rattle.trials.proofs.StepLaws.{step-made, ring-made, ring-is-fine}
 
 module _ (E : Engine) (L : Laws E) where
   -- two answers that show the same and go on alike

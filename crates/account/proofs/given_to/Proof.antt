@@ -2,8 +2,6 @@
 -- Assumes nothing.
 use mathlib.Core.Path.{sym, _∙_}
 use native.Mathlib.Omega.{arith}
-use Rattle.ledger.specs.Runs.{plan}
-use Rattle.adding.specs.inner.Added.{tables}
 use Rattle.account.proofs.GivenLaws.{inflow-asked, given-closed, given-open}
 use borrow.Author.Needs.{needs}
 use Rattle.account.proofs.given_to.Statement.{statement}

@@ -1,6 +1,5 @@
 -- `desk::orders::whole_line` meets its contract: a line that comes to the text's end, or nothing.
 -- Assumes nothing.
-use mathlib.Core.Path.{_∙_}
 use Rattle.reckon.specs.Lists.{tabulate}
 use Rattle.text.specs.Reading.{asFields, padded}
 use Rattle.desk.proofs.OrderLaws.{whole-read, not-whole}

@@ -1,7 +1,6 @@
 -- `sight::all_arrows::keep_sight` meets its contract: one number is stored in each room.
 -- Assumes nothing.
 use mathlib.Core.Path.{ap}
-use lib.Ieee.{Float}
 use lib.ListN.{set}
 use denote.Ref.{now}
 use Prim.Native.Nat.{ℕ}
