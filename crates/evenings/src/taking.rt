@@ -35,7 +35,7 @@ pub struct EntryTaken {
 }
 
 // A log with a hatch named.
-fn name_hatch(log: Log, number: u32, row: u32, column: u32) -> Log
+pub fn name_hatch(log: Log, number: u32, row: u32, column: u32) -> Log
     requires { ⌜ (1 ≤ number) × (number ≤ mostHatches) ⌝ }
     ensures { λ r. ⌜ r ≡ hatchNamed log number row column ⌝ }
 {
@@ -56,7 +56,7 @@ fn name_hatch(log: Log, number: u32, row: u32, column: u32) -> Log
 }
 
 // A log with another run, steps standing and rates; the opening is over.
-fn further(log: Log, run: Run, steps: u64, litres: [u32; 9]) -> Log
+pub fn further(log: Log, run: Run, steps: u64, litres: [u32; 9]) -> Log
     ensures { λ r. ⌜ r ≡ logWith log run steps litres ⌝ }
 {
     let hatches = log.hatches;
@@ -198,7 +198,7 @@ fn take_backs(
 }
 
 // A line `back`.
-fn back_line(
+pub fn back_line(
     log: Log,
     count: u32,
     shape: Shape,
@@ -208,7 +208,8 @@ fn back_line(
     records: &[u32],
     began: &[u32],
 ) -> EntryTaken
-    requires { ⌜ (lentFine (plan shape (now marks)) (now depths) (now records) (now began) ≡ true) × (standingFine log ≡ true) × (keptFine log (kinds.Back count) ≡ true) ⌝ }
+    requires { ⌜ (ShapeInRange shape) × (roomSlots (plan shape (now marks)) (now records) ≤ slotsIn mostHatches (length (now began))) ⌝ }
+    requires { ⌜ (standingFine log ≡ true) × (keptFine log (kinds.Back count) ≡ true) ⌝ }
     ensures { λ r. ⌜ ((g : Givens.Given) → (r .number ≡ lineBack (plan shape (now (marks .entry))) g (evening (now (depths .entry)) (now (lasts .entry)) (now (records .entry)) (now (began .entry)) log) count .number) × (evening (now (depths .exit)) (now (lasts .exit)) (now (records .entry)) (now (began .entry)) (r .log) ≡ afterBack (plan shape (now (marks .entry))) g (evening (now (depths .entry)) (now (lasts .entry)) (now (records .entry)) (now (began .entry)) log) count)) ⌝ }
 {
     let slots = trials::slots_in(record_size(shape), records.len());

@@ -44,7 +44,7 @@ fn is_multiple(clock: u64, update: u64) -> bool
 }
 
 // 12 for a hatch's line: at the opening, its number is 1 to 9 and not named yet.
-fn hatch_line_fine(log: Log, number: u32) -> bool
+pub fn hatch_line_fine(log: Log, number: u32) -> bool
     ensures { λ r. ⌜ ((rules : Declared.Rules) (row column : ℕ) → r ≡ lineFine rules log (kinds.Hatch number row column)) ⌝ }
 {
     if !log.opening {
@@ -110,7 +110,7 @@ fn lent_fine(shape: Shape, marks: &[u8], depths: &[u32], records: &[u32], began:
 }
 
 // Whether so many numbers, a row for each hatch and so many numbers more fit the inflow table.
-fn table_fits(numbers: usize, hatches: Hatches, more: usize) -> bool
+pub fn table_fits(numbers: usize, hatches: Hatches, more: usize) -> bool
     requires { ⌜ more ≤ inflowKind .width ⌝ }
     ensures { λ r. ⌜ ((litres : List ℕ) → r ≡ leb (numbers + length (hatchRows hatches litres) + more) (tableRoom inflowKind)) ⌝ }
 {
@@ -121,7 +121,7 @@ fn table_fits(numbers: usize, hatches: Hatches, more: usize) -> bool
 }
 
 // 4 for a hatch's line: its square is on the grid and not closed, and one row more fits the table.
-fn hatch_draw_fine(
+pub fn hatch_draw_fine(
     log: Log,
     row: u32,
     column: u32,
@@ -177,7 +177,7 @@ fn draw_fine(entry: Entry, log: Log, shape: Shape, marks: &[u8], inflow: &[u32])
 }
 
 // 6: as many steps stand as are kept, and each took a ms or more.
-fn standing_fine(log: Log) -> bool
+pub fn standing_fine(log: Log) -> bool
     ensures { λ r. ⌜ r ≡ standingFine log ⌝ }
 {
     let run = log.run;

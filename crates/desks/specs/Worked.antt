@@ -3,8 +3,8 @@
 use mathlib.Core.Path.{_≡_}
 use Rattle.text.specs.Bytes.{bytesOf}
 use Rattle.hatches.specs.declared.lines.Entry.the-variants.{Hatch, Back}
-use Rattle.desk.specs.Orders.{order}
-use Rattle.desk.specs.declared.orders.Order.the-variants.{Sheet, Log, Draw, Step, Show, Arrows, Most, Stand, Lay, Unread}
+use Rattle.desks.specs.Orders.{order}
+use Rattle.desks.specs.declared.orders.Order.the-variants.{Sheet, Log, Draw, Step, Show, Arrows, Most, Stand, Lay, Unread}
 
 pub record OrderCases : Type 0 where
   pub a-sheet : order (bytesOf "sheet\t126\n") ≡ Sheet 126

@@ -2,10 +2,10 @@
 -- Assumes nothing.
 use Rattle.reckon.specs.Lists.{tabulate}
 use Rattle.text.specs.Reading.{asFields, padded}
-use Rattle.desk.proofs.OrderLaws.{whole-read, not-whole}
+use Rattle.desks.proofs.OrderLaws.{whole-read, not-whole}
 use borrow.Author.Needs.{needs}
-use Rattle.desk.proofs.orders.whole_line.Statement.{statement}
-use Rattle.desk.proofs.orders.whole_line.Tie as tie
+use Rattle.desks.proofs.orders.whole_line.Statement.{statement}
+use Rattle.desks.proofs.orders.whole_line.Tie as tie
 
 line-of-requires : tie.Need-line-of-requires
 line-of-requires c κs = search needs

@@ -3,11 +3,11 @@
 use mathlib.Core.Path.{refl, _∙_}
 use Rattle.reckon.specs.Lists.{tabulate}
 use Rattle.text.specs.Reading.{padded}
-use Rattle.desk.specs.Orders.{asShow, asArrows, asMost, asStand, lookOrder}
-use Rattle.desk.proofs.OrderLaws.{asked, not-asked}
+use Rattle.desks.specs.Orders.{asShow, asArrows, asMost, asStand, lookOrder}
+use Rattle.desks.proofs.OrderLaws.{asked, not-asked}
 use borrow.Author.Needs.{needs}
-use Rattle.desk.proofs.orders.look_order.Statement.{statement}
-use Rattle.desk.proofs.orders.look_order.Tie as tie
+use Rattle.desks.proofs.orders.look_order.Statement.{statement}
+use Rattle.desks.proofs.orders.look_order.Tie as tie
 
 slice-aggregate-whole-line : tie.Need-slice-aggregate-whole-line
 slice-aggregate-whole-line c = search needs

@@ -5,7 +5,7 @@ use text::reading::line_of;
 ghost use mathlib.Core.Path.{_≡_};
 ghost use Prim.Native.Nat.{_≤_};
 ghost use Rattle.text.specs.Reading.{asFields, mostFields};
-ghost use Rattle.desk.specs.Orders.{OrderRead, lookOrder, readWhole, tryOrder};
+ghost use Rattle.desks.specs.Orders.{OrderRead, lookOrder, readWhole, tryOrder};
 
 // What a line asks for: a sheet of so many bytes; a hatch named or steps taken back, as in a hatch log; a hatch's litres per second; a count of
 // steps, an end and whether each is shown; what stands now; all arrows; the most steps to an end; the state to be saved; a saved state of so many

@@ -4,8 +4,8 @@ use mathlib.Core.Path.{refl}
 use Rattle.reckon.specs.Tests.{pick, every, allBelow}
 use Rattle.text.specs.Bytes.{bytesOf}
 use Rattle.text.specs.Reading.{isByte, wordAt, isDigit, digitsOf, valueFrom, wellFormed, numberFrom, numberAt, fieldAt, before, readFields, lineEnded, readRest, readLine}
-use Rattle.desk.specs.Orders.{readWhole, lookOrder, tryOrder, order}
-use Rattle.desk.specs.Worked.{OrderCases}
+use Rattle.desks.specs.Orders.{readWhole, lookOrder, tryOrder, order}
+use Rattle.desks.specs.Worked.{OrderCases}
 
 pub order-cases : OrderCases
 unfolding pick every allBelow bytesOf isByte wordAt isDigit digitsOf valueFrom wellFormed numberFrom numberAt fieldAt before readFields lineEnded readRest readLine readWhole lookOrder tryOrder order

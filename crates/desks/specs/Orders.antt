@@ -9,8 +9,8 @@ use Rattle.reckon.specs.Tests.{pick}
 use Rattle.text.specs.Reading.{Reading, readLine}
 use Rattle.text.specs.Reading.Reading.{read, unread}
 use Rattle.hatches.specs.Lines.{hatchWord, hatchFields, asHatch, backWord, backFields, asBack}
-use Rattle.desk.specs.declared.orders.Order.{Order}
-use Rattle.desk.specs.declared.orders.Order.the-variants.{Sheet, Log, Draw, Step, Show, Arrows, Most, Stand, Lay, Unread}
+use Rattle.desks.specs.declared.orders.Order.{Order}
+use Rattle.desks.specs.declared.orders.Order.the-variants.{Sheet, Log, Draw, Step, Show, Arrows, Most, Stand, Lay, Unread}
 
 -- the words that lines begin with; `hatch` and `back` are the hatch log's
 abbrev pub sheetWord : List ℕ

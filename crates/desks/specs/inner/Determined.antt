@@ -3,7 +3,7 @@
 use mathlib.Core.List.{List}
 use Prim.Native.Nat.{ℕ}
 use Rattle.reckon.specs.Outcomes.{One}
-use Rattle.desk.specs.Orders.{OrderRead}
+use Rattle.desks.specs.Orders.{OrderRead}
 
 pub record DeskDetermined : Type 0 where
   pub order-of : (s : List ℕ) → One (OrderRead s)

@@ -11,8 +11,8 @@ use Rattle.reckon.proofs.TestLaws.{not-both, pick-true, pick-false}
 use Rattle.text.specs.Reading.{Reading, asFields, padded, readLine}
 use Rattle.text.specs.Reading.Reading.{read, unread}
 use Rattle.text.specs.declared.reading.Fields.{Fields}
-use Rattle.desk.specs.Orders.{toTheEnd, readWhole, orderFrom}
-use Rattle.desk.specs.declared.orders.Order.{Order}
+use Rattle.desks.specs.Orders.{toTheEnd, readWhole, orderFrom}
+use Rattle.desks.specs.declared.orders.Order.{Order}
 
 -- ---- a line that is the whole text
 

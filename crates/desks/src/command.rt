@@ -1,0 +1,322 @@
+// The whole program short of its input and output: how many bytes of text a line brings, what a line does, and the next step of a line `step`.
+use crate::answers::put_ending;
+use crate::answers::put_state;
+use crate::lines::next_step;
+use crate::lines::order_line;
+use crate::orders::Order;
+use crate::orders::order_of;
+use crate::sizes::heading_fine;
+use crate::sizes::sizes_of;
+use crate::state::DESK_NUMBERS;
+use crate::state::DESK_OUT;
+use crate::state::DESK_RATES;
+use crate::state::DESK_SQUARES;
+use crate::state::DESK_TEXT;
+use crate::state::Desk;
+use crate::state::desk_still;
+use crate::state::desk_with;
+use crate::state::fresh_desk;
+use crate::state::kept_slots;
+use account::water_on;
+use grid::squares::squares_of;
+use programs::reading::read_within;
+use reckon::tables::INFLOW_ROOM;
+use reckon::tables::RAIN_ROOM;
+use sheet::reading::Heading;
+use sheet::reading::Sheet;
+
+// How many bytes of text come after a line.
+pub fn wanted(line: &[u8]) -> usize
+{
+    match order_of(line) {
+        Order::Sheet(bytes) => bytes as usize,
+        Order::Lay(bytes) => bytes as usize,
+        _ => 0,
+    }
+}
+
+// A line that is refused, whatever lies on the desk.
+fn refuse(desk: Desk, number: u32, line: usize, out: &mut [u8]) -> Desk
+{
+    let length = put_ending(out, 0, number, line);
+    desk_still(desk, length)
+}
+
+// Writes 0 over a room.
+fn clear(room: &mut [u32])
+{
+    let mut i: usize = 0;
+    while i < room.len() {
+        room[i] = 0;
+        i += 1;
+    }
+}
+
+// The desk with a sheet that was read into the rooms, and its frame.
+fn lay_sheet(
+    heading: Heading,
+    marks: &[u8],
+    depths: &[u32],
+    lasts: &mut [u32],
+    out: &mut [u8],
+) -> Desk
+{
+    clear(lasts);
+    let shape = heading.shape;
+    let squares = squares_of(shape);
+    let start = water_on(shape, &marks[..squares], &depths[..squares]);
+    let fresh = fresh_desk(heading, start, 0);
+    let log = fresh.log;
+    let account = fresh.account;
+    let at = put_state(
+        out,
+        log,
+        account,
+        kept_slots(shape),
+        shape,
+        &marks[..squares],
+        &depths[..squares],
+    );
+    let length = put_ending(out, at, 0, 0);
+    fresh_desk(heading, start, length)
+}
+
+// `sheet` bytes.
+fn sheet_line(
+    desk: Desk,
+    bytes: u32,
+    text: &[u8],
+    marks: &mut [u8],
+    beds: &mut [u32],
+    roughness: &mut [u32],
+    rates: &mut [u32],
+    rain: &mut [u32],
+    inflow: &mut [u32],
+    depths: &mut [u32],
+    lasts: &mut [u32],
+    out: &mut [u8],
+) -> Desk
+{
+    if text.len() != bytes as usize {
+        return refuse(desk, 12, 0, out);
+    }
+    let sheet = read_within(
+        text,
+        DESK_TEXT,
+        marks,
+        beds,
+        roughness,
+        rates,
+        depths,
+        rain,
+        inflow,
+    );
+    match sheet {
+        Sheet::Refused(number, line) => refuse(desk, number, line, out),
+        Sheet::Read(heading) => lay_sheet(heading, marks, depths, lasts, out),
+    }
+}
+
+// A line over the sheet on the desk: each room is lent as far as it belongs to the sheet.
+fn line_held(
+    desk: Desk,
+    order: Order,
+    text: &[u8],
+    marks: &[u8],
+    inflow: &[u32],
+    depths: &mut [u32],
+    lasts: &mut [u32],
+    records: &mut [u32],
+    began: &mut [u32],
+    out: &mut [u8],
+) -> Desk
+{
+    let sizes = sizes_of(desk.heading);
+    let squares = sizes.squares;
+    let inflow_end = sizes.inflow;
+    let records_end = sizes.records;
+    let began_end = sizes.began;
+    order_line(
+        desk,
+        order,
+        text,
+        &marks[..squares],
+        &inflow[..inflow_end],
+        &mut depths[..squares],
+        &mut lasts[..squares],
+        &records[..records_end],
+        &began[..began_end],
+        out,
+    )
+}
+
+// Whether a desk has a sheet on it that its rooms can hold.
+fn refused_at_once(desk: Desk) -> u32
+{
+    if !desk.ready {
+        return 12;
+    }
+    if !heading_fine(desk.heading) {
+        return 1;
+    }
+    0
+}
+
+// A line other than `sheet`.
+fn other_line(
+    desk: Desk,
+    order: Order,
+    text: &[u8],
+    marks: &[u8],
+    inflow: &[u32],
+    depths: &mut [u32],
+    lasts: &mut [u32],
+    records: &mut [u32],
+    began: &mut [u32],
+    out: &mut [u8],
+) -> Desk
+{
+    let number = refused_at_once(desk);
+    if number != 0 {
+        return refuse(desk, number, 0, out);
+    }
+    line_held(
+        desk,
+        order,
+        text,
+        marks,
+        inflow,
+        depths,
+        lasts,
+        records,
+        began,
+        out,
+    )
+}
+
+// Takes a line, and the text that came after it: what it does, and its answer at the start of out.
+pub fn command(
+    desk: Desk,
+    line: &[u8],
+    text: &[u8],
+    marks: &mut [u8; DESK_SQUARES],
+    beds: &mut [u32; DESK_SQUARES],
+    roughness: &mut [u32; DESK_SQUARES],
+    rates: &mut [u32; DESK_SQUARES],
+    rain: &mut [u32; RAIN_ROOM],
+    inflow: &mut [u32; INFLOW_ROOM],
+    depths: &mut [u32; DESK_SQUARES],
+    lasts: &mut [u32; DESK_SQUARES],
+    records: &mut [u32; DESK_NUMBERS],
+    began: &mut [u32; DESK_RATES],
+    out: &mut [u8; DESK_OUT],
+) -> Desk
+{
+    let order = order_of(line);
+    match order {
+        Order::Sheet(bytes) => sheet_line(
+            desk,
+            bytes,
+            text,
+            marks,
+            beds,
+            roughness,
+            rates,
+            rain,
+            inflow,
+            depths,
+            lasts,
+            out,
+        ),
+        _ => other_line(
+            desk,
+            order,
+            text,
+            marks,
+            inflow,
+            depths,
+            lasts,
+            records,
+            began,
+            out,
+        ),
+    }
+}
+
+// A step over the sheet on the desk.
+fn step_held(
+    desk: Desk,
+    marks: &[u8],
+    beds: &[u32],
+    roughness: &[u32],
+    rates: &[u32],
+    rain: &[u32],
+    inflow: &[u32],
+    depths: &mut [u32],
+    lasts: &mut [u32],
+    records: &mut [u32],
+    began: &mut [u32],
+    out: &mut [u8],
+) -> Desk
+{
+    let sizes = sizes_of(desk.heading);
+    let squares = sizes.squares;
+    let rain_end = sizes.rain;
+    let inflow_end = sizes.inflow;
+    let records_end = sizes.records;
+    let began_end = sizes.began;
+    next_step(
+        desk,
+        &marks[..squares],
+        &beds[..squares],
+        &roughness[..squares],
+        &rates[..squares],
+        &rain[..rain_end],
+        &inflow[..inflow_end],
+        &mut depths[..squares],
+        &mut lasts[..squares],
+        &mut records[..records_end],
+        &mut began[..began_end],
+        out,
+    )
+}
+
+// The next step of a line `step`, or its end: its answer at the start of out.
+pub fn go_on(
+    desk: Desk,
+    marks: &[u8; DESK_SQUARES],
+    beds: &[u32; DESK_SQUARES],
+    roughness: &[u32; DESK_SQUARES],
+    rates: &[u32; DESK_SQUARES],
+    rain: &[u32; RAIN_ROOM],
+    inflow: &[u32; INFLOW_ROOM],
+    depths: &mut [u32; DESK_SQUARES],
+    lasts: &mut [u32; DESK_SQUARES],
+    records: &mut [u32; DESK_NUMBERS],
+    began: &mut [u32; DESK_RATES],
+    out: &mut [u8; DESK_OUT],
+) -> Desk
+{
+    let series = desk.series;
+    if !series.on {
+        return desk_still(desk, 0);
+    }
+    let number = refused_at_once(desk);
+    if number != 0 {
+        return refuse(desk, number, 0, out);
+    }
+    step_held(
+        desk,
+        marks,
+        beds,
+        roughness,
+        rates,
+        rain,
+        inflow,
+        depths,
+        lasts,
+        records,
+        began,
+        out,
+    )
+}
