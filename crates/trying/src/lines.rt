@@ -26,10 +26,18 @@ use reckon::ranges::MOST_LITRES;
 use reckon::tables::INFLOW_ROOM;
 use rule::rules::Rules;
 ghost use mathlib.Core.Path.{_≡_};
-ghost use Prim.Native.Nat.{_≤_};
+ghost use mathlib.Core.List.{List};
+ghost use Prim.Native.Nat.{ℕ, _+_, _-_, _<_, _≤_};
+ghost use lib.ListN.{length, set};
+ghost use Rattle.reckon.specs.Tests.{refusal};
+ghost use Rattle.trials.specs.Ring.{slotAfter, slotsIn};
+ghost use Rattle.grid.specs.Squares.{ShapeInRange, squares};
 ghost use Rattle.ledger.specs.Runs.{plan};
 ghost use Rattle.checks.specs.Given.{given, ground};
-ghost use Rattle.hatches.specs.Log.{evening};
+ghost use Rattle.hatches.specs.Log.{evening, logWith, mostHatches, ratesKept};
+ghost use Rattle.trying.specs.Given.{accountWith, mostSlots};
+ghost use Rattle.trying.specs.Lines.{Draws, GivenBack, GoesBack, MakesOne, Names, TrialLent, logAt, tried, tryRefusals};
+ghost use Rattle.checks.specs.Given as Givens;
 
 // What came of a line: the number that it is refused with, 0 for none, the log and the account after it.
 pub struct Tried {
@@ -40,6 +48,7 @@ pub struct Tried {
 
 // A log at other rates; hatches may be named as long as before.
 fn log_at(log: Log, litres: [u32; 9]) -> Log
+    ensures { λ r. ⌜ r ≡ logAt log litres ⌝ }
 {
     let run = log.run;
     let hatches = log.hatches;
@@ -54,6 +63,7 @@ fn log_at(log: Log, litres: [u32; 9]) -> Log
 
 // A refusal: nothing has changed.
 fn refused(log: Log, account: Account, number: u32) -> Tried
+    ensures { λ r. ⌜ r ≡ tried number log account ⌝ }
 {
     Tried {
         number: number,
@@ -70,9 +80,12 @@ pub fn name(
     row: u32,
     column: u32,
     shape: Shape,
+    rules: Rules,
     marks: &[u8],
     inflow: &[u32],
 ) -> Tried
+    requires { ⌜ (ShapeInRange shape) × (length (now marks) ≡ squares shape) ⌝ }
+    ensures { λ r. ⌜ Names (plan shape (now (marks .entry))) rules (now (inflow .entry)) log account number row column r ⌝ }
 {
     if !hatch_line_fine(log, number) {
         return refused(log, account, 12);
@@ -89,6 +102,8 @@ pub fn name(
 
 // Rates with one of them written.
 fn rates_with(litres: [u32; 9], number: u32, rate: u32) -> [u32; 9]
+    requires { ⌜ (1 ≤ number) × (number ≤ mostHatches) ⌝ }
+    ensures { λ r. ⌜ r ≡ set litres (number - 1) rate ⌝ }
 {
     let place = number as usize - 1;
     let mut next = litres;
@@ -98,6 +113,7 @@ fn rates_with(litres: [u32; 9], number: u32, rate: u32) -> [u32; 9]
 
 // `draw` number litres.
 pub fn draw(log: Log, account: Account, number: u32, litres: u32) -> Tried
+    ensures { λ r. ⌜ Draws log account number litres r ⌝ }
 {
     if !is_named(log.hatches, number) {
         return refused(log, account, 12);
@@ -114,6 +130,7 @@ pub fn draw(log: Log, account: Account, number: u32, litres: u32) -> Tried
 
 // The number that a step is refused with before it is tried, 0 for none: the table with the hatches, and what the log and the account say.
 fn try_number(log: Log, account: Account, inflow: usize) -> u32
+    ensures { λ r. ⌜ ((table : List ℕ) → length table ≡ inflow → r ≡ refusal (tryRefusals table log account)) ⌝ }
 {
     if !table_fits(inflow, log.hatches, 0) {
         return 4;
@@ -136,6 +153,9 @@ fn keep_step(
     more: u64,
     began: &mut [u32],
 ) -> Tried
+    requires { ⌜ (log .run .newest < slots) × (slots ≤ mostSlots) × (slots ≤ slotsIn mostHatches (length (now began))) ⌝ }
+    requires { ⌜ (log .steps + 1 < 18_446_744_073_709_551_616) × (account .given + more < 18_446_744_073_709_551_616) ⌝ }
+    ensures { λ r. ⌜ (r ≡ tried 0 (logWith log run (log .steps + 1) (log .litres)) (accountWith account (slotAfter slots (log .run .newest)) more)) × (now (began .exit) ≡ ratesKept slots 1 (log .run .newest) (log .litres) (now (began .entry))) ⌝ }
 {
     let before = log.run;
     let litres = log.litres;
@@ -165,6 +185,8 @@ pub fn step_once(
     records: &mut [u32],
     began: &mut [u32],
 ) -> Tried
+    requires { ⌜ TrialLent (plan shape (now marks)) (now records) (now began) ⌝ }
+    ensures { λ r. ⌜ MakesOne (plan shape (now (marks .entry))) (given (ground rules (now (beds .entry)) (now (roughness .entry)) (now (rates .entry))) (now (rain .entry)) (now (inflow .entry))) (evening (now (depths .entry)) (now (lasts .entry)) (now (records .entry)) (now (began .entry)) log) account (r .number) (evening (now (depths .exit)) (now (lasts .exit)) (now (records .exit)) (now (began .exit)) (r .log)) (r .account) ⌝ }
 {
     let number = try_number(log, account, inflow.len());
     if number != 0 {
@@ -208,6 +230,8 @@ pub fn step_once(
 
 // The account after so many take-backs.
 fn given_back(account: Account, steps: u64, slots: usize, newest: usize) -> Account
+    requires { ⌜ (0 < steps → newest < slots) × (slots ≤ mostSlots) ⌝ }
+    ensures { λ r. ⌜ GivenBack account slots newest steps r ⌝ }
 {
     if steps == 0 {
         return account;
@@ -227,6 +251,8 @@ pub fn back(
     records: &[u32],
     began: &[u32],
 ) -> Tried
+    requires { ⌜ TrialLent (plan shape (now marks)) (now records) (now began) ⌝ }
+    ensures { λ r. ⌜ ((g : Givens.Given) → GoesBack (plan shape (now (marks .entry))) g (evening (now (depths .entry)) (now (lasts .entry)) (now (records .entry)) (now (began .entry)) log) account count (r .number) (evening (now (depths .exit)) (now (lasts .exit)) (now (records .entry)) (now (began .entry)) (r .log)) (r .account)) ⌝ }
 {
     if !standing_fine(log) {
         return refused(log, account, 6);
