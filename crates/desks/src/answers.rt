@@ -9,8 +9,7 @@ use text::writing::put_word;
 use trying::given::Account;
 
 // The figures of a state, of which so many steps can be kept, with so much water on the ground.
-fn figures_of(log: Log, account: Account, slots: usize, ground: u64) -> Figures
-{
+fn figures_of(log: Log, account: Account, slots: usize, ground: u64) -> Figures {
     let run = log.run;
     Figures {
         steps: log.steps,
@@ -35,8 +34,7 @@ pub(crate) fn put_state(
     shape: Shape,
     marks: &[u8],
     depths: &[u32],
-) -> usize
-{
+) -> usize {
     let ground = water_on(shape, marks, depths);
     put_frame(
         out,
@@ -50,8 +48,7 @@ pub(crate) fn put_state(
 }
 
 // How an answer ends: `done`, or its refusal.
-pub(crate) fn put_ending(out: &mut [u8], at: usize, number: u32, line: usize) -> usize
-{
+pub(crate) fn put_ending(out: &mut [u8], at: usize, number: u32, line: usize) -> usize {
     if number != 0 {
         return put_refused(out, at, number, line);
     }

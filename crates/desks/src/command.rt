@@ -26,8 +26,7 @@ use sheet::reading::Heading;
 use sheet::reading::Sheet;
 
 // How many bytes of text come after a line.
-pub fn wanted(line: &[u8]) -> usize
-{
+pub fn wanted(line: &[u8]) -> usize {
     match order_of(line) {
         Order::Sheet(bytes) => bytes as usize,
         Order::Lay(bytes) => bytes as usize,
@@ -36,15 +35,13 @@ pub fn wanted(line: &[u8]) -> usize
 }
 
 // A line that is refused, whatever lies on the desk.
-fn refuse(desk: Desk, number: u32, line: usize, out: &mut [u8]) -> Desk
-{
+fn refuse(desk: Desk, number: u32, line: usize, out: &mut [u8]) -> Desk {
     let length = put_ending(out, 0, number, line);
     desk_still(desk, length)
 }
 
 // Writes 0 over a room.
-fn clear(room: &mut [u32])
-{
+fn clear(room: &mut [u32]) {
     let mut i: usize = 0;
     while i < room.len() {
         room[i] = 0;
@@ -59,8 +56,7 @@ fn lay_sheet(
     depths: &[u32],
     lasts: &mut [u32],
     out: &mut [u8],
-) -> Desk
-{
+) -> Desk {
     clear(lasts);
     let shape = heading.shape;
     let squares = squares_of(shape);
@@ -95,8 +91,7 @@ fn sheet_line(
     depths: &mut [u32],
     lasts: &mut [u32],
     out: &mut [u8],
-) -> Desk
-{
+) -> Desk {
     if text.len() != bytes as usize {
         return refuse(desk, 12, 0, out);
     }
@@ -129,8 +124,7 @@ fn line_held(
     records: &mut [u32],
     began: &mut [u32],
     out: &mut [u8],
-) -> Desk
-{
+) -> Desk {
     let sizes = sizes_of(desk.heading);
     let squares = sizes.squares;
     let inflow_end = sizes.inflow;
@@ -151,8 +145,7 @@ fn line_held(
 }
 
 // Whether a desk has a sheet on it that its rooms can hold.
-fn refused_at_once(desk: Desk) -> u32
-{
+fn refused_at_once(desk: Desk) -> u32 {
     if !desk.ready {
         return 12;
     }
@@ -174,8 +167,7 @@ fn other_line(
     records: &mut [u32],
     began: &mut [u32],
     out: &mut [u8],
-) -> Desk
-{
+) -> Desk {
     let number = refused_at_once(desk);
     if number != 0 {
         return refuse(desk, number, 0, out);
@@ -210,8 +202,7 @@ pub fn command(
     records: &mut [u32; DESK_NUMBERS],
     began: &mut [u32; DESK_RATES],
     out: &mut [u8; DESK_OUT],
-) -> Desk
-{
+) -> Desk {
     let order = order_of(line);
     match order {
         Order::Sheet(bytes) => sheet_line(
@@ -257,8 +248,7 @@ fn step_held(
     records: &mut [u32],
     began: &mut [u32],
     out: &mut [u8],
-) -> Desk
-{
+) -> Desk {
     let sizes = sizes_of(desk.heading);
     let squares = sizes.squares;
     let rain_end = sizes.rain;
@@ -295,8 +285,7 @@ pub fn go_on(
     records: &mut [u32; DESK_NUMBERS],
     began: &mut [u32; DESK_RATES],
     out: &mut [u8; DESK_OUT],
-) -> Desk
-{
+) -> Desk {
     let series = desk.series;
     if !series.on {
         return desk_still(desk, 0);

@@ -20,22 +20,19 @@ use trying::lines::step_once;
 const MOST_STEPS: u32 = 64;
 
 // A line that is refused at once.
-fn refuse_line(desk: Desk, number: u32, out: &mut [u8]) -> Desk
-{
+fn refuse_line(desk: Desk, number: u32, out: &mut [u8]) -> Desk {
     let length = put_ending(out, 0, number, 0);
     desk_still(desk, length)
 }
 
 // A line that came to something, and whose answer has no frame.
-fn tried_line(desk: Desk, tried: Tried, out: &mut [u8]) -> Desk
-{
+fn tried_line(desk: Desk, tried: Tried, out: &mut [u8]) -> Desk {
     let length = put_ending(out, 0, tried.number, 0);
     desk_with(desk, tried.log, tried.account, no_series(), length)
 }
 
 // The frame of what a desk has come to, and the end of the answer.
-fn shown_line(desk: Desk, tried: Tried, marks: &[u8], depths: &[u32], out: &mut [u8]) -> Desk
-{
+fn shown_line(desk: Desk, tried: Tried, marks: &[u8], depths: &[u32], out: &mut [u8]) -> Desk {
     let heading = desk.heading;
     let shape = heading.shape;
     let log = tried.log;
@@ -46,8 +43,7 @@ fn shown_line(desk: Desk, tried: Tried, marks: &[u8], depths: &[u32], out: &mut 
 }
 
 // `show`.
-fn show_line(desk: Desk, marks: &[u8], depths: &[u32], out: &mut [u8]) -> Desk
-{
+fn show_line(desk: Desk, marks: &[u8], depths: &[u32], out: &mut [u8]) -> Desk {
     let log = desk.log;
     let account = desk.account;
     let stands = Tried {
@@ -68,8 +64,7 @@ fn back_line(
     records: &[u32],
     began: &[u32],
     out: &mut [u8],
-) -> Desk
-{
+) -> Desk {
     let heading = desk.heading;
     let tried = back(
         desk.log,
@@ -89,8 +84,7 @@ fn back_line(
 }
 
 // `step` count end every: no step is made yet.
-fn step_line(desk: Desk, count: u32, end: u32, every: u32, out: &mut [u8]) -> Desk
-{
+fn step_line(desk: Desk, count: u32, end: u32, every: u32, out: &mut [u8]) -> Desk {
     if count < 1 {
         return refuse_line(desk, 12, out);
     }
@@ -123,8 +117,7 @@ fn last_line(
     marks: &[u8],
     depths: &[u32],
     out: &mut [u8],
-) -> Desk
-{
+) -> Desk {
     if every {
         return tried_line(desk, tried, out);
     }
@@ -132,8 +125,7 @@ fn last_line(
 }
 
 // One step less to be made.
-fn one_less(series: Series) -> Series
-{
+fn one_less(series: Series) -> Series {
     Series {
         on: true,
         left: series.left - 1,
@@ -150,8 +142,7 @@ fn made_line(
     marks: &[u8],
     depths: &[u32],
     out: &mut [u8],
-) -> Desk
-{
+) -> Desk {
     let log = tried.log;
     let account = tried.account;
     if !series.every {
@@ -164,8 +155,7 @@ fn made_line(
 }
 
 // Whether a line `step` has no more steps to make.
-fn is_over(series: Series, clock: u64) -> bool
-{
+fn is_over(series: Series, clock: u64) -> bool {
     if series.left == 0 {
         return true;
     }
@@ -186,8 +176,7 @@ pub(crate) fn next_step(
     records: &mut [u32],
     began: &mut [u32],
     out: &mut [u8],
-) -> Desk
-{
+) -> Desk {
     let heading = desk.heading;
     let log = desk.log;
     let run = log.run;
@@ -234,8 +223,7 @@ fn entry_line(
     records: &[u32],
     began: &[u32],
     out: &mut [u8],
-) -> Desk
-{
+) -> Desk {
     let heading = desk.heading;
     match entry {
         Entry::Hatch(number, row, column) => {
@@ -269,8 +257,7 @@ pub(crate) fn order_line(
     records: &[u32],
     began: &[u32],
     out: &mut [u8],
-) -> Desk
-{
+) -> Desk {
     match order {
         Order::Log(entry) => entry_line(
             desk,

@@ -18,8 +18,7 @@ pub(crate) struct Sizes {
 }
 
 // Whether the sizes that a heading tells are those of a sheet that the desk takes.
-pub(crate) fn heading_fine(heading: Heading) -> bool
-{
+pub(crate) fn heading_fine(heading: Heading) -> bool {
     if !shape_fine(heading.shape) {
         return false;
     }
@@ -29,8 +28,7 @@ pub(crate) fn heading_fine(heading: Heading) -> bool
     heading.inflow_rows <= MOST_TABLE_ROWS
 }
 
-pub(crate) fn sizes_of(heading: Heading) -> Sizes
-{
+pub(crate) fn sizes_of(heading: Heading) -> Sizes {
     let slots = kept_slots(heading.shape);
     Sizes {
         squares: squares_of(heading.shape),

@@ -44,8 +44,7 @@ pub struct Desk {
 }
 
 // How many records are kept of a grid.
-pub fn kept_slots(shape: Shape) -> usize
-{
+pub fn kept_slots(shape: Shape) -> usize {
     let held = DESK_NUMBERS / record_size(shape);
     if MOST_SLOTS < held {
         return MOST_SLOTS;
@@ -54,8 +53,7 @@ pub fn kept_slots(shape: Shape) -> usize
 }
 
 // No steps to be made.
-pub(crate) fn no_series() -> Series
-{
+pub(crate) fn no_series() -> Series {
     Series {
         on: false,
         left: 0,
@@ -65,8 +63,7 @@ pub(crate) fn no_series() -> Series
 }
 
 // A desk with no sheet on it.
-pub fn empty_desk() -> Desk
-{
+pub fn empty_desk() -> Desk {
     let shape = Shape {
         rows: 0,
         columns: 0,
@@ -106,8 +103,7 @@ pub fn empty_desk() -> Desk
 }
 
 // A desk with a sheet on it, before the first step: the water at the start, and the bytes of the answer.
-pub(crate) fn fresh_desk(heading: Heading, start: u64, length: usize) -> Desk
-{
+pub(crate) fn fresh_desk(heading: Heading, start: u64, length: usize) -> Desk {
     let run = fresh_run(heading.rules, kept_slots(heading.shape));
     Desk {
         ready: true,
@@ -126,8 +122,7 @@ pub(crate) fn desk_with(
     account: Account,
     series: Series,
     length: usize,
-) -> Desk
-{
+) -> Desk {
     let heading = desk.heading;
     Desk {
         ready: desk.ready,
@@ -140,8 +135,7 @@ pub(crate) fn desk_with(
 }
 
 // A desk after a line that changed nothing.
-pub(crate) fn desk_still(desk: Desk, length: usize) -> Desk
-{
+pub(crate) fn desk_still(desk: Desk, length: usize) -> Desk {
     let log = desk.log;
     let account = desk.account;
     desk_with(desk, log, account, no_series(), length)

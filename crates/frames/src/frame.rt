@@ -24,8 +24,7 @@ pub struct Figures {
 }
 
 // A square's field.
-fn put_square(out: &mut [u8], at: usize, marks: &[u8], depths: &[u32], square: usize) -> usize
-{
+fn put_square(out: &mut [u8], at: usize, marks: &[u8], depths: &[u32], square: usize) -> usize {
     if is_closed(marks, square) {
         return put_word(out, at, b"\tx");
     }
@@ -40,8 +39,7 @@ fn put_squares(
     depths: &[u32],
     first: usize,
     columns: usize,
-) -> usize
-{
+) -> usize {
     let mut next = at;
     let mut column: usize = 0;
     while column < columns {
@@ -59,16 +57,14 @@ fn put_row(
     depths: &[u32],
     first: usize,
     columns: usize,
-) -> usize
-{
+) -> usize {
     let next = put_word(out, at, b"row");
     let end = put_squares(out, next, marks, depths, first, columns);
     put_byte(out, end, NEWLINE)
 }
 
 // The lines of all rows.
-fn put_rows(out: &mut [u8], at: usize, shape: Shape, marks: &[u8], depths: &[u32]) -> usize
-{
+fn put_rows(out: &mut [u8], at: usize, shape: Shape, marks: &[u8], depths: &[u32]) -> usize {
     let rows = shape.rows;
     let columns = shape.columns;
     let mut next = at;
@@ -81,8 +77,7 @@ fn put_rows(out: &mut [u8], at: usize, shape: Shape, marks: &[u8], depths: &[u32
 }
 
 // The figures' line.
-fn put_figures(out: &mut [u8], at: usize, figures: Figures) -> usize
-{
+fn put_figures(out: &mut [u8], at: usize, figures: Figures) -> usize {
     let values = [
         figures.steps,
         figures.clock,
@@ -99,8 +94,7 @@ fn put_figures(out: &mut [u8], at: usize, figures: Figures) -> usize
 }
 
 // The rates' line.
-fn put_rates(out: &mut [u8], at: usize, litres: [u32; 9]) -> usize
-{
+fn put_rates(out: &mut [u8], at: usize, litres: [u32; 9]) -> usize {
     let values = [
         litres[0] as u64,
         litres[1] as u64,
@@ -124,8 +118,7 @@ pub fn put_frame(
     shape: Shape,
     marks: &[u8],
     depths: &[u32],
-) -> usize
-{
+) -> usize {
     let first = put_figures(out, at, figures);
     let second = put_rates(out, first, litres);
     put_rows(out, second, shape, marks, depths)

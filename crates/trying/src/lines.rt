@@ -34,8 +34,10 @@ ghost use Rattle.trials.specs.Ring.{slotAfter, slotsIn};
 ghost use Rattle.grid.specs.Squares.{ShapeInRange, squares};
 ghost use Rattle.ledger.specs.Runs.{plan};
 ghost use Rattle.checks.specs.Given.{given, ground};
+ghost use Rattle.adding.specs.Account.{tablesGive};
+ghost use Rattle.adding.specs.inner.Added.{Between, tables};
 ghost use Rattle.hatches.specs.Log.{evening, logWith, mostHatches, ratesKept};
-ghost use Rattle.trying.specs.Given.{accountWith, mostSlots};
+ghost use Rattle.trying.specs.Given.{accountWith, mostGiven, mostSlots};
 ghost use Rattle.trying.specs.Lines.{Draws, GivenBack, GoesBack, MakesOne, Names, TrialLent, logAt, tried, tryRefusals};
 ghost use Rattle.checks.specs.Given as Givens;
 
@@ -121,9 +123,11 @@ pub fn draw(log: Log, account: Account, number: u32, litres: u32) -> Tried
     if MOST_LITRES < litres as u64 {
         return refused(log, account, 4);
     }
+    let before = log.litres;
+    let after = rates_with(before, number, litres);
     Tried {
         number: 0,
-        log: log_at(log, rates_with(log.litres, number, litres)),
+        log: log_at(log, after),
         account: account,
     }
 }
@@ -168,6 +172,29 @@ fn keep_step(
     }
 }
 
+// A step that was made, with what its table gave.
+fn made_step(
+    log: Log,
+    account: Account,
+    run: Run,
+    shape: Shape,
+    rules: Rules,
+    marks: &[u8],
+    rain: &[u32],
+    table: &[u32],
+    slots: usize,
+    began: &mut [u32],
+) -> Tried
+    requires { ⌜ (log .run .newest < slots) × (slots ≤ mostSlots) × (slots ≤ slotsIn mostHatches (length (now began))) ⌝ }
+    requires { ⌜ (log .steps + 1 < 18_446_744_073_709_551_616) × (account .given ≤ mostGiven) ⌝ }
+    requires { ⌜ Between (plan shape (now marks)) (tables rules (now rain) (now table)) (log .run .clock) (run .clock) ⌝ }
+    ensures { λ r. ⌜ (r ≡ tried 0 (logWith log run (log .steps + 1) (log .litres)) (accountWith account (slotAfter slots (log .run .newest)) (tablesGive (plan shape (now (marks .entry))) (tables rules (now (rain .entry)) (now (table .entry))) (log .run .clock) (run .clock)))) × (now (began .exit) ≡ ratesKept slots 1 (log .run .newest) (log .litres) (now (began .entry))) ⌝ }
+{
+    let before = log.run;
+    let more = tables_give(shape, rules, marks, rain, table, before.clock, run.clock);
+    keep_step(log, account, run, slots, more, began)
+}
+
 // One step at the rates that the hatches run at.
 pub fn step_once(
     log: Log,
@@ -193,7 +220,9 @@ pub fn step_once(
         return refused(log, account, number);
     }
     let mut table = [0u32; INFLOW_ROOM];
-    let length = fill_table(inflow, log.hatches, log.litres, &mut table);
+    let litres = log.litres;
+    let length = fill_table(inflow, log.hatches, litres, &mut table);
+    let slots = trials::slots_in(record_size(shape), records.len());
     let before = log.run;
     let answer = step(
         Walk::Wet,
@@ -212,19 +241,18 @@ pub fn step_once(
     );
     match answer {
         Answer::Refused(number) => refused(log, account, number),
-        Answer::Done(run) => {
-            let more = tables_give(
-                shape,
-                rules,
-                marks,
-                rain,
-                &table[..length],
-                before.clock,
-                run.clock,
-            );
-            let slots = trials::slots_in(record_size(shape), records.len());
-            keep_step(log, account, run, slots, more, began)
-        }
+        Answer::Done(run) => made_step(
+            log,
+            account,
+            run,
+            shape,
+            rules,
+            marks,
+            rain,
+            &table[..length],
+            slots,
+            began,
+        ),
     }
 }
 
