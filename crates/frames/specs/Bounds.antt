@@ -2,7 +2,6 @@
 -- Assumes nothing.
 use mathlib.Core.List.{List, [], _∷_}
 use Prim.Native.Nat.{ℕ}
-use Rattle.checks.specs.declared.bounds.StepBounds.{StepBounds}
 use Rattle.checks.specs.declared.bounds.Bounds.{Bounds}
 use Rattle.checks.specs.declared.bounds.Bounds.the-variants.{Bounded, NotBounded, Refused}
 use Rattle.text.specs.Writing.{lineText, Wrote}
