@@ -110,7 +110,7 @@ fn lent_fine(shape: Shape, marks: &[u8], depths: &[u32], records: &[u32], began:
 }
 
 // Whether so many numbers, a row for each hatch and so many numbers more fit the inflow table.
-fn table_fits(numbers: usize, hatches: Hatches, more: usize) -> bool
+pub fn table_fits(numbers: usize, hatches: Hatches, more: usize) -> bool
     requires { ⌜ more ≤ inflowKind .width ⌝ }
     ensures { λ r. ⌜ ((litres : List ℕ) → r ≡ leb (numbers + length (hatchRows hatches litres) + more) (tableRoom inflowKind)) ⌝ }
 {
@@ -177,7 +177,7 @@ fn draw_fine(entry: Entry, log: Log, shape: Shape, marks: &[u8], inflow: &[u32])
 }
 
 // 6: as many steps stand as are kept, and each took a ms or more.
-fn standing_fine(log: Log) -> bool
+pub fn standing_fine(log: Log) -> bool
     ensures { λ r. ⌜ r ≡ standingFine log ⌝ }
 {
     let run = log.run;
