@@ -1,0 +1,42 @@
+-- `stands::putting::put_first` meets its contract: its line is put.
+-- Assumes nothing.
+use mathlib.Core.Path.{ap}
+use native.Mathlib.Omega.{arith}
+use lib.ListN.{length}
+use borrow.Author.Needs.{needs}
+use Rattle.text.proofs.WritingLaws.{written-as}
+use Rattle.stands.proofs.PutLaws.{first-as}
+use Rattle.stands.proofs.putting.put_first.Statement.{statement}
+use Rattle.stands.proofs.putting.put_first.Tie as tie
+
+as-number-requires : tie.Need-as-number-requires
+as-number-requires c κs = search needs
+
+slice-aggregate-put-line : tie.Need-slice-aggregate-put-line
+slice-aggregate-put-line c = search needs
+
+slice-aggregate-put-line-2 : tie.Need-slice-aggregate-put-line-2
+slice-aggregate-put-line-2 c = search needs
+
+put-line-requires : tie.Need-put-line-requires
+put-line-requires c κs =
+    let s = c .before .before .before .before .before .before .before in
+    omega (arith, ap length (first-as (s .args .saved) (c .before .before .before .as-number .ensures)), s .pre)
+
+same-length : tie.Need-same-length
+same-length c = search needs
+
+returns : tie.Need-returns
+returns c =
+    written-as (first-as (c .before .before .before .before .before .before .before .before .before .before .args .saved) (c .before .before .before .before .before .before .as-number .ensures)) (c .before .before .put-line .ensures)
+
+pub put-first-spec : {M : Type 1} → statement M
+put-first-spec =
+    tie.close
+    (tie.spec
+    as-number-requires
+    slice-aggregate-put-line
+    slice-aggregate-put-line-2
+    put-line-requires
+    same-length
+    returns)
