@@ -41,13 +41,14 @@ use Rattle.hatches.specs.Log.{Evening, evening, mostHatches, isNamed, hatchRows
 use Rattle.text.specs.Writing.{Wrote}
 use Rattle.hatches.proofs.RowLaws.{table-is, table-next, table-room}
 use Rattle.hatches.proofs.RefusalLaws.{standing-is, table-judged-as}
-use Rattle.evenings.specs.Taking.{drawn, worldOf, lineBack, afterBack}
+use Rattle.evenings.specs.Taking.{worldOf, afterBack}
 use Rattle.evenings.proofs.BackLaws.{done-is, refused-is, backs-few}
 use Rattle.hatches.specs.declared.lines.Entry.the-variants.{Back}
 use Rattle.hatches.specs.declared.log.Hatches.{Hatches}
 use Rattle.hatches.specs.declared.log.Log.{Log}
-use Rattle.trying.specs.Given.{mostGiven, accountWith, accountBack}
-use Rattle.trying.specs.Lines.{Came, came, tried, unlessRefused, tryRefusals, backRefusals, givenBack, stepGiven, stepCame, backCame, MakesOne, GoesBack}
+use Rattle.stands.specs.Laying.{mostGiven}
+use Rattle.trying.specs.Given.{accountWith, accountBack}
+use Rattle.trying.specs.Lines.{Came, came, tried, unlessRefused, tryRefusals, backRefusals, givenBack, nothingGiven, backs, stepGiven, stepCame, backCame, MakesOne, GoesBack}
 use Rattle.trying.specs.declared.given.Account.{Account}
 use Rattle.trying.specs.declared.lines.Tried.{Tried}
 use Rattle.account.specs.inner.Given as Most
@@ -224,25 +225,25 @@ module _ (p : Plan) (g : Given) (e : Evening) (a : Account) where
 
 -- ---- what a `back` comes to
 
-module _ (p : Plan) (g : Given) (e : Evening) (a : Account) (count : ℕ) where
+module _ (p : Plan) (e : Evening) (a : Account) (count : ℕ) where
   pub back-unfit : {t : Tried} {n : ℕ} → t ≡ tried n (e .log) a → refusal (backRefusals (e .log) count) ≡ n → (n ≡ 0 → ⊥) →
-      GoesBack p g e a count (t .number) (with-log e (t .log)) (t .account)
+      GoesBack p e a count (t .number) (with-log e (t .log)) (t .account)
   unfolding backCame
-  back-unfit x h d = as-refused p g e a x ∙ (ap (λ (k : ℕ). came k e a) (sym h) ∙ sym (pick-false _ _ (ne-eqb _ _ (λ y. d (sym h ∙ y)))))
+  back-unfit x h d = as-refused p nothingGiven e a x ∙ (ap (λ (k : ℕ). came k e a) (sym h) ∙ sym (pick-false _ _ (ne-eqb _ _ (λ y. d (sym h ∙ y)))))
 
   -- how many steps were taken back, as the log tells it
-  pub back-count : {d l c b : List ℕ} {log : Log} → evening d l c b log ≡ afterBack p g e count → log .steps ≡ e .log .steps - lineBack p g e count .steps
+  pub back-count : {d l c b : List ℕ} {log : Log} → evening d l c b log ≡ afterBack p nothingGiven e count → log .steps ≡ e .log .steps - backs p e a count .steps
   unfolding afterBack
   back-count h = ap (λ (x : Evening). x .log .steps) h
 
   pub back-taken : {n k slots : ℕ} {after : Evening} {account : Account} → refusal (backRefusals (e .log) count) ≡ 0 →
-      (n ≡ lineBack p g e count .number) × (after ≡ afterBack p g e count) → k ≡ lineBack p g e count .steps → slots ≡ roomSlots p (e .records) →
-      account ≡ givenBack a slots (e .log .run .newest) k → GoesBack p g e a count n after account
+      (n ≡ backs p e a count .number) × (after ≡ afterBack p nothingGiven e count) → k ≡ backs p e a count .steps → slots ≡ roomSlots p (e .records) →
+      account ≡ givenBack a slots (e .log .run .newest) k → GoesBack p e a count n after account
   unfolding backCame
   back-taken {n} {k} {slots} {after} {account} z t s q x =
       ap (λ (j : ℕ). came j after account) (t .0)
-      ∙ (ap (λ (v : Evening). came (lineBack p g e count .number) v account) (t .1)
-      ∙ (ap (λ (b : Account). came (lineBack p g e count .number) (afterBack p g e count) b)
+      ∙ (ap (λ (v : Evening). came (backs p e a count .number) v account) (t .1)
+      ∙ (ap (λ (b : Account). came (backs p e a count .number) (afterBack p nothingGiven e count) b)
       (x
       ∙ (ap (λ (j : ℕ). givenBack a j (e .log .run .newest) k) q ∙ ap (λ (j : ℕ). givenBack a (roomSlots p (e .records)) (e .log .run .newest) j) s))
       ∙ sym (pick-true _ _ (eq-eqb _ _ z))))
@@ -256,18 +257,12 @@ unfolding givenBack
 given-some a slots newest {steps = zero} h e f = absurd (omega arith)
 given-some a slots newest {steps = suc n} h e f = f ∙ ap (accountBack a) (e ∙ ap (slotAgo slots newest) (omega arith))
 
--- take-backs do not depend on what is given to a step
-pub no-given : Given
-no-given =
-    given
-    (ground (record { «square_side» = 0; tolerance = 0; shortest = 0; longest = 0; update = 0; edge = 0; edition = 0 }) [] [] []) [] []
-
 -- how many were taken back, as the two logs tell it
 pub back-difference :
-    (p : Plan) (g : Given) (e : Evening) (count : ℕ) {steps : ℕ} → count ≤ e .log .run .kept → e .log .run .kept ≤ e .log .steps →
-    steps ≡ e .log .steps - lineBack p g e count .steps → e .log .steps - steps ≡ lineBack p g e count .steps
-back-difference p g e count h k s =
-    omega (arith, s, backs-few p count (worldOf e) {e = lineBack p g e count} refl)
+    (p : Plan) (e : Evening) (a : Account) (count : ℕ) {steps : ℕ} → count ≤ e .log .run .kept → e .log .run .kept ≤ e .log .steps →
+    steps ≡ e .log .steps - backs p e a count .steps → e .log .steps - steps ≡ backs p e a count .steps
+back-difference p e a count h k s =
+    omega (arith, s, backs-few p count (worldOf e) {e = backs p e a count} refl)
 
 -- ---- a step over the table that was filled for it
 

@@ -9,13 +9,9 @@ use Rattle.trying.specs.declared.given.Account.{Account}
 abbrev pub mostSlots : ℕ
 mostSlots = 256
 
--- 2^53 - 1, which a page in a browser holds exactly
-abbrev pub mostGiven : ℕ
-mostGiven = 9_007_199_254_740_991
-
--- before the first step
-abbrev pub accountOpened : ℕ → Account
-accountOpened start = record { start = start; given = 0; before = replicate mostSlots 0 }
+-- of a state of which no step is kept
+abbrev pub accountOpened : ℕ → ℕ → Account
+accountOpened start given = record { start = start; given = given; before = replicate mostSlots 0 }
 
 -- after a step that was given so much: what was given before it stands beside its record
 abbrev pub accountWith : Account → ℕ → ℕ → Account
@@ -27,5 +23,5 @@ accountBack a slot = record { start = a .start; given = getD (a .before) slot 0;
 
 -- ---- what the public function gives
 
-abbrev pub AccountOpened : ℕ → Account → Type 0
-AccountOpened start r = r ≡ accountOpened start
+abbrev pub AccountOpened : ℕ → ℕ → Account → Type 0
+AccountOpened start given r = r ≡ accountOpened start given

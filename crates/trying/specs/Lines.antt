@@ -14,14 +14,16 @@ use Rattle.grid.specs.Squares.{squares, ShapeInRange}
 use Rattle.rule.specs.declared.rules.Rules.{Rules}
 use Rattle.ledger.specs.Runs.{Plan, World}
 use Rattle.ledger.specs.Record.{roomSlots}
-use Rattle.checks.specs.Given.{Given}
+use Rattle.checks.specs.Given.{Given, given, ground}
 use Rattle.adding.specs.Account.{tablesGive}
 use Rattle.flood.specs.Step.{stepNumber, stepped}
+use Rattle.flood.specs.Run.{Ended}
 use Rattle.hatches.specs.Log.{Evening, mostHatches, isNamed, tableWith, lineFine, drawFine, standingFine, keptFine, hatchNamed, logWith, ratesKept}
 use Rattle.evenings.specs.Taking.{drawn, worldOf, further, lineBack, afterBack}
 use Rattle.hatches.specs.declared.lines.Entry.the-variants.{Hatch, Back}
 use Rattle.hatches.specs.declared.log.Log.{Log}
-use Rattle.trying.specs.Given.{mostSlots, mostGiven, accountWith, accountBack}
+use Rattle.stands.specs.Laying.{mostGiven}
+use Rattle.trying.specs.Given.{mostSlots, accountWith, accountBack}
 use Rattle.trying.specs.declared.given.Account.{Account}
 use Rattle.trying.specs.declared.lines.Tried.{Tried}
 
@@ -109,11 +111,21 @@ module _ (p : Plan) (g : Given) (e : Evening) (a : Account) where
       (pick (eqb (stepNumber p stepGiven (worldOf e)) 0) (came 0 eveningNext accountNext) (came (stepNumber p stepGiven (worldOf e)) e a))
       (came (refusal (tryRefusals (g .inflow) (e .log) a)) e a)
 
+-- a take-back asks for no table and no ground
+abbrev pub nothingGiven : Given
+nothingGiven =
+    given (ground (record { «square_side» = 0; tolerance = 0; shortest = 0; longest = 0; update = 0; edge = 0; edition = 0 }) [] [] []) [] []
+
+module _ (p : Plan) (e : Evening) (a : Account) (count : ℕ) where
+  -- the steps that are taken back
+  abbrev pub backs : Ended
+  backs = lineBack p nothingGiven e count
+
   -- "so many taken back, all or none; rates as when the earliest began"
-  unfoldable pub backCame : ℕ → Came
-  backCame count =
+  unfoldable pub backCame : Came
+  backCame =
       pick (eqb (refusal (backRefusals (e .log) count)) 0)
-      (came (lineBack p g e count .number) (afterBack p g e count) (givenBack a slotsHeld (e .log .run .newest) (lineBack p g e count .steps)))
+      (came (backs .number) (afterBack p nothingGiven e count) (givenBack a (roomSlots p (e .records)) (e .log .run .newest) (backs .steps)))
       (came (refusal (backRefusals (e .log) count)) e a)
 
 -- ---- what is asked, and what the public functions give
@@ -137,5 +149,5 @@ Draws log a n litres t = t ≡ drawTried log a n litres
 abbrev pub MakesOne : Plan → Given → Evening → Account → ℕ → Evening → Account → Type 0
 MakesOne p g e a n after account = came n after account ≡ stepCame p g e a
 
-abbrev pub GoesBack : Plan → Given → Evening → Account → ℕ → ℕ → Evening → Account → Type 0
-GoesBack p g e a count n after account = came n after account ≡ backCame p g e a count
+abbrev pub GoesBack : Plan → Evening → Account → ℕ → ℕ → Evening → Account → Type 0
+GoesBack p e a count n after account = came n after account ≡ backCame p e a count

@@ -6,9 +6,6 @@ ghost use Rattle.trying.specs.Given.{AccountOpened, accountBack, account
 // As many steps are kept at most.
 pub const MOST_SLOTS: usize = 256;
 
-// The most that the tables may have given before a step: 2^53 - 1, which a page in a browser holds exactly. A week's tables give less.
-pub const MOST_GIVEN: u64 = 9_007_199_254_740_991;
-
 // The water at the start, what the tables gave the standing steps, and beside the slot of each record what they had given before its step.
 pub struct Account {
     pub start: u64,
@@ -16,13 +13,13 @@ pub struct Account {
     pub before: [u64; 256],
 }
 
-// An account before the first step.
-pub fn open_account(start: u64) -> Account
-    ensures { λ r. ⌜ AccountOpened start r ⌝ }
+// The account of a state of which no step is kept.
+pub fn open_account(start: u64, given: u64) -> Account
+    ensures { λ r. ⌜ AccountOpened start given r ⌝ }
 {
     Account {
         start: start,
-        given: 0,
+        given: given,
         before: [0; 256],
     }
 }

@@ -1,6 +1,5 @@
 // What the lines of a trial do: a hatch named, a rate drawn, one step made, steps taken back.
 use crate::given::Account;
-use crate::given::MOST_GIVEN;
 use crate::given::account_back;
 use crate::given::account_with;
 use account::tables_give;
@@ -25,6 +24,7 @@ use ledger::runs::Run;
 use reckon::ranges::MOST_LITRES;
 use reckon::tables::INFLOW_ROOM;
 use rule::rules::Rules;
+use stands::saved::MOST_GIVEN;
 ghost use mathlib.Core.Path.{_≡_};
 ghost use mathlib.Core.List.{List};
 ghost use Prim.Native.Nat.{ℕ, _+_, _-_, _<_, _≤_};
@@ -37,9 +37,9 @@ ghost use Rattle.checks.specs.Given.{given, ground};
 ghost use Rattle.adding.specs.Account.{tablesGive};
 ghost use Rattle.adding.specs.inner.Added.{Between, tables};
 ghost use Rattle.hatches.specs.Log.{evening, logWith, mostHatches, ratesKept};
-ghost use Rattle.trying.specs.Given.{accountWith, mostGiven, mostSlots};
+ghost use Rattle.stands.specs.Laying.{mostGiven};
+ghost use Rattle.trying.specs.Given.{accountWith, mostSlots};
 ghost use Rattle.trying.specs.Lines.{Draws, GivenBack, GoesBack, MakesOne, Names, TrialLent, logAt, tried, tryRefusals};
-ghost use Rattle.checks.specs.Given as Givens;
 
 // What came of a line: the number that it is refused with, 0 for none, the log and the account after it.
 pub struct Tried {
@@ -280,7 +280,7 @@ pub fn back(
     began: &[u32],
 ) -> Tried
     requires { ⌜ TrialLent (plan shape (now marks)) (now records) (now began) ⌝ }
-    ensures { λ r. ⌜ ((g : Givens.Given) → GoesBack (plan shape (now (marks .entry))) g (evening (now (depths .entry)) (now (lasts .entry)) (now (records .entry)) (now (began .entry)) log) account count (r .number) (evening (now (depths .exit)) (now (lasts .exit)) (now (records .entry)) (now (began .entry)) (r .log)) (r .account)) ⌝ }
+    ensures { λ r. ⌜ GoesBack (plan shape (now (marks .entry))) (evening (now (depths .entry)) (now (lasts .entry)) (now (records .entry)) (now (began .entry)) log) account count (r .number) (evening (now (depths .exit)) (now (lasts .exit)) (now (records .entry)) (now (began .entry)) (r .log)) (r .account) ⌝ }
 {
     if !standing_fine(log) {
         return refused(log, account, 6);
