@@ -10,7 +10,7 @@ use Rattle.text.specs.Reading.{Reading, readLine}
 use Rattle.text.specs.Reading.Reading.{read, unread}
 use Rattle.hatches.specs.Lines.{hatchWord, hatchFields, asHatch, backWord, backFields, asBack}
 use Rattle.desks.specs.declared.orders.Order.{Order}
-use Rattle.desks.specs.declared.orders.Order.the-variants.{Sheet, Log, Draw, Step, Show, Arrows, Most, Stand, Lay, Unread}
+use Rattle.desks.specs.declared.orders.Order.the-variants.{Sheet, Entered, Draw, Step, Show, Arrows, Most, Stand, Lay, NoOrder}
 
 -- the words that lines begin with; `hatch` and `back` are the hatch log's
 abbrev pub sheetWord : List ℕ
@@ -45,7 +45,7 @@ abbrev pub asLay : List ℕ → Order
 asLay vs = Lay (getD vs 0 0)
 
 abbrev pub asNamed : List ℕ → Order
-asNamed vs = Log (asHatch vs)
+asNamed vs = Entered (asHatch vs)
 
 abbrev pub asDraw : List ℕ → Order
 asDraw vs = Draw (getD vs 0 0) (getD vs 1 0)
@@ -54,7 +54,7 @@ abbrev pub asStep : List ℕ → Order
 asStep vs = Step (getD vs 0 0) (getD vs 1 0) (getD vs 2 0)
 
 abbrev pub asBacks : List ℕ → Order
-asBacks vs = Log (asBack vs)
+asBacks vs = Entered (asBack vs)
 
 abbrev pub asMost : List ℕ → Order
 asMost vs = Most (getD vs 0 0)
@@ -87,7 +87,7 @@ unfoldable pub lookOrder : List ℕ → Order
 lookOrder s =
     orderFrom (readWhole s showWord 0) asShow
     (orderFrom (readWhole s arrowsWord 0) asArrows
-    (orderFrom (readWhole s mostWord 1) asMost (orderFrom (readWhole s standWord 0) asStand Unread)))
+    (orderFrom (readWhole s mostWord 1) asMost (orderFrom (readWhole s standWord 0) asStand NoOrder)))
 
 -- `hatch` number row column, `draw` number litres, `step` count end every, `back` count
 unfoldable pub tryOrder : List ℕ → Order

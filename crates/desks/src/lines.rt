@@ -259,7 +259,7 @@ pub(crate) fn order_line(
     out: &mut [u8],
 ) -> Desk {
     match order {
-        Order::Log(entry) => entry_line(
+        Order::Entered(entry) => entry_line(
             desk,
             entry,
             marks,
@@ -281,6 +281,6 @@ pub(crate) fn order_line(
         Order::Stand => refuse_line(desk, 12, out),
         Order::Lay(bytes) => refuse_line(desk, 12, out),
         Order::Sheet(bytes) => refuse_line(desk, 12, out),
-        Order::Unread => refuse_line(desk, 12, out),
+        Order::NoOrder => refuse_line(desk, 12, out),
     }
 }

@@ -12,7 +12,7 @@ ghost use Rattle.desks.specs.Orders.{OrderRead, lookOrder, readWhole, tr
 // bytes; or nothing that can be read.
 pub enum Order {
     Sheet(u32),
-    Log(Entry),
+    Entered(Entry),
     Draw(u32, u32),
     Step(u32, u32, u32),
     Show,
@@ -20,7 +20,7 @@ pub enum Order {
     Most(u32),
     Stand,
     Lay(u32),
-    Unread,
+    NoOrder,
 }
 
 // The fields of a line of a kind, where it is the whole text.
@@ -60,7 +60,7 @@ fn look_order(text: &[u8]) -> Order
     if stand.found {
         return Order::Stand;
     }
-    Order::Unread
+    Order::NoOrder
 }
 
 // A line of a trial, or one that looks.
@@ -70,7 +70,7 @@ fn try_order(text: &[u8]) -> Order
     let hatch = whole_line(text, b"hatch", 3);
     if hatch.found {
         let values = hatch.values;
-        return Order::Log(Entry::Hatch(values[0], values[1], values[2]));
+        return Order::Entered(Entry::Hatch(values[0], values[1], values[2]));
     }
     let draw = whole_line(text, b"draw", 2);
     if draw.found {
@@ -85,7 +85,7 @@ fn try_order(text: &[u8]) -> Order
     let back = whole_line(text, b"back", 1);
     if back.found {
         let values = back.values;
-        return Order::Log(Entry::Back(values[0]));
+        return Order::Entered(Entry::Back(values[0]));
     }
     look_order(text)
 }
