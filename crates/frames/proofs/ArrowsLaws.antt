@@ -21,7 +21,7 @@ use Rattle.sight.specs.AllArrows.{Sights}
 use Rattle.text.specs.Writing.{fieldText, fieldsText, lineText, Wrote}
 use Rattle.text.proofs.JoinedLaws.{joined-short}
 use Rattle.text.proofs.WritingLaws.{decimal-short, line-text-long, placed-none, written-as}
-use Rattle.frames.specs.Arrows.{arrowWord, movingKind, bitsOf, arrowText, arrowsText, mostArrow}
+use Rattle.frames.specs.Arrows.{arrowWord, movingKind, bitsOf, arrowText, arrowsText}
 
 -- ---- a speed's bits: what is not equal to itself is no number
 
@@ -60,6 +60,10 @@ module _ (s : Shape) (seen : Sights) (i : ℕ) where
       ∙ ap₂ (λ (x y : ℕ). lineText arrowWord (i / s .columns ∷ i % s .columns ∷ x ∷ y ∷ [])) (sym p) (sym q)
 
 -- ---- how long the arrows of a grid can get
+
+-- the bytes that always suffice for a square's line
+abbrev pub mostArrow : ℕ
+mostArrow = 54
 
 -- every speed is an f64
 pub record Speeds (seen : Sights) : Type 0 where

@@ -18,7 +18,7 @@ use Rattle.text.specs.Reading.{tab, newline}
 use Rattle.text.specs.Writing.{fieldText, fieldsText, Wrote}
 use Rattle.text.proofs.JoinedLaws.{joined-short}
 use Rattle.text.proofs.WritingLaws.{decimal-short, line-text-long, wrote-both, wrote-length}
-use Rattle.frames.specs.Frame.{frameWord, ratesWord, rowWord, figuresOf, figuresText, ratesText, squareText, rowText, rowsText, frameText, mostFrame}
+use Rattle.frames.specs.Frame.{frameWord, ratesWord, rowWord, figuresOf, figuresText, ratesText, squareText, rowText, rowsText, frameText}
 use Rattle.frames.specs.declared.frame.Figures.{Figures}
 
 module _ (marks depths : List ℕ) (i : ℕ) where
@@ -58,6 +58,10 @@ module _ (a b c : List ℕ) (at : ℕ) (old : List ℕ) (fits : at + length (a +
           wrote-both (omega (arith, fits, three-length, length-append b c)) w (wrote-both (omega (arith, w .next, long-x, fits, three-length)) v u)
 
 -- ---- how long a frame can get
+
+-- the bytes that always suffice for it
+abbrev pub mostFrame : ℕ
+mostFrame = 46_000
 
 -- a field and fields of numbers of 64 and of 32 bits
 long-field : (n : ℕ) → n < 2 ^ 64 → length (fieldText n) ≤ 21

@@ -40,10 +40,6 @@ arrowText s seen i =
 unfoldable pub arrowsText : Shape → Sights → List ℕ
 arrowsText s seen = joined (squares s) (arrowText s seen)
 
--- the bytes that always suffice for a square's line
-abbrev pub mostArrow : ℕ
-mostArrow = 54
-
 -- ---- what the public function gives
 
 abbrev pub PutArrows : Shape → Sights → ℕ → List ℕ → List ℕ → ℕ → Type 0

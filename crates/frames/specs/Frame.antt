@@ -59,10 +59,6 @@ rowsText s marks depths = joined (s .rows) (λ r. rowText marks depths (s .colum
 unfoldable pub frameText : Figures → List ℕ → Shape → List ℕ → List ℕ → List ℕ
 frameText f litres s marks depths = figuresText f ++ (ratesText litres ++ rowsText s marks depths)
 
--- the bytes that always suffice for it
-abbrev pub mostFrame : ℕ
-mostFrame = 46_000
-
 -- ---- what the public function gives
 
 abbrev pub PutFrame : Figures → List ℕ → Shape → List ℕ → List ℕ → ℕ → List ℕ → List ℕ → ℕ → Type 0
