@@ -22,7 +22,7 @@ use Rattle.hatches.specs.declared.log.Log.{Log}
 use Rattle.trying.specs.Given.{accountOpened}
 use Rattle.desks.specs.Orders.{order}
 use Rattle.desks.specs.State.{deskText, recordsOn, ratesOn, headingFine, noSeries, freshLog, freshDesk, deskWith}
-use Rattle.desks.specs.Lines.{Told, told, doneText, endingText, stateText, refusedAt, orderTold, nextTold, Puts}
+use Rattle.desks.specs.Lines.{Told, endingText, stateText, orderTold, nextTold, Puts}
 use Rattle.desks.specs.declared.orders.Order.{Order}
 use Rattle.desks.specs.declared.orders.Order.the-variants as orders
 use Rattle.desks.specs.declared.state.Desk.{Desk}
@@ -78,22 +78,23 @@ untouched d r t = left (deskWith d (d .log) (d .account) noSeries (length t)) r 
 
 -- ---- `sheet` bytes, then the text
 
--- a sheet that was read: its frame
-abbrev pub sheetText : Heading → Rooms → List ℕ
-sheetText h held =
-    let p = plan (h .shape) (take (squares (h .shape)) (held .cells .marks)) in
-    let depths = take (squares (h .shape)) (held .cells .depths) in
-    stateText p (freshLog h) (accountOpened (water p depths) 0) depths ++ doneText
+-- the water on its ground is the start's
+abbrev pub startOn : Heading → List ℕ → List ℕ → ℕ
+startOn h marks depths = water (plan (h .shape) (take (squares (h .shape)) marks)) (take (squares (h .shape)) depths)
 
--- the water on its ground is the start's; last leaving is none
+-- its frame, before the first step
+abbrev pub firstText : Heading → List ℕ → List ℕ → List ℕ
+firstText h marks depths =
+    stateText (plan (h .shape) (take (squares (h .shape)) marks)) (freshLog h) (accountOpened (startOn h marks depths) 0) (take (squares (h .shape)) depths)
+    ++ endingText 0 0
+
+-- a sheet that was read, with no last leaving; or one that is refused
 unfoldable pub sheetLeft : List ℕ → Sheet → Desk → Stores → Left
 sheetLeft text (Read h) d r =
     let held = roomsAfter text (Read h) (r .sheet) in
     left
-    (freshDesk h (water (plan (h .shape) (take (squares (h .shape)) (held .cells .marks))) (take (squares (h .shape)) (held .cells .depths)))
-    (length (sheetText h held)))
-    (stores held (replicate (length (r .lasts)) 0) (r .records) (r .began))
-    (sheetText h held)
+    (freshDesk h (startOn h (held .cells .marks) (held .cells .depths)) (length (firstText h (held .cells .marks) (held .cells .depths))))
+    (stores held (replicate (length (r .lasts)) 0) (r .records) (r .began)) (firstText h (held .cells .marks) (held .cells .depths))
 sheetLeft text (Refused number line) d r = untouched d r (endingText number line)
 
 -- ---- any line

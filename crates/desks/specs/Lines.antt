@@ -184,8 +184,8 @@ unfoldable pub stepsLeft : Series → ℕ → Bool
 stepsLeft s clock = every (leb 1 (s .left) ∷ ltb clock (s .end) ∷ [])
 
 -- its end: "every 0: one frame at the end, of what stands then"
-abbrev pub lastTold : Plan → Series → Came → Told
-lastTold p s c = pick (s .every) (plainly c) (shown p c)
+abbrev pub lastTold : Plan → Bool → Came → Told
+lastTold p every′ c = pick every′ (plainly c) (shown p c)
 
 -- one step less is to be made; "every 1: a frame after each"
 abbrev pub oneLess : Series → Series
@@ -199,8 +199,8 @@ madeTold p s c =
 unfoldable pub nextTold : Plan → Given → Evening → Account → Series → Told
 nextTold p g e a s =
     pick (stepsLeft s (e .log .run .clock))
-    (pick (eqb (stepCame p g e a .number) 0) (madeTold p s (stepCame p g e a)) (lastTold p s (stepCame p g e a)))
-    (lastTold p s (came 0 e a))
+    (pick (eqb (stepCame p g e a .number) 0) (madeTold p s (stepCame p g e a)) (lastTold p (s .every) (stepCame p g e a)))
+    (lastTold p (s .every) (came 0 e a))
 
 -- ---- what the functions give
 

@@ -1,4 +1,5 @@
 // A state's frame, and how an answer ends.
+use crate::state::kept_slots;
 use account::water_on;
 use answer::printing::put_refused;
 use frames::frame::Figures;
@@ -7,9 +8,17 @@ use grid::squares::Shape;
 use hatches::log::Log;
 use text::writing::put_word;
 use trying::given::Account;
+ghost use mathlib.Core.Path.{_≡_};
+ghost use Prim.Native.Nat.{_+_, _≤_};
+ghost use lib.ListN.{length};
+ghost use Rattle.ledger.specs.Runs.{plan};
+ghost use Rattle.desks.specs.Lines.{figuresOf, stateText};
+ghost use Rattle.desks.specs.inner.Lent.{EndingPut, Shows, StatePut, mostEnding};
 
 // The figures of a state, of which so many steps can be kept, with so much water on the ground.
-fn figures_of(log: Log, account: Account, slots: usize, ground: u64) -> Figures {
+fn figures_of(log: Log, account: Account, slots: usize, ground: u64) -> Figures
+    ensures { λ r. ⌜ r ≡ figuresOf log account slots ground ⌝ }
+{
     let run = log.run;
     Figures {
         steps: log.steps,
@@ -30,17 +39,21 @@ pub(crate) fn put_state(
     out: &mut [u8],
     log: Log,
     account: Account,
-    slots: usize,
     shape: Shape,
     marks: &[u8],
     depths: &[u32],
-) -> usize {
+) -> usize
+    requires { ⌜ Shows (plan shape (now marks)) (now depths) (now out) ⌝ }
+    ensures { λ r. ⌜ StatePut (stateText (plan shape (now (marks .entry))) log account (now (depths .entry))) (now (out .entry)) (now (out .exit)) r ⌝ }
+{
     let ground = water_on(shape, marks, depths);
+    let figures = figures_of(log, account, kept_slots(shape), ground);
+    let litres = log.litres;
     put_frame(
         out,
         0,
-        figures_of(log, account, slots, ground),
-        log.litres,
+        figures,
+        litres,
         shape,
         marks,
         depths,
@@ -48,7 +61,10 @@ pub(crate) fn put_state(
 }
 
 // How an answer ends: `done`, or its refusal.
-pub(crate) fn put_ending(out: &mut [u8], at: usize, number: u32, line: usize) -> usize {
+pub(crate) fn put_ending(out: &mut [u8], at: usize, number: u32, line: usize) -> usize
+    requires { ⌜ at + mostEnding ≤ length (now out) ⌝ }
+    ensures { λ r. ⌜ EndingPut number line at (now (out .entry)) (now (out .exit)) r ⌝ }
+{
     if number != 0 {
         return put_refused(out, at, number, line);
     }

@@ -3,6 +3,7 @@ use crate::answers::put_ending;
 use crate::answers::put_state;
 use crate::lines::next_step;
 use crate::lines::order_line;
+use crate::lines::refuse_line;
 use crate::orders::Order;
 use crate::orders::order_of;
 use crate::sizes::heading_fine;
@@ -14,38 +15,39 @@ use crate::state::DESK_SQUARES;
 use crate::state::DESK_TEXT;
 use crate::state::Desk;
 use crate::state::desk_still;
-use crate::state::desk_with;
 use crate::state::fresh_desk;
-use crate::state::kept_slots;
 use account::water_on;
+use evenings::program::clear;
 use grid::squares::squares_of;
 use programs::reading::read_within;
 use reckon::tables::INFLOW_ROOM;
 use reckon::tables::RAIN_ROOM;
 use sheet::reading::Heading;
 use sheet::reading::Sheet;
+ghost use mathlib.Core.Path.{_≡_};
+ghost use mathlib.Core.List.{List};
+ghost use Prim.Native.Nat.{ℕ};
+ghost use lib.Dec.{eqb};
+ghost use lib.ListN.{length};
+ghost use Rattle.reckon.specs.Tests.{pick};
+ghost use Rattle.grid.specs.Squares.{ShapeInRange};
+ghost use Rattle.sheet.specs.Sheet.{rooms};
+ghost use Rattle.programs.specs.Reading.{sheetWithin};
+ghost use Rattle.evenings.specs.Program.{givenHeld, stores};
+ghost use Rattle.desks.specs.Orders.{order};
+ghost use Rattle.desks.specs.State.{deskOut, deskSquares, deskText};
+ghost use Rattle.desks.specs.Lines.{endingText, nextTold, orderTold};
+ghost use Rattle.desks.specs.Command.{Leaves, Wanted, commandLeft, eveningOn, inflowOn, otherLeft, planOn, readyNumber, sheetLeft, stepLeft, toldOn, untouched};
+ghost use Rattle.desks.specs.inner.Rooms.{GroundLong, RoomsLong, SheetLaid, SheetRooms};
 
 // How many bytes of text come after a line.
-pub fn wanted(line: &[u8]) -> usize {
+pub fn wanted(line: &[u8]) -> usize
+    ensures { λ r. ⌜ Wanted (now (line .entry)) r ⌝ }
+{
     match order_of(line) {
         Order::Sheet(bytes) => bytes as usize,
         Order::Lay(bytes) => bytes as usize,
         _ => 0,
-    }
-}
-
-// A line that is refused, whatever lies on the desk.
-fn refuse(desk: Desk, number: u32, line: usize, out: &mut [u8]) -> Desk {
-    let length = put_ending(out, 0, number, line);
-    desk_still(desk, length)
-}
-
-// Writes 0 over a room.
-fn clear(room: &mut [u32]) {
-    let mut i: usize = 0;
-    while i < room.len() {
-        room[i] = 0;
-        i += 1;
     }
 }
 
@@ -56,7 +58,10 @@ fn lay_sheet(
     depths: &[u32],
     lasts: &mut [u32],
     out: &mut [u8],
-) -> Desk {
+) -> Desk
+    requires { ⌜ (ShapeInRange (heading .shape)) × (length (now marks) ≡ deskSquares) × (length (now depths) ≡ deskSquares) × (length (now out) ≡ deskOut) ⌝ }
+    ensures { λ r. ⌜ SheetLaid heading (now (marks .entry)) (now (depths .entry)) (now (lasts .entry)) (now (lasts .exit)) (now (out .entry)) (now (out .exit)) r ⌝ }
+{
     clear(lasts);
     let shape = heading.shape;
     let squares = squares_of(shape);
@@ -68,7 +73,6 @@ fn lay_sheet(
         out,
         log,
         account,
-        kept_slots(shape),
         shape,
         &marks[..squares],
         &depths[..squares],
@@ -91,9 +95,12 @@ fn sheet_line(
     depths: &mut [u32],
     lasts: &mut [u32],
     out: &mut [u8],
-) -> Desk {
+) -> Desk
+    requires { ⌜ SheetRooms (rooms (now marks) (now beds) (now roughness) (now rates) (now depths) (now rain) (now inflow)) (now out) ⌝ }
+    ensures { λ r. ⌜ ((records began : List ℕ) → Leaves (pick (eqb (length (now (text .entry))) bytes) (sheetLeft (now (text .entry)) (sheetWithin deskText (now (text .entry)) (rooms (now (marks .entry)) (now (beds .entry)) (now (roughness .entry)) (now (rates .entry)) (now (depths .entry)) (now (rain .entry)) (now (inflow .entry)))) desk (stores (rooms (now (marks .entry)) (now (beds .entry)) (now (roughness .entry)) (now (rates .entry)) (now (depths .entry)) (now (rain .entry)) (now (inflow .entry))) (now (lasts .entry)) records began)) (untouched desk (stores (rooms (now (marks .entry)) (now (beds .entry)) (now (roughness .entry)) (now (rates .entry)) (now (depths .entry)) (now (rain .entry)) (now (inflow .entry))) (now (lasts .entry)) records began) (endingText 12 0))) r (stores (rooms (now (marks .exit)) (now (beds .exit)) (now (roughness .exit)) (now (rates .exit)) (now (depths .exit)) (now (rain .exit)) (now (inflow .exit))) (now (lasts .exit)) records began) (now (out .entry)) (now (out .exit))) ⌝ }
+{
     if text.len() != bytes as usize {
-        return refuse(desk, 12, 0, out);
+        return refuse_line(desk, 12, 0, out);
     }
     let sheet = read_within(
         text,
@@ -107,7 +114,7 @@ fn sheet_line(
         inflow,
     );
     match sheet {
-        Sheet::Refused(number, line) => refuse(desk, number, line, out),
+        Sheet::Refused(number, line) => refuse_line(desk, number, line, out),
         Sheet::Read(heading) => lay_sheet(heading, marks, depths, lasts, out),
     }
 }
@@ -121,10 +128,13 @@ fn line_held(
     inflow: &[u32],
     depths: &mut [u32],
     lasts: &mut [u32],
-    records: &mut [u32],
-    began: &mut [u32],
+    records: &[u32],
+    began: &[u32],
     out: &mut [u8],
-) -> Desk {
+) -> Desk
+    requires { ⌜ (readyNumber desk ≡ 0) × (RoomsLong (now marks) (now inflow) (now depths) (now lasts) (now records) (now began) (now out)) ⌝ }
+    ensures { λ r. ⌜ ((beds roughness rates rain : List ℕ) → Leaves (toldOn desk (stores (rooms (now (marks .entry)) beds roughness rates (now (depths .entry)) rain (now (inflow .entry))) (now (lasts .entry)) (now (records .entry)) (now (began .entry))) (orderTold (planOn desk (stores (rooms (now (marks .entry)) beds roughness rates (now (depths .entry)) rain (now (inflow .entry))) (now (lasts .entry)) (now (records .entry)) (now (began .entry)))) (eveningOn (desk .heading) (stores (rooms (now (marks .entry)) beds roughness rates (now (depths .entry)) rain (now (inflow .entry))) (now (lasts .entry)) (now (records .entry)) (now (began .entry))) (desk .log)) (desk .account) (desk .heading .rules) (inflowOn (desk .heading) (stores (rooms (now (marks .entry)) beds roughness rates (now (depths .entry)) rain (now (inflow .entry))) (now (lasts .entry)) (now (records .entry)) (now (began .entry)))) (now (text .entry)) order)) r (stores (rooms (now (marks .entry)) beds roughness rates (now (depths .exit)) rain (now (inflow .entry))) (now (lasts .exit)) (now (records .entry)) (now (began .entry))) (now (out .entry)) (now (out .exit))) ⌝ }
+{
     let sizes = sizes_of(desk.heading);
     let squares = sizes.squares;
     let inflow_end = sizes.inflow;
@@ -145,7 +155,9 @@ fn line_held(
 }
 
 // Whether a desk has a sheet on it that its rooms can hold.
-fn refused_at_once(desk: Desk) -> u32 {
+fn refused_at_once(desk: Desk) -> u32
+    ensures { λ r. ⌜ r ≡ readyNumber desk ⌝ }
+{
     if !desk.ready {
         return 12;
     }
@@ -164,13 +176,16 @@ fn other_line(
     inflow: &[u32],
     depths: &mut [u32],
     lasts: &mut [u32],
-    records: &mut [u32],
-    began: &mut [u32],
+    records: &[u32],
+    began: &[u32],
     out: &mut [u8],
-) -> Desk {
+) -> Desk
+    requires { ⌜ RoomsLong (now marks) (now inflow) (now depths) (now lasts) (now records) (now began) (now out) ⌝ }
+    ensures { λ r. ⌜ ((beds roughness rates rain : List ℕ) → Leaves (otherLeft desk (stores (rooms (now (marks .entry)) beds roughness rates (now (depths .entry)) rain (now (inflow .entry))) (now (lasts .entry)) (now (records .entry)) (now (began .entry))) (now (text .entry)) order) r (stores (rooms (now (marks .entry)) beds roughness rates (now (depths .exit)) rain (now (inflow .entry))) (now (lasts .exit)) (now (records .entry)) (now (began .entry))) (now (out .entry)) (now (out .exit))) ⌝ }
+{
     let number = refused_at_once(desk);
     if number != 0 {
-        return refuse(desk, number, 0, out);
+        return refuse_line(desk, number, 0, out);
     }
     line_held(
         desk,
@@ -202,9 +217,11 @@ pub fn command(
     records: &mut [u32; DESK_NUMBERS],
     began: &mut [u32; DESK_RATES],
     out: &mut [u8; DESK_OUT],
-) -> Desk {
-    let order = order_of(line);
-    match order {
+) -> Desk
+    ensures { λ r. ⌜ Leaves (commandLeft desk (stores (rooms (now (marks .entry)) (now (beds .entry)) (now (roughness .entry)) (now (rates .entry)) (now (depths .entry)) (now (rain .entry)) (now (inflow .entry))) (now (lasts .entry)) (now (records .entry)) (now (began .entry))) (now (text .entry)) (order (now (line .entry)))) r (stores (rooms (now (marks .exit)) (now (beds .exit)) (now (roughness .exit)) (now (rates .exit)) (now (depths .exit)) (now (rain .exit)) (now (inflow .exit))) (now (lasts .exit)) (now (records .exit)) (now (began .exit))) (now (out .entry)) (now (out .exit)) ⌝ }
+{
+    let asked = order_of(line);
+    match asked {
         Order::Sheet(bytes) => sheet_line(
             desk,
             bytes,
@@ -221,7 +238,7 @@ pub fn command(
         ),
         _ => other_line(
             desk,
-            order,
+            asked,
             text,
             marks,
             inflow,
@@ -248,7 +265,10 @@ fn step_held(
     records: &mut [u32],
     began: &mut [u32],
     out: &mut [u8],
-) -> Desk {
+) -> Desk
+    requires { ⌜ (readyNumber desk ≡ 0) × (RoomsLong (now marks) (now inflow) (now depths) (now lasts) (now records) (now began) (now out)) × (GroundLong (now beds) (now roughness) (now rates) (now rain)) ⌝ }
+    ensures { λ r. ⌜ Leaves (toldOn desk (stores (rooms (now (marks .entry)) (now (beds .entry)) (now (roughness .entry)) (now (rates .entry)) (now (depths .entry)) (now (rain .entry)) (now (inflow .entry))) (now (lasts .entry)) (now (records .entry)) (now (began .entry))) (nextTold (planOn desk (stores (rooms (now (marks .entry)) (now (beds .entry)) (now (roughness .entry)) (now (rates .entry)) (now (depths .entry)) (now (rain .entry)) (now (inflow .entry))) (now (lasts .entry)) (now (records .entry)) (now (began .entry)))) (givenHeld (desk .heading) (stores (rooms (now (marks .entry)) (now (beds .entry)) (now (roughness .entry)) (now (rates .entry)) (now (depths .entry)) (now (rain .entry)) (now (inflow .entry))) (now (lasts .entry)) (now (records .entry)) (now (began .entry)))) (eveningOn (desk .heading) (stores (rooms (now (marks .entry)) (now (beds .entry)) (now (roughness .entry)) (now (rates .entry)) (now (depths .entry)) (now (rain .entry)) (now (inflow .entry))) (now (lasts .entry)) (now (records .entry)) (now (began .entry))) (desk .log)) (desk .account) (desk .series))) r (stores (rooms (now (marks .entry)) (now (beds .entry)) (now (roughness .entry)) (now (rates .entry)) (now (depths .exit)) (now (rain .entry)) (now (inflow .entry))) (now (lasts .exit)) (now (records .exit)) (now (began .exit))) (now (out .entry)) (now (out .exit)) ⌝ }
+{
     let sizes = sizes_of(desk.heading);
     let squares = sizes.squares;
     let rain_end = sizes.rain;
@@ -285,14 +305,16 @@ pub fn go_on(
     records: &mut [u32; DESK_NUMBERS],
     began: &mut [u32; DESK_RATES],
     out: &mut [u8; DESK_OUT],
-) -> Desk {
+) -> Desk
+    ensures { λ r. ⌜ Leaves (stepLeft desk (stores (rooms (now (marks .entry)) (now (beds .entry)) (now (roughness .entry)) (now (rates .entry)) (now (depths .entry)) (now (rain .entry)) (now (inflow .entry))) (now (lasts .entry)) (now (records .entry)) (now (began .entry)))) r (stores (rooms (now (marks .entry)) (now (beds .entry)) (now (roughness .entry)) (now (rates .entry)) (now (depths .exit)) (now (rain .entry)) (now (inflow .entry))) (now (lasts .exit)) (now (records .exit)) (now (began .exit))) (now (out .entry)) (now (out .exit)) ⌝ }
+{
     let series = desk.series;
     if !series.on {
         return desk_still(desk, 0);
     }
     let number = refused_at_once(desk);
     if number != 0 {
-        return refuse(desk, number, 0, out);
+        return refuse_line(desk, number, 0, out);
     }
     step_held(
         desk,

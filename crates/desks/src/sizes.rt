@@ -8,6 +8,10 @@ use reckon::ranges::MOST_TABLE_ROWS;
 use reckon::tables::INFLOW_WIDTH;
 use reckon::tables::RAIN_WIDTH;
 use sheet::reading::Heading;
+ghost use mathlib.Core.Path.{_≡_};
+ghost use mathlib.Core.Bool.{true};
+ghost use Rattle.desks.specs.State.{headingFine};
+ghost use Rattle.desks.specs.inner.Sizes.{SizesAre};
 
 pub(crate) struct Sizes {
     pub(crate) squares: usize,
@@ -18,7 +22,9 @@ pub(crate) struct Sizes {
 }
 
 // Whether the sizes that a heading tells are those of a sheet that the desk takes.
-pub(crate) fn heading_fine(heading: Heading) -> bool {
+pub(crate) fn heading_fine(heading: Heading) -> bool
+    ensures { λ r. ⌜ r ≡ headingFine heading ⌝ }
+{
     if !shape_fine(heading.shape) {
         return false;
     }
@@ -28,7 +34,10 @@ pub(crate) fn heading_fine(heading: Heading) -> bool {
     heading.inflow_rows <= MOST_TABLE_ROWS
 }
 
-pub(crate) fn sizes_of(heading: Heading) -> Sizes {
+pub(crate) fn sizes_of(heading: Heading) -> Sizes
+    requires { ⌜ headingFine heading ≡ true ⌝ }
+    ensures { λ r. ⌜ SizesAre heading r ⌝ }
+{
     let slots = kept_slots(heading.shape);
     Sizes {
         squares: squares_of(heading.shape),

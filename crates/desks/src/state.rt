@@ -10,6 +10,9 @@ use sheet::reading::Heading;
 use trying::given::Account;
 use trying::given::MOST_SLOTS;
 use trying::given::open_account;
+ghost use mathlib.Core.Path.{_≡_};
+ghost use Rattle.grid.specs.Squares.{ShapeInRange};
+ghost use Rattle.desks.specs.State.{DeskEmpty, KeptSlots, deskWith, freshDesk, noSeries};
 
 // The most squares, the most bytes of a text, and the numbers of the room of records.
 pub const DESK_SQUARES: usize = 4_096;
@@ -44,7 +47,10 @@ pub struct Desk {
 }
 
 // How many records are kept of a grid.
-pub fn kept_slots(shape: Shape) -> usize {
+pub fn kept_slots(shape: Shape) -> usize
+    requires { ⌜ ShapeInRange shape ⌝ }
+    ensures { λ r. ⌜ KeptSlots shape r ⌝ }
+{
     let held = DESK_NUMBERS / record_size(shape);
     if MOST_SLOTS < held {
         return MOST_SLOTS;
@@ -53,7 +59,9 @@ pub fn kept_slots(shape: Shape) -> usize {
 }
 
 // No steps to be made.
-pub(crate) fn no_series() -> Series {
+pub(crate) fn no_series() -> Series
+    ensures { λ r. ⌜ r ≡ noSeries ⌝ }
+{
     Series {
         on: false,
         left: 0,
@@ -63,7 +71,9 @@ pub(crate) fn no_series() -> Series {
 }
 
 // A desk with no sheet on it.
-pub fn empty_desk() -> Desk {
+pub fn empty_desk() -> Desk
+    ensures { λ r. ⌜ DeskEmpty r ⌝ }
+{
     let shape = Shape {
         rows: 0,
         columns: 0,
@@ -96,20 +106,23 @@ pub fn empty_desk() -> Desk {
         ready: false,
         heading: heading,
         log: open_log(run),
-        account: open_account(0),
+        account: open_account(0, 0),
         series: no_series(),
         length: 0,
     }
 }
 
 // A desk with a sheet on it, before the first step: the water at the start, and the bytes of the answer.
-pub(crate) fn fresh_desk(heading: Heading, start: u64, length: usize) -> Desk {
+pub(crate) fn fresh_desk(heading: Heading, start: u64, length: usize) -> Desk
+    requires { ⌜ ShapeInRange (heading .shape) ⌝ }
+    ensures { λ r. ⌜ r ≡ freshDesk heading start length ⌝ }
+{
     let run = fresh_run(heading.rules, kept_slots(heading.shape));
     Desk {
         ready: true,
         heading: heading,
         log: open_log(run),
-        account: open_account(start),
+        account: open_account(start, 0),
         series: no_series(),
         length: length,
     }
@@ -122,7 +135,9 @@ pub(crate) fn desk_with(
     account: Account,
     series: Series,
     length: usize,
-) -> Desk {
+) -> Desk
+    ensures { λ r. ⌜ r ≡ deskWith desk log account series length ⌝ }
+{
     let heading = desk.heading;
     Desk {
         ready: desk.ready,
@@ -135,7 +150,9 @@ pub(crate) fn desk_with(
 }
 
 // A desk after a line that changed nothing.
-pub(crate) fn desk_still(desk: Desk, length: usize) -> Desk {
+pub(crate) fn desk_still(desk: Desk, length: usize) -> Desk
+    ensures { λ r. ⌜ r ≡ deskWith desk (desk .log) (desk .account) noSeries length ⌝ }
+{
     let log = desk.log;
     let account = desk.account;
     desk_with(desk, log, account, no_series(), length)

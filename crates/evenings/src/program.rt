@@ -63,7 +63,7 @@ struct Sizes {
 }
 
 // Writes 0 over a room.
-fn clear(room: &mut [u32])
+pub fn clear(room: &mut [u32])
     ensures { λ _. ⌜ now (room .exit) ≡ replicate (length (now (room .entry))) 0 ⌝ }
 {
     let mut i: usize = 0;

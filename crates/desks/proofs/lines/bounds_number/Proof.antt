@@ -1,0 +1,34 @@
+use borrow.Author.Needs.{needs}
+use Rattle.desks.proofs.lines.bounds_number.Statement.{statement}
+use Rattle.desks.proofs.lines.bounds_number.Tie as tie
+use Rattle.desks.proofs.lines.bounds_number.Reads as reads
+use Rattle.desks.proofs.lines.bounds_number.Lts as lts
+
+-- src/lines.rt:364:25
+enum-known-bounds : tie.Need-enum-known-bounds
+enum-known-bounds c = search needs
+
+-- src/lines.rt:365:31
+enum-told : tie.Need-enum-told
+enum-told c = search needs
+
+-- src/lines.rt:366:25
+enum-known-bounds-2 : tie.Need-enum-known-bounds-2
+enum-known-bounds-2 c = search needs
+
+-- src/lines.rt:360:1
+returns : tie.Need-returns
+returns c = ?
+
+-- src/lines.rt:360:1
+returns-2 : tie.Need-returns-2
+returns-2 c = ?
+
+-- src/lines.rt:360:1
+returns-3 : tie.Need-returns-3
+returns-3 c = ?
+
+pub bounds-number-spec : {M : Type 1} → statement M
+bounds-number-spec =
+    tie.close
+    (tie.spec enum-known-bounds enum-told enum-known-bounds-2 returns returns-2 returns-3)
