@@ -1,6 +1,7 @@
 -- The desk's calls over its rooms: a line with the text that came after it, and the next step of a line `step`.
 -- Assumes nothing.
 use mathlib.Core.Path.{_≡_}
+use mathlib.Core.Bool.{Bool, true, false}
 use mathlib.Core.List.{List, [], _∷_, _++_}
 use Prim.Native.Nat.{ℕ, _*_}
 use lib.Dec.{eqb}
@@ -39,6 +40,19 @@ wantedBy orders.Arrows = 0
 wantedBy (orders.Most end) = 0
 wantedBy orders.Stand = 0
 wantedBy orders.NoOrder = 0
+
+-- whether a line brings a sheet
+unfoldable pub isSheet : Order → Bool
+isSheet (orders.Sheet bytes) = true
+isSheet (orders.Lay bytes) = false
+isSheet (orders.Entered entry) = false
+isSheet (orders.Draw n litres) = false
+isSheet (orders.Step count end every) = false
+isSheet orders.Show = false
+isSheet orders.Arrows = false
+isSheet (orders.Most end) = false
+isSheet orders.Stand = false
+isSheet orders.NoOrder = false
 
 -- ---- what of the rooms belongs to the sheet on the desk
 
@@ -113,18 +127,12 @@ module _ (d : Desk) (r : Stores) where
       (toldOn d r (orderTold planOn (eveningOn (d .heading) r (d .log)) (d .account) (d .heading .rules) (inflowOn (d .heading) r) text o))
       (untouched d r (endingText (readyNumber d) 0))
 
+  -- 12 "a text cut off"
   unfoldable pub commandLeft : List ℕ → Order → Left
-  commandLeft text (orders.Sheet bytes) =
-      pick (eqb (length text) bytes) (sheetLeft text (sheetWithin deskText text (r .sheet)) d r) (untouched d r (endingText 12 0))
-  commandLeft text (orders.Lay bytes) = otherLeft text (orders.Lay bytes)
-  commandLeft text (orders.Entered entry) = otherLeft text (orders.Entered entry)
-  commandLeft text (orders.Draw n litres) = otherLeft text (orders.Draw n litres)
-  commandLeft text (orders.Step count end every) = otherLeft text (orders.Step count end every)
-  commandLeft text orders.Show = otherLeft text orders.Show
-  commandLeft text orders.Arrows = otherLeft text orders.Arrows
-  commandLeft text (orders.Most end) = otherLeft text (orders.Most end)
-  commandLeft text orders.Stand = otherLeft text orders.Stand
-  commandLeft text orders.NoOrder = otherLeft text orders.NoOrder
+  commandLeft text o =
+      pick (isSheet o)
+      (pick (eqb (length text) (wantedBy o)) (sheetLeft text (sheetWithin deskText text (r .sheet)) d r) (untouched d r (endingText 12 0)))
+      (otherLeft text o)
 
   -- the next step of a line `step`; nothing where none is to be made
   unfoldable pub stepLeft : Left

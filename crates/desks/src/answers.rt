@@ -12,6 +12,7 @@ ghost use mathlib.Core.Path.{_≡_};
 ghost use Prim.Native.Nat.{_+_, _≤_};
 ghost use lib.ListN.{length};
 ghost use Rattle.ledger.specs.Runs.{plan};
+ghost use Rattle.frames.specs.Frame.{frameText};
 ghost use Rattle.desks.specs.Lines.{figuresOf, stateText};
 ghost use Rattle.desks.specs.inner.Lent.{EndingPut, Shows, StatePut, mostEnding};
 
@@ -34,6 +35,21 @@ fn figures_of(log: Log, account: Account, slots: usize, ground: u64) -> Figures
     }
 }
 
+// A frame at the start of an answer's room: it always fits.
+fn put_first(
+    out: &mut [u8],
+    figures: Figures,
+    litres: [u32; 9],
+    shape: Shape,
+    marks: &[u8],
+    depths: &[u32],
+) -> usize
+    requires { ⌜ Shows (plan shape (now marks)) (now depths) (now out) ⌝ }
+    ensures { λ r. ⌜ StatePut (frameText figures litres shape (now (marks .entry)) (now (depths .entry))) (now (out .entry)) (now (out .exit)) r ⌝ }
+{
+    put_frame(out, 0, figures, litres, shape, marks, depths)
+}
+
 // The frame of a state.
 pub(crate) fn put_state(
     out: &mut [u8],
@@ -49,15 +65,7 @@ pub(crate) fn put_state(
     let ground = water_on(shape, marks, depths);
     let figures = figures_of(log, account, kept_slots(shape), ground);
     let litres = log.litres;
-    put_frame(
-        out,
-        0,
-        figures,
-        litres,
-        shape,
-        marks,
-        depths,
-    )
+    put_first(out, figures, litres, shape, marks, depths)
 }
 
 // How an answer ends: `done`, or its refusal.

@@ -37,18 +37,50 @@ ghost use Rattle.evenings.specs.Program.{givenHeld, stores};
 ghost use Rattle.desks.specs.Orders.{order};
 ghost use Rattle.desks.specs.State.{deskOut, deskSquares, deskText};
 ghost use Rattle.desks.specs.Lines.{endingText, nextTold, orderTold};
-ghost use Rattle.desks.specs.Command.{Leaves, Wanted, commandLeft, eveningOn, inflowOn, otherLeft, planOn, readyNumber, sheetLeft, stepLeft, toldOn, untouched};
+ghost use Rattle.desks.specs.Command.{Leaves, Wanted, commandLeft, eveningOn, inflowOn, isSheet, otherLeft, planOn, readyNumber, sheetLeft, stepLeft, toldOn, untouched, wantedBy};
 ghost use Rattle.desks.specs.inner.Rooms.{GroundLong, RoomsLong, SheetLaid, SheetRooms};
 
 // How many bytes of text come after a line.
+fn wanted_by(order: Order) -> usize
+    ensures { λ r. ⌜ r ≡ wantedBy order ⌝ }
+{
+    match order {
+        Order::Sheet(bytes) => bytes as usize,
+        Order::Lay(bytes) => bytes as usize,
+        Order::Entered(entry) => 0,
+        Order::Draw(number, litres) => 0,
+        Order::Step(count, end, every) => 0,
+        Order::Show => 0,
+        Order::Arrows => 0,
+        Order::Most(end) => 0,
+        Order::Stand => 0,
+        Order::NoOrder => 0,
+    }
+}
+
+// Whether a line brings a sheet.
+fn is_sheet(order: Order) -> bool
+    ensures { λ r. ⌜ r ≡ isSheet order ⌝ }
+{
+    match order {
+        Order::Sheet(bytes) => true,
+        Order::Lay(bytes) => false,
+        Order::Entered(entry) => false,
+        Order::Draw(number, litres) => false,
+        Order::Step(count, end, every) => false,
+        Order::Show => false,
+        Order::Arrows => false,
+        Order::Most(end) => false,
+        Order::Stand => false,
+        Order::NoOrder => false,
+    }
+}
+
+// How many bytes of text come after a line, as its own words say.
 pub fn wanted(line: &[u8]) -> usize
     ensures { λ r. ⌜ Wanted (now (line .entry)) r ⌝ }
 {
-    match order_of(line) {
-        Order::Sheet(bytes) => bytes as usize,
-        Order::Lay(bytes) => bytes as usize,
-        _ => 0,
-    }
+    wanted_by(order_of(line))
 }
 
 // The desk with a sheet that was read into the rooms, and its frame.
@@ -84,7 +116,7 @@ fn lay_sheet(
 // `sheet` bytes.
 fn sheet_line(
     desk: Desk,
-    bytes: u32,
+    bytes: usize,
     text: &[u8],
     marks: &mut [u8],
     beds: &mut [u32],
@@ -99,7 +131,7 @@ fn sheet_line(
     requires { ⌜ SheetRooms (rooms (now marks) (now beds) (now roughness) (now rates) (now depths) (now rain) (now inflow)) (now out) ⌝ }
     ensures { λ r. ⌜ ((records began : List ℕ) → Leaves (pick (eqb (length (now (text .entry))) bytes) (sheetLeft (now (text .entry)) (sheetWithin deskText (now (text .entry)) (rooms (now (marks .entry)) (now (beds .entry)) (now (roughness .entry)) (now (rates .entry)) (now (depths .entry)) (now (rain .entry)) (now (inflow .entry)))) desk (stores (rooms (now (marks .entry)) (now (beds .entry)) (now (roughness .entry)) (now (rates .entry)) (now (depths .entry)) (now (rain .entry)) (now (inflow .entry))) (now (lasts .entry)) records began)) (untouched desk (stores (rooms (now (marks .entry)) (now (beds .entry)) (now (roughness .entry)) (now (rates .entry)) (now (depths .entry)) (now (rain .entry)) (now (inflow .entry))) (now (lasts .entry)) records began) (endingText 12 0))) r (stores (rooms (now (marks .exit)) (now (beds .exit)) (now (roughness .exit)) (now (rates .exit)) (now (depths .exit)) (now (rain .exit)) (now (inflow .exit))) (now (lasts .exit)) records began) (now (out .entry)) (now (out .exit))) ⌝ }
 {
-    if text.len() != bytes as usize {
+    if text.len() != bytes {
         return refuse_line(desk, 12, 0, out);
     }
     let sheet = read_within(
@@ -221,10 +253,10 @@ pub fn command(
     ensures { λ r. ⌜ Leaves (commandLeft desk (stores (rooms (now (marks .entry)) (now (beds .entry)) (now (roughness .entry)) (now (rates .entry)) (now (depths .entry)) (now (rain .entry)) (now (inflow .entry))) (now (lasts .entry)) (now (records .entry)) (now (began .entry))) (now (text .entry)) (order (now (line .entry)))) r (stores (rooms (now (marks .exit)) (now (beds .exit)) (now (roughness .exit)) (now (rates .exit)) (now (depths .exit)) (now (rain .exit)) (now (inflow .exit))) (now (lasts .exit)) (now (records .exit)) (now (began .exit))) (now (out .entry)) (now (out .exit)) ⌝ }
 {
     let asked = order_of(line);
-    match asked {
-        Order::Sheet(bytes) => sheet_line(
+    if is_sheet(asked) {
+        return sheet_line(
             desk,
-            bytes,
+            wanted_by(asked),
             text,
             marks,
             beds,
@@ -235,20 +267,20 @@ pub fn command(
             depths,
             lasts,
             out,
-        ),
-        _ => other_line(
-            desk,
-            asked,
-            text,
-            marks,
-            inflow,
-            depths,
-            lasts,
-            records,
-            began,
-            out,
-        ),
+        );
     }
+    other_line(
+        desk,
+        asked,
+        text,
+        marks,
+        inflow,
+        depths,
+        lasts,
+        records,
+        began,
+        out,
+    )
 }
 
 // A step over the sheet on the desk.

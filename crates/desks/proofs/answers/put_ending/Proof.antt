@@ -1,3 +1,7 @@
+use mathlib.Core.Path.{refl}
+use native.Mathlib.Omega.{arith}
+use Rattle.answer.proofs.PrintLaws.{refused-short}
+use Rattle.desks.proofs.AnswerParts.{ending-refused, ending-done}
 use borrow.Author.Needs.{needs}
 use Rattle.desks.proofs.answers.put_ending.Statement.{statement}
 use Rattle.desks.proofs.answers.put_ending.Tie as tie
@@ -16,7 +20,8 @@ same-length c = search needs
 
 -- src/answers.rt:69:9
 returns : tie.Need-returns
-returns c = ?
+returns c =
+    ending-refused (c .before .before .before .before .before .before .args .number) (c .before .before .before .before .before .before .args .line) (c .before .before .before .before .if1 .taken) (refused-short _ _ (omega (arith, c .before .before .before .before .before .before .good)) (omega (arith, c .before .before .before .before .before .before .good))) (c .before .before .put-refused .ensures)
 
 -- src/answers.rt:71:23
 slice-aggregate-put-word : tie.Need-slice-aggregate-put-word
@@ -32,7 +37,8 @@ same-length-2 c = search needs
 
 -- src/answers.rt:64:1
 returns-2 : tie.Need-returns-2
-returns-2 c = ?
+returns-2 c =
+    ending-done (c .before .before .before .before .before .before .before .args .number) (c .before .before .before .before .before .before .before .args .line) (c .before .before .before .before .before .if1 .left) (c .before .before .put-word .ensures)
 
 pub put-ending-spec : {M : Type 1} → statement M
 put-ending-spec =

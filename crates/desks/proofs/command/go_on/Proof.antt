@@ -1,3 +1,9 @@
+use native.Mathlib.Omega.{arith}
+use Rattle.sheet.specs.Sheet.{rooms}
+use Rattle.evenings.specs.Program.{stores}
+use mathlib.Core.Path.{refl}
+use Rattle.checks.proofs.CheckLaws.{fails-by, holds-by}
+use Rattle.desks.proofs.LeftLaws.{step-none, step-refused, step-told}
 use borrow.Author.Needs.{needs}
 use Rattle.desks.proofs.command.go_on.Statement.{statement}
 use Rattle.desks.proofs.command.go_on.Tie as tie
@@ -14,7 +20,8 @@ desk-still-requires c κs = search needs
 
 -- src/command.rt:313:9
 returns : tie.Need-returns
-returns c = ?
+returns c =
+    step-none (c .before .before .before .before .args .desk) (stores (rooms (c .before .before .before .before .args .marks .now) (c .before .before .before .before .args .beds .now) (c .before .before .before .before .args .roughness .now) (c .before .before .before .before .args .rates .now) (c .before .before .before .before .args .depths .now) (c .before .before .before .before .args .rain .now) (c .before .before .before .before .args .inflow .now)) (c .before .before .before .before .args .lasts .now) (c .before .before .before .before .args .records .now) (c .before .before .before .before .args .began .now)) (fails-by refl (c .before .if1 .taken)) (c .desk-still .ensures)
 
 -- src/command.rt:315:9
 refused-at-once-requires : tie.Need-refused-at-once-requires
@@ -26,7 +33,8 @@ refuse-line-requires c κs = search needs
 
 -- src/command.rt:317:9
 returns-2 : tie.Need-returns-2
-returns-2 c = ?
+returns-2 c =
+    step-refused (c .before .before .before .before .before .before .before .args .desk) (stores (rooms (c .before .before .before .before .before .before .before .args .marks .now) (c .before .before .before .before .before .before .before .args .beds .now) (c .before .before .before .before .before .before .before .args .roughness .now) (c .before .before .before .before .before .before .before .args .rates .now) (c .before .before .before .before .before .before .before .args .depths .now) (c .before .before .before .before .before .before .before .args .rain .now) (c .before .before .before .before .before .before .before .args .inflow .now)) (c .before .before .before .before .before .before .before .args .lasts .now) (c .before .before .before .before .before .before .before .args .records .now) (c .before .before .before .before .before .before .before .args .began .now)) (holds-by refl (c .before .before .before .before .if1 .left)) (c .before .before .before .refused-at-once .ensures) (c .before .before .if2 .taken) (c .refuse-line .ensures)
 
 -- src/command.rt:319:5
 step-held-requires : tie.Need-step-held-requires
@@ -34,7 +42,8 @@ step-held-requires c κs = search needs
 
 -- src/command.rt:295:1
 returns-3 : tie.Need-returns-3
-returns-3 c = ?
+returns-3 c =
+    step-told (c .before .before .before .before .before .before .before .before .before .before .before .before .before .before .before .before .before .args .desk) (stores (rooms (c .before .before .before .before .before .before .before .before .before .before .before .before .before .before .before .before .before .args .marks .now) (c .before .before .before .before .before .before .before .before .before .before .before .before .before .before .before .before .before .args .beds .now) (c .before .before .before .before .before .before .before .before .before .before .before .before .before .before .before .before .before .args .roughness .now) (c .before .before .before .before .before .before .before .before .before .before .before .before .before .before .before .before .before .args .rates .now) (c .before .before .before .before .before .before .before .before .before .before .before .before .before .before .before .before .before .args .depths .now) (c .before .before .before .before .before .before .before .before .before .before .before .before .before .before .before .before .before .args .rain .now) (c .before .before .before .before .before .before .before .before .before .before .before .before .before .before .before .before .before .args .inflow .now)) (c .before .before .before .before .before .before .before .before .before .before .before .before .before .before .before .before .before .args .lasts .now) (c .before .before .before .before .before .before .before .before .before .before .before .before .before .before .before .before .before .args .records .now) (c .before .before .before .before .before .before .before .before .before .before .before .before .before .before .before .before .before .args .began .now)) (holds-by refl (c .before .before .before .before .before .before .before .before .before .before .before .before .before .before .if1 .left)) (c .before .before .before .before .before .before .before .before .before .before .before .before .before .refused-at-once .ensures) (c .before .before .before .before .before .before .before .before .before .before .before .before .if2 .left) (c .step-held .ensures)
 
 pub go-on-spec : {M : Type 1} → statement M
 go-on-spec =

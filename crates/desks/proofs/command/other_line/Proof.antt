@@ -1,3 +1,7 @@
+use native.Mathlib.Omega.{arith}
+use Rattle.sheet.specs.Sheet.{rooms}
+use Rattle.evenings.specs.Program.{stores}
+use Rattle.desks.proofs.LeftLaws.{other-refused, other-told}
 use borrow.Author.Needs.{needs}
 use Rattle.desks.proofs.command.other_line.Statement.{statement}
 use Rattle.desks.proofs.command.other_line.Tie as tie
@@ -21,7 +25,8 @@ same-length c = search needs
 
 -- src/command.rt:188:9
 returns : tie.Need-returns
-returns c = ?
+returns c =
+    λ beds roughness rates rain. other-refused (c .before .before .before .before .before .before .before .before .before .before .before .before .before .before .args .desk) (stores (rooms (c .before .before .before .before .before .before .before .before .before .before .before .before .before .before .args .marks .now) beds roughness rates (c .before .before .before .before .before .before .before .before .before .before .before .before .before .before .args .depths .now) rain (c .before .before .before .before .before .before .before .before .before .before .before .before .before .before .args .inflow .now)) (c .before .before .before .before .before .before .before .before .before .before .before .before .before .before .args .lasts .now) (c .before .before .before .before .before .before .before .before .before .before .before .before .before .before .args .records .now) (c .before .before .before .before .before .before .before .before .before .before .before .before .before .before .args .began .now)) (c .before .before .before .before .before .before .before .before .before .before .before .before .before .before .args .text .now) (c .before .before .before .before .before .before .before .before .before .before .before .before .before .before .args .order) (c .before .before .before .before .before .refused-at-once .ensures) (c .before .before .before .before .if1 .taken) (c .before .before .refuse-line .ensures)
 
 -- src/command.rt:190:5
 line-held-requires : tie.Need-line-held-requires
@@ -41,7 +46,8 @@ same-length-4 c = search needs
 
 -- src/command.rt:171:1
 returns-2 : tie.Need-returns-2
-returns-2 c = ?
+returns-2 c =
+    λ beds roughness rates rain. other-told (c .before .before .before .before .before .before .before .before .before .before .before .before .before .before .before .before .before .before .before .before .args .desk) (stores (rooms (c .before .before .before .before .before .before .before .before .before .before .before .before .before .before .before .before .before .before .before .before .args .marks .now) beds roughness rates (c .before .before .before .before .before .before .before .before .before .before .before .before .before .before .before .before .before .before .before .before .args .depths .now) rain (c .before .before .before .before .before .before .before .before .before .before .before .before .before .before .before .before .before .before .before .before .args .inflow .now)) (c .before .before .before .before .before .before .before .before .before .before .before .before .before .before .before .before .before .before .before .before .args .lasts .now) (c .before .before .before .before .before .before .before .before .before .before .before .before .before .before .before .before .before .before .before .before .args .records .now) (c .before .before .before .before .before .before .before .before .before .before .before .before .before .before .before .before .before .before .before .before .args .began .now)) (c .before .before .before .before .before .before .before .before .before .before .before .before .before .before .before .before .before .before .before .before .args .text .now) (c .before .before .before .before .before .before .before .before .before .before .before .before .before .before .before .before .before .before .before .before .args .order) (c .before .before .before .before .before .before .before .before .before .before .before .refused-at-once .ensures) (c .before .before .before .before .before .before .before .before .before .before .if1 .left) (c .before .before .before .before .before .before .line-held .ensures beds roughness rates rain)
 
 pub other-line-spec : {M : Type 1} → statement M
 other-line-spec =

@@ -1,3 +1,6 @@
+use mathlib.Core.Path.{_≡_, ap, _∙_}
+use Rattle.desks.specs.State.{deskWith}
+use Rattle.desks.specs.declared.state.Series.{Series}
 use borrow.Author.Needs.{needs}
 use Rattle.desks.proofs.state.desk_still.Statement.{statement}
 use Rattle.desks.proofs.state.desk_still.Tie as tie
@@ -16,7 +19,8 @@ desk-with-requires c κs = search needs
 
 -- src/state.rt:153:1
 returns : tie.Need-returns
-returns c = ?
+returns c =
+    c .desk-with .ensures ∙ ap (λ (s : Series). deskWith (c .before .before .before .before .args .desk) (c .before .before .before .before .args .desk .log) (c .before .before .before .before .args .desk .account) s (c .before .before .before .before .args .length)) (c .before .no-series .ensures)
 
 pub desk-still-spec : {M : Type 1} → statement M
 desk-still-spec = tie.close (tie.spec no-series-requires desk-with-requires returns)

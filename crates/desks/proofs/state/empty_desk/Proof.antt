@@ -1,3 +1,6 @@
+use mathlib.Core.Bool.{false}
+use Rattle.evenings.specs.Program.{noHeading}
+use Rattle.desks.proofs.StateLaws.{desk-as}
 use borrow.Author.Needs.{needs}
 use Rattle.desks.proofs.state.empty_desk.Statement.{statement}
 use Rattle.desks.proofs.state.empty_desk.Tie as tie
@@ -21,7 +24,8 @@ no-series-requires c κs = search needs
 
 -- src/state.rt:74:1
 returns : tie.Need-returns
-returns c = ?
+returns c =
+    desk-as false noHeading 0 (c .before .before .open-log .ensures) (c .before .open-account .ensures) (c .no-series .ensures)
 
 pub empty-desk-spec : {M : Type 1} → statement M
 empty-desk-spec =

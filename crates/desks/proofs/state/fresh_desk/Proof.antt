@@ -1,3 +1,5 @@
+use native.Mathlib.Omega.{arith}
+use Rattle.desks.proofs.StateLaws.{slots-some, desk-fresh}
 use borrow.Author.Needs.{needs}
 use Rattle.desks.proofs.state.fresh_desk.Statement.{statement}
 use Rattle.desks.proofs.state.fresh_desk.Tie as tie
@@ -15,7 +17,8 @@ kept-slots-requires c κs = search needs
 
 -- src/state.rt:120:9
 fresh-run-requires : tie.Need-fresh-run-requires
-fresh-run-requires c κs = ?
+fresh-run-requires c κs =
+    omega (arith, c .kept-slots .ensures, slots-some (c .before .args .heading .shape) (c .before .pre))
 
 -- src/state.rt:124:14
 open-log-requires : tie.Need-open-log-requires
@@ -31,7 +34,8 @@ no-series-requires c κs = search needs
 
 -- src/state.rt:116:1
 returns : tie.Need-returns
-returns c = ?
+returns c =
+    desk-fresh (c .before .before .before .before .before .args .heading) (c .before .before .before .before .before .args .start) (c .before .before .before .before .before .args .length) (c .before .before .before .before .kept-slots .ensures) (c .before .before .before .fresh-run .ensures) (c .before .before .open-log .ensures) (c .before .open-account .ensures) (c .no-series .ensures)
 
 pub fresh-desk-spec : {M : Type 1} → statement M
 fresh-desk-spec =

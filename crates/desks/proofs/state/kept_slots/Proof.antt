@@ -1,3 +1,4 @@
+use Rattle.desks.proofs.StateLaws.{slots-many, slots-few}
 use borrow.Author.Needs.{needs}
 use Rattle.desks.proofs.state.kept_slots.Statement.{statement}
 use Rattle.desks.proofs.state.kept_slots.Tie as tie
@@ -15,11 +16,13 @@ div-held c = search needs
 
 -- src/state.rt:56:9
 returns : tie.Need-returns
-returns c = ?
+returns c =
+    slots-many (c .before .before .args .shape) (c .before .record-size .ensures) (c .if1 .taken)
 
 -- src/state.rt:50:1
 returns-2 : tie.Need-returns-2
-returns-2 c = ?
+returns-2 c =
+    slots-few (c .before .before .args .shape) (c .before .record-size .ensures) (c .if1 .left)
 
 pub kept-slots-spec : {M : Type 1} → statement M
 kept-slots-spec = tie.close (tie.spec record-size-requires div-held returns returns-2)
