@@ -138,6 +138,6 @@ module _ (d : Desk) (r : Stores) (text : List ℕ) (o : Order) {b : Bool} (h : b
   unfolding commandLeft
   command-sheet z {bytes} e w = as-left (pick-true _ _ (sym h ∙ z) ∙ ap (sheetTaken d r text) (sym e)) w
 
-  pub command-other : b ≡ false → Leaves (otherLeft d r text o) a after old new → Leaves (commandLeft d r text o) a after old new
+  pub command-other : b ≡ false → {asked : Order} → asked ≡ o → Leaves (otherLeft d r text asked) a after old new → Leaves (commandLeft d r text o) a after old new
   unfolding commandLeft
-  command-other z w = as-left (pick-false _ _ (sym h ∙ z)) w
+  command-other z e w = as-left (pick-false _ _ (sym h ∙ z) ∙ ap (otherLeft d r text) (sym e)) w

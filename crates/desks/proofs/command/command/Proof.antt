@@ -2,9 +2,8 @@ use native.Mathlib.Omega.{arith}
 use borrow.Author.Needs.{needs}
 use Rattle.sheet.specs.Sheet.{rooms}
 use Rattle.evenings.specs.Program.{stores}
-use mathlib.Core.Path.{ap, subst, _∙_}
-use Rattle.desks.specs.declared.orders.Order.{Order}
-use Rattle.desks.specs.Command.{Leaves, isSheet, otherLeft, wantedBy}
+use mathlib.Core.Path.{ap, _∙_}
+use Rattle.desks.specs.Command.{isSheet, wantedBy}
 use Rattle.desks.proofs.LeftLaws.{command-sheet, command-other}
 use Rattle.desks.proofs.command.command.Statement.{statement}
 use Rattle.desks.proofs.command.command.Tie as tie
@@ -44,7 +43,7 @@ other-line-requires c κs = search needs
 -- src/command.rt:237:1
 returns-2 : tie.Need-returns-2
 returns-2 c =
-    command-other (c .before .before .before .before .before .before .before .before .before .before .before .before .before .before .before .before .before .args .desk) (stores (rooms (c .before .before .before .before .before .before .before .before .before .before .before .before .before .before .before .before .before .args .marks .now) (c .before .before .before .before .before .before .before .before .before .before .before .before .before .before .before .before .before .args .beds .now) (c .before .before .before .before .before .before .before .before .before .before .before .before .before .before .before .before .before .args .roughness .now) (c .before .before .before .before .before .before .before .before .before .before .before .before .before .before .before .before .before .args .rates .now) (c .before .before .before .before .before .before .before .before .before .before .before .before .before .before .before .before .before .args .depths .now) (c .before .before .before .before .before .before .before .before .before .before .before .before .before .before .before .before .before .args .rain .now) (c .before .before .before .before .before .before .before .before .before .before .before .before .before .before .before .before .before .args .inflow .now)) (c .before .before .before .before .before .before .before .before .before .before .before .before .before .before .before .before .before .args .lasts .now) (c .before .before .before .before .before .before .before .before .before .before .before .before .before .before .before .before .before .args .records .now) (c .before .before .before .before .before .before .before .before .before .before .before .before .before .before .before .before .before .args .began .now)) (c .before .before .before .before .before .before .before .before .before .before .before .before .before .before .before .before .before .args .text .now) _ (c .before .before .before .before .before .before .before .before .before .before .before .before .before .is-sheet .ensures ∙ ap isSheet (c .before .before .before .before .before .before .before .before .before .before .before .before .before .before .order-of .ensures)) (c .before .before .before .before .before .before .before .before .before .before .before .before .if1 .left) (subst (λ (o : Order). Leaves (otherLeft (c .before .before .before .before .before .before .before .before .before .before .before .before .before .before .before .before .before .args .desk) (stores (rooms (c .before .before .before .before .before .before .before .before .before .before .before .before .before .before .before .before .before .args .marks .now) (c .before .before .before .before .before .before .before .before .before .before .before .before .before .before .before .before .before .args .beds .now) (c .before .before .before .before .before .before .before .before .before .before .before .before .before .before .before .before .before .args .roughness .now) (c .before .before .before .before .before .before .before .before .before .before .before .before .before .before .before .before .before .args .rates .now) (c .before .before .before .before .before .before .before .before .before .before .before .before .before .before .before .before .before .args .depths .now) (c .before .before .before .before .before .before .before .before .before .before .before .before .before .before .before .before .before .args .rain .now) (c .before .before .before .before .before .before .before .before .before .before .before .before .before .before .before .before .before .args .inflow .now)) (c .before .before .before .before .before .before .before .before .before .before .before .before .before .before .before .before .before .args .lasts .now) (c .before .before .before .before .before .before .before .before .before .before .before .before .before .before .before .before .before .args .records .now) (c .before .before .before .before .before .before .before .before .before .before .before .before .before .before .before .before .before .args .began .now)) (c .before .before .before .before .before .before .before .before .before .before .before .before .before .before .before .before .before .args .text .now) o) _ _ _ _) (c .before .before .before .before .before .before .before .before .before .before .before .before .before .before .order-of .ensures) (c .other-line .ensures (c .before .before .before .before .before .before .before .before .before .before .before .before .before .before .before .before .before .args .beds .now) (c .before .before .before .before .before .before .before .before .before .before .before .before .before .before .before .before .before .args .roughness .now) (c .before .before .before .before .before .before .before .before .before .before .before .before .before .before .before .before .before .args .rates .now) (c .before .before .before .before .before .before .before .before .before .before .before .before .before .before .before .before .before .args .rain .now)))
+    command-other (c .before .before .before .before .before .before .before .before .before .before .before .before .before .before .before .before .before .args .desk) (stores (rooms (c .before .before .before .before .before .before .before .before .before .before .before .before .before .before .before .before .before .args .marks .now) (c .before .before .before .before .before .before .before .before .before .before .before .before .before .before .before .before .before .args .beds .now) (c .before .before .before .before .before .before .before .before .before .before .before .before .before .before .before .before .before .args .roughness .now) (c .before .before .before .before .before .before .before .before .before .before .before .before .before .before .before .before .before .args .rates .now) (c .before .before .before .before .before .before .before .before .before .before .before .before .before .before .before .before .before .args .depths .now) (c .before .before .before .before .before .before .before .before .before .before .before .before .before .before .before .before .before .args .rain .now) (c .before .before .before .before .before .before .before .before .before .before .before .before .before .before .before .before .before .args .inflow .now)) (c .before .before .before .before .before .before .before .before .before .before .before .before .before .before .before .before .before .args .lasts .now) (c .before .before .before .before .before .before .before .before .before .before .before .before .before .before .before .before .before .args .records .now) (c .before .before .before .before .before .before .before .before .before .before .before .before .before .before .before .before .before .args .began .now)) (c .before .before .before .before .before .before .before .before .before .before .before .before .before .before .before .before .before .args .text .now) _ (c .before .before .before .before .before .before .before .before .before .before .before .before .before .is-sheet .ensures ∙ ap isSheet (c .before .before .before .before .before .before .before .before .before .before .before .before .before .before .order-of .ensures)) (c .before .before .before .before .before .before .before .before .before .before .before .before .if1 .left) (c .before .before .before .before .before .before .before .before .before .before .before .before .before .before .order-of .ensures) (c .other-line .ensures (c .before .before .before .before .before .before .before .before .before .before .before .before .before .before .before .before .before .args .beds .now) (c .before .before .before .before .before .before .before .before .before .before .before .before .before .before .before .before .before .args .roughness .now) (c .before .before .before .before .before .before .before .before .before .before .before .before .before .before .before .before .before .args .rates .now) (c .before .before .before .before .before .before .before .before .before .before .before .before .before .before .before .before .before .args .rain .now))
 
 pub command-spec : {M : Type 1} → statement M
 command-spec =
