@@ -1,3 +1,4 @@
+pub mod AnswerLaws
 pub mod Determined
 pub mod OrderLaws
 pub mod WorkedLaws
