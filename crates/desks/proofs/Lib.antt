@@ -1,3 +1,4 @@
+pub mod AnswerLaws
 pub mod AnswerParts
 pub mod Determined
 pub mod LeftLaws

@@ -1,3 +1,5 @@
+use Rattle.ledger.specs.Runs.{plan}
+use Rattle.desks.proofs.AnswerLaws.{made-unshown, made-shown}
 use borrow.Author.Needs.{needs}
 use Rattle.desks.proofs.lines.made_line.Statement.{statement}
 use Rattle.desks.proofs.lines.made_line.Tie as tie
@@ -17,7 +19,8 @@ desk-with-requires c κs = search needs
 
 -- src/lines.rt:203:9
 returns : tie.Need-returns
-returns c = ?
+returns c =
+    λ l k b. made-unshown (c .before .before .before .before .before .before .before .before .before .args .tried) (plan (c .before .before .before .before .before .before .before .before .before .args .desk .heading .shape) (c .before .before .before .before .before .before .before .before .before .args .marks .now)) (c .before .before .before .before .before .before .before .before .before .args .depths .now) l k b (c .before .before .before .before .before .before .before .before .before .args .desk) (c .before .before .before .before .before .before .before .before .before .args .series) (c .before .one-less .ensures) (c .before .before .if1 .taken) (c .desk-with .ensures)
 
 -- src/lines.rt:207:9
 put-state-requires : tie.Need-put-state-requires
@@ -37,7 +40,8 @@ same-length c = search needs
 
 -- src/lines.rt:188:1
 returns-2 : tie.Need-returns-2
-returns-2 c = ?
+returns-2 c =
+    λ l k b. made-shown (c .before .before .before .before .before .before .before .before .before .before .before .before .before .before .before .args .tried) (plan (c .before .before .before .before .before .before .before .before .before .before .before .before .before .before .before .args .desk .heading .shape) (c .before .before .before .before .before .before .before .before .before .before .before .before .before .before .before .args .marks .now)) (c .before .before .before .before .before .before .before .before .before .before .before .before .before .before .before .args .depths .now) l k b (c .before .before .before .before .before .before .before .before .before .before .before .before .before .before .before .args .desk) (c .before .before .before .before .before .before .before .before .before .before .before .before .before .before .before .args .series) (c .before .one-less2 .ensures) (c .before .before .before .before .before .before .before .before .if1 .left) (c .before .before .before .before .put-state .ensures) (c .desk-with2 .ensures)
 
 pub made-line-spec : {M : Type 1} → statement M
 made-line-spec =

@@ -1,3 +1,5 @@
+use mathlib.Core.Path.{refl}
+use Rattle.desks.proofs.AnswerLaws.{ending-told}
 use borrow.Author.Needs.{needs}
 use Rattle.desks.proofs.lines.refuse_line.Statement.{statement}
 use Rattle.desks.proofs.lines.refuse_line.Tie as tie
@@ -20,7 +22,8 @@ same-length c = search needs
 
 -- src/lines.rt:47:1
 returns : tie.Need-returns
-returns c = ?
+returns c =
+    ending-told _ _ _ _ refl (c .before .before .before .put-ending .ensures) (c .desk-still .ensures)
 
 pub refuse-line-spec : {M : Type 1} → statement M
 refuse-line-spec = tie.close (tie.spec put-ending-requires desk-still-requires same-length returns)

@@ -1,3 +1,4 @@
+use Rattle.desks.proofs.AnswerLaws.{shown-told}
 use borrow.Author.Needs.{needs}
 use Rattle.desks.proofs.lines.shown_line.Statement.{statement}
 use Rattle.desks.proofs.lines.shown_line.Tie as tie
@@ -30,7 +31,8 @@ same-length c = search needs
 
 -- src/lines.rt:65:1
 returns : tie.Need-returns
-returns c = ?
+returns c =
+    shown-told _ _ _ _ (c .before .no-series .ensures) (c .before .before .before .before .before .before .before .before .before .before .before .before .before .before .before .before .before .pre .out-long) (c .before .before .before .before .before .before .before .before .put-state .ensures) (c .before .before .before .before .put-ending .ensures) (c .desk-with .ensures)
 
 pub shown-line-spec : {M : Type 1} → statement M
 shown-line-spec =

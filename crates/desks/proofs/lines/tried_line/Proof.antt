@@ -1,3 +1,4 @@
+use Rattle.desks.proofs.AnswerLaws.{ending-told}
 use borrow.Author.Needs.{needs}
 use Rattle.desks.proofs.lines.tried_line.Statement.{statement}
 use Rattle.desks.proofs.lines.tried_line.Tie as tie
@@ -25,7 +26,8 @@ same-length c = search needs
 
 -- src/lines.rt:56:1
 returns : tie.Need-returns
-returns c = ?
+returns c =
+    ending-told _ _ _ _ (c .before .no-series .ensures) (c .before .before .before .before .put-ending .ensures) (c .desk-with .ensures)
 
 pub tried-line-spec : {M : Type 1} → statement M
 tried-line-spec =
