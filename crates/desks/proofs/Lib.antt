@@ -1,3 +1,4 @@
 pub mod Determined
 pub mod OrderLaws
+pub mod OtherLaws
 pub mod WorkedLaws
