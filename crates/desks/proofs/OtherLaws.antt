@@ -4,7 +4,7 @@ use mathlib.Core.Path.{_≡_, refl, sym, ap, ap₂, subst, _∙_}
 use mathlib.Core.Bool.{Bool, true, false}
 use mathlib.Core.List.{List, [], _∷_, _++_}
 use Prim.Native.Nat.{ℕ, zero, suc, _+_, _*_, _/_, min, _≤_, _<_}
-use native.Mathlib.Nat.{mul-le-mul}
+use native.Mathlib.Nat.{mul-le-mul, div-add-mod', mod-lt}
 use native.Mathlib.Omega.{arith}
 use lib.Dec.{eqb, leb}
 use lib.ListN.{length, length-append}
@@ -130,9 +130,15 @@ most-told p end {d} {r} {number} {bounds} depths lasts records began e n x =
 -- some step is always kept
 pub slots-some : (s : Shape) → ShapeInRange s → {slots : ℕ} → slots ≡ keptSlots s → 0 < slots
 unfolding keptSlots
-slots-some s fine e =
-    let few : s .rows * s .columns ≤ 64 * 64 = mul-le-mul (fine .rows-high) (fine .columns-high) in
-    omega (arith, few, e)
+slots-some s fine {slots} e = go (deskNumbers / recordSize (plan s [])) refl
+  where
+    go : (q : ℕ) → deskNumbers / recordSize (plan s []) ≡ q → 0 < slots
+    go zero z =
+        let size = recordSize (plan s []) in
+        let few : s .rows * s .columns ≤ 64 * 64 = mul-le-mul (fine .rows-high) (fine .columns-high) in
+        let none : deskNumbers / size * size ≡ 0 = ap (λ (k : ℕ). k * size) z ∙ omega arith in
+        absurd (omega (arith, few, none, div-add-mod' deskNumbers size, mod-lt deskNumbers {m = size} (omega arith)))
+    go (suc q) z = omega (arith, z, e)
 
 module _ (p : Plan) (depths lasts records began inflow text : List ℕ) (bytes : ℕ) (d : Desk) where
   abbrev standing : Evening
