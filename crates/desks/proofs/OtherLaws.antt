@@ -7,24 +7,30 @@ use Prim.Native.Nat.{ℕ, zero, suc, _+_, _*_, _/_, min, _≤_, _<_}
 use native.Mathlib.Nat.{mul-le-mul, div-add-mod', mod-lt}
 use native.Mathlib.Omega.{arith}
 use lib.Dec.{eqb, leb}
-use lib.ListN.{length, length-append}
+use lib.ListN.{length, take, length-append}
+use lib.Seq.{length-take-le}
 use borrow.Author.Tests.{eq-eqb, ne-eqb, le-leb, lt-leb}
 use Rattle.reckon.specs.Tests.{pick, every}
-use Rattle.reckon.proofs.TestLaws.{pick-true, pick-false, every-fails, each-every}
+use Rattle.reckon.proofs.TestLaws.{pick-true, pick-false, every-fails, each-every, refusal-later}
 use Rattle.grid.specs.Squares.{ShapeInRange, squares}
 use Rattle.grid.specs.declared.squares.Shape.{Shape}
 use Rattle.rule.specs.declared.rules.Rules.{Rules}
-use Rattle.ledger.specs.Runs.{Plan, plan}
+use Rattle.ledger.specs.Runs.{Plan, World, plan}
 use Rattle.ledger.specs.Record.{recordSize}
 use Rattle.checks.specs.Bounds.{boundsNumber, spansWhole, figures, toldBounds, boundsOf}
 use Rattle.checks.specs.declared.bounds.StepBounds.{StepBounds}
 use Rattle.checks.specs.declared.bounds.Bounds.{Bounds}
+use Rattle.sight.specs.Arrows.{view, arrowNumber}
+use Rattle.sight.specs.AllArrows.{Sights, SeesAll, seenSquare, laidOut, allNumber, allRefusals}
 use Rattle.text.specs.Writing.{Wrote}
 use Rattle.text.proofs.WritingLaws.{wrote-both, wrote-length}
+use Rattle.answer.specs.Printed.{refusedText}
 use Rattle.hatches.specs.Log.{Evening, evening}
 use Rattle.hatches.specs.declared.lines.Entry.{Entry}
 use Rattle.hatches.specs.declared.log.Log.{Log}
+use Rattle.frames.specs.Arrows.{arrowsText}
 use Rattle.frames.specs.Bounds.{boundsText, mostBounds}
+use Rattle.frames.proofs.ArrowsLaws.{Speeds, arrows-short}
 use Rattle.frames.proofs.BoundsLaws.{bounds-short}
 use Rattle.stands.specs.Laying.{Water, water, standOf, waterAfter, Lays}
 use Rattle.stands.specs.declared.saved.Laid.{Laid}
@@ -32,9 +38,9 @@ use Rattle.trying.specs.Given.{accountOpened}
 use Rattle.trying.specs.Lines.{came}
 use Rattle.trying.specs.declared.given.Account.{Account}
 use Rattle.trying.specs.declared.lines.Tried.{Tried}
-use Rattle.desks.specs.State.{deskText, deskOut, deskNumbers, keptSlots, noSeries, deskWith}
-use Rattle.desks.specs.Lines.{Told, told, endingText, stateText, plainly, shown, cameOf, refusedAt, laidEvening, mostTold, layTold, entryTold, orderTold, Answers}
-use Rattle.desks.specs.inner.Lent.{EndingPut, DeskTold, mostEnding, refusedIn}
+use Rattle.desks.specs.State.{deskSquares, deskText, deskOut, deskNumbers, keptSlots, noSeries, deskWith}
+use Rattle.desks.specs.Lines.{Told, told, doneText, endingText, stateText, plainly, shown, cameOf, refusedAt, laidEvening, arrowsTold, mostTold, layTold, entryTold, orderTold, Answers}
+use Rattle.desks.specs.inner.Lent.{Shows, EndingPut, DeskTold, mostEnding, refusedIn}
 use Rattle.desks.specs.declared.orders.Order.{Order}
 use Rattle.desks.specs.declared.state.Desk.{Desk}
 use Rattle.desks.specs.declared.state.Series.{Series}
@@ -214,6 +220,75 @@ module _ (p : Plan) (depths lasts records began inflow text : List ℕ) (bytes :
         shown p (came 0 (evening (w .depths) (w .lasts) records began (v .saved .log)) (accountOpened (v .saved .start) (v .saved .given))))
         (sym laid-is) same))
         (as-told after behind records began x)
+
+-- ---- `arrows`
+
+-- the bytes that always suffice for the arrows of 4,096 squares
+abbrev pub mostArrows : ℕ
+mostArrows = 221_184
+
+few-squares : (s : Shape) → ShapeInRange s → squares s ≤ deskSquares
+few-squares s fine = mul-le-mul (fine .rows-high) (fine .columns-high)
+
+pub seen-short : (s : Shape) → ShapeInRange s → (seen : Sights) → Speeds seen → length (arrowsText s seen) ≤ mostArrows
+seen-short s fine seen w = omega (arith, arrows-short s seen fine w, few-squares s fine)
+
+-- as much of a room as there are squares
+pub room-part :
+    {A : Type 0} {p : Plan} {depths out : List ℕ} → Shows p depths out → (l : List A) → length l ≡ deskSquares →
+    length (take (length (p .marks)) l) ≡ squares (p .shape)
+room-part {p = p} s l h =
+    length-take-le (length (p .marks)) l (omega (arith, s .marks-long, few-squares (p .shape) (s .fine), h)) ∙ s .marks-long
+
+done-is : doneText ≡ endingText 0 0
+unfolding endingText
+done-is = sym (pick-true doneText (refusedText 0 0) (eq-eqb 0 0 refl))
+
+module _ (p : Plan) (d : Desk) (depths lasts records began : List ℕ) where
+  abbrev seeing : World
+  seeing = view depths records (d .log .run)
+
+  abbrev side : ℕ
+  side = d .heading .rules .«square_side»
+
+  module _ {seen after : Sights} {number : ℕ} (s : SeesAll p side seeing seen number after) (marks-long : length (p .marks) ≡ squares (p .shape))
+      (kinds-long : length (seen .kinds) ≡ squares (p .shape)) (east-long : length (seen .east) ≡ squares (p .shape))
+      (north-long : length (seen .north) ≡ squares (p .shape)) where
+    -- the rooms are long enough, so that an arrow's own rows decide
+    number-seen : number ≡ arrowNumber p side seeing 0 0
+    unfolding allNumber allRefusals arrowNumber
+    number-seen =
+        s .number-is
+        ∙ refusal-later 1 _
+        (each-every _
+        (eq-eqb _ _ (kinds-long ∙ sym marks-long), (eq-eqb _ _ (east-long ∙ sym marks-long), (eq-eqb _ _ (north-long ∙ sym marks-long), tt))))
+
+    pub arrows-refused :
+        {r : Desk} {old new : List ℕ} → (number ≡ 0 → ⊥) → DeskTold d (d .log) (d .account) noSeries (endingText number 0) old new r →
+        Answers (arrowsTold p (evening depths lasts records began (d .log)) (d .account) (d .heading .rules)) d r
+        (evening depths lasts records began (r .log)) old new
+    unfolding arrowsTold
+    arrows-refused f x =
+        told-as
+        (pick-false _ _ (ne-eqb _ _ (λ z. f (number-seen ∙ z)))
+        ∙ ap (λ (k : ℕ). refusedAt p (evening depths lasts records began (d .log)) (d .account) k 0) (sym number-seen))
+        (as-told depths lasts records began x)
+
+    pub arrows-shown :
+        {r : Desk} {old new : List ℕ} → number ≡ 0 →
+        DeskTold d (d .log) (d .account) noSeries (arrowsText (p .shape) after ++ endingText 0 0) old new r →
+        Answers (arrowsTold p (evening depths lasts records began (d .log)) (d .account) (d .heading .rules)) d r
+        (evening depths lasts records began (r .log)) old new
+    unfolding arrowsTold
+    arrows-shown z x =
+        let laid : after ≡ laidOut (squares (p .shape)) (seenSquare p side seeing) =
+            s .rooms-are ∙ pick-true _ _ (eq-eqb _ _ (sym (s .number-is) ∙ z)) in
+        told-as
+        (pick-true _ _ (eq-eqb _ _ (sym number-seen ∙ z))
+        ∙ ap₂
+        (λ (v : Sights) (t : List ℕ). told (evening depths lasts records began (d .log)) (d .account) noSeries (arrowsText (p .shape) v ++ t))
+        (sym laid) done-is)
+        (as-told depths lasts records began x)
 
 -- ---- a line by its kind
 

@@ -1,3 +1,7 @@
+use native.Mathlib.Omega.{arith}
+use Rattle.ledger.specs.Runs.{plan}
+use Rattle.sight.specs.AllArrows.{sights}
+use Rattle.desks.proofs.OtherLaws.{ending-fits, text-told, mostArrows, seen-short, arrows-refused, arrows-shown}
 use borrow.Author.Needs.{needs}
 use Rattle.desks.proofs.lines.arrows_in.Statement.{statement}
 use Rattle.desks.proofs.lines.arrows_in.Tie as tie
@@ -35,15 +39,21 @@ same-length-4 c = search needs
 
 -- src/lines.rt:358:9
 returns : tie.Need-returns
-returns c = ?
+returns c =
+    λ l b. arrows-refused (plan (c .before .before .before .before .before .before .before .before .before .before .before .before .before .before .before .before .before .before .before .before .before .before .before .before .before .before .args .desk .heading .shape) (c .before .before .before .before .before .before .before .before .before .before .before .before .before .before .before .before .before .before .before .before .before .before .before .before .before .before .args .marks .now)) (c .before .before .before .before .before .before .before .before .before .before .before .before .before .before .before .before .before .before .before .before .before .before .before .before .before .before .args .desk) (c .before .before .before .before .before .before .before .before .before .before .before .before .before .before .before .before .before .before .before .before .before .before .before .before .before .before .args .depths .now) l (c .before .before .before .before .before .before .before .before .before .before .before .before .before .before .before .before .before .before .before .before .before .before .before .before .before .before .args .records .now) b (c .before .before .before .before .before .before .before .before .before .before .before .all-arrows .ensures) (c .before .before .before .before .before .before .before .before .before .before .before .before .before .before .before .before .before .before .before .before .before .before .before .before .before .before .pre .0 .marks-long) (c .before .before .before .before .before .before .before .before .before .before .before .before .before .before .before .before .before .before .before .before .before .before .before .before .before .before .pre .1) (c .before .before .before .before .before .before .before .before .before .before .before .before .before .before .before .before .before .before .before .before .before .before .before .before .before .before .pre .2) (c .before .before .before .before .before .before .before .before .before .before .before .before .before .before .before .before .before .before .before .before .before .before .before .before .before .before .pre .3) (c .before .before .before .before .if1 .taken) (c .before .before .refuse-line .ensures)
 
 -- src/lines.rt:360:9
 put-arrows-requires : tie.Need-put-arrows-requires
-put-arrows-requires c κs = ?
+put-arrows-requires c κs =
+    (
+      (c .before .before .before .before .before .before .before .before .before .before .before .before .before .before .before .before .before .before .before .before .before .before .before .before .before .before .pre .0 .fine, omega (arith, c .before .before .before .before .before .before .before .before .before .before .before .all-arrows .kept .1 .1 .1 .1 .1 .1 .0, c .before .before .before .before .before .before .before .before .before .before .before .before .before .before .before .before .before .before .before .before .before .before .before .before .before .before .pre .1), omega (arith, c .before .before .before .before .before .before .before .before .before .before .before .all-arrows .kept .1 .1 .1 .1 .1 .1 .1 .0, c .before .before .before .before .before .before .before .before .before .before .before .before .before .before .before .before .before .before .before .before .before .before .before .before .before .before .pre .2), omega (arith, c .before .before .before .before .before .before .before .before .before .before .before .all-arrows .kept .1 .1 .1 .1 .1 .1 .1 .1 .0, c .before .before .before .before .before .before .before .before .before .before .before .before .before .before .before .before .before .before .before .before .before .before .before .before .before .before .pre .3)),
+      omega (arith, (seen-short (c .before .before .before .before .before .before .before .before .before .before .before .before .before .before .before .before .before .before .before .before .before .before .before .before .before .before .args .desk .heading .shape) (c .before .before .before .before .before .before .before .before .before .before .before .before .before .before .before .before .before .before .before .before .before .before .before .before .before .before .pre .0 .fine) (sights (c .before .before .before .before .before .before .before .before .before .before .before .all-arrows .last .1 .1 .1 .1 .1 .1 .0) (c .before .before .before .before .before .before .before .before .before .before .before .all-arrows .last .1 .1 .1 .1 .1 .1 .1 .0) (c .before .before .before .before .before .before .before .before .before .before .before .all-arrows .last .1 .1 .1 .1 .1 .1 .1 .1 .0)) (record { east-fits = c .before .before .before .before .before .before .before .slice-known6 .given; north-fits = c .before .before .before .before .before .slice-known7 .given })), c .before .before .before .before .before .before .before .before .before .before .before .before .before .before .before .before .before .before .before .before .before .before .before .before .before .before .pre .0 .out-long),
+    )
 
 -- src/lines.rt:361:9
 put-ending-requires : tie.Need-put-ending-requires
-put-ending-requires c κs = ?
+put-ending-requires c κs =
+    ending-fits mostArrows (c .before .before .before .put-arrows .ensures) (seen-short (c .before .before .before .before .before .before .before .before .before .before .before .before .before .before .before .before .before .before .before .before .before .before .before .before .before .before .before .before .before .before .args .desk .heading .shape) (c .before .before .before .before .before .before .before .before .before .before .before .before .before .before .before .before .before .before .before .before .before .before .before .before .before .before .before .before .before .before .pre .0 .fine) (sights (c .before .before .before .before .before .before .before .before .before .before .before .before .before .before .before .all-arrows .last .1 .1 .1 .1 .1 .1 .0) (c .before .before .before .before .before .before .before .before .before .before .before .before .before .before .before .all-arrows .last .1 .1 .1 .1 .1 .1 .1 .0) (c .before .before .before .before .before .before .before .before .before .before .before .before .before .before .before .all-arrows .last .1 .1 .1 .1 .1 .1 .1 .1 .0)) (record { east-fits = c .before .before .before .before .before .before .before .before .before .before .before .slice-known6 .given; north-fits = c .before .before .before .before .before .before .before .before .before .slice-known7 .given })) (c .before .before .before .before .before .before .before .before .before .before .before .before .before .before .before .before .before .before .before .before .before .before .before .before .before .before .before .before .before .before .pre .0 .out-long) (omega arith)
 
 -- src/lines.rt:362:5
 desk-still-requires : tie.Need-desk-still-requires
@@ -51,15 +61,18 @@ desk-still-requires c κs = search needs
 
 -- src/lines.rt:329:1
 same-length-5 : tie.Need-same-length-5
-same-length-5 c = ?
+same-length-5 c =
+    c .before .before .before .before .before .before .before .before .before .before .before .before .before .before .before .before .before .before .before .all-arrows .kept .1 .1 .1 .1 .1 .1 .0
 
 -- src/lines.rt:329:1
 same-length-6 : tie.Need-same-length-6
-same-length-6 c = ?
+same-length-6 c =
+    c .before .before .before .before .before .before .before .before .before .before .before .before .before .before .before .before .before .before .before .all-arrows .kept .1 .1 .1 .1 .1 .1 .1 .0
 
 -- src/lines.rt:329:1
 same-length-7 : tie.Need-same-length-7
-same-length-7 c = ?
+same-length-7 c =
+    c .before .before .before .before .before .before .before .before .before .before .before .before .before .before .before .before .before .before .before .all-arrows .kept .1 .1 .1 .1 .1 .1 .1 .1 .0
 
 -- src/lines.rt:329:1
 same-length-8 : tie.Need-same-length-8
@@ -67,7 +80,8 @@ same-length-8 c = search needs
 
 -- src/lines.rt:329:1
 returns-2 : tie.Need-returns-2
-returns-2 c = ?
+returns-2 c =
+    λ l b. arrows-shown (plan (c .before .before .before .before .before .before .before .before .before .before .before .before .before .before .before .before .before .before .before .before .before .before .before .before .before .before .before .before .before .before .before .before .before .before .args .desk .heading .shape) (c .before .before .before .before .before .before .before .before .before .before .before .before .before .before .before .before .before .before .before .before .before .before .before .before .before .before .before .before .before .before .before .before .before .before .args .marks .now)) (c .before .before .before .before .before .before .before .before .before .before .before .before .before .before .before .before .before .before .before .before .before .before .before .before .before .before .before .before .before .before .before .before .before .before .args .desk) (c .before .before .before .before .before .before .before .before .before .before .before .before .before .before .before .before .before .before .before .before .before .before .before .before .before .before .before .before .before .before .before .before .before .before .args .depths .now) l (c .before .before .before .before .before .before .before .before .before .before .before .before .before .before .before .before .before .before .before .before .before .before .before .before .before .before .before .before .before .before .before .before .before .before .args .records .now) b (c .before .before .before .before .before .before .before .before .before .before .before .before .before .before .before .before .before .before .before .all-arrows .ensures) (c .before .before .before .before .before .before .before .before .before .before .before .before .before .before .before .before .before .before .before .before .before .before .before .before .before .before .before .before .before .before .before .before .before .before .pre .0 .marks-long) (c .before .before .before .before .before .before .before .before .before .before .before .before .before .before .before .before .before .before .before .before .before .before .before .before .before .before .before .before .before .before .before .before .before .before .pre .1) (c .before .before .before .before .before .before .before .before .before .before .before .before .before .before .before .before .before .before .before .before .before .before .before .before .before .before .before .before .before .before .before .before .before .before .pre .2) (c .before .before .before .before .before .before .before .before .before .before .before .before .before .before .before .before .before .before .before .before .before .before .before .before .before .before .before .before .before .before .before .before .before .before .pre .3) (c .before .before .before .before .before .before .before .before .before .before .before .before .if1 .left) (text-told mostArrows (c .before .before .before .before .before .before .before .put-arrows .ensures) (seen-short (c .before .before .before .before .before .before .before .before .before .before .before .before .before .before .before .before .before .before .before .before .before .before .before .before .before .before .before .before .before .before .before .before .before .before .args .desk .heading .shape) (c .before .before .before .before .before .before .before .before .before .before .before .before .before .before .before .before .before .before .before .before .before .before .before .before .before .before .before .before .before .before .before .before .before .before .pre .0 .fine) (sights (c .before .before .before .before .before .before .before .before .before .before .before .before .before .before .before .before .before .before .before .all-arrows .last .1 .1 .1 .1 .1 .1 .0) (c .before .before .before .before .before .before .before .before .before .before .before .before .before .before .before .before .before .before .before .all-arrows .last .1 .1 .1 .1 .1 .1 .1 .0) (c .before .before .before .before .before .before .before .before .before .before .before .before .before .before .before .before .before .before .before .all-arrows .last .1 .1 .1 .1 .1 .1 .1 .1 .0)) (record { east-fits = c .before .before .before .before .before .before .before .before .before .before .before .before .before .before .before .slice-known6 .given; north-fits = c .before .before .before .before .before .before .before .before .before .before .before .before .before .slice-known7 .given })) (c .before .before .before .before .before .before .before .before .before .before .before .before .before .before .before .before .before .before .before .before .before .before .before .before .before .before .before .before .before .before .before .before .before .before .pre .0 .out-long) (omega arith) (c .before .before .before .put-ending .ensures) (c .desk-still .ensures))
 
 pub arrows-in-spec : {M : Type 1} → statement M
 arrows-in-spec =

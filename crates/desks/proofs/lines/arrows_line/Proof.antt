@@ -1,3 +1,5 @@
+use mathlib.Core.Path.{_≡_, sym, _∙_}
+use Rattle.desks.proofs.OtherLaws.{room-part}
 use borrow.Author.Needs.{needs}
 use Rattle.desks.proofs.lines.arrows_line.Statement.{statement}
 use Rattle.desks.proofs.lines.arrows_line.Tie as tie
@@ -25,7 +27,8 @@ array-borrow-prefix-kinds c = search needs
 
 -- src/lines.rt:385:9
 slice-aggregate-arrows-in : tie.Need-slice-aggregate-arrows-in
-slice-aggregate-arrows-in c = ?
+slice-aggregate-arrows-in c =
+    c .before .before .before .before .before .before .before .before .pre .marks-long ∙ sym (room-part (c .before .before .before .before .before .before .before .before .pre) (c .before .before .before .no-kinds .result) (c .before .before .before .no-kinds .ensures))
 
 -- src/lines.rt:386:9
 array-borrow-prefix-east : tie.Need-array-borrow-prefix-east
@@ -33,7 +36,8 @@ array-borrow-prefix-east c = search needs
 
 -- src/lines.rt:386:9
 slice-aggregate-arrows-in-2 : tie.Need-slice-aggregate-arrows-in-2
-slice-aggregate-arrows-in-2 c = ?
+slice-aggregate-arrows-in-2 c =
+    c .before .before .before .before .before .before .before .before .before .pre .marks-long ∙ sym (room-part (c .before .before .before .before .before .before .before .before .before .pre) (c .before .before .before .no-speeds .result) (c .before .before .before .no-speeds .ensures))
 
 -- src/lines.rt:387:9
 array-borrow-prefix-north : tie.Need-array-borrow-prefix-north
@@ -41,11 +45,13 @@ array-borrow-prefix-north c = search needs
 
 -- src/lines.rt:387:9
 slice-aggregate-arrows-in-3 : tie.Need-slice-aggregate-arrows-in-3
-slice-aggregate-arrows-in-3 c = ?
+slice-aggregate-arrows-in-3 c =
+    c .before .before .before .before .before .before .before .before .before .before .pre .marks-long ∙ sym (room-part (c .before .before .before .before .before .before .before .before .before .before .pre) (c .before .before .before .no-speeds2 .result) (c .before .before .before .no-speeds2 .ensures))
 
 -- src/lines.rt:380:5
 arrows-in-requires : tie.Need-arrows-in-requires
-arrows-in-requires c κs = ?
+arrows-in-requires c κs =
+    (c .before .before .before .before .before .before .before .before .before .before .before .pre, room-part (c .before .before .before .before .before .before .before .before .before .before .before .pre) (c .before .before .before .before .before .before .no-kinds .result) (c .before .before .before .before .before .before .no-kinds .ensures), room-part (c .before .before .before .before .before .before .before .before .before .before .before .pre) (c .before .before .before .before .before .no-speeds .result) (c .before .before .before .before .before .no-speeds .ensures), room-part (c .before .before .before .before .before .before .before .before .before .before .before .pre) (c .before .before .before .before .no-speeds2 .result) (c .before .before .before .before .no-speeds2 .ensures))
 
 -- src/lines.rt:366:1
 same-length : tie.Need-same-length
