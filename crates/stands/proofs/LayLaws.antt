@@ -93,7 +93,7 @@ module _ {s : List ℕ} {a : Head} {n : Named} (k : NamedRead s a n) where
 abbrev laid : ℕ → ℕ → Saved → Laid
 laid number line saved = record { number = number; line = line; saved = saved }
 
-laid-same : {a b x y : ℕ} {u v : Saved} → a ≡ b → x ≡ y → u ≡ v → laid a x u ≡ laid b y v
+pub laid-same : {a b x y : ℕ} {u v : Saved} → a ≡ b → x ≡ y → u ≡ v → laid a x u ≡ laid b y v
 laid-same h i j = cc
 
 module _ (p : Plan) (inflow : List ℕ) (slots : ℕ) (s : List ℕ) {bad : ℕ} {saved : Saved} (e : bad ≡ badLine s p) (f : saved ≡ savedIn slots s) where

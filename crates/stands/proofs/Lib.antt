@@ -1,6 +1,10 @@
+pub mod HeadBack
 pub mod HeadLaws
 pub mod JudgeLaws
 pub mod LayLaws
+pub mod NameBack
 pub mod NameLaws
 pub mod PutLaws
+pub mod SquareBack
 pub mod SquareLaws
+pub mod StandBack

@@ -55,7 +55,7 @@ module _ (s : List ℕ) (q : ℕ) (marks : List ℕ) (i : ℕ) where
       unfolding asSquare
       square-here d = sym (by-fields ∙ (pick-true _ _ t ∙ pick-true _ _ (eq-eqb _ _ d)))
 
-  one-line : squareLine s q marks i .lines ≤ 1
+  pub one-line : squareLine s q marks i .lines ≤ 1
   unfolding squareLine closedSquare asSquare noSquare
   one-line =
       let f = lineOf s q atWord squareFields in
@@ -131,7 +131,7 @@ module _ (s : List ℕ) (q : ℕ) (marks : List ℕ) where
 
 -- ---- 3
 
-closed-water : (s : List ℕ) (q : ℕ) (marks : List ℕ) (i : ℕ) → closed marks i ≡ true → waterFine (squareLine s q marks i .depth) (squareLine s q marks i .last) ≡ true
+pub closed-water : (s : List ℕ) (q : ℕ) (marks : List ℕ) (i : ℕ) → closed marks i ≡ true → waterFine (squareLine s q marks i .depth) (squareLine s q marks i .last) ≡ true
 unfolding squareLine closedSquare waterFine Rattle.reckon.specs.Tests.every
 closed-water s q marks i t = ap (λ (x : SquareLine). waterFine (x .depth) (x .last)) (pick-true _ _ t)
 
