@@ -1,4 +1,5 @@
 pub mod Back
 pub mod Laying
 pub mod Texts
+pub mod Worked
 pub mod inner

@@ -67,6 +67,10 @@ squaresText p depths lasts = joined (squares (p .shape)) (squareText p depths la
 unfoldable pub standText : Plan → List ℕ → List ℕ → Saved → List ℕ
 standText p depths lasts a = headText a ++ (hatchesText (a .log .hatches) (a .log .litres) ++ squaresText p depths lasts)
 
+-- the bytes that always suffice for it: 30 for each of 4,096 squares, 652 before them
+abbrev pub mostStand : ℕ
+mostStand = 123_532
+
 -- ---- what the public function gives
 
 abbrev pub PutStand : Plan → List ℕ → List ℕ → Saved → ℕ → List ℕ → List ℕ → ℕ → Type 0

@@ -18,6 +18,9 @@ ghost use Rattle.text.specs.Writing.{Wrote};
 ghost use Rattle.hatches.specs.Log.{mostHatches};
 ghost use Rattle.stands.specs.Texts.{PutStand, firstText, hatchText, hatchesText, headText, squareText, squaresText, standText, totalText};
 
+// The bytes that always suffice for the text of a state.
+pub const MOST_STAND: usize = 123_532;
+
 // 1 for yes and 0 for no.
 fn as_number(is: bool) -> u64
     ensures { λ r. ⌜ r ≡ pick {A = ℕ} is 1 0 ⌝ }
