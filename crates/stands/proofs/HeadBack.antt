@@ -1,6 +1,6 @@
 -- The lines before the hatches read back as they are put.
 -- Assumes nothing.
-use mathlib.Core.Path.{_≡_, refl, sym, ap, subst, _∙_}
+use mathlib.Core.Path.{_≡_, refl, sym, ap, _∙_}
 use mathlib.Core.Bool.{Bool, true, false}
 use mathlib.Core.List.{List, [], _∷_, _++_}
 use Prim.Native.Nat.{ℕ, _+_, _*_, _/_, _%_, _≤_}
@@ -17,7 +17,7 @@ use Rattle.text.proofs.StandLaws.{stands-first, stands-second}
 use Rattle.text.proofs.RoundTrip.{line-back}
 use Rattle.answer.specs.Printed.{outWord, soakWord}
 use Rattle.stands.specs.Texts.{standWord, startWord, givenWord, half, totalText, firstText, headText}
-use Rattle.stands.specs.Laying.{firstFields, asFirst, standLine, totalFields, asTotal, totalLine, headOf}
+use Rattle.stands.specs.Laying.{asFirst, standLine, asTotal, totalLine, headOf}
 use Rattle.stands.specs.declared.heads.Head.{Head}
 use Rattle.stands.specs.declared.heads.StandLine.{StandLine}
 use Rattle.stands.specs.declared.heads.TotalLine.{TotalLine}

@@ -1,15 +1,14 @@
 -- A state that was laid can be saved: its numbers and those in the rooms are in range.
 -- Assumes nothing.
-use mathlib.Core.Path.{_≡_, refl, sym, ap, _∙_}
-use mathlib.Core.Bool.{Bool, true, false, _||_}
+use mathlib.Core.Path.{_≡_, refl, sym, _∙_}
+use mathlib.Core.Bool.{true, false, _||_}
 use mathlib.Core.List.{List}
 use Prim.Native.Nat.{ℕ, zero, suc, _<_}
 use native.Mathlib.Omega.{arith}
-use lib.ListN.{length, getD}
-use Rattle.reckon.specs.Tests.{allBelow}
+use lib.ListN.{getD}
 use Rattle.reckon.specs.Lists.{filled}
 use Rattle.reckon.specs.Ranges.{waterFine}
-use Rattle.reckon.proofs.TestLaws.{not-both, all-ext, refusal-passed}
+use Rattle.reckon.proofs.TestLaws.{all-ext, refusal-passed}
 use Rattle.reckon.proofs.ListLaws.{filled-in}
 use Rattle.grid.specs.Squares.{squares}
 use Rattle.ledger.specs.Runs.{Plan}
@@ -17,7 +16,7 @@ use Rattle.ledger.specs.Flows.{shut}
 use Rattle.ledger.specs.Checks.{watersFine, WaterLent}
 use Rattle.text.proofs.ReadingLaws.{by-test}
 use Rattle.stands.specs.Laying.{namedIn, startFrom, depthFrom, lastFrom, badLine, watersRead, drawsFine, stateFine, checksOf, savedFrom, savedIn, numberOf, standOf, Water, waterFrom, waterAfter}
-use Rattle.stands.specs.Back.{noneKept, Savable}
+use Rattle.stands.specs.Back.{Savable}
 use Rattle.stands.proofs.SquareLaws.{closed-water, waters-as}
 use Rattle.stands.proofs.TidyLaws.{laid-tidy}
 

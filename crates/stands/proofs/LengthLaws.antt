@@ -3,8 +3,7 @@
 use mathlib.Core.Path.{_≡_}
 use mathlib.Core.Bool.{false}
 use mathlib.Core.List.{List, [], _∷_, _++_}
-use Prim.Native.Nat.{ℕ, zero, suc, _+_, _*_, _/_, _%_, _^_, _≤_, _<_}
-use native.Mathlib.Nat.{not-suc-le-zero, le-of-suc-le-suc}
+use Prim.Native.Nat.{ℕ, _+_, _*_, _/_, _%_, _^_, _≤_, _<_}
 use native.Mathlib.Omega.{arith}
 use lib.ListN.{length, getD, length-append}
 use Rattle.reckon.specs.Tests.{pick}
@@ -12,7 +11,7 @@ use Rattle.reckon.proofs.TestLaws.{pick-both}
 use Rattle.grid.specs.Squares.{squares, mostSquares}
 use Rattle.ledger.specs.Runs.{Plan}
 use Rattle.ledger.specs.Flows.{shut}
-use Rattle.text.specs.Writing.{decimal, fieldText, fieldsText, lineText}
+use Rattle.text.specs.Writing.{fieldText, fieldsText}
 use Rattle.text.proofs.JoinedLaws.{joined-short}
 use Rattle.text.proofs.WritingLaws.{decimal-short, line-text-long}
 use Rattle.answer.specs.Printed.{outWord, soakWord}

@@ -12,17 +12,17 @@ use lib.Seq.{ext-getD, getD-set-same, getD-set-other}
 use Rattle.reckon.specs.Lists.{tabulate, joined}
 use Rattle.reckon.proofs.TestLaws.{pick-true, pick-false}
 use Rattle.text.specs.Reading.{mostNumber, padded, asFields, lineOf, wordAt, readLine}
-use Rattle.text.specs.Reading.Reading.{read, unread}
+use Rattle.text.specs.Reading.Reading.{read}
 use Rattle.text.specs.Writing.{lineText}
 use Rattle.text.specs.inner.Standing.{StandsAt}
 use Rattle.text.specs.declared.reading.Fields.{Fields}
 use Rattle.text.proofs.JoinedLaws.{joined-stands}
-use Rattle.text.proofs.ReadingLaws.{by-test, by-lt}
+use Rattle.text.proofs.ReadingLaws.{by-test}
 use Rattle.hatches.specs.Lines.{hatchWord}
 use Rattle.hatches.specs.Log.{mostHatches}
 use Rattle.hatches.specs.declared.log.Hatches.{Hatches}
 use Rattle.stands.specs.Texts.{hatchText, hatchesText}
-use Rattle.stands.specs.Laying.{hatchFields, hatchAdded, withHatch, namedFrom}
+use Rattle.stands.specs.Laying.{hatchFields, withHatch, namedFrom}
 use Rattle.stands.specs.Back.{Tidy}
 use Rattle.stands.specs.declared.naming.Named.{Named}
 use Rattle.stands.proofs.HeadBack.{line-read}

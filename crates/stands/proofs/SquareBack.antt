@@ -1,14 +1,13 @@
 -- The squares' lines read back as they are put.
 -- Assumes nothing.
 use mathlib.Core.Path.{_≡_, refl, sym, ap, ap₂, subst, _∙_}
-use mathlib.Core.Bool.{Bool, true, false}
+use mathlib.Core.Bool.{true, false}
 use mathlib.Core.List.{List, [], _∷_, _++_}
 use Prim.Native.Nat.{ℕ, zero, suc, _+_, _≤_, _<_}
 use native.Mathlib.Nat.{add-zero}
 use native.Mathlib.Omega.{arith}
 use lib.ListN.{length, getD, length-append}
 use borrow.Author.Tests.{leb-true}
-use Rattle.reckon.specs.Tests.{pick, allBelow}
 use Rattle.reckon.specs.Lists.{tabulate, joined}
 use Rattle.reckon.specs.Ranges.{mostDepth, waterFine}
 use Rattle.reckon.proofs.TestLaws.{pick-true, pick-false, every-each, or-right, all-at, all-of}
@@ -18,7 +17,6 @@ use Rattle.ledger.specs.Runs.{Plan}
 use Rattle.ledger.specs.Flows.{shut}
 use Rattle.ledger.specs.Checks.{watersFine}
 use Rattle.text.specs.Reading.{mostNumber, padded, asFields, wordAt}
-use Rattle.text.specs.Reading.Reading.{read}
 use Rattle.text.specs.Writing.{restText, lineText}
 use Rattle.text.specs.inner.Standing.{StandsAt}
 use Rattle.text.proofs.JoinedLaws.{joined-stands}
@@ -26,7 +24,7 @@ use Rattle.text.proofs.ReadingLaws.{by-test, word-past, word-differs}
 use Rattle.text.proofs.StandLaws.{byte-stands}
 use Rattle.hatches.specs.Lines.{hatchWord}
 use Rattle.stands.specs.Texts.{atWord, squareText, squaresText}
-use Rattle.stands.specs.Laying.{closedSquare, squareFields, squareLine, startFrom, squareFrom, depthFrom, lastFrom, watersRead}
+use Rattle.stands.specs.Laying.{closedSquare, squareLine, startFrom, squareFrom, depthFrom, lastFrom, watersRead}
 use Rattle.stands.specs.declared.squares.SquareLine.{SquareLine}
 use Rattle.stands.proofs.HeadBack.{line-read}
 use Rattle.stands.proofs.SquareLaws.{square-closed, square-here, closed-water, waters-as}

@@ -1,6 +1,6 @@
 -- Laws of the squares' lines: one line, one square more, the first that cannot be read, and the rooms filled.
 -- Assumes nothing.
-use mathlib.Core.Path.{_≡_, refl, sym, ap, ap₂, subst, _∙_}
+use mathlib.Core.Path.{_≡_, refl, sym, ap, ap₂, _∙_}
 use mathlib.Core.Bool.{Bool, true, false, _||_}
 use mathlib.Core.List.{List}
 use Prim.Native.Nat.{ℕ, _+_, _≤_, _<_}
@@ -18,7 +18,6 @@ use Rattle.reckon.proofs.ListLaws.{getD-tabulate, filled-store, filled-keep, su
 use Rattle.grid.specs.Squares.{squares}
 use Rattle.grid.specs.Marks.{closed}
 use Rattle.ledger.specs.Runs.{Plan}
-use Rattle.ledger.specs.Flows.{shut}
 use Rattle.ledger.specs.Checks.{watersFine}
 use Rattle.text.specs.Reading.{lineOf}
 use Rattle.text.specs.declared.reading.Fields.{Fields}

@@ -7,12 +7,11 @@ use Prim.Native.Nat.{ℕ, _+_, _-_, _≤_, _<_}
 use native.Mathlib.Omega.{arith}
 use lib.ListN.{length, getD}
 use borrow.Author.Tests.{leb-true, ltb-true}
-use Rattle.reckon.specs.Lists.{filled}
 use Rattle.reckon.specs.Ranges.{lastClock, mostLength, mostOutflow, mostSoaked, mostLitres}
 use Rattle.reckon.proofs.TestLaws.{not-both, every-each, all-at, or-right, failing-none, passed-refusal}
 use Rattle.reckon.proofs.ListLaws.{filled-in, filled-skipped, sum-le}
 use Rattle.grid.specs.Squares.{squares}
-use Rattle.grid.specs.Marks.{Alike, closed}
+use Rattle.grid.specs.Marks.{closed}
 use Rattle.grid.proofs.MarkLaws.{closed-past}
 use Rattle.ledger.specs.Runs.{Plan, runFine, runValuesFine}
 use Rattle.ledger.specs.Flows.{shut}
