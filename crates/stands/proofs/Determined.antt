@@ -20,6 +20,6 @@ laid-once {p} {inflow} {slots} {s} {before} a b x y =
 pub stands-determined : StandsDetermined
 stands-determined =
     record {
-      put-stand = λ p depths lasts a at room. written;
+      put-stand = λ p depths lasts a at room x y u v. written x y (u .wrote) (v .wrote);
       read-stand = λ p inflow slots text depths lasts. laid-once;
     }

@@ -16,7 +16,7 @@ use Rattle.ledger.specs.Flows.{shut}
 use Rattle.ledger.specs.Checks.{watersFine, WaterLent}
 use Rattle.text.proofs.ReadingLaws.{by-test}
 use Rattle.stands.specs.Laying.{namedIn, startFrom, depthFrom, lastFrom, badLine, watersRead, drawsFine, stateFine, checksOf, savedFrom, savedIn, numberOf, standOf, Water, waterFrom, waterAfter}
-use Rattle.stands.specs.Back.{Savable}
+use Rattle.stands.specs.inner.Back.{Savable}
 use Rattle.stands.proofs.SquareLaws.{closed-water, waters-as}
 use Rattle.stands.proofs.TidyLaws.{laid-tidy}
 

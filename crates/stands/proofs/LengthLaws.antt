@@ -1,25 +1,17 @@
--- How long the text of a state can get, whatever its numbers are: `mostStand` bytes for 4,096 squares.
+-- How long each line of a state can get, whatever its numbers are.
 -- Assumes nothing.
 use mathlib.Core.Path.{_≡_}
-use mathlib.Core.Bool.{false}
-use mathlib.Core.List.{List, [], _∷_, _++_}
-use Prim.Native.Nat.{ℕ, _+_, _*_, _/_, _%_, _^_, _≤_, _<_}
+use mathlib.Core.List.{List, [], _∷_}
+use Prim.Native.Nat.{ℕ, _+_, _/_, _%_, _^_, _≤_, _<_}
 use native.Mathlib.Omega.{arith}
-use lib.ListN.{length, getD, length-append}
-use Rattle.reckon.specs.Tests.{pick}
-use Rattle.reckon.proofs.TestLaws.{pick-both}
-use Rattle.grid.specs.Squares.{squares, mostSquares}
-use Rattle.ledger.specs.Runs.{Plan}
-use Rattle.ledger.specs.Flows.{shut}
-use Rattle.text.specs.Writing.{fieldText, fieldsText}
-use Rattle.text.proofs.JoinedLaws.{joined-short}
+use lib.ListN.{length, length-append}
+use Rattle.grid.specs.Squares.{mostSquares}
+use Rattle.text.specs.Writing.{fieldText, fieldsText, lineText}
 use Rattle.text.proofs.WritingLaws.{decimal-short, line-text-long}
-use Rattle.answer.specs.Printed.{outWord, soakWord}
 use Rattle.hatches.specs.Lines.{hatchWord}
 use Rattle.hatches.specs.Log.{mostHatches}
-use Rattle.stands.specs.Texts.{standWord, startWord, givenWord, atWord, half, totalText, firstText, headText, hatchText, hatchesText, squareText, squaresText, standText, mostStand}
-use Rattle.stands.specs.inner.Passing.{Widths}
-use Rattle.stands.specs.declared.saved.Saved.{Saved}
+use Rattle.stands.specs.Texts.{standWord, atWord, half, totalText}
+use Rattle.stands.specs.inner.Putting.{mostWord, mostTotal, mostFirst, mostHatch, mostSquare}
 
 -- ---- fields of numbers of 32 and of 64 bits
 
@@ -43,9 +35,9 @@ fields-none : length (fieldsText []) ≤ 0
 unfolding fieldsText
 fields-none = omega arith
 
--- ---- one line
+-- ---- lines
 
-total-short : (word : List ℕ) (n : ℕ) → n < 2 ^ 64 → length word ≤ 5 → length (totalText word n) ≤ 28
+pub total-short : (word : List ℕ) (n : ℕ) → n < 2 ^ 64 → length word ≤ mostWord → length (totalText word n) ≤ mostTotal
 unfolding totalText
 total-short word n h g =
     omega (
@@ -58,99 +50,49 @@ total-short word n h g =
       narrow (n % half) (omega arith),
     )
 
-module _ (p : Plan) (depths lasts : List ℕ) (a : Saved) (w : Widths depths lasts a) where
-  first-short : length (firstText a) ≤ 90
-  unfolding firstText
-  first-short =
-      let opening : pick {A = ℕ} (a .log .opening) 1 0 < 2 ^ 64 = pick-both (λ (v : ℕ). v < 2 ^ 64) (a .log .opening) (omega arith) (omega arith) in
-      omega (
-        arith,
-        line-text-long standWord (a .log .steps ∷ a .log .run .clock ∷ a .log .run .length ∷ pick {A = ℕ} (a .log .opening) 1 0 ∷ []),
-        fields-more (a .log .steps) (a .log .run .clock ∷ a .log .run .length ∷ pick {A = ℕ} (a .log .opening) 1 0 ∷ []),
-        fields-more (a .log .run .clock) (a .log .run .length ∷ pick {A = ℕ} (a .log .opening) 1 0 ∷ []),
-        fields-more (a .log .run .length) (pick {A = ℕ} (a .log .opening) 1 0 ∷ []),
-        fields-more (pick {A = ℕ} (a .log .opening) 1 0) [],
-        fields-none,
-        wide (a .log .steps) (w .steps),
-        wide (a .log .run .clock) (w .clock),
-        wide (a .log .run .length) (w .lengths),
-        wide (pick {A = ℕ} (a .log .opening) 1 0) opening,
-      )
+pub first-short : (a b c d : ℕ) → a < 2 ^ 64 → b < 2 ^ 64 → c < 2 ^ 64 → d < 2 ^ 64 → length (lineText standWord (a ∷ b ∷ c ∷ d ∷ [])) ≤ mostFirst
+first-short a b c d h i j k =
+    omega (
+      arith,
+      line-text-long standWord (a ∷ b ∷ c ∷ d ∷ []),
+      fields-more a (b ∷ c ∷ d ∷ []),
+      fields-more b (c ∷ d ∷ []),
+      fields-more c (d ∷ []),
+      fields-more d [],
+      fields-none,
+      wide a h,
+      wide b i,
+      wide c j,
+      wide d k,
+    )
 
-  hatch-short : (h : ℕ) → h < mostHatches → length (hatchText (a .log .hatches) (a .log .litres) h) ≤ 50
-  unfolding hatchText
-  hatch-short h l =
-      pick-both (λ (t : List ℕ). length t ≤ 50) (getD (a .log .hatches .named) h false)
-      (let row = getD (a .log .hatches .rows) h 0 in
-      let column = getD (a .log .hatches .columns) h 0 in
-      let litres = getD (a .log .litres) h 0 in
-      omega (
-        arith,
-        line-text-long hatchWord ((h + 1) ∷ row ∷ column ∷ litres ∷ []),
-        fields-more (h + 1) (row ∷ column ∷ litres ∷ []),
-        fields-more row (column ∷ litres ∷ []),
-        fields-more column (litres ∷ []),
-        fields-more litres [],
-        fields-none,
-        narrow (h + 1) (omega arith),
-        narrow row (w .rows h),
-        narrow column (w .columns h),
-        narrow litres (w .litres h),
-      ))
-      (omega arith)
+pub hatch-short : (h row column litres : ℕ) → h < mostHatches → row < 2 ^ 32 → column < 2 ^ 32 → litres < 2 ^ 32 →
+    length (lineText hatchWord ((h + 1) ∷ row ∷ column ∷ litres ∷ [])) ≤ mostHatch
+hatch-short h row column litres l i j k =
+    omega (
+      arith,
+      line-text-long hatchWord ((h + 1) ∷ row ∷ column ∷ litres ∷ []),
+      fields-more (h + 1) (row ∷ column ∷ litres ∷ []),
+      fields-more row (column ∷ litres ∷ []),
+      fields-more column (litres ∷ []),
+      fields-more litres [],
+      fields-none,
+      narrow (h + 1) (omega arith),
+      narrow row i,
+      narrow column j,
+      narrow litres k,
+    )
 
-  square-short : (i : ℕ) → i < mostSquares → length (squareText p depths lasts i) ≤ 30
-  unfolding squareText
-  square-short i l =
-      pick-both (λ (t : List ℕ). length t ≤ 30) (shut p i) (omega arith)
-      (omega (
-        arith,
-        line-text-long atWord (i ∷ getD depths i 0 ∷ getD lasts i 0 ∷ []),
-        fields-more i (getD depths i 0 ∷ getD lasts i 0 ∷ []),
-        fields-more (getD depths i 0) (getD lasts i 0 ∷ []),
-        fields-more (getD lasts i 0) [],
-        fields-none,
-        square-field i l,
-        narrow (getD depths i 0) (w .depths i),
-        narrow (getD lasts i 0) (w .lasts i),
-      ))
-
-  -- ---- all of them
-
-  head-short : length (headText a) ≤ 202
-  unfolding headText
-  head-short =
-      let t₂ = totalText outWord (a .log .run .outflow) in
-      let t₃ = totalText soakWord (a .log .run .soaked) in
-      let t₄ = totalText startWord (a .start) in
-      let t₅ = totalText givenWord (a .given) in
-      omega (
-        arith,
-        length-append (firstText a) (t₂ ++ (t₃ ++ (t₄ ++ t₅))),
-        length-append t₂ (t₃ ++ (t₄ ++ t₅)),
-        length-append t₃ (t₄ ++ t₅),
-        length-append t₄ t₅,
-        first-short,
-        total-short outWord (a .log .run .outflow) (w .outflow) (omega arith),
-        total-short soakWord (a .log .run .soaked) (w .soaked) (omega arith),
-        total-short startWord (a .start) (w .start) (omega arith),
-        total-short givenWord (a .given) (w .given) (omega arith),
-      )
-
-  -- 30 bytes a square, and what stands before the squares
-  pub stand-short : squares (p .shape) ≤ mostSquares → length (standText p depths lasts a) ≤ 30 * squares (p .shape) + 652
-  unfolding standText hatchesText squaresText
-  stand-short few =
-      let hatchLines = hatchesText (a .log .hatches) (a .log .litres) in
-      let squareLines = squaresText p depths lasts in
-      omega (
-        arith,
-        length-append (headText a) (hatchLines ++ squareLines),
-        length-append hatchLines squareLines,
-        head-short,
-        joined-short mostHatches 50 (hatchText (a .log .hatches) (a .log .litres)) hatch-short,
-        joined-short (squares (p .shape)) 30 (squareText p depths lasts) (λ i l. square-short i (omega (arith, l, few))),
-      )
-
-  pub stand-most : squares (p .shape) ≤ mostSquares → length (standText p depths lasts a) ≤ mostStand
-  stand-most few = omega (arith, stand-short few)
+pub square-short : (i depth last : ℕ) → i < mostSquares → depth < 2 ^ 32 → last < 2 ^ 32 → length (lineText atWord (i ∷ depth ∷ last ∷ [])) ≤ mostSquare
+square-short i depth last l h k =
+    omega (
+      arith,
+      line-text-long atWord (i ∷ depth ∷ last ∷ []),
+      fields-more i (depth ∷ last ∷ []),
+      fields-more depth (last ∷ []),
+      fields-more last [],
+      fields-none,
+      square-field i l,
+      narrow depth h,
+      narrow last k,
+    )

@@ -23,7 +23,7 @@ use Rattle.hatches.specs.Log.{mostHatches}
 use Rattle.hatches.specs.declared.log.Hatches.{Hatches}
 use Rattle.stands.specs.Texts.{hatchText, hatchesText}
 use Rattle.stands.specs.Laying.{hatchFields, withHatch, namedFrom}
-use Rattle.stands.specs.Back.{Tidy}
+use Rattle.stands.specs.inner.Back.{Tidy}
 use Rattle.stands.specs.declared.naming.Named.{Named}
 use Rattle.stands.proofs.HeadBack.{line-read}
 use Rattle.stands.proofs.NameLaws.{hatch-unfound, hatch-other, hatch-here}

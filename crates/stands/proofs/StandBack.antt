@@ -25,7 +25,7 @@ use Rattle.hatches.specs.Log.{mostHatches, standingFine}
 use Rattle.hatches.specs.declared.log.Hatches.{Hatches}
 use Rattle.stands.specs.Texts.{headText, hatchesText, squaresText, standText}
 use Rattle.stands.specs.Laying.{mostStart, mostGiven, headOf, namedFrom, namedIn, squareFrom, startFrom, depthFrom, lastFrom, squaresRead, linesFrom, badLine, hatchFine, hatchesFine, drawsFine, stateFine, checksOf, savedFrom, savedIn, numberOf, standOf, Water, waterFrom, waterAfter}
-use Rattle.stands.specs.Back.{noneKept, Savable, ReadsBack, AllReadBack}
+use Rattle.stands.specs.inner.Back.{noneKept, Savable, ReadsBack, AllReadBack}
 use Rattle.stands.specs.inner.Passing.{SquaresPassed, NamedRead}
 use Rattle.stands.specs.declared.heads.Head.{Head}
 use Rattle.stands.specs.declared.saved.Saved.{Saved}

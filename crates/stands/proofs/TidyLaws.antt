@@ -17,7 +17,7 @@ use Rattle.hatches.specs.Log.{mostHatches, isNamed, opened, hatchNamed}
 use Rattle.hatches.specs.declared.log.Hatches.{Hatches}
 use Rattle.hatches.specs.declared.log.Log.{Log}
 use Rattle.stands.specs.Laying.{hatchFields, hatchAdded, ifHatch, withHatch, namedFrom, savedFrom, savedIn}
-use Rattle.stands.specs.Back.{Tidy}
+use Rattle.stands.specs.inner.Back.{Tidy}
 use Rattle.stands.specs.declared.naming.Named.{Named}
 
 none-set : {A : Type 0} (n h : ℕ) (d : A) → getD (replicate n d) h d ≡ d

@@ -1,4 +1,3 @@
-pub mod Back
 pub mod Laying
 pub mod Texts
 pub mod Worked

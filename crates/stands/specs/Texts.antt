@@ -2,8 +2,8 @@
 -- Assumes nothing.
 use mathlib.Core.Bool.{false}
 use mathlib.Core.List.{List, [], _∷_, _++_}
-use Prim.Native.Nat.{ℕ, _+_, _/_, _%_}
-use lib.ListN.{getD}
+use Prim.Native.Nat.{ℕ, _+_, _/_, _%_, _≤_}
+use lib.ListN.{length, getD}
 use Rattle.reckon.specs.Tests.{pick}
 use Rattle.reckon.specs.Lists.{joined}
 use Rattle.grid.specs.Squares.{squares}
@@ -73,5 +73,7 @@ mostStand = 123_532
 
 -- ---- what the public function gives
 
-abbrev pub PutStand : Plan → List ℕ → List ℕ → Saved → ℕ → List ℕ → List ℕ → ℕ → Type 0
-PutStand p depths lasts a at old new r = Wrote (standText p depths lasts a) at old new r
+-- its text at a place, of at most so many bytes
+pub record PutStand (p : Plan) (depths lasts : List ℕ) (a : Saved) (at : ℕ) (old new : List ℕ) (r : ℕ) : Type 0 where
+  pub wrote : Wrote (standText p depths lasts a) at old new r
+  pub short : length (standText p depths lasts a) ≤ mostStand

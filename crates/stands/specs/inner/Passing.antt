@@ -1,32 +1,15 @@
--- What the functions inside `read_stand` give one another, and what callers of `put_stand` know. No public promise names these.
+-- What the functions inside `read_stand` give one another. No public promise names these.
 -- Assumes nothing.
 use mathlib.Core.Path.{_≡_}
 use mathlib.Core.List.{List}
-use Prim.Native.Nat.{ℕ, _^_, _≤_, _<_}
-use lib.ListN.{getD}
+use Prim.Native.Nat.{ℕ, _≤_}
 use Rattle.ledger.specs.Runs.{Plan}
 use Rattle.hatches.specs.Log.{mostHatches}
 use Rattle.stands.specs.Laying.{headOf, namedFrom, namedIn, squaresRead, linesFrom, startFrom, standOf}
 use Rattle.stands.specs.declared.heads.Head.{Head}
 use Rattle.stands.specs.declared.laying.Verdict.{Verdict}
 use Rattle.stands.specs.declared.naming.Named.{Named}
-use Rattle.stands.specs.declared.saved.Saved.{Saved}
 use Rattle.stands.specs.declared.squares.Scan.{Scan}
-
--- numbers as wide as they are held
-pub record Widths (d l : List ℕ) (a : Saved) : Type 0 where
-  pub depths : (i : ℕ) → getD d i 0 < 2 ^ 32
-  pub lasts : (i : ℕ) → getD l i 0 < 2 ^ 32
-  pub rows : (h : ℕ) → getD (a .log .hatches .rows) h 0 < 2 ^ 32
-  pub columns : (h : ℕ) → getD (a .log .hatches .columns) h 0 < 2 ^ 32
-  pub litres : (h : ℕ) → getD (a .log .litres) h 0 < 2 ^ 32
-  pub steps : a .log .steps < 2 ^ 64
-  pub clock : a .log .run .clock < 2 ^ 64
-  pub lengths : a .log .run .length < 2 ^ 64
-  pub outflow : a .log .run .outflow < 2 ^ 64
-  pub soaked : a .log .run .soaked < 2 ^ 64
-  pub start : a .start < 2 ^ 64
-  pub given : a .given < 2 ^ 64
 
 -- squares' lines passed from q on
 pub record SquaresPassed (s : List ℕ) (q : ℕ) (marks : List ℕ) (n : ℕ) (r : Scan) : Type 0 where
