@@ -30,7 +30,7 @@ slice-aggregate-put-line-2 c = search needs
 put-line-requires : tie.Need-put-line-requires
 put-line-requires c κs =
     let s = c .before .before .before .before .before .before .before .before .before .before .before in
-    let h = square-short (s .args .square) (c .before .before .before .before .number .result) (c .before .before .before .number2 .result) (s .pre .0) (omega (arith, c .before .before .before .before .number .ensures, c .before .before .before .before .before .before .before .before .shared-slice-known2 .given (s .args .square))) (omega (arith, c .before .before .before .number2 .ensures, c .before .before .before .before .before .before .before .shared-slice-known3 .given (s .args .square))) in
+    let h = square-short (s .args .square) (c .before .before .before .before .number .result) (c .before .before .before .number2 .result) (s .pre .0) (omega (arith, c .before .before .before .before .number .ensures, c .before .before .before .before .before .before .before .before .shared-slice-known2 .given (s .args .square), c .before .before .before .before .before .before .before .shared-slice-known3 .given (s .args .square))) (omega (arith, c .before .before .before .number2 .ensures, c .before .before .before .before .before .before .before .before .shared-slice-known2 .given (s .args .square), c .before .before .before .before .before .before .before .shared-slice-known3 .given (s .args .square))) in
     omega (arith, h, s .pre .4)
 
 same-length : tie.Need-same-length
@@ -39,7 +39,7 @@ same-length c = search needs
 returns-2 : tie.Need-returns-2
 returns-2 c =
     let s = c .before .before .before .before .before .before .before .before .before .before .before .before .before .before in
-    let h = square-short (s .args .square) (c .before .before .before .before .before .before .before .number .result) (c .before .before .before .before .before .before .number2 .result) (s .pre .0) (omega (arith, c .before .before .before .before .before .before .before .number .ensures, c .before .before .before .before .before .before .before .before .before .before .before .shared-slice-known2 .given (s .args .square))) (omega (arith, c .before .before .before .before .before .before .number2 .ensures, c .before .before .before .before .before .before .before .before .before .before .shared-slice-known3 .given (s .args .square))) in
+    let h = square-short (s .args .square) (c .before .before .before .before .before .before .before .number .result) (c .before .before .before .before .before .before .number2 .result) (s .pre .0) (omega (arith, c .before .before .before .before .before .before .before .number .ensures, c .before .before .before .before .before .before .before .before .before .before .before .shared-slice-known2 .given (s .args .square), c .before .before .before .before .before .before .before .before .before .before .shared-slice-known3 .given (s .args .square))) (omega (arith, c .before .before .before .before .before .before .number2 .ensures, c .before .before .before .before .before .before .before .before .before .before .before .shared-slice-known2 .given (s .args .square), c .before .before .before .before .before .before .before .before .before .before .shared-slice-known3 .given (s .args .square))) in
     within-as
     (square-as (plan (s .args .shape) (s .args .marks .now)) (s .args .depths .now) (s .args .lasts .now) (s .args .square) (sym (c .before .before .before .before .before .before .before .before .before .is-closed .ensures) ∙ c .before .before .before .before .before .before .before .before .if1 .left) (c .before .before .before .before .before .before .before .number .ensures) (c .before .before .before .before .before .before .number2 .ensures))
     h (c .before .before .put-line .ensures)
