@@ -32,6 +32,7 @@ use Rattle.frames.specs.Arrows.{arrowsText}
 use Rattle.frames.specs.Bounds.{boundsText, mostBounds}
 use Rattle.frames.proofs.ArrowsLaws.{Speeds, arrows-short}
 use Rattle.frames.proofs.BoundsLaws.{bounds-short}
+use Rattle.stands.specs.Texts.{standText}
 use Rattle.stands.specs.Laying.{Water, water, standOf, waterAfter, Lays}
 use Rattle.stands.specs.declared.saved.Laid.{Laid}
 use Rattle.trying.specs.Given.{accountOpened}
@@ -39,7 +40,7 @@ use Rattle.trying.specs.Lines.{came}
 use Rattle.trying.specs.declared.given.Account.{Account}
 use Rattle.trying.specs.declared.lines.Tried.{Tried}
 use Rattle.desks.specs.State.{deskSquares, deskText, deskOut, deskNumbers, keptSlots, noSeries, deskWith}
-use Rattle.desks.specs.Lines.{Told, told, doneText, endingText, stateText, plainly, shown, cameOf, refusedAt, laidEvening, arrowsTold, mostTold, layTold, entryTold, orderTold, Answers}
+use Rattle.desks.specs.Lines.{Told, told, doneText, endingText, stateText, savedOf, shown, refusedAt, arrowsTold, mostTold, standTold, layTold, entryTold, orderTold, Answers}
 use Rattle.desks.specs.inner.Lent.{Shows, EndingPut, DeskTold, mostEnding, refusedIn}
 use Rattle.desks.specs.declared.orders.Order.{Order}
 use Rattle.desks.specs.declared.state.Desk.{Desk}
@@ -289,6 +290,21 @@ module _ (p : Plan) (d : Desk) (depths lasts records began : List ℕ) where
         (λ (v : Sights) (t : List ℕ). told (evening depths lasts records began (d .log)) (d .account) noSeries (arrowsText (p .shape) v ++ t))
         (sym laid) done-is)
         (as-told depths lasts records began x)
+
+-- ---- `stand`
+
+pub stand-told :
+    (p : Plan) (depths lasts records began : List ℕ) {d r : Desk} {old new : List ℕ} →
+    DeskTold d (d .log) (d .account) noSeries (standText p depths lasts (savedOf (d .log) (d .account)) ++ endingText 0 0) old new r →
+    Answers (standTold p (evening depths lasts records began (d .log)) (d .account)) d r (evening depths lasts records began (r .log)) old new
+unfolding standTold
+stand-told p depths lasts records began {d} x =
+    told-as
+    (ap
+    (λ (t : List ℕ).
+    told (evening depths lasts records began (d .log)) (d .account) noSeries (standText p depths lasts (savedOf (d .log) (d .account)) ++ t))
+    done-is)
+    (as-told depths lasts records began x)
 
 -- ---- a line by its kind
 
