@@ -3,6 +3,7 @@ pub mod AnswerParts
 pub mod Determined
 pub mod LeftLaws
 pub mod OrderLaws
+pub mod OtherLaws
 pub mod RoomLaws
 pub mod SheetLaid
 pub mod StateLaws

@@ -36,7 +36,7 @@ ghost use Rattle.checks.specs.Given.{given, ground};
 ghost use Rattle.hatches.specs.Log.{evening};
 ghost use Rattle.trying.specs.Given.{accountOpened};
 ghost use Rattle.trying.specs.Lines.{came, drawTried, nameTried};
-ghost use Rattle.desks.specs.State.{deskOut, noSeries};
+ghost use Rattle.desks.specs.State.{deskOut, deskSquares, noSeries};
 ghost use Rattle.desks.specs.Lines.{Answers, arrowsTold, backTold, cameOf, endingText, entryTold, lastTold, layTold, madeTold, mostTold, nextTold, oneLess, orderTold, plainly, standTold, stateText, stepTold, stepsLeft};
 ghost use Rattle.desks.specs.inner.Lent.{DeskTold, Lends, Shows, mostEnding, refusedIn};
 
@@ -312,6 +312,56 @@ fn draw_line(desk: Desk, number: u32, litres: u32, out: &mut [u8]) -> Desk
     tried_line(desk, tried, out)
 }
 
+// Rooms for what is seen of each square.
+fn no_kinds() -> [u8; DESK_SQUARES]
+    ensures { λ r. ⌜ length r ≡ deskSquares ⌝ }
+{
+    [0u8; DESK_SQUARES]
+}
+
+fn no_speeds() -> [f64; DESK_SQUARES]
+    ensures { λ r. ⌜ length r ≡ deskSquares ⌝ }
+{
+    [0.0f64; DESK_SQUARES]
+}
+
+// `arrows`, seen into rooms of one number a square.
+fn arrows_in(
+    desk: Desk,
+    marks: &[u8],
+    depths: &[u32],
+    records: &[u32],
+    kinds: &mut [u8],
+    east: &mut [f64],
+    north: &mut [f64],
+    out: &mut [u8],
+) -> Desk
+    requires { ⌜ (Shows (plan (desk .heading .shape) (now marks)) (now depths) (now out)) × (length (now kinds) ≡ squares (desk .heading .shape)) × (length (now east) ≡ squares (desk .heading .shape)) × (length (now north) ≡ squares (desk .heading .shape)) ⌝ }
+    ensures { λ r. ⌜ ((l b : List ℕ) → Answers (arrowsTold (plan (desk .heading .shape) (now (marks .entry))) (evening (now (depths .entry)) l (now (records .entry)) b (desk .log)) (desk .account) (desk .heading .rules)) desk r (evening (now (depths .entry)) l (now (records .entry)) b (r .log)) (now (out .entry)) (now (out .exit))) ⌝ }
+{
+    let heading = desk.heading;
+    let shape = heading.shape;
+    let rules = heading.rules;
+    let log = desk.log;
+    let number = all_arrows(
+        shape,
+        rules.square_side,
+        log.run,
+        marks,
+        depths,
+        records,
+        kinds,
+        east,
+        north,
+    );
+    if number != 0 {
+        return refuse_line(desk, number, 0, out);
+    }
+    let at = put_arrows(out, 0, shape, kinds, east, north);
+    let length = put_ending(out, at, 0, 0);
+    desk_still(desk, length)
+}
+
 // `arrows`.
 fn arrows_line(
     desk: Desk,
@@ -323,37 +373,20 @@ fn arrows_line(
     requires { ⌜ Shows (plan (desk .heading .shape) (now marks)) (now depths) (now out) ⌝ }
     ensures { λ r. ⌜ ((l b : List ℕ) → Answers (arrowsTold (plan (desk .heading .shape) (now (marks .entry))) (evening (now (depths .entry)) l (now (records .entry)) b (desk .log)) (desk .account) (desk .heading .rules)) desk r (evening (now (depths .entry)) l (now (records .entry)) b (r .log)) (now (out .entry)) (now (out .exit))) ⌝ }
 {
-    let mut kinds = [0u8; DESK_SQUARES];
-    let mut east = [0.0f64; DESK_SQUARES];
-    let mut north = [0.0f64; DESK_SQUARES];
+    let mut kinds = no_kinds();
+    let mut east = no_speeds();
+    let mut north = no_speeds();
     let squares = marks.len();
-    let heading = desk.heading;
-    let rules = heading.rules;
-    let log = desk.log;
-    let number = all_arrows(
-        heading.shape,
-        rules.square_side,
-        log.run,
+    arrows_in(
+        desk,
         marks,
         depths,
         records,
         &mut kinds[..squares],
         &mut east[..squares],
         &mut north[..squares],
-    );
-    if number != 0 {
-        return refuse_line(desk, number, 0, out);
-    }
-    let at = put_arrows(
         out,
-        0,
-        heading.shape,
-        &kinds[..squares],
-        &east[..squares],
-        &north[..squares],
-    );
-    let length = put_ending(out, at, 0, 0);
-    desk_still(desk, length)
+    )
 }
 
 // The number of a refusal, 0 for none.

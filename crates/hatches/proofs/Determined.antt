@@ -15,4 +15,6 @@ hatches-determined =
       keep-made = λ slots steps newest litres old a b x y. x ∙ sym y;
       rates-back = λ slots began log steps a b x y. x ∙ sym y;
       entry-number = λ p r inflow depths records began log entry a b x y. x [] [] [] [] [] ∙ sym (y [] [] [] [] []);
+      table-fits = λ numbers hs more a b x y. x [] ∙ sym (y []);
+      standing-fine = λ log a b x y. x ∙ sym y;
     }

@@ -20,15 +20,14 @@ use reckon::tables::INFLOW_WIDTH;
 use rule::rules::Rules;
 ghost use mathlib.Core.Path.{_≡_};
 ghost use mathlib.Core.Bool.{true};
-ghost use mathlib.Core.List.{List};
 ghost use Prim.Native.Nat.{ℕ, _+_, _*_, _%_, _≤_};
-ghost use lib.Dec.{eqb, leb};
+ghost use lib.Dec.{eqb};
 ghost use lib.ListN.{length};
-ghost use Rattle.reckon.specs.Tables.{inflowKind, tableRoom};
+ghost use Rattle.reckon.specs.Tables.{inflowKind};
 ghost use Rattle.grid.specs.Squares.{ShapeInRange, squares};
 ghost use Rattle.ledger.specs.Runs.{plan};
-ghost use Rattle.hatches.specs.Log.{drawFine, hatchRows, keptFine, lentFine, lineFine, standingFine};
-ghost use Rattle.hatches.specs.inner.Judged.{EntryJudged};
+ghost use Rattle.hatches.specs.Log.{drawFine, keptFine, lentFine, lineFine, standingFine};
+ghost use Rattle.hatches.specs.inner.Judged.{EntryJudged, TableFits};
 ghost use Rattle.rule.specs.declared.rules.Rules as Declared;
 ghost use Rattle.ledger.specs.Runs as Runs;
 ghost use Rattle.hatches.specs.declared.lines.Entry.the-variants as kinds;
@@ -112,7 +111,7 @@ fn lent_fine(shape: Shape, marks: &[u8], depths: &[u32], records: &[u32], began:
 // Whether so many numbers, a row for each hatch and so many numbers more fit the inflow table.
 pub fn table_fits(numbers: usize, hatches: Hatches, more: usize) -> bool
     requires { ⌜ more ≤ inflowKind .width ⌝ }
-    ensures { λ r. ⌜ ((litres : List ℕ) → r ≡ leb (numbers + length (hatchRows hatches litres) + more) (tableRoom inflowKind)) ⌝ }
+    ensures { λ r. ⌜ TableFits numbers hatches more r ⌝ }
 {
     if INFLOW_ROOM < numbers {
         return false;

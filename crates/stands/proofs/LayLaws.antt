@@ -1,22 +1,19 @@
 -- Laws of a text as a whole: the first line that cannot be read, what it says, and what becomes of the rooms.
 -- Assumes nothing.
-use mathlib.Core.Path.{_≡_, refl, sym, ap, ap₂, subst, _∙_}
-use mathlib.Core.Bool.{true, false}
-use mathlib.Core.List.{List, [], _∷_}
+use mathlib.Core.Path.{_≡_, refl, sym, ap, ap₂, _∙_}
+use mathlib.Core.List.{List}
 use Prim.Native.Nat.{ℕ, zero, suc, _+_, _≤_, _<_}
 use native.Mathlib.Omega.{arith}
-use lib.Dec.{eqb, leb}
 use lib.ListN.{length}
 use borrow.Author.Tests.{eq-eqb, ne-eqb, le-leb, lt-leb}
-use Rattle.reckon.specs.Tests.{every}
 use Rattle.reckon.specs.Lists.{filled}
-use Rattle.reckon.proofs.TestLaws.{every-fails, each-every, failing-le, refusal-here, refusal-later, passed-refusal}
+use Rattle.reckon.proofs.TestLaws.{every-fails, each-every, refusal-here, refusal-later, passed-refusal}
 use Rattle.grid.specs.Squares.{squares}
 use Rattle.ledger.specs.Runs.{Plan}
 use Rattle.ledger.specs.Flows.{shut}
 use Rattle.hatches.specs.Log.{mostHatches}
-use Rattle.stands.specs.Laying.{headOf, namedFrom, namedIn, squaresRead, linesFrom, startFrom, sixth, badAfter, badLine, checksOf, savedFrom, savedIn, numberOf, standOf, Water, water, waterFrom, waterAfter, depthFrom, lastFrom}
-use Rattle.stands.specs.inner.Passing.{SquaresPassed, NamedRead, Decided}
+use Rattle.stands.specs.Laying.{namedFrom, namedIn, squaresRead, linesFrom, startFrom, sixth, badAfter, badLine, checksOf, savedFrom, savedIn, numberOf, standOf, Water, water, waterFrom, waterAfter, depthFrom, lastFrom}
+use Rattle.stands.specs.inner.Passing.{SquaresPassed, NamedRead}
 use Rattle.stands.specs.declared.heads.Head.{Head}
 use Rattle.stands.specs.declared.naming.Named.{Named}
 use Rattle.stands.specs.declared.saved.Laid.{Laid}
@@ -93,7 +90,7 @@ module _ {s : List ℕ} {a : Head} {n : Named} (k : NamedRead s a n) where
 abbrev laid : ℕ → ℕ → Saved → Laid
 laid number line saved = record { number = number; line = line; saved = saved }
 
-laid-same : {a b x y : ℕ} {u v : Saved} → a ≡ b → x ≡ y → u ≡ v → laid a x u ≡ laid b y v
+pub laid-same : {a b x y : ℕ} {u v : Saved} → a ≡ b → x ≡ y → u ≡ v → laid a x u ≡ laid b y v
 laid-same h i j = cc
 
 module _ (p : Plan) (inflow : List ℕ) (slots : ℕ) (s : List ℕ) {bad : ℕ} {saved : Saved} (e : bad ≡ badLine s p) (f : saved ≡ savedIn slots s) where

@@ -1,6 +1,6 @@
 -- Laws of the squares' lines: one line, one square more, the first that cannot be read, and the rooms filled.
 -- Assumes nothing.
-use mathlib.Core.Path.{_≡_, refl, sym, ap, ap₂, subst, _∙_}
+use mathlib.Core.Path.{_≡_, refl, sym, ap, ap₂, _∙_}
 use mathlib.Core.Bool.{Bool, true, false, _||_}
 use mathlib.Core.List.{List}
 use Prim.Native.Nat.{ℕ, _+_, _≤_, _<_}
@@ -18,7 +18,6 @@ use Rattle.reckon.proofs.ListLaws.{getD-tabulate, filled-store, filled-keep, su
 use Rattle.grid.specs.Squares.{squares}
 use Rattle.grid.specs.Marks.{closed}
 use Rattle.ledger.specs.Runs.{Plan}
-use Rattle.ledger.specs.Flows.{shut}
 use Rattle.ledger.specs.Checks.{watersFine}
 use Rattle.text.specs.Reading.{lineOf}
 use Rattle.text.specs.declared.reading.Fields.{Fields}
@@ -55,7 +54,7 @@ module _ (s : List ℕ) (q : ℕ) (marks : List ℕ) (i : ℕ) where
       unfolding asSquare
       square-here d = sym (by-fields ∙ (pick-true _ _ t ∙ pick-true _ _ (eq-eqb _ _ d)))
 
-  one-line : squareLine s q marks i .lines ≤ 1
+  pub one-line : squareLine s q marks i .lines ≤ 1
   unfolding squareLine closedSquare asSquare noSquare
   one-line =
       let f = lineOf s q atWord squareFields in
@@ -131,7 +130,7 @@ module _ (s : List ℕ) (q : ℕ) (marks : List ℕ) where
 
 -- ---- 3
 
-closed-water : (s : List ℕ) (q : ℕ) (marks : List ℕ) (i : ℕ) → closed marks i ≡ true → waterFine (squareLine s q marks i .depth) (squareLine s q marks i .last) ≡ true
+pub closed-water : (s : List ℕ) (q : ℕ) (marks : List ℕ) (i : ℕ) → closed marks i ≡ true → waterFine (squareLine s q marks i .depth) (squareLine s q marks i .last) ≡ true
 unfolding squareLine closedSquare waterFine Rattle.reckon.specs.Tests.every
 closed-water s q marks i t = ap (λ (x : SquareLine). waterFine (x .depth) (x .last)) (pick-true _ _ t)
 

@@ -2,8 +2,8 @@
 -- Assumes nothing.
 use mathlib.Core.Bool.{false}
 use mathlib.Core.List.{List, [], _∷_, _++_}
-use Prim.Native.Nat.{ℕ, _+_, _/_, _%_}
-use lib.ListN.{getD}
+use Prim.Native.Nat.{ℕ, _+_, _/_, _%_, _≤_}
+use lib.ListN.{length, getD}
 use Rattle.reckon.specs.Tests.{pick}
 use Rattle.reckon.specs.Lists.{joined}
 use Rattle.grid.specs.Squares.{squares}
@@ -67,7 +67,13 @@ squaresText p depths lasts = joined (squares (p .shape)) (squareText p depths la
 unfoldable pub standText : Plan → List ℕ → List ℕ → Saved → List ℕ
 standText p depths lasts a = headText a ++ (hatchesText (a .log .hatches) (a .log .litres) ++ squaresText p depths lasts)
 
+-- the bytes that always suffice for it: 30 for each of 4,096 squares, 652 before them
+abbrev pub mostStand : ℕ
+mostStand = 123_532
+
 -- ---- what the public function gives
 
-abbrev pub PutStand : Plan → List ℕ → List ℕ → Saved → ℕ → List ℕ → List ℕ → ℕ → Type 0
-PutStand p depths lasts a at old new r = Wrote (standText p depths lasts a) at old new r
+-- its text at a place, of at most so many bytes
+pub record PutStand (p : Plan) (depths lasts : List ℕ) (a : Saved) (at : ℕ) (old new : List ℕ) (r : ℕ) : Type 0 where
+  pub wrote : Wrote (standText p depths lasts a) at old new r
+  pub short : length (standText p depths lasts a) ≤ mostStand

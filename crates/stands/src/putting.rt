@@ -9,14 +9,20 @@ use hatches::log::MOST_HATCHES;
 use reckon::numbers::number;
 use text::writing::put_line;
 ghost use mathlib.Core.Path.{_≡_};
-ghost use Prim.Native.Nat.{ℕ, _+_, _<_, _≤_};
+ghost use mathlib.Core.List.{[], _∷_};
+ghost use Prim.Native.Nat.{ℕ, _*_, _+_, _<_, _≤_};
 ghost use lib.ListN.{length};
 ghost use Rattle.reckon.specs.Tests.{pick};
-ghost use Rattle.grid.specs.Squares.{ShapeInRange, squares};
+ghost use Rattle.grid.specs.Squares.{ShapeInRange, mostSquares, squares};
 ghost use Rattle.ledger.specs.Runs.{plan};
-ghost use Rattle.text.specs.Writing.{Wrote};
+ghost use Rattle.text.specs.Writing.{lineText};
+ghost use Rattle.hatches.specs.Lines.{hatchWord};
 ghost use Rattle.hatches.specs.Log.{mostHatches};
-ghost use Rattle.stands.specs.Texts.{PutStand, firstText, hatchText, hatchesText, headText, squareText, squaresText, standText, totalText};
+ghost use Rattle.stands.specs.Texts.{PutStand, firstText, hatchText, hatchesText, headText, mostStand, squareText, squaresText, totalText};
+ghost use Rattle.stands.specs.inner.Putting.{PutWithin, mostFirst, mostHatch, mostHatchLines, mostHead, mostSquare, mostTotal, mostWord};
+
+// The bytes that always suffice for the text of a state.
+pub const MOST_STAND: usize = 123_532;
 
 // 1 for yes and 0 for no.
 fn as_number(is: bool) -> u64
@@ -30,8 +36,8 @@ fn as_number(is: bool) -> u64
 
 // A line of a word and one number of 64 bits.
 fn put_total(out: &mut [u8], at: usize, word: &[u8], total: u64) -> usize
-    requires { ⌜ at + length (totalText (now word) total) ≤ length (now out) ⌝ }
-    ensures { λ r. ⌜ Wrote (totalText (now (word .entry)) total) at (now (out .entry)) (now (out .exit)) r ⌝ }
+    requires { ⌜ (length (now word) ≤ mostWord) × (at + mostTotal ≤ length (now out)) ⌝ }
+    ensures { λ r. ⌜ PutWithin mostTotal (totalText (now (word .entry)) total) at (now (out .entry)) (now (out .exit)) r ⌝ }
 {
     let values = [total / HALF, total % HALF];
     put_line(out, at, word, &values)
@@ -39,8 +45,8 @@ fn put_total(out: &mut [u8], at: usize, word: &[u8], total: u64) -> usize
 
 // The line `stand`.
 fn put_first(out: &mut [u8], at: usize, saved: Saved) -> usize
-    requires { ⌜ at + length (firstText saved) ≤ length (now out) ⌝ }
-    ensures { λ r. ⌜ Wrote (firstText saved) at (now (out .entry)) (now (out .exit)) r ⌝ }
+    requires { ⌜ at + mostFirst ≤ length (now out) ⌝ }
+    ensures { λ r. ⌜ PutWithin mostFirst (firstText saved) at (now (out .entry)) (now (out .exit)) r ⌝ }
 {
     let log = saved.log;
     let run = log.run;
@@ -51,8 +57,8 @@ fn put_first(out: &mut [u8], at: usize, saved: Saved) -> usize
 
 // The lines before the hatches.
 fn put_head(out: &mut [u8], at: usize, saved: Saved) -> usize
-    requires { ⌜ at + length (headText saved) ≤ length (now out) ⌝ }
-    ensures { λ r. ⌜ Wrote (headText saved) at (now (out .entry)) (now (out .exit)) r ⌝ }
+    requires { ⌜ at + mostHead ≤ length (now out) ⌝ }
+    ensures { λ r. ⌜ PutWithin mostHead (headText saved) at (now (out .entry)) (now (out .exit)) r ⌝ }
 {
     let log = saved.log;
     let run = log.run;
@@ -63,10 +69,19 @@ fn put_head(out: &mut [u8], at: usize, saved: Saved) -> usize
     put_total(out, fourth, b"given", saved.given)
 }
 
+// The line of a hatch that is named.
+fn put_named(out: &mut [u8], at: usize, hatch: usize, row: u32, column: u32, litres: u32) -> usize
+    requires { ⌜ (hatch < mostHatches) × (at + mostHatch ≤ length (now out)) ⌝ }
+    ensures { λ r. ⌜ PutWithin mostHatch (lineText hatchWord ((hatch + 1) ∷ row ∷ column ∷ litres ∷ [])) at (now (out .entry)) (now (out .exit)) r ⌝ }
+{
+    let values = [hatch as u64 + 1, row as u64, column as u64, litres as u64];
+    put_line(out, at, b"hatch", &values)
+}
+
 // The line of a hatch, none where it is not named.
 fn put_hatch(out: &mut [u8], at: usize, hatches: Hatches, litres: [u32; 9], hatch: usize) -> usize
-    requires { ⌜ (hatch < mostHatches) × (at + length (hatchText hatches litres hatch) ≤ length (now out)) ⌝ }
-    ensures { λ r. ⌜ Wrote (hatchText hatches litres hatch) at (now (out .entry)) (now (out .exit)) r ⌝ }
+    requires { ⌜ (hatch < mostHatches) × (at + mostHatch ≤ length (now out)) ⌝ }
+    ensures { λ r. ⌜ PutWithin mostHatch (hatchText hatches litres hatch) at (now (out .entry)) (now (out .exit)) r ⌝ }
 {
     let named = hatches.named;
     if !named[hatch] {
@@ -74,19 +89,13 @@ fn put_hatch(out: &mut [u8], at: usize, hatches: Hatches, litres: [u32; 9], hatc
     }
     let rows = hatches.rows;
     let columns = hatches.columns;
-    let values = [
-        hatch as u64 + 1,
-        number(&rows, hatch),
-        number(&columns, hatch),
-        number(&litres, hatch),
-    ];
-    put_line(out, at, b"hatch", &values)
+    put_named(out, at, hatch, rows[hatch], columns[hatch], litres[hatch])
 }
 
 // The lines of all hatches.
 fn put_hatches(out: &mut [u8], at: usize, hatches: Hatches, litres: [u32; 9]) -> usize
-    requires { ⌜ at + length (hatchesText hatches litres) ≤ length (now out) ⌝ }
-    ensures { λ r. ⌜ Wrote (hatchesText hatches litres) at (now (out .entry)) (now (out .exit)) r ⌝ }
+    requires { ⌜ at + mostHatchLines ≤ length (now out) ⌝ }
+    ensures { λ r. ⌜ PutWithin mostHatchLines (hatchesText hatches litres) at (now (out .entry)) (now (out .exit)) r ⌝ }
 {
     let mut next = at;
     let mut hatch: usize = 0;
@@ -107,9 +116,8 @@ fn put_square(
     lasts: &[u32],
     square: usize,
 ) -> usize
-    requires { ⌜ (square < length (now marks)) × (square < length (now depths)) × (square < length (now lasts)) ⌝ }
-    requires { ⌜ at + length (squareText (plan shape (now marks)) (now depths) (now lasts) square) ≤ length (now out) ⌝ }
-    ensures { λ r. ⌜ Wrote (squareText (plan shape (now (marks .entry))) (now (depths .entry)) (now (lasts .entry)) square) at (now (out .entry)) (now (out .exit)) r ⌝ }
+    requires { ⌜ (square < mostSquares) × (square < length (now marks)) × (square < length (now depths)) × (square < length (now lasts)) × (at + mostSquare ≤ length (now out)) ⌝ }
+    ensures { λ r. ⌜ PutWithin mostSquare (squareText (plan shape (now (marks .entry))) (now (depths .entry)) (now (lasts .entry)) square) at (now (out .entry)) (now (out .exit)) r ⌝ }
 {
     if is_closed(marks, square) {
         return at;
@@ -128,8 +136,8 @@ fn put_squares(
     lasts: &[u32],
 ) -> usize
     requires { ⌜ (ShapeInRange shape) × (squares shape ≤ length (now marks)) × (squares shape ≤ length (now depths)) × (squares shape ≤ length (now lasts)) ⌝ }
-    requires { ⌜ at + length (squaresText (plan shape (now marks)) (now depths) (now lasts)) ≤ length (now out) ⌝ }
-    ensures { λ r. ⌜ Wrote (squaresText (plan shape (now (marks .entry))) (now (depths .entry)) (now (lasts .entry))) at (now (out .entry)) (now (out .exit)) r ⌝ }
+    requires { ⌜ at + mostSquare * squares shape ≤ length (now out) ⌝ }
+    ensures { λ r. ⌜ PutWithin (mostSquare * squares shape) (squaresText (plan shape (now (marks .entry))) (now (depths .entry)) (now (lasts .entry))) at (now (out .entry)) (now (out .exit)) r ⌝ }
 {
     let squares = squares_of(shape);
     let mut next = at;
@@ -152,7 +160,7 @@ pub fn put_stand(
     saved: Saved,
 ) -> usize
     requires { ⌜ (ShapeInRange shape) × (squares shape ≤ length (now marks)) × (squares shape ≤ length (now depths)) × (squares shape ≤ length (now lasts)) ⌝ }
-    requires { ⌜ at + length (standText (plan shape (now marks)) (now depths) (now lasts) saved) ≤ length (now out) ⌝ }
+    requires { ⌜ at + mostStand ≤ length (now out) ⌝ }
     ensures { λ r. ⌜ PutStand (plan shape (now (marks .entry))) (now (depths .entry)) (now (lasts .entry)) saved at (now (out .entry)) (now (out .exit)) r ⌝ }
 {
     let log = saved.log;

@@ -1,5 +1,6 @@
 -- Every layer function of this crate leaves one outcome.
 -- Assumes nothing.
+use mathlib.Core.Path.{_≡_}
 use mathlib.Core.List.{List}
 use Prim.Native.Nat.{ℕ}
 use Rattle.reckon.specs.Outcomes.{One}
@@ -8,9 +9,9 @@ use Rattle.rule.specs.declared.rules.Rules.{Rules}
 use Rattle.ledger.specs.Runs.{Plan}
 use Rattle.ledger.specs.declared.runs.Run.{Run}
 use Rattle.hatches.specs.Lines.{LineRead}
-use Rattle.hatches.specs.Log.{KeptRecords, Opened}
+use Rattle.hatches.specs.Log.{KeptRecords, Opened, standingFine}
 use Rattle.hatches.specs.inner.Rates.{TableFilled, RatesStored, RatesRestored}
-use Rattle.hatches.specs.inner.Judged.{EntryJudged}
+use Rattle.hatches.specs.inner.Judged.{EntryJudged, TableFits}
 use Rattle.hatches.specs.declared.lines.Entry.{Entry}
 use Rattle.hatches.specs.declared.log.Hatches.{Hatches}
 use Rattle.hatches.specs.declared.log.Log.{Log}
@@ -24,3 +25,5 @@ pub record HatchesDetermined : Type 0 where
   pub rates-back : (slots : ℕ) (began : List ℕ) (log : Log) (steps : ℕ) → One (RatesRestored slots began log steps)
   pub entry-number : (p : Plan) (r : Rules) (inflow depths records began : List ℕ) (log : Log) (entry : Entry) →
       One (EntryJudged p r inflow depths records began log entry)
+  pub table-fits : (numbers : ℕ) (hs : Hatches) (more : ℕ) → One (TableFits numbers hs more)
+  pub standing-fine : (log : Log) → One (λ r. r ≡ standingFine log)

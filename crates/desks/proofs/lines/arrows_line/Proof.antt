@@ -1,120 +1,79 @@
+use mathlib.Core.Path.{_≡_, sym, _∙_}
+use Rattle.desks.proofs.OtherLaws.{room-part}
 use borrow.Author.Needs.{needs}
 use Rattle.desks.proofs.lines.arrows_line.Statement.{statement}
 use Rattle.desks.proofs.lines.arrows_line.Tie as tie
 use Rattle.desks.proofs.lines.arrows_line.Reads as reads
 use Rattle.desks.proofs.lines.arrows_line.Lts as lts
-use Rattle.desks.proofs.answers.put_ending.Reads as put-ending-reads
-use Rattle.desks.proofs.lines.refuse_line.Reads as refuse-line-reads
-use Rattle.desks.proofs.state.desk_still.Reads as desk-still-reads
-use Rattle.frames.proofs.arrows.put_arrows.Reads as put-arrows-reads
-use Rattle.sight.proofs.all_arrows.all_arrows.Reads as all-arrows-reads
+use Rattle.desks.proofs.lines.arrows_in.Reads as arrows-in-reads
+use Rattle.desks.proofs.lines.no_kinds.Reads as no-kinds-reads
+use Rattle.desks.proofs.lines.no_speeds.Reads as no-speeds-reads
 
--- src/lines.rt:340:9
+-- src/lines.rt:376:21
+no-kinds-requires : tie.Need-no-kinds-requires
+no-kinds-requires c κs = search needs
+
+-- src/lines.rt:377:20
+no-speeds-requires : tie.Need-no-speeds-requires
+no-speeds-requires c κs = search needs
+
+-- src/lines.rt:378:21
+no-speeds-requires-2 : tie.Need-no-speeds-requires-2
+no-speeds-requires-2 c κs = search needs
+
+-- src/lines.rt:385:9
 array-borrow-prefix-kinds : tie.Need-array-borrow-prefix-kinds
 array-borrow-prefix-kinds c = search needs
 
--- src/lines.rt:340:9
-slice-aggregate-all-arrows : tie.Need-slice-aggregate-all-arrows
-slice-aggregate-all-arrows c = ?
+-- src/lines.rt:385:9
+slice-aggregate-arrows-in : tie.Need-slice-aggregate-arrows-in
+slice-aggregate-arrows-in c =
+    c .before .before .before .before .before .before .before .before .pre .marks-long ∙ sym (room-part (c .before .before .before .before .before .before .before .before .pre) (c .before .before .before .no-kinds .result) (c .before .before .before .no-kinds .ensures))
 
--- src/lines.rt:341:9
+-- src/lines.rt:386:9
 array-borrow-prefix-east : tie.Need-array-borrow-prefix-east
 array-borrow-prefix-east c = search needs
 
--- src/lines.rt:341:9
-slice-aggregate-all-arrows-2 : tie.Need-slice-aggregate-all-arrows-2
-slice-aggregate-all-arrows-2 c = ?
+-- src/lines.rt:386:9
+slice-aggregate-arrows-in-2 : tie.Need-slice-aggregate-arrows-in-2
+slice-aggregate-arrows-in-2 c =
+    c .before .before .before .before .before .before .before .before .before .pre .marks-long ∙ sym (room-part (c .before .before .before .before .before .before .before .before .before .pre) (c .before .before .before .no-speeds .result) (c .before .before .before .no-speeds .ensures))
 
--- src/lines.rt:342:9
+-- src/lines.rt:387:9
 array-borrow-prefix-north : tie.Need-array-borrow-prefix-north
 array-borrow-prefix-north c = search needs
 
--- src/lines.rt:342:9
-slice-aggregate-all-arrows-3 : tie.Need-slice-aggregate-all-arrows-3
-slice-aggregate-all-arrows-3 c = ?
+-- src/lines.rt:387:9
+slice-aggregate-arrows-in-3 : tie.Need-slice-aggregate-arrows-in-3
+slice-aggregate-arrows-in-3 c =
+    c .before .before .before .before .before .before .before .before .before .before .pre .marks-long ∙ sym (room-part (c .before .before .before .before .before .before .before .before .before .before .pre) (c .before .before .before .no-speeds2 .result) (c .before .before .before .no-speeds2 .ensures))
 
--- src/lines.rt:333:9
-all-arrows-requires : tie.Need-all-arrows-requires
-all-arrows-requires c κs = search needs
+-- src/lines.rt:380:5
+arrows-in-requires : tie.Need-arrows-in-requires
+arrows-in-requires c κs =
+    (c .before .before .before .before .before .before .before .before .before .before .before .pre, room-part (c .before .before .before .before .before .before .before .before .before .before .before .pre) (c .before .before .before .before .before .before .no-kinds .result) (c .before .before .before .before .before .before .no-kinds .ensures), room-part (c .before .before .before .before .before .before .before .before .before .before .before .pre) (c .before .before .before .before .before .no-speeds .result) (c .before .before .before .before .before .no-speeds .ensures), room-part (c .before .before .before .before .before .before .before .before .before .before .before .pre) (c .before .before .before .before .no-speeds2 .result) (c .before .before .before .before .no-speeds2 .ensures))
 
--- src/lines.rt:345:9
-refuse-line-requires : tie.Need-refuse-line-requires
-refuse-line-requires c κs = search needs
-
--- src/lines.rt:345:9
+-- src/lines.rt:366:1
 same-length : tie.Need-same-length
 same-length c = search needs
 
--- src/lines.rt:345:9
+-- src/lines.rt:366:1
 returns : tie.Need-returns
-returns c = ?
-
--- src/lines.rt:351:9
-array-share-prefix-kinds : tie.Need-array-share-prefix-kinds
-array-share-prefix-kinds c = ?
-
--- src/lines.rt:351:9
-slice-aggregate-put-arrows : tie.Need-slice-aggregate-put-arrows
-slice-aggregate-put-arrows c = ?
-
--- src/lines.rt:352:9
-array-share-prefix-east : tie.Need-array-share-prefix-east
-array-share-prefix-east c = ?
-
--- src/lines.rt:352:9
-slice-aggregate-put-arrows-2 : tie.Need-slice-aggregate-put-arrows-2
-slice-aggregate-put-arrows-2 c = ?
-
--- src/lines.rt:353:9
-array-share-prefix-north : tie.Need-array-share-prefix-north
-array-share-prefix-north c = ?
-
--- src/lines.rt:353:9
-slice-aggregate-put-arrows-3 : tie.Need-slice-aggregate-put-arrows-3
-slice-aggregate-put-arrows-3 c = ?
-
--- src/lines.rt:347:9
-put-arrows-requires : tie.Need-put-arrows-requires
-put-arrows-requires c κs = ?
-
--- src/lines.rt:355:9
-put-ending-requires : tie.Need-put-ending-requires
-put-ending-requires c κs = ?
-
--- src/lines.rt:356:5
-desk-still-requires : tie.Need-desk-still-requires
-desk-still-requires c κs = search needs
-
--- src/lines.rt:316:1
-same-length-2 : tie.Need-same-length-2
-same-length-2 c = search needs
-
--- src/lines.rt:316:1
-returns-2 : tie.Need-returns-2
-returns-2 c = ?
+returns c = search needs
 
 pub arrows-line-spec : {M : Type 1} → statement M
 arrows-line-spec =
     tie.close
     (tie.spec
+    no-kinds-requires
+    no-speeds-requires
+    no-speeds-requires-2
     array-borrow-prefix-kinds
-    slice-aggregate-all-arrows
+    slice-aggregate-arrows-in
     array-borrow-prefix-east
-    slice-aggregate-all-arrows-2
+    slice-aggregate-arrows-in-2
     array-borrow-prefix-north
-    slice-aggregate-all-arrows-3
-    all-arrows-requires
-    refuse-line-requires
+    slice-aggregate-arrows-in-3
+    arrows-in-requires
     same-length
-    returns
-    array-share-prefix-kinds
-    slice-aggregate-put-arrows
-    array-share-prefix-east
-    slice-aggregate-put-arrows-2
-    array-share-prefix-north
-    slice-aggregate-put-arrows-3
-    put-arrows-requires
-    put-ending-requires
-    desk-still-requires
-    same-length-2
-    returns-2)
+    returns)

@@ -1,3 +1,5 @@
+use mathlib.Core.Path.{_≡_, sym, ap}
+use Rattle.desks.specs.inner.Lent.{refusedIn}
 use borrow.Author.Needs.{needs}
 use Rattle.desks.proofs.lines.bounds_number.Statement.{statement}
 use Rattle.desks.proofs.lines.bounds_number.Tie as tie
@@ -18,15 +20,21 @@ enum-known-bounds-2 c = search needs
 
 -- src/lines.rt:360:1
 returns : tie.Need-returns
-returns c = ?
+unfolding refusedIn
+returns c =
+    sym (ap refusedIn (c .before .bounds .given .1))
 
 -- src/lines.rt:360:1
 returns-2 : tie.Need-returns-2
-returns-2 c = ?
+unfolding refusedIn
+returns-2 c =
+    sym (ap refusedIn (c .enum-told .given .1))
 
 -- src/lines.rt:360:1
 returns-3 : tie.Need-returns-3
-returns-3 c = ?
+unfolding refusedIn
+returns-3 c =
+    sym (ap refusedIn (c .before .bounds2 .given .1))
 
 pub bounds-number-spec : {M : Type 1} → statement M
 bounds-number-spec =

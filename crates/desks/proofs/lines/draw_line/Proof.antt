@@ -1,3 +1,4 @@
+use Rattle.desks.proofs.OtherLaws.{plainly-told}
 use borrow.Author.Needs.{needs}
 use Rattle.desks.proofs.lines.draw_line.Statement.{statement}
 use Rattle.desks.proofs.lines.draw_line.Tie as tie
@@ -20,7 +21,8 @@ same-length c = search needs
 
 -- src/lines.rt:305:1
 returns : tie.Need-returns
-returns c = ?
+returns c =
+    λ d l k b. plainly-told d l k b (c .before .before .before .before .draw .ensures) (c .before .before .tried-line .ensures)
 
 pub draw-line-spec : {M : Type 1} → statement M
 draw-line-spec = tie.close (tie.spec draw-requires tried-line-requires same-length returns)

@@ -1,3 +1,5 @@
+use Rattle.desks.specs.Lines.{entryTold}
+use Rattle.desks.proofs.OtherLaws.{as-told, entry-as}
 use borrow.Author.Needs.{needs}
 use Rattle.desks.proofs.lines.entry_line.Statement.{statement}
 use Rattle.desks.proofs.lines.entry_line.Tie as tie
@@ -45,7 +47,9 @@ same-length c = search needs
 
 -- src/lines.rt:449:1
 returns : tie.Need-returns
-returns c = ?
+unfolding entryTold
+returns c =
+    entry-as _ _ _ _ _ (c .before .before .before .before .before .entry .given .1) (c .before .before .hatch-line .ensures (c .before .before .before .before .before .before .before .before .before .before .before .before .before .before .args .depths .now) (c .before .before .before .before .before .before .before .before .before .before .before .before .before .before .args .lasts .now) (c .before .before .before .before .before .before .before .before .before .before .before .before .before .before .args .records .now) (c .before .before .before .before .before .before .before .before .before .before .before .before .before .before .args .began .now))
 
 -- src/lines.rt:449:1
 same-length-2 : tie.Need-same-length-2
@@ -61,7 +65,9 @@ same-length-4 c = search needs
 
 -- src/lines.rt:449:1
 returns-2 : tie.Need-returns-2
-returns-2 c = ?
+unfolding entryTold
+returns-2 c =
+    entry-as _ _ _ _ _ (c .before .before .before .before .before .before .before .before .before .before .before .entry2 .given .1) (c .before .before .before .before .before .before .back-line .ensures)
 
 -- src/lines.rt:449:1
 same-length-5 : tie.Need-same-length-5
@@ -69,7 +75,9 @@ same-length-5 c = search needs
 
 -- src/lines.rt:449:1
 returns-3 : tie.Need-returns-3
-returns-3 c = ?
+unfolding entryTold
+returns-3 c =
+    entry-as _ _ _ _ _ (c .before .before .before .before .before .entry3 .given .1) (as-told (c .before .before .before .before .before .before .before .before .before .before .before .before .before .before .args .depths .now) (c .before .before .before .before .before .before .before .before .before .before .before .before .before .before .args .lasts .now) (c .before .before .before .before .before .before .before .before .before .before .before .before .before .before .args .records .now) (c .before .before .before .before .before .before .before .before .before .before .before .before .before .before .args .began .now) (c .before .before .refuse-line .ensures))
 
 -- src/lines.rt:449:1
 same-length-6 : tie.Need-same-length-6
@@ -77,7 +85,9 @@ same-length-6 c = search needs
 
 -- src/lines.rt:449:1
 returns-4 : tie.Need-returns-4
-returns-4 c = ?
+unfolding entryTold
+returns-4 c =
+    entry-as _ _ _ _ _ (c .before .before .before .before .enum-told .given .1) (as-told (c .before .before .before .before .before .before .before .before .before .before .before .before .before .args .depths .now) (c .before .before .before .before .before .before .before .before .before .before .before .before .before .args .lasts .now) (c .before .before .before .before .before .before .before .before .before .before .before .before .before .args .records .now) (c .before .before .before .before .before .before .before .before .before .before .before .before .before .args .began .now) (c .before .before .refuse-line2 .ensures))
 
 pub entry-line-spec : {M : Type 1} → statement M
 entry-line-spec =

@@ -1,3 +1,4 @@
+use Rattle.desks.proofs.OtherLaws.{plainly-told}
 use borrow.Author.Needs.{needs}
 use Rattle.desks.proofs.lines.hatch_line.Statement.{statement}
 use Rattle.desks.proofs.lines.hatch_line.Tie as tie
@@ -20,7 +21,8 @@ same-length c = search needs
 
 -- src/lines.rt:275:1
 returns : tie.Need-returns
-returns c = ?
+returns c =
+    λ d l k b. plainly-told d l k b (c .before .before .before .before .name .ensures) (c .before .before .tried-line .ensures)
 
 pub hatch-line-spec : {M : Type 1} → statement M
 hatch-line-spec = tie.close (tie.spec name-requires tried-line-requires same-length returns)

@@ -1,3 +1,5 @@
+use Rattle.ledger.specs.Runs.{plan}
+use Rattle.desks.proofs.OtherLaws.{account-as}
 use borrow.Author.Needs.{needs}
 use Rattle.desks.proofs.lines.laid_line.Statement.{statement}
 use Rattle.desks.proofs.lines.laid_line.Tie as tie
@@ -20,7 +22,8 @@ same-length c = search needs
 
 -- src/lines.rt:403:1
 returns : tie.Need-returns
-returns c = ?
+returns c =
+    account-as (plan (c .before .before .before .before .before .before .before .before .before .args .desk .heading .shape) (c .before .before .before .before .before .before .before .before .before .args .marks .now)) (c .before .before .before .before .before .before .before .before .before .args .depths .now) (c .before .before .before .before .open-account .ensures) (c .before .before .shown-line .ensures)
 
 pub laid-line-spec : {M : Type 1} → statement M
 laid-line-spec = tie.close (tie.spec open-account-requires shown-line-requires same-length returns)

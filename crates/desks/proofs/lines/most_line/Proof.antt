@@ -1,3 +1,7 @@
+use mathlib.Core.Path.{sym}
+use native.Mathlib.Omega.{arith}
+use Rattle.frames.specs.Bounds.{mostBounds}
+use Rattle.desks.proofs.OtherLaws.{ending-fits, most-short, most-told, text-told}
 use borrow.Author.Needs.{needs}
 use Rattle.desks.proofs.lines.most_line.Statement.{statement}
 use Rattle.desks.proofs.lines.most_line.Tie as tie
@@ -23,7 +27,8 @@ bounds-number-requires c κs = search needs
 
 -- src/lines.rt:380:9
 put-ending-requires : tie.Need-put-ending-requires
-put-ending-requires c κs = ?
+put-ending-requires c κs =
+    ending-fits mostBounds (c .before .before .before .before .put-bounds .ensures) (most-short (c .before .before .before .before .before .before .before .before .before .before .before .args .desk .heading .rules) (c .before .before .before .before .before .before .before .before .before .before .before .args .desk .log .run .clock) (c .before .before .before .before .before .before .before .before .before .before .before .args .end) (c .before .before .before .before .before .before .step-bounds .ensures)) (sym (c .before .before .before .before .before .before .before .before .before .before .before .pre)) (omega arith)
 
 -- src/lines.rt:381:5
 desk-still-requires : tie.Need-desk-still-requires
@@ -35,7 +40,8 @@ same-length c = search needs
 
 -- src/lines.rt:371:1
 returns : tie.Need-returns
-returns c = ?
+returns c =
+    λ p d l k b. most-told p (c .before .before .before .before .before .before .before .before .before .before .before .before .before .before .before .args .end) d l k b (c .before .before .before .before .before .before .before .before .before .before .step-bounds .ensures) (c .before .before .before .before .bounds-number .ensures) (text-told mostBounds (c .before .before .before .before .before .before .before .before .put-bounds .ensures) (most-short (c .before .before .before .before .before .before .before .before .before .before .before .before .before .before .before .args .desk .heading .rules) (c .before .before .before .before .before .before .before .before .before .before .before .before .before .before .before .args .desk .log .run .clock) (c .before .before .before .before .before .before .before .before .before .before .before .before .before .before .before .args .end) (c .before .before .before .before .before .before .before .before .before .before .step-bounds .ensures)) (sym (c .before .before .before .before .before .before .before .before .before .before .before .before .before .before .before .pre)) (omega arith) (c .before .before .before .put-ending .ensures) (c .desk-still .ensures))
 
 pub most-line-spec : {M : Type 1} → statement M
 most-line-spec =

@@ -1,3 +1,6 @@
+use Rattle.ledger.specs.Runs.{plan}
+use Rattle.desks.specs.Lines.{orderTold}
+use Rattle.desks.proofs.OtherLaws.{as-told, order-as}
 use borrow.Author.Needs.{needs}
 use Rattle.desks.proofs.lines.order_line.Statement.{statement}
 use Rattle.desks.proofs.lines.order_line.Tie as tie
@@ -107,7 +110,9 @@ same-length-3 c = search needs
 
 -- src/lines.rt:480:1
 returns : tie.Need-returns
-returns c = ?
+unfolding orderTold
+returns c =
+    order-as _ _ _ _ _ _ (c .before .before .before .before .before .before .before .before .before .before .before .order .given .1) (c .before .before .before .before .before .before .entry-line .ensures)
 
 -- src/lines.rt:480:1
 same-length-4 : tie.Need-same-length-4
@@ -115,7 +120,9 @@ same-length-4 c = search needs
 
 -- src/lines.rt:480:1
 returns-2 : tie.Need-returns-2
-returns-2 c = ?
+unfolding orderTold
+returns-2 c =
+    order-as _ _ _ _ _ _ (c .before .before .before .before .before .order2 .given .1) (c .before .before .draw-line .ensures (c .before .before .before .before .before .before .before .before .before .before .before .before .before .before .before .args .depths .now) (c .before .before .before .before .before .before .before .before .before .before .before .before .before .before .before .args .lasts .now) (c .before .before .before .before .before .before .before .before .before .before .before .before .before .before .before .args .records .now) (c .before .before .before .before .before .before .before .before .before .before .before .before .before .before .before .args .began .now))
 
 -- src/lines.rt:480:1
 same-length-5 : tie.Need-same-length-5
@@ -123,7 +130,9 @@ same-length-5 c = search needs
 
 -- src/lines.rt:480:1
 returns-3 : tie.Need-returns-3
-returns-3 c = ?
+unfolding orderTold
+returns-3 c =
+    order-as _ _ _ _ _ _ (c .before .before .before .before .before .order3 .given .1) (c .before .before .step-line .ensures (plan (c .before .before .before .before .before .before .before .before .before .before .before .before .before .before .before .args .desk .heading .shape) (c .before .before .before .before .before .before .before .before .before .before .before .before .before .before .before .args .marks .now)) (c .before .before .before .before .before .before .before .before .before .before .before .before .before .before .before .args .depths .now) (c .before .before .before .before .before .before .before .before .before .before .before .before .before .before .before .args .lasts .now) (c .before .before .before .before .before .before .before .before .before .before .before .before .before .before .before .args .records .now) (c .before .before .before .before .before .before .before .before .before .before .before .before .before .before .before .args .began .now))
 
 -- src/lines.rt:480:1
 same-length-6 : tie.Need-same-length-6
@@ -135,7 +144,9 @@ same-length-7 c = search needs
 
 -- src/lines.rt:480:1
 returns-4 : tie.Need-returns-4
-returns-4 c = ?
+unfolding orderTold
+returns-4 c =
+    order-as _ _ _ _ _ _ (c .before .before .before .before .before .enum-told .given .1) (as-told (c .before .before .before .before .before .before .before .before .before .before .before .before .before .before .before .args .depths .now) (c .before .before .before .before .before .before .before .before .before .before .before .before .before .before .before .args .lasts .now) (c .before .before .before .before .before .before .before .before .before .before .before .before .before .before .before .args .records .now) (c .before .before .before .before .before .before .before .before .before .before .before .before .before .before .before .args .began .now) (c .before .before .show-line .ensures))
 
 -- src/lines.rt:480:1
 same-length-8 : tie.Need-same-length-8
@@ -147,7 +158,9 @@ same-length-9 c = search needs
 
 -- src/lines.rt:480:1
 returns-5 : tie.Need-returns-5
-returns-5 c = ?
+unfolding orderTold
+returns-5 c =
+    order-as _ _ _ _ _ _ (c .before .before .before .before .before .enum-told2 .given .1) (c .before .before .arrows-line .ensures (c .before .before .before .before .before .before .before .before .before .before .before .before .before .before .before .args .lasts .now) (c .before .before .before .before .before .before .before .before .before .before .before .before .before .before .before .args .began .now))
 
 -- src/lines.rt:480:1
 same-length-10 : tie.Need-same-length-10
@@ -155,7 +168,9 @@ same-length-10 c = search needs
 
 -- src/lines.rt:480:1
 returns-6 : tie.Need-returns-6
-returns-6 c = ?
+unfolding orderTold
+returns-6 c =
+    order-as _ _ _ _ _ _ (c .before .before .before .before .before .order4 .given .1) (c .before .before .most-line .ensures (plan (c .before .before .before .before .before .before .before .before .before .before .before .before .before .before .before .args .desk .heading .shape) (c .before .before .before .before .before .before .before .before .before .before .before .before .before .before .before .args .marks .now)) (c .before .before .before .before .before .before .before .before .before .before .before .before .before .before .before .args .depths .now) (c .before .before .before .before .before .before .before .before .before .before .before .before .before .before .before .args .lasts .now) (c .before .before .before .before .before .before .before .before .before .before .before .before .before .before .before .args .records .now) (c .before .before .before .before .before .before .before .before .before .before .before .before .before .before .before .args .began .now))
 
 -- src/lines.rt:480:1
 same-length-11 : tie.Need-same-length-11
@@ -171,7 +186,9 @@ same-length-13 c = search needs
 
 -- src/lines.rt:480:1
 returns-7 : tie.Need-returns-7
-returns-7 c = ?
+unfolding orderTold
+returns-7 c =
+    order-as _ _ _ _ _ _ (c .before .before .before .before .before .before .enum-told3 .given .1) (c .before .before .stand-line .ensures (c .before .before .before .before .before .before .before .before .before .before .before .before .before .before .before .before .args .records .now) (c .before .before .before .before .before .before .before .before .before .before .before .before .before .before .before .before .args .began .now))
 
 -- src/lines.rt:480:1
 same-length-14 : tie.Need-same-length-14
@@ -187,7 +204,9 @@ same-length-16 c = search needs
 
 -- src/lines.rt:480:1
 returns-8 : tie.Need-returns-8
-returns-8 c = ?
+unfolding orderTold
+returns-8 c =
+    order-as _ _ _ _ _ _ (c .before .before .before .before .before .before .before .before .before .before .before .order5 .given .1) (c .before .before .before .before .before .before .lay-line .ensures (c .before .before .before .before .before .before .before .before .before .before .before .before .before .before .before .before .before .before .before .before .before .args .records .now) (c .before .before .before .before .before .before .before .before .before .before .before .before .before .before .before .before .before .before .before .before .before .args .began .now))
 
 -- src/lines.rt:480:1
 same-length-17 : tie.Need-same-length-17
@@ -195,7 +214,9 @@ same-length-17 c = search needs
 
 -- src/lines.rt:480:1
 returns-9 : tie.Need-returns-9
-returns-9 c = ?
+unfolding orderTold
+returns-9 c =
+    order-as _ _ _ _ _ _ (c .before .before .before .before .before .order6 .given .1) (as-told (c .before .before .before .before .before .before .before .before .before .before .before .before .before .before .before .args .depths .now) (c .before .before .before .before .before .before .before .before .before .before .before .before .before .before .before .args .lasts .now) (c .before .before .before .before .before .before .before .before .before .before .before .before .before .before .before .args .records .now) (c .before .before .before .before .before .before .before .before .before .before .before .before .before .before .before .args .began .now) (c .before .before .refuse-line .ensures))
 
 -- src/lines.rt:480:1
 same-length-18 : tie.Need-same-length-18
@@ -203,7 +224,9 @@ same-length-18 c = search needs
 
 -- src/lines.rt:480:1
 returns-10 : tie.Need-returns-10
-returns-10 c = ?
+unfolding orderTold
+returns-10 c =
+    order-as _ _ _ _ _ _ (c .before .before .before .before .enum-told4 .given .1) (as-told (c .before .before .before .before .before .before .before .before .before .before .before .before .before .before .args .depths .now) (c .before .before .before .before .before .before .before .before .before .before .before .before .before .before .args .lasts .now) (c .before .before .before .before .before .before .before .before .before .before .before .before .before .before .args .records .now) (c .before .before .before .before .before .before .before .before .before .before .before .before .before .before .args .began .now) (c .before .before .refuse-line2 .ensures))
 
 pub order-line-spec : {M : Type 1} → statement M
 order-line-spec =

@@ -1,11 +1,9 @@
 -- `stands::putting::put_first` meets its contract: its line is put.
 -- Assumes nothing.
-use mathlib.Core.Path.{ap}
 use native.Mathlib.Omega.{arith}
-use lib.ListN.{length}
 use borrow.Author.Needs.{needs}
-use Rattle.text.proofs.WritingLaws.{written-as}
-use Rattle.stands.proofs.PutLaws.{first-as}
+use Rattle.stands.proofs.LengthLaws.{first-short}
+use Rattle.stands.proofs.PutLaws.{first-as, within-as}
 use Rattle.stands.proofs.putting.put_first.Statement.{statement}
 use Rattle.stands.proofs.putting.put_first.Tie as tie
 
@@ -21,14 +19,17 @@ slice-aggregate-put-line-2 c = search needs
 put-line-requires : tie.Need-put-line-requires
 put-line-requires c κs =
     let s = c .before .before .before .before .before .before .before in
-    omega (arith, ap length (first-as (s .args .saved) (c .before .before .before .as-number .ensures)), s .pre)
+    let h = first-short (s .args .saved .log .steps) (s .args .saved .log .run .clock) (s .args .saved .log .run .length) (c .before .before .before .as-number .result) (omega (arith, c .before .before .before .before .before .before .before .good)) (omega (arith, c .before .before .before .before .before .before .before .good)) (omega (arith, c .before .before .before .before .before .before .before .good)) (omega arith) in
+    omega (arith, h, s .pre)
 
 same-length : tie.Need-same-length
 same-length c = search needs
 
 returns : tie.Need-returns
 returns c =
-    written-as (first-as (c .before .before .before .before .before .before .before .before .before .before .args .saved) (c .before .before .before .before .before .before .as-number .ensures)) (c .before .before .put-line .ensures)
+    let s = c .before .before .before .before .before .before .before .before .before .before in
+    let h = first-short (s .args .saved .log .steps) (s .args .saved .log .run .clock) (s .args .saved .log .run .length) (c .before .before .before .before .before .before .as-number .result) (omega (arith, c .before .before .before .before .before .before .before .before .before .before .good)) (omega (arith, c .before .before .before .before .before .before .before .before .before .before .good)) (omega (arith, c .before .before .before .before .before .before .before .before .before .before .good)) (omega arith) in
+    within-as (first-as (s .args .saved) (c .before .before .before .before .before .before .as-number .ensures)) h (c .before .before .put-line .ensures)
 
 pub put-first-spec : {M : Type 1} → statement M
 put-first-spec =

@@ -1,12 +1,11 @@
 -- `stands::putting::put_square` meets its contract: a closed square has no line.
 -- Assumes nothing.
-use mathlib.Core.Path.{sym, ap, _∙_}
+use mathlib.Core.Path.{sym, _∙_}
 use native.Mathlib.Omega.{arith}
-use lib.ListN.{length}
 use borrow.Author.Needs.{needs}
 use Rattle.ledger.specs.Runs.{plan}
-use Rattle.text.proofs.WritingLaws.{written-as}
-use Rattle.stands.proofs.PutLaws.{square-none, square-as}
+use Rattle.stands.proofs.LengthLaws.{square-short}
+use Rattle.stands.proofs.PutLaws.{within-as, square-none, square-as}
 use Rattle.stands.proofs.putting.put_square.Statement.{statement}
 use Rattle.stands.proofs.putting.put_square.Tie as tie
 
@@ -14,7 +13,7 @@ is-closed-requires : tie.Need-is-closed-requires
 is-closed-requires c κs = search needs
 
 returns : tie.Need-returns
-returns c = square-none _ _ _ _ (sym (c .before .is-closed .ensures) ∙ c .if1 .taken)
+returns c = square-none _ _ _ _ _ (sym (c .before .is-closed .ensures) ∙ c .if1 .taken)
 
 number-requires : tie.Need-number-requires
 number-requires c κs = search needs
@@ -31,9 +30,8 @@ slice-aggregate-put-line-2 c = search needs
 put-line-requires : tie.Need-put-line-requires
 put-line-requires c κs =
     let s = c .before .before .before .before .before .before .before .before .before .before .before in
-    let e = square-as (plan (s .args .shape) (s .args .marks .now)) (s .args .depths .now) (s .args .lasts .now) (s .args .square) (sym (c .before .before .before .before .before .before .is-closed .ensures) ∙ c .before .before .before .before .before .if1 .left)
-    (c .before .before .before .before .number .ensures) (c .before .before .before .number2 .ensures) in
-    omega (arith, ap length e, s .pre .1)
+    let h = square-short (s .args .square) (c .before .before .before .before .number .result) (c .before .before .before .number2 .result) (s .pre .0) (omega (arith, c .before .before .before .before .number .ensures, c .before .before .before .before .before .before .before .before .shared-slice-known2 .given (s .args .square), c .before .before .before .before .before .before .before .shared-slice-known3 .given (s .args .square))) (omega (arith, c .before .before .before .number2 .ensures, c .before .before .before .before .before .before .before .before .shared-slice-known2 .given (s .args .square), c .before .before .before .before .before .before .before .shared-slice-known3 .given (s .args .square))) in
+    omega (arith, h, s .pre .4)
 
 same-length : tie.Need-same-length
 same-length c = search needs
@@ -41,9 +39,10 @@ same-length c = search needs
 returns-2 : tie.Need-returns-2
 returns-2 c =
     let s = c .before .before .before .before .before .before .before .before .before .before .before .before .before .before in
-    let e = square-as (plan (s .args .shape) (s .args .marks .now)) (s .args .depths .now) (s .args .lasts .now) (s .args .square) (sym (c .before .before .before .before .before .before .before .before .before .is-closed .ensures) ∙ c .before .before .before .before .before .before .before .before .if1 .left)
-    (c .before .before .before .before .before .before .before .number .ensures) (c .before .before .before .before .before .before .number2 .ensures) in
-    written-as e (c .before .before .put-line .ensures)
+    let h = square-short (s .args .square) (c .before .before .before .before .before .before .before .number .result) (c .before .before .before .before .before .before .number2 .result) (s .pre .0) (omega (arith, c .before .before .before .before .before .before .before .number .ensures, c .before .before .before .before .before .before .before .before .before .before .before .shared-slice-known2 .given (s .args .square), c .before .before .before .before .before .before .before .before .before .before .shared-slice-known3 .given (s .args .square))) (omega (arith, c .before .before .before .before .before .before .number2 .ensures, c .before .before .before .before .before .before .before .before .before .before .before .shared-slice-known2 .given (s .args .square), c .before .before .before .before .before .before .before .before .before .before .shared-slice-known3 .given (s .args .square))) in
+    within-as
+    (square-as (plan (s .args .shape) (s .args .marks .now)) (s .args .depths .now) (s .args .lasts .now) (s .args .square) (sym (c .before .before .before .before .before .before .before .before .before .is-closed .ensures) ∙ c .before .before .before .before .before .before .before .before .if1 .left) (c .before .before .before .before .before .before .before .number .ensures) (c .before .before .before .before .before .before .number2 .ensures))
+    h (c .before .before .put-line .ensures)
 
 pub put-square-spec : {M : Type 1} → statement M
 put-square-spec =
