@@ -3,14 +3,14 @@
 use mathlib.Core.Path.{_≡_, refl, sym, ap, ap₂, subst, _∙_}
 use mathlib.Core.Bool.{Bool, true, false}
 use mathlib.Core.List.{List, [], _∷_, _++_}
-use Prim.Native.Nat.{ℕ, zero, suc, _+_, _*_, _/_, min, _≤_, _<_}
+use Prim.Native.Nat.{ℕ, zero, suc, _+_, _*_, _/_, _≤_, _<_}
 use native.Mathlib.Nat.{mul-le-mul, div-add-mod', mod-lt}
 use native.Mathlib.Omega.{arith}
 use lib.Dec.{eqb, leb}
 use lib.ListN.{length, take, length-append}
 use lib.Seq.{length-take-le}
 use borrow.Author.Tests.{eq-eqb, ne-eqb, le-leb, lt-leb}
-use Rattle.reckon.specs.Tests.{pick, every}
+use Rattle.reckon.specs.Tests.{every}
 use Rattle.reckon.proofs.TestLaws.{pick-true, pick-false, every-fails, each-every, refusal-later}
 use Rattle.grid.specs.Squares.{ShapeInRange, squares}
 use Rattle.grid.specs.declared.squares.Shape.{Shape}
@@ -212,7 +212,7 @@ module _ (p : Plan) (depths lasts records began inflow text : List ℕ) (bytes :
     unfolding layTold
     lay-laid z x =
         let same : waterAfter p text 0 (water depths lasts) ≡ water after behind =
-            sym (l .rooms-are ∙ ap (λ (j : ℕ). waterAfter p text j (water depths lasts)) z) in
+        sym (l .rooms-are ∙ ap (λ (j : ℕ). waterAfter p text j (water depths lasts)) z) in
         told-as
         (pick-true _ _ fit
         ∙ (pick-true _ _ (eq-eqb _ _ (sym number-is ∙ z))
@@ -283,7 +283,7 @@ module _ (p : Plan) (d : Desk) (depths lasts records began : List ℕ) where
     unfolding arrowsTold
     arrows-shown z x =
         let laid : after ≡ laidOut (squares (p .shape)) (seenSquare p side seeing) =
-            s .rooms-are ∙ pick-true _ _ (eq-eqb _ _ (sym (s .number-is) ∙ z)) in
+        s .rooms-are ∙ pick-true _ _ (eq-eqb _ _ (sym (s .number-is) ∙ z)) in
         told-as
         (pick-true _ _ (eq-eqb _ _ (sym number-seen ∙ z))
         ∙ ap₂

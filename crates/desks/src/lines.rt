@@ -363,13 +363,7 @@ fn arrows_in(
 }
 
 // `arrows`.
-fn arrows_line(
-    desk: Desk,
-    marks: &[u8],
-    depths: &[u32],
-    records: &[u32],
-    out: &mut [u8],
-) -> Desk
+fn arrows_line(desk: Desk, marks: &[u8], depths: &[u32], records: &[u32], out: &mut [u8]) -> Desk
     requires { ⌜ Shows (plan (desk .heading .shape) (now marks)) (now depths) (now out) ⌝ }
     ensures { λ r. ⌜ ((l b : List ℕ) → Answers (arrowsTold (plan (desk .heading .shape) (now (marks .entry))) (evening (now (depths .entry)) l (now (records .entry)) b (desk .log)) (desk .account) (desk .heading .rules)) desk r (evening (now (depths .entry)) l (now (records .entry)) b (r .log)) (now (out .entry)) (now (out .exit))) ⌝ }
 {

@@ -1,4 +1,4 @@
-use mathlib.Core.Path.{_≡_, sym, _∙_}
+use mathlib.Core.Path.{sym, _∙_}
 use Rattle.desks.proofs.OtherLaws.{room-part}
 use borrow.Author.Needs.{needs}
 use Rattle.desks.proofs.lines.arrows_line.Statement.{statement}

@@ -1,4 +1,4 @@
-use mathlib.Core.Path.{_≡_, sym, ap}
+use mathlib.Core.Path.{sym, ap}
 use Rattle.desks.specs.inner.Lent.{refusedIn}
 use borrow.Author.Needs.{needs}
 use Rattle.desks.proofs.lines.bounds_number.Statement.{statement}

@@ -1,4 +1,4 @@
-use mathlib.Core.Path.{_≡_, _∙_}
+use mathlib.Core.Path.{_∙_}
 use native.Mathlib.Omega.{arith}
 use Rattle.ledger.specs.Runs.{plan}
 use Rattle.desks.proofs.OtherLaws.{slots-some, lay-uncounted, lay-too-long, lay-refused, lay-laid}
