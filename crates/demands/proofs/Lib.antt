@@ -3,6 +3,7 @@ pub mod Boards
 pub mod Demand1
 pub mod Demand2
 pub mod Demand3
+pub mod DeskLaws
 pub mod Determined
 pub mod EnginesAgree
 pub mod Exported

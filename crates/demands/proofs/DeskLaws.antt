@@ -1,0 +1,498 @@
+-- An evening at the desk is the first state with only the standing steps: deed after deed its page goes with a series of calls, as the hatch log's
+-- does, and the account's slots with the ring of records.
+-- Assumes nothing.
+use mathlib.Core.Path.{_≡_, refl, sym, ap, ap₂, subst, _∙_}
+use mathlib.Core.Bool.{Bool, true, false}
+use mathlib.Core.List.{List, [], _∷_, _++_, map}
+use Prim.Native.Nat.{ℕ, zero, suc, _+_, _-_, _*_, _≤_, _<_}
+use native.Mathlib.Omega.{arith}
+use native.Mathlib.Decide.{ℕ-discrete}
+use lib.Dec.{eqb}
+use lib.ListN.{length, getD, set, drop, length-append, length-set}
+use lib.Seq.{getD-set-same, getD-set-other}
+use borrow.Author.Tests.{eq-eqb, ne-eqb, leb-true}
+use Rattle.reckon.specs.Tests.{pick, refusal}
+use Rattle.reckon.specs.Tables.{inflowKind, tableRoom}
+use Rattle.reckon.proofs.TestLaws.{pick-true, pick-false, not-both, every-each, refusal-passed}
+use Rattle.trials.specs.Ring.{slotBefore, slotAfter, slotAgo, keptAfter}
+use Rattle.trials.proofs.RingLaws.{after-below, before-after, ago-none, ago-more, ago-other}
+use Rattle.ledger.specs.Runs.{Plan, World, Seen, seenOf}
+use Rattle.ledger.specs.Record.{roomSlots}
+use Rattle.ledger.specs.TakeBack.{backNumber, takenBack}
+use Rattle.checks.specs.Given.{Given}
+use Rattle.adding.specs.Account.{tablesGive}
+use Rattle.flood.specs.Step.{stepNumber, stepped}
+use Rattle.flood.specs.Run.{Ended, goOn}
+use Rattle.hatches.specs.Log.{Evening, evening, mostHatches, hatchRows, tableWith, lineFine, drawFine, hatchNamed, ratesKept}
+use Rattle.hatches.specs.inner.Rates.{Beside}
+use Rattle.hatches.proofs.RatesLaws.{beside-step}
+use Rattle.hatches.proofs.RowLaws.{namedBelow, rows-long}
+use Rattle.hatches.proofs.RefusalLaws.{back-kept}
+use Rattle.hatches.specs.declared.lines.Entry.the-variants.{Hatch, Back}
+use Rattle.hatches.specs.declared.log.Hatches.{Hatches}
+use Rattle.hatches.specs.declared.log.Log.{Log}
+use Rattle.evenings.specs.Taking.{drawn, worldOf, backFrom, afterHatch, afterBack}
+use Rattle.evenings.proofs.BackLaws.{backs, Backed, backed}
+use Rattle.evenings.proofs.RingSteps.{Moved, step-moved, Returned, back-returned}
+use Rattle.trying.specs.Given.{mostSlots, accountWith}
+use Rattle.trying.specs.Lines.{Came, came, tried, nameRefusals, nameTried, drawRefusals, drawTried, logAt, tryRefusals, stepGiven, stepCame, eveningNext, accountNext, worldNext, backRefusals, backCame, givenBack, nothingGiven}
+use Rattle.trying.specs.declared.given.Account.{Account}
+use Rattle.trying.specs.declared.lines.Tried.{Tried}
+use Rattle.demands.specs.Demand3.{Call, stepping, Trail, start, called, series, alone, AllMade}
+use Rattle.demands.specs.Account.{allGiven}
+use Rattle.demands.specs.HatchLog.{Notes, notes, notedBack, notedWith, Page}
+use Rattle.demands.specs.Desk.{Deed, naming, drawing, oneStep, goingBack, Desk, atFirst, notedDeed, withLog, deedCame, deskWith, deskAfter, givensOf, Begins, Balanced, OnlyStanding}
+use Rattle.demands.proofs.HatchLaws.{beside-same, drop-more, series-snoc, trail, never, Goes, goes-whole, Follows, follow-back, follow-hatch, seen-alone}
+
+-- ---- lists
+
+map-dropped : {A B : Type 0} (f : A → B) (n : ℕ) (l : List A) → drop n (map f l) ≡ map f (drop n l)
+map-dropped f zero l = refl
+map-dropped f (suc n) [] = refl
+map-dropped f (suc n) (a ∷ l) = map-dropped f n l
+
+-- ---- rows with one hatch more
+
+named-before : (named : List Bool) (k n : ℕ) → n ≤ k → namedBelow (set named k true) n ≡ namedBelow named n
+unfolding namedBelow
+named-before named k zero h = refl
+named-before named k (suc n) h =
+    ap₂ (λ (a : ℕ) (b : Bool). a + pick b 1 0) (named-before named k n (omega arith)) (getD-set-other named k n true false (λ e. omega (arith, e)))
+
+named-once : (named : List Bool) (k n : ℕ) → namedBelow (set named k true) n ≤ namedBelow named n + 1
+unfolding namedBelow pick
+named-once named k zero = omega arith
+named-once named k (suc n) = go (ℕ-discrete n k) (named-once named k n)
+  where
+    low : (b : Bool) → pick b 1 0 ≤ 1
+    low true = omega arith
+    low false = omega arith
+
+    go : Dec (n ≡ k) → namedBelow (set named k true) n ≤ namedBelow named n + 1 →
+        namedBelow (set named k true) n + pick (getD (set named k true) n false) 1 0 ≤ namedBelow named n + pick (getD named n false) 1 0 + 1
+    go (yes e) h = omega (arith, named-before named k n (omega (arith, e)), low (getD (set named k true) n false))
+    go (no d) h = rw (getD-set-other named k n true false d) (omega (arith, h))
+
+-- whatever the rates are
+rows-same : (hs : Hatches) (l m : List ℕ) → length (hatchRows hs l) ≡ length (hatchRows hs m)
+rows-same hs l m = rows-long hs l refl ∙ sym (rows-long hs m refl)
+
+table-same : (inflow : List ℕ) (hs : Hatches) (l m : List ℕ) → length (tableWith inflow hs l) ≡ length (tableWith inflow hs m)
+table-same inflow hs l m = omega (arith, length-append inflow (hatchRows hs l), length-append inflow (hatchRows hs m), rows-same hs l m)
+
+-- ---- take-backs that are all made
+
+whole-steps : (p : Plan) (n made : ℕ) (w : World) → backFrom p n made w .number ≡ 0 → backFrom p n made w .steps ≡ made + n
+unfolding backFrom goOn
+whole-steps p zero made w e = omega arith
+whole-steps p (suc n) made w e = go (backNumber p w) e (whole-steps p n (suc made) (takenBack p w))
+  where
+    go : (k : ℕ) → goOn k made w (backFrom p n (suc made) (takenBack p w)) .number ≡ 0 →
+        (backFrom p n (suc made) (takenBack p w) .number ≡ 0 → backFrom p n (suc made) (takenBack p w) .steps ≡ suc made + n) →
+        goOn k made w (backFrom p n (suc made) (takenBack p w)) .steps ≡ made + suc n
+    go zero h ih = omega (arith, ih h)
+    go (suc k) h ih = absurd (omega (arith, h))
+
+-- ---- the notes and the account after take-backs
+
+back-standing : (n : ℕ) (m : Notes) → notedBack n m .standing ≡ drop n (m .standing)
+unfolding notedBack
+back-standing zero m = refl
+back-standing (suc n) m = refl
+
+given-start : (a : Account) (slots newest n : ℕ) → givenBack a slots newest n .start ≡ a .start
+unfolding givenBack
+given-start a slots newest zero = refl
+given-start a slots newest (suc n) = refl
+
+given-slots : (a : Account) (slots newest n : ℕ) → givenBack a slots newest n .before ≡ a .before
+unfolding givenBack
+given-slots a slots newest zero = refl
+given-slots a slots newest (suc n) = refl
+
+module _ (p : Plan) (g : Given) (e₀ : Evening) (a₀ : Account) (first : Begins p g e₀ a₀) where
+  abbrev f : World
+  f = worldOf e₀
+
+  abbrev K : ℕ
+  K = roomSlots p (e₀ .records)
+
+  -- ---- a step
+
+  goes-step : {hs : Hatches} {w : World} {began : List ℕ} {standing : List (List ℕ)} (litres : List ℕ) → length litres ≡ mostHatches →
+      stepNumber p (drawn g hs litres) w ≡ 0 → Goes p g f (first .fresh) hs w began standing →
+      Goes p g f (first .fresh) hs (stepped p (drawn g hs litres) w) (ratesKept (roomSlots p (w .records)) 1 (w .run .newest) litres began) (litres ∷ standing)
+  unfolding ratesKept
+  goes-step {hs} {w} {began} {standing} litres nine z x =
+      record {
+        calls = x .calls ++ (stepping G ∷ []);
+        world-is = ap (λ (y : Trail p). y .at) snoc ∙ ap (stepped p G) (x .world-is);
+        standing-is =
+            ap (λ (y : Trail p). y .standing) snoc
+            ∙ (pick-true _ _ (eq-eqb _ _ (subst (λ (v : World). stepNumber p G v ≡ 0) (sym (x .world-is)) z)) ∙ ap (λ (l : List Given). G ∷ l) (x .standing-is));
+        beside =
+            beside-same (sym (m .kept-is ∙ ap (λ (k : ℕ). keptAfter k (w .run .kept)) (x .slots-are)))
+            (sym (m .newest-is ∙ ap (λ (k : ℕ). slotAfter k (w .run .newest)) (x .slots-are)))
+            (ap (λ (k : ℕ). ratesKept k 1 (w .run .newest) litres began) (sym (x .slots-are))) refl
+            (beside-step (x .beside) litres nine);
+        slots-are = m .slots-are ∙ x .slots-are;
+      }
+    where
+      G : Given
+      G = drawn g hs litres
+
+      snoc : trail p g f (first .fresh) (x .calls ++ (stepping G ∷ [])) ≡ called p (stepping G) (trail p g f (first .fresh) (x .calls))
+      snoc = series-snoc p (x .calls) (stepping G) (start p f)
+
+      m : Moved p w (stepped p G w)
+      m = step-moved p G w z
+
+  -- ---- what had been given before each kept step lies in the slot of its record
+
+  record Spent (w : World) (before : List ℕ) (gs : List Given) : Type 0 where
+    long : length before ≡ mostSlots
+    given-before : (j : ℕ) → j < w .run .kept → getD before (slotAgo K (w .run .newest) j) 0 ≡ a₀ .given + allGiven p (drop (suc j) gs) f
+
+  spent-one : {w : World} {before : List ℕ} {gs : List Given} → backNumber p w ≡ 0 → roomSlots p (w .records) ≡ K → Spent w before gs →
+      Spent (takenBack p w) before (drop 1 gs)
+  spent-one {w} {before} {gs} z s x =
+      let r : Returned p w (takenBack p w) = back-returned p w z in
+      record {
+        long = x .long;
+        given-before = λ j h.
+            ap (λ (k : ℕ). getD before (slotAgo K k j) 0) (r .newest-is ∙ ap (λ (k : ℕ). slotBefore k (w .run .newest)) s)
+            ∙ (ap (λ (k : ℕ). getD before k 0) (sym (ago-more K (w .run .newest) j))
+            ∙ (x .given-before (suc j) (omega (arith, h, r .kept-is)) ∙ ap (λ (l : List Given). a₀ .given + allGiven p l f) (sym (drop-more (suc j) gs))));
+      }
+
+  spent-backs : (n : ℕ) (w : World) {before : List ℕ} {gs : List Given} → ((k : ℕ) → k < n → backNumber p (backs p k w) ≡ 0) → roomSlots p (w .records) ≡ K →
+      Spent w before gs → Spent (backs p n w) before (drop n gs)
+  unfolding backs
+  spent-backs zero w each s x = x
+  spent-backs (suc n) w {before} {gs} each s x =
+      let z : backNumber p w ≡ 0 = each 0 (omega arith) in
+      subst (Spent (backs p n (takenBack p w)) before) (drop-more n gs)
+      (spent-backs n (takenBack p w) (λ k h. each (suc k) (omega arith)) (back-returned p w z .slots-are ∙ s) (spent-one z s x))
+
+  spent-step : {w v : World} {before : List ℕ} {gs : List Given} (G : Given) (given : ℕ) → Moved p w v → w .run .newest < K → roomSlots p (w .records) ≡ K →
+      given ≡ a₀ .given + allGiven p gs f → Spent w before gs →
+      Spent v (set before (slotAfter (roomSlots p (w .records)) (w .run .newest)) given) (G ∷ gs)
+  spent-step {w} {v} {before} {gs} G given m below s is x =
+      subst (λ (k : ℕ). Spent v (set before (slotAfter k (w .run .newest)) given) (G ∷ gs)) (sym s)
+      (record { long = length-set before new given ∙ x .long; given-before = λ j h. ap (λ (k : ℕ). getD (set before new given) (slotAgo K k j) 0) newest ∙ at j (omega (arith, h, kept)) })
+    where
+      new : ℕ
+      new = slotAfter K (w .run .newest)
+
+      new-below : new < K
+      new-below = after-below K (w .run .newest) (first .some)
+
+      newest : v .run .newest ≡ new
+      newest = m .newest-is ∙ ap (λ (k : ℕ). slotAfter k (w .run .newest)) s
+
+      kept : v .run .kept ≡ keptAfter K (w .run .kept)
+      kept = m .kept-is ∙ ap (λ (k : ℕ). keptAfter k (w .run .kept)) s
+
+      older : (i : ℕ) → slotAgo K new (suc i) ≡ slotAgo K (w .run .newest) i
+      older i = ago-more K new i ∙ ap (λ (k : ℕ). slotAgo K k i) (before-after K (w .run .newest) below)
+
+      at : (j : ℕ) → j < keptAfter K (w .run .kept) → getD (set before new given) (slotAgo K new j) 0 ≡ a₀ .given + allGiven p (drop (suc j) (G ∷ gs)) f
+      at zero h =
+          ap (λ (k : ℕ). getD (set before new given) k 0) (ago-none K new)
+          ∙ (getD-set-same before new given 0 (omega (arith, new-below, first .slots-few, x .long)) ∙ is)
+      at (suc i) h =
+          ap (λ (k : ℕ). getD (set before new given) k 0) (older i)
+          ∙ (getD-set-other before new (slotAgo K (w .run .newest) i) given 0 (λ e. ago-other K i new new-below (omega arith) (older i ∙ e))
+          ∙ x .given-before i (omega arith))
+
+  -- ---- a page
+
+  abbrev pageOf : Desk → Page p g
+  pageOf x = record { at = x .at; noted = x .noted }
+
+  record Stands (x : Desk) : Type 0 where
+    follows : Follows p g f (first .fresh) (e₀ .log .steps) (pageOf x)
+    start-is : x .account .start ≡ a₀ .start
+    given-is : x .account .given ≡ a₀ .given + allGiven p (givensOf p g x) f
+    spent : Spent (worldOf (x .at)) (x .account .before) (givensOf p g x)
+    table-fits : length (tableWith (g .inflow) (x .at .log .hatches) (x .at .log .litres)) ≤ tableRoom inflowKind
+
+  seen-is : (x : Page p g) → Follows p g f (first .fresh) (e₀ .log .steps) x →
+      seenOf (worldOf (x .at)) ≡ seenOf (alone p (map (drawn g (x .at .log .hatches)) (x .noted .standing)) f)
+  seen-is x h =
+      sym (ap (λ (w : World). seenOf w) (h .goes .world-is))
+      ∙ (seen-alone p f (first .fresh) (h .goes .calls) ∙ ap (λ (l : List Given). seenOf (alone p l f)) (h .goes .standing-is))
+
+  clock-is : (x : Page p g) → Follows p g f (first .fresh) (e₀ .log .steps) x →
+      x .at .log .run .clock ≡ alone p (map (drawn g (x .at .log .hatches)) (x .noted .standing)) f .run .clock
+  clock-is x h = ap (λ (v : Seen). v .clock) (seen-is x h)
+
+  stands-first : Stands (atFirst e₀ a₀)
+  unfolding series allGiven
+  stands-first =
+      record {
+        follows =
+            record {
+              goes =
+                  record {
+                    calls = [];
+                    world-is = refl;
+                    standing-is = refl;
+                    beside =
+                        record {
+                          some = first .some;
+                          kept-fits = omega (arith, first .fresh .kept-none);
+                          newest-below = omega (arith, first .fresh .newest-last, first .some);
+                          room = first .rates-suffice;
+                          few = omega (arith, first .fresh .kept-none);
+                          rates = λ j h. absurd (omega (arith, first .fresh .kept-none));
+                        };
+                    slots-are = refl;
+                  };
+              litres-are = refl;
+              nine = first .rates-nine;
+              opening-none = λ _. refl;
+              steps-are = omega arith;
+            };
+        start-is = refl;
+        given-is = omega arith;
+        spent = record { long = first .account-long; given-before = λ j h. absurd (omega (arith, first .fresh .kept-none)) };
+        table-fits = first .table-fits;
+      }
+
+  -- ---- a deed
+
+  abbrev deskOf : Deed → Desk → Came → Desk
+  deskOf d x c = record { at = c .evening; account = c .account; noted = pick (eqb (c .number) 0) (notedDeed d (x .noted)) (x .noted) }
+
+  refused-deed : (d : Deed) (x : Desk) {n : ℕ} → deedCame p g d (x .at) (x .account) ≡ came n (x .at) (x .account) → (n ≡ 0 → ⊥) → Stands x → Stands (deskWith p g d x)
+  unfolding deskWith
+  refused-deed d x {n} q z h =
+      subst (λ (c : Came). Stands (deskOf d x c)) (sym q)
+      (subst (λ (m : Notes). Stands (record { at = x .at; account = x .account; noted = m })) (sym (pick-false _ _ (ne-eqb _ _ z))) h)
+
+  made-deed : (d : Deed) (x : Desk) {e : Evening} {a : Account} → deedCame p g d (x .at) (x .account) ≡ came 0 e a →
+      Stands (record { at = e; account = a; noted = notedDeed d (x .noted) }) → Stands (deskWith p g d x)
+  unfolding deskWith
+  made-deed d x {e} {a} q h =
+      subst (λ (c : Came). Stands (deskOf d x c)) (sym q)
+      (subst (λ (m : Notes). Stands (record { at = e; account = a; noted = m })) (sym (pick-true _ _ (eq-eqb 0 0 refl))) h)
+
+  module _ (x : Desk) (h : Stands x) where
+    abbrev e : Evening
+    e = x .at
+
+    abbrev a : Account
+    a = x .account
+
+    abbrev m : Notes
+    m = x .noted
+
+    abbrev hs : Hatches
+    hs = e .log .hatches
+
+    abbrev gs : List Given
+    gs = givensOf p g x
+
+    -- ---- `hatch`
+
+    named : (n row column : ℕ) → refusal (nameRefusals p (g .lie .rules) (g .inflow) (e .log) n row column) ≡ 0 →
+        Stands (record { at = afterHatch p g e n row column; account = a; noted = m })
+    unfolding afterHatch lineFine drawFine
+    named n row column z =
+        let t = refusal-passed _ tt z in
+        let o : e .log .opening ≡ true = every-each _ (t .0) .0 in
+        let none = h .follows .opening-none o in
+        let after = hatchNamed (e .log) n row column .hatches in
+        let fits : length (tableWith (g .inflow) hs (e .log .litres)) + inflowKind .width ≤ tableRoom inflowKind = leb-true _ _ (every-each _ (t .1 .0) .1 .1 .1 .0) in
+        record {
+          follows = follow-hatch p g f (first .fresh) (pageOf x) (h .follows) n row column o;
+          start-is = h .start-is;
+          given-is =
+              h .given-is
+              ∙ ap (λ (l : List Given). a₀ .given + allGiven p l f) (ap (map (drawn g hs)) none ∙ sym (ap (map (drawn g after)) none));
+          spent =
+              record {
+                long = h .spent .long;
+                given-before = λ j l. absurd (omega (arith, l, h .follows .goes .beside .few, ap (λ (s : List (List ℕ)). length s) none));
+              };
+          table-fits =
+              omega (
+                arith,
+                fits,
+                length-append (g .inflow) (hatchRows hs (e .log .litres)),
+                length-append (g .inflow) (hatchRows after (e .log .litres)),
+                rows-long hs (e .log .litres) refl,
+                rows-long after (e .log .litres) refl,
+                named-once (hs .named) (n - 1) mostHatches,
+              );
+        }
+
+    by-naming : (n row column : ℕ) → Stands (deskWith p g (naming n row column) x)
+    unfolding deedCame nameTried notedDeed afterHatch
+    by-naming n row column = go (ℕ-discrete (refusal (nameRefusals p (g .lie .rules) (g .inflow) (e .log) n row column)) 0)
+      where
+        go : Dec (refusal (nameRefusals p (g .lie .rules) (g .inflow) (e .log) n row column) ≡ 0) → Stands (deskWith p g (naming n row column) x)
+        go (yes z) =
+            let q : nameTried p (g .lie .rules) (g .inflow) (e .log) a n row column ≡ tried 0 (hatchNamed (e .log) n row column) a = pick-true _ _ (eq-eqb _ _ z) in
+            made-deed (naming n row column) x (ap (λ (t : Tried). withLog e t) q) (named n row column z)
+        go (no d) =
+            let q : nameTried p (g .lie .rules) (g .inflow) (e .log) a n row column ≡ tried (refusal (nameRefusals p (g .lie .rules) (g .inflow) (e .log) n row column)) (e .log) a = pick-false _ _ (ne-eqb _ _ d) in
+            refused-deed (naming n row column) x (ap (λ (t : Tried). withLog e t) q) d h
+
+    -- ---- `draw`
+
+    drawn-at : (n litres : ℕ) →
+        Stands (record {
+          at = evening (e .depths) (e .lasts) (e .records) (e .began) (logAt (e .log) (set (e .log .litres) (n - 1) litres));
+          account = a;
+          noted = notes (set (m .litres) (n - 1) litres) (m .standing);
+        })
+    drawn-at n litres =
+        record {
+          follows =
+              record {
+                goes = h .follows .goes;
+                litres-are = ap (λ (l : List ℕ). set l (n - 1) litres) (h .follows .litres-are);
+                nine = length-set (e .log .litres) (n - 1) litres ∙ h .follows .nine;
+                opening-none = h .follows .opening-none;
+                steps-are = h .follows .steps-are;
+              };
+          start-is = h .start-is;
+          given-is = h .given-is;
+          spent = h .spent;
+          table-fits = omega (arith, h .table-fits, table-same (g .inflow) hs (set (e .log .litres) (n - 1) litres) (e .log .litres));
+        }
+
+    by-drawing : (n litres : ℕ) → Stands (deskWith p g (drawing n litres) x)
+    unfolding deedCame drawTried notedDeed
+    by-drawing n litres = go (ℕ-discrete (refusal (drawRefusals (e .log) n litres)) 0)
+      where
+        go : Dec (refusal (drawRefusals (e .log) n litres) ≡ 0) → Stands (deskWith p g (drawing n litres) x)
+        go (yes z) =
+            let q : drawTried (e .log) a n litres ≡ tried 0 (logAt (e .log) (set (e .log .litres) (n - 1) litres)) a = pick-true _ _ (eq-eqb _ _ z) in
+            made-deed (drawing n litres) x (ap (λ (t : Tried). withLog e t) q) (drawn-at n litres)
+        go (no d) =
+            let q : drawTried (e .log) a n litres ≡ tried (refusal (drawRefusals (e .log) n litres)) (e .log) a = pick-false _ _ (ne-eqb _ _ d) in
+            refused-deed (drawing n litres) x (ap (λ (t : Tried). withLog e t) q) d h
+
+    -- ---- a step
+
+    abbrev G : Given
+    G = stepGiven p g e a
+
+    module _ (z : stepNumber p G (worldOf e) ≡ 0) where
+      next : Follows p g f (first .fresh) (e₀ .log .steps) (record { at = eveningNext p g e a; noted = notes (m .litres) (m .litres ∷ m .standing) })
+      next =
+          record {
+            goes =
+                subst (λ (l : List ℕ). Goes p g f (first .fresh) hs (worldNext p g e a) (ratesKept (roomSlots p (e .records)) 1 (e .log .run .newest) (e .log .litres) (e .began)) (l ∷ m .standing))
+                (h .follows .litres-are) (goes-step (e .log .litres) (h .follows .nine) z (h .follows .goes));
+            litres-are = h .follows .litres-are;
+            nine = h .follows .nine;
+            opening-none = λ y. not-both y refl;
+            steps-are = omega (arith, h .follows .steps-are);
+          }
+
+      gave : tablesGive p G (e .log .run .clock) (worldNext p g e a .run .clock)
+          ≡ tablesGive p (drawn g hs (m .litres)) (alone p gs f .run .clock) (alone p (drawn g hs (m .litres) ∷ gs) f .run .clock)
+      gave =
+          ap₂ (λ (t u : ℕ). tablesGive p G t u) (clock-is (pageOf x) (h .follows)) (clock-is _ next)
+          ∙ ap (λ (l : List ℕ). tablesGive p (drawn g hs l) (alone p gs f .run .clock) (alone p (drawn g hs (m .litres) ∷ gs) f .run .clock)) (h .follows .litres-are)
+
+      made-step : Stands (record { at = eveningNext p g e a; account = accountNext p g e a; noted = notes (m .litres) (m .litres ∷ m .standing) })
+      unfolding allGiven
+      made-step =
+          record {
+            follows = next;
+            start-is = h .start-is;
+            given-is = omega (arith, h .given-is, gave);
+            spent =
+                spent-step (drawn g hs (m .litres)) (a .given) (step-moved p G (worldOf e) z) (h .follows .goes .beside .newest-below)
+                (h .follows .goes .slots-are) (h .given-is) (h .spent);
+            table-fits = h .table-fits;
+          }
+
+    by-step : Stands (deskWith p g oneStep x)
+    unfolding deedCame stepCame notedDeed
+    by-step = go (ℕ-discrete (refusal (tryRefusals (g .inflow) (e .log) a)) 0) (ℕ-discrete (stepNumber p G (worldOf e)) 0)
+      where
+        go : Dec (refusal (tryRefusals (g .inflow) (e .log) a) ≡ 0) → Dec (stepNumber p G (worldOf e) ≡ 0) → Stands (deskWith p g oneStep x)
+        go (no d) y = refused-deed oneStep x (pick-false _ _ (ne-eqb _ _ d)) d h
+        go (yes z) (no d) = refused-deed oneStep x (pick-true _ _ (eq-eqb _ _ z) ∙ pick-false _ _ (ne-eqb _ _ d)) d h
+        go (yes z) (yes y) = made-deed oneStep x (pick-true _ _ (eq-eqb _ _ z) ∙ pick-true _ _ (eq-eqb _ _ y)) (made-step y)
+
+    -- ---- `back`
+
+    abbrev taken : ℕ → Ended
+    taken count = backFrom p count 0 (worldOf e)
+
+    module _ (count : ℕ) (l : count ≤ e .log .run .kept) where
+      none-refused : taken count .number ≡ 0
+      none-refused = goes-whole p g f (first .fresh) count 0 l (h .follows .goes)
+
+      all-taken : taken count .steps ≡ count
+      all-taken = omega (arith, whole-steps p count 0 (worldOf e) none-refused)
+
+      b : Backed p count 0 (worldOf e) (taken count)
+      b = backed p count 0 (worldOf e)
+
+      more-is : b .more ≡ count
+      more-is = omega (arith, all-taken, b .steps-are)
+
+      fewer : drop count gs ≡ map (drawn g hs) (notedBack count m .standing)
+      fewer = map-dropped (drawn g hs) count (m .standing) ∙ ap (map (drawn g hs)) (sym (back-standing count m))
+
+      backed-account : Account
+      backed-account = givenBack a (roomSlots p (e .records)) (e .log .run .newest) (taken count .steps)
+
+      given-now : (k : ℕ) → k ≤ e .log .run .kept → givenBack a (roomSlots p (e .records)) (e .log .run .newest) k .given ≡ a₀ .given + allGiven p (drop k gs) f
+      unfolding givenBack
+      given-now zero le = h .given-is
+      given-now (suc j) le = ap (λ (k : ℕ). getD (a .before) (slotAgo k (e .log .run .newest) j) 0) (h .follows .goes .slots-are) ∙ h .spent .given-before j le
+
+      made-back : Stands (record { at = afterBack p nothingGiven e count; account = backed-account; noted = notedBack count m })
+      unfolding afterBack notedWith backed-account
+      made-back =
+          record {
+            follows =
+                subst (λ (k : ℕ). Follows p g f (first .fresh) (e₀ .log .steps) (record { at = afterBack p g e count; noted = notedBack k m })) all-taken
+                (follow-back p g f (first .fresh) (pageOf x) (h .follows) count l);
+            start-is = given-start a _ _ (taken count .steps) ∙ h .start-is;
+            given-is =
+                ap (λ (k : ℕ). givenBack a (roomSlots p (e .records)) (e .log .run .newest) k .given) all-taken
+                ∙ (given-now count l ∙ ap (λ (r : List Given). a₀ .given + allGiven p r f) fewer);
+            spent =
+                subst (λ (r : List ℕ). Spent (taken count .world) r (map (drawn g hs) (notedBack count m .standing))) (sym (given-slots a _ _ (taken count .steps)))
+                (subst (λ (w : World). Spent w (a .before) (map (drawn g hs) (notedBack count m .standing))) (sym (b .world-is))
+                (subst (Spent (backs p (b .more) (worldOf e)) (a .before)) (ap (λ (k : ℕ). drop k gs) more-is ∙ fewer)
+                (spent-backs (b .more) (worldOf e) (b .each-made) (h .follows .goes .slots-are) (h .spent))));
+            table-fits = omega (arith, h .table-fits, table-same (g .inflow) hs (afterBack p nothingGiven e count .log .litres) (e .log .litres));
+          }
+
+    by-back : (count : ℕ) → Stands (deskWith p g (goingBack count) x)
+    unfolding deedCame backCame notedDeed backRefusals backed-account
+    by-back count = go (ℕ-discrete (refusal (backRefusals (e .log) count)) 0)
+      where
+        go : Dec (refusal (backRefusals (e .log) count) ≡ 0) → Stands (deskWith p g (goingBack count) x)
+        go (no d) = refused-deed (goingBack count) x (pick-false _ _ (ne-eqb _ _ d)) d h
+        go (yes z) =
+            let l = back-kept (e .log) count (refusal-passed _ tt z .1 .0) in
+            made-deed (goingBack count) x
+            (pick-true _ _ (eq-eqb _ _ z)
+            ∙ ap (λ (k : ℕ). came k (afterBack p nothingGiven e count) (backed-account count l)) (none-refused count l))
+            (made-back count l)
+
+    by-deed : (d : Deed) → Stands (deskWith p g d x)
+    by-deed (naming n row column) = by-naming n row column
+    by-deed (drawing n litres) = by-drawing n litres
+    by-deed oneStep = by-step
+    by-deed (goingBack count) = by-back count
+
+  stands-from : (deeds : List Deed) (x : Desk) → Stands x → Stands (deskAfter p g deeds x)
+  unfolding deskAfter
+  stands-from [] x h = h
+  stands-from (d ∷ rest) x h = stands-from rest _ (by-deed x h d)
+
+  stands : (deeds : List Deed) → Stands (deskAfter p g deeds (atFirst e₀ a₀))
+  stands deeds = stands-from deeds (atFirst e₀ a₀) stands-first
