@@ -8,22 +8,35 @@ use Prim.Native.Nat.{ℕ, zero, suc, _+_, _-_, _*_, _≤_, _<_}
 use native.Mathlib.Omega.{arith}
 use native.Mathlib.Decide.{ℕ-discrete}
 use lib.Dec.{eqb}
-use lib.ListN.{length, getD, set, drop, length-append, length-set}
+use lib.ListN.{length, getD, set, drop, length-append, length-set, length-replicate}
 use lib.Seq.{getD-set-same, getD-set-other}
-use borrow.Author.Tests.{eq-eqb, ne-eqb, leb-true}
+use borrow.Author.Tests.{eq-eqb, ne-eqb, leb-true, le-leb, lt-leb}
 use Rattle.reckon.specs.Tests.{pick, refusal}
 use Rattle.reckon.specs.Tables.{inflowKind, tableRoom}
-use Rattle.reckon.proofs.TestLaws.{pick-true, pick-false, not-both, every-each, refusal-passed}
-use Rattle.trials.specs.Ring.{slotBefore, slotAfter, slotAgo, keptAfter}
+use Rattle.reckon.specs.Ranges.{mostDepth, mostOutflow, mostSoaked}
+use Rattle.reckon.proofs.TestLaws.{pick-true, pick-false, pick-both, not-both, every-each, each-every, refusal-passed, passed-refusal, refusal-here, refusal-later}
+use Rattle.reckon.proofs.ListLaws.{sum-le}
+use Rattle.trials.specs.Ring.{slotsIn, slotBefore, slotAfter, slotAgo, keptAfter}
 use Rattle.trials.proofs.RingLaws.{after-below, before-after, ago-none, ago-more, ago-other}
+use Rattle.grid.specs.Squares.{squares, mostSquares}
 use Rattle.ledger.specs.Runs.{Plan, World, Seen, seenOf}
-use Rattle.ledger.specs.Record.{roomSlots}
+use Rattle.ledger.specs.Record.{roomSlots, ringOf}
+use Rattle.ledger.specs.Flows.{shut}
+use Rattle.ledger.specs.Account.{overOpen, water, held}
+use Rattle.ledger.specs.declared.runs.Run.{Run}
+use Rattle.ledger.specs.declared.runs.Answer.the-variants.{Done}
+use Rattle.rule.specs.declared.rules.Rules.{Rules}
 use Rattle.ledger.specs.TakeBack.{backNumber, takenBack}
 use Rattle.checks.specs.Given.{Given}
+use Rattle.checks.specs.inner.Ready.{Ready}
+use Rattle.checks.specs.Fresh.{freshNumber, freshRun, Freshens}
+use Rattle.checks.proofs.CheckLaws.{ready}
+use Rattle.checks.proofs.FreshLaws.{fresh-slots}
 use Rattle.adding.specs.Account.{tablesGive}
 use Rattle.flood.specs.Step.{stepNumber, stepped}
 use Rattle.flood.specs.Run.{Ended, goOn}
-use Rattle.hatches.specs.Log.{Evening, evening, mostHatches, hatchRows, tableWith, lineFine, drawFine, hatchNamed, ratesKept}
+use Rattle.flood.proofs.RunToLaws.{checks-passed, still-valid, clock-on}
+use Rattle.hatches.specs.Log.{Evening, evening, opened, mostHatches, hatchRows, tableWith, lineFine, drawFine, standingFine, keptFine, hatchNamed, ratesKept}
 use Rattle.hatches.specs.inner.Rates.{Beside}
 use Rattle.hatches.proofs.RatesLaws.{beside-step}
 use Rattle.hatches.proofs.RowLaws.{namedBelow, rows-long}
@@ -32,16 +45,19 @@ use Rattle.hatches.specs.declared.lines.Entry.the-variants.{Hatch, Back}
 use Rattle.hatches.specs.declared.log.Hatches.{Hatches}
 use Rattle.hatches.specs.declared.log.Log.{Log}
 use Rattle.evenings.specs.Taking.{drawn, worldOf, backFrom, afterHatch, afterBack}
-use Rattle.evenings.proofs.BackLaws.{backs, Backed, backed}
+use Rattle.evenings.proofs.BackLaws.{done-is, backs, Backed, backed}
 use Rattle.evenings.proofs.RingSteps.{Moved, step-moved, Returned, back-returned}
-use Rattle.trying.specs.Given.{mostSlots, accountWith}
+use Rattle.stands.specs.Laying.{mostGiven}
+use Rattle.trying.specs.Given.{mostSlots, accountOpened}
 use Rattle.trying.specs.Lines.{Came, came, tried, nameRefusals, nameTried, drawRefusals, drawTried, logAt, tryRefusals, stepGiven, stepCame, eveningNext, accountNext, worldNext, backRefusals, backCame, givenBack, nothingGiven}
 use Rattle.trying.specs.declared.given.Account.{Account}
 use Rattle.trying.specs.declared.lines.Tried.{Tried}
 use Rattle.demands.specs.Demand3.{Call, stepping, Trail, start, called, series, alone, AllMade}
 use Rattle.demands.specs.Account.{allGiven}
 use Rattle.demands.specs.HatchLog.{Notes, notes, notedBack, notedWith, Page}
-use Rattle.demands.specs.Desk.{Deed, naming, drawing, oneStep, goingBack, Desk, atFirst, notedDeed, withLog, deedCame, deskWith, deskAfter, givensOf, Begins, Balanced, OnlyStanding}
+use Rattle.demands.specs.Desk.{Deed, naming, drawing, oneStep, goingBack, Desk, atFirst, notedDeed, withLog, deedCame, deedNumber, deskWith, deskAfter, givensOf, Begins, Balanced, OnlyStanding, DeskEvening, DeskTakenBack}
+use Rattle.demands.proofs.Demand3.{demand-3}
+use Rattle.demands.proofs.Account.{alone-balance, fresh-holds}
 use Rattle.demands.proofs.HatchLaws.{beside-same, drop-more, series-snoc, trail, never, Goes, goes-whole, Follows, follow-back, follow-hatch, seen-alone}
 
 -- ---- lists
@@ -50,6 +66,14 @@ map-dropped : {A B : Type 0} (f : A → B) (n : ℕ) (l : List A) → drop n (ma
 map-dropped f zero l = refl
 map-dropped f (suc n) [] = refl
 map-dropped f (suc n) (a ∷ l) = map-dropped f n l
+
+drop-made : {A : Type 0} (made rest : List A) → drop (length made) (made ++ rest) ≡ rest
+drop-made [] rest = refl
+drop-made (a ∷ made) rest = drop-made made rest
+
+map-long : {A B : Type 0} (f : A → B) (l : List A) → length (map f l) ≡ length l
+map-long f [] = refl
+map-long f (a ∷ l) = ap suc (map-long f l)
 
 -- ---- rows with one hatch more
 
@@ -93,6 +117,13 @@ whole-steps p (suc n) made w e = go (backNumber p w) e (whole-steps p n (suc mad
     go zero h ih = omega (arith, ih h)
     go (suc k) h ih = absurd (omega (arith, h))
 
+number-of : (n : ℕ) (c : Came) (e : Evening) (a : Account) → c .number ≡ 0 → pick (eqb n 0) c (came n e a) .number ≡ n
+number-of n c e a q = go (ℕ-discrete n 0)
+  where
+    go : Dec (n ≡ 0) → pick (eqb n 0) c (came n e a) .number ≡ n
+    go (yes z) = ap (λ (k : Came). k .number) (pick-true c (came n e a) (eq-eqb _ _ z)) ∙ (q ∙ sym z)
+    go (no d) = ap (λ (k : Came). k .number) (pick-false c (came n e a) (ne-eqb _ _ d))
+
 -- ---- the notes and the account after take-backs
 
 back-standing : (n : ℕ) (m : Notes) → notedBack n m .standing ≡ drop n (m .standing)
@@ -109,6 +140,46 @@ given-slots : (a : Account) (slots newest n : ℕ) → givenBack a slots newest 
 unfolding givenBack
 given-slots a slots newest zero = refl
 given-slots a slots newest (suc n) = refl
+
+-- ---- steps alone: the clock of each goes on, and what they were given fits the account
+
+after-step : (p : Plan) (g : Given) (w : World) → stepNumber p g w ≡ 0 → Ready p g (seenOf (stepped p g w))
+after-step p g w z = ready p g (ringOf p (stepped p g w)) (seenOf (stepped p g w)) (still-valid p g w (checks-passed p g w z) z)
+
+few-times : (n : ℕ) → n ≤ mostSquares → n * mostDepth ≤ mostSquares * mostDepth
+few-times n h = omega arith
+
+most-held : (p : Plan) (g : Given) (w : World) → Ready p g (seenOf w) → held p w ≤ mostSquares * mostDepth + mostOutflow + mostSoaked
+unfolding held water overOpen
+most-held p g w r =
+    omega (
+      arith,
+      r .outflow-to,
+      r .soaked-to,
+      sum-le (squares (p .shape)) mostDepth (λ i. pick (shut p i) 0 (getD (w .depths) i 0)) square-most,
+      few-times (squares (p .shape)) (r .waters .fine .few),
+    )
+  where
+    square-most : (i : ℕ) → i < squares (p .shape) → pick (shut p i) 0 (getD (w .depths) i 0) ≤ mostDepth
+    square-most i l = go (shut p i) refl
+      where
+        go : (c : Bool) → shut p i ≡ c → pick (shut p i) 0 (getD (w .depths) i 0) ≤ mostDepth
+        go true q = omega (arith, pick-true 0 (getD (w .depths) i 0) q)
+        go false q = omega (arith, pick-false 0 (getD (w .depths) i 0) q, r .flows .lies .depths-to i l q)
+
+module _ (p : Plan) (f : World) where
+  alone-clock : (gs : List Given) → AllMade p gs f → f .run .clock + length gs ≤ alone p gs f .run .clock
+  unfolding alone
+  alone-clock [] made = omega arith
+  alone-clock (g ∷ gs) made =
+      omega (arith, alone-clock gs (made .1), clock-on p g (alone p gs f) (checks-passed p g (alone p gs f) (made .0)) (made .0))
+
+  -- what is given is held, or was held before
+  given-fits : (gs : List Given) → AllMade p gs f → (start given : ℕ) → given ≤ mostGiven → held p f ≡ start + given → given + allGiven p gs f ≤ mostGiven
+  unfolding alone allGiven
+  given-fits [] made start given low balanced = omega arith
+  given-fits (g ∷ gs) made start given low balanced =
+      omega (arith, alone-balance p (g ∷ gs) f made, most-held p g (stepped p g (alone p gs f)) (after-step p g (alone p gs f) (made .0)), balanced)
 
 module _ (p : Plan) (g : Given) (e₀ : Evening) (a₀ : Account) (first : Begins p g e₀ a₀) where
   abbrev f : World
@@ -496,3 +567,193 @@ module _ (p : Plan) (g : Given) (e₀ : Evening) (a₀ : Account) (first : Begin
 
   stands : (deeds : List Deed) → Stands (deskAfter p g deeds (atFirst e₀ a₀))
   stands deeds = stands-from deeds (atFirst e₀ a₀) stands-first
+
+  -- ---- what holds of each page
+
+  module _ (x : Desk) (h : Stands x) where
+    all-made : AllMade p (givensOf p g x) f
+    all-made = subst (λ (l : List Given). AllMade p l f) (h .follows .goes .standing-is) (never p g f (first .fresh) (h .follows .goes .calls) .all-made)
+
+    -- what is held is what the standing steps alone hold
+    same-held : held p (worldOf (x .at)) ≡ held p (alone p (givensOf p g x) f)
+    unfolding held
+    same-held =
+        let seen = seen-is (pageOf x) (h .follows) in
+        ap₂ (λ (a b : ℕ). a + b)
+        (ap₂ (λ (d : List ℕ) (o : ℕ). water p d + o) (ap (λ (v : Seen). v .depths) seen) (ap (λ (v : Seen). v .outflow) seen))
+        (ap (λ (v : Seen). v .soaked) seen)
+
+    only-standing : OnlyStanding p g e₀ a₀ x
+    only-standing =
+        record {
+          rates-are = h .follows .litres-are;
+          steps-are = h .follows .steps-are;
+          all-made = all-made;
+          same-seen = seen-is (pageOf x) (h .follows);
+          kept-low = h .follows .goes .beside .few;
+          start-is = h .start-is;
+          given-is = h .given-is;
+          balanced = λ q. omega (arith, same-held, alone-balance p (givensOf p g x) f all-made, q, h .start-is, h .given-is);
+        }
+
+    standing-fine : standingFine (x .at .log) ≡ true
+    unfolding standingFine
+    standing-fine =
+        let steps = h .follows .steps-are in
+        let low : x .at .log .steps ≤ x .at .log .run .clock = omega (arith, steps, alone-clock p f (givensOf p g x) all-made, clock-is (pageOf x) (h .follows), map-long (drawn g (x .at .log .hatches)) (x .noted .standing), first .steps-low) in
+        let kept : x .at .log .run .kept ≤ x .at .log .steps = omega (arith, steps, h .follows .goes .beside .few) in
+        each-every _ (le-leb _ _ kept, (le-leb _ _ low, tt))
+
+    back-whole : (count : ℕ) → count ≤ x .at .log .run .kept → deedNumber p g (goingBack count) x ≡ 0
+    unfolding deedCame backCame backRefusals keptFine
+    back-whole count l =
+        ap (λ (c : Came). c .number) (pick-true _ _ (eq-eqb _ _ (passed-refusal (backRefusals (x .at .log) count) (standing-fine, (le-leb _ _ l, tt)))))
+        ∙ none-refused x h count l
+
+    back-beyond : (count : ℕ) → x .at .log .run .kept < count → deedNumber p g (goingBack count) x ≡ 10
+    unfolding deedCame backCame backRefusals keptFine
+    back-beyond count l =
+        let ten : refusal (backRefusals (x .at .log) count) ≡ 10 = refusal-later 6 _ standing-fine ∙ refusal-here 10 _ (lt-leb _ _ l) in
+        let some : refusal (backRefusals (x .at .log) count) ≡ 0 → ⊥ = λ z. omega (arith, ten, z) in
+        ap (λ (c : Came). c .number) (pick-false _ _ (ne-eqb _ _ some)) ∙ ten
+
+    step-alone : Balanced p g e₀ a₀ → deedNumber p g oneStep x ≡ stepNumber p (stepGiven p g (x .at) (x .account)) (worldOf (x .at))
+    unfolding deedCame stepCame tryRefusals
+    step-alone q =
+        let n = stepNumber p (stepGiven p g (x .at) (x .account)) (worldOf (x .at)) in
+        let given : x .account .given ≤ mostGiven = omega (arith, h .given-is, given-fits p f (givensOf p g x) all-made (a₀ .start) (a₀ .given) (first .given-low) q) in
+        ap (λ (c : Came). c .number) (pick-true _ _ (eq-eqb _ _ (passed-refusal (tryRefusals (g .inflow) (x .at .log) (x .account)) (le-leb _ _ (h .table-fits), (standing-fine, (le-leb _ _ given, tt))))))
+        ∙ number-of n (came 0 (eveningNext p g (x .at) (x .account)) (accountNext p g (x .at) (x .account))) (x .at) (x .account) refl
+
+-- ---- once the opening is over, hatches stay
+
+module _ (p : Plan) (g : Given) where
+  record Named (hs : Hatches) (log : Log) : Type 0 where
+    same : log .hatches ≡ hs
+    over : log .opening ≡ false
+
+  named-came : (d : Deed) (e : Evening) (a : Account) {hs : Hatches} → Named hs (e .log) → Named hs (deedCame p g d e a .evening .log)
+  unfolding deedCame nameTried drawTried stepCame backCame afterBack lineFine
+  named-came (naming n row column) e a {hs} h =
+      go (ℕ-discrete (refusal (nameRefusals p (g .lie .rules) (g .inflow) (e .log) n row column)) 0)
+    where
+      go : Dec (refusal (nameRefusals p (g .lie .rules) (g .inflow) (e .log) n row column) ≡ 0) →
+          Named hs (pick (eqb (refusal (nameRefusals p (g .lie .rules) (g .inflow) (e .log) n row column)) 0)
+          (tried 0 (hatchNamed (e .log) n row column) a) (tried (refusal (nameRefusals p (g .lie .rules) (g .inflow) (e .log) n row column)) (e .log) a) .log)
+      go (yes z) = not-both (every-each _ (refusal-passed _ tt z .0) .0) (h .over)
+      go (no d) = subst (λ (t : Tried). Named hs (t .log)) (sym (pick-false _ _ (ne-eqb _ _ d))) h
+  named-came (drawing n litres) e a {hs} h =
+      pick-both (λ (t : Tried). Named hs (t .log)) (eqb (refusal (drawRefusals (e .log) n litres)) 0) (record { same = h .same; over = h .over }) h
+  named-came oneStep e a {hs} h =
+      pick-both (λ (c : Came). Named hs (c .evening .log)) (eqb (refusal (tryRefusals (g .inflow) (e .log) a)) 0)
+      (pick-both (λ (c : Came). Named hs (c .evening .log)) (eqb (stepNumber p (stepGiven p g e a) (worldOf e)) 0) (record { same = h .same; over = refl }) h) h
+  named-came (goingBack count) e a {hs} h =
+      pick-both (λ (c : Came). Named hs (c .evening .log)) (eqb (refusal (backRefusals (e .log) count)) 0) (record { same = h .same; over = refl }) h
+
+  named-with : (d : Deed) (x : Desk) {hs : Hatches} → Named hs (x .at .log) → Named hs (deskWith p g d x .at .log)
+  unfolding deskWith
+  named-with d x h = named-came d (x .at) (x .account) h
+
+  named-after : (deeds : List Deed) (x : Desk) {hs : Hatches} → Named hs (x .at .log) → Named hs (deskAfter p g deeds x .at .log)
+  unfolding deskAfter
+  named-after [] x h = h
+  named-after (d ∷ rest) x h = named-after rest (deskWith p g d x) (named-with d x h)
+
+-- ---- a trial taken back
+
+module _ (p : Plan) (g : Given) (e : Evening) (a : Account) (b : Begins p g e a) (deeds trial : List Deed) (made : List (List ℕ)) where
+  abbrev before : Desk
+  before = deskAfter p g deeds (atFirst e a)
+
+  abbrev later : Desk
+  later = deskAfter p g trial before
+
+  abbrev after : Desk
+  after = deskWith p g (goingBack (length made)) later
+
+  before-stands : Stands p g e a b before
+  before-stands = stands p g e a b deeds
+
+  later-stands : Stands p g e a b later
+  later-stands = stands-from p g e a b trial before before-stands
+
+  after-stands : Stands p g e a b after
+  after-stands = by-deed p g e a b later later-stands (goingBack (length made))
+
+  module _ (same : later .noted .standing ≡ made ++ before .noted .standing) (l : length made ≤ later .at .log .run .kept) where
+    as-before : after .noted .standing ≡ before .noted .standing
+    unfolding deskWith notedDeed
+    as-before =
+        ap (λ (m : Notes). m .standing) (pick-true _ _ (eq-eqb _ _ (back-whole p g e a b later later-stands (length made) l)))
+        ∙ (back-standing (length made) (later .noted) ∙ (ap (λ (s : List (List ℕ)). drop (length made) s) same ∙ drop-made made (before .noted .standing)))
+
+    -- each at the same hatches, or none stands
+    same-givens : givensOf p g after ≡ givensOf p g before
+    same-givens = go (before .at .log .opening) refl
+      where
+        go : (o : Bool) → before .at .log .opening ≡ o → givensOf p g after ≡ givensOf p g before
+        go true q =
+            let none = before-stands .follows .opening-none q in
+            ap (map (drawn g (after .at .log .hatches))) (as-before ∙ none) ∙ sym (ap (map (drawn g (before .at .log .hatches))) none)
+        go false q =
+            let n = named-with p g (goingBack (length made)) later (named-after p g trial before (record { same = refl; over = q })) in
+            ap₂ (λ (hs : Hatches) (s : List (List ℕ)). map (drawn g hs) s) (n .same) as-before
+
+    gone : (seenOf (worldOf (after .at)) ≡ seenOf (worldOf (before .at))) ×
+        (after .at .log .steps ≡ before .at .log .steps) ×
+        (after .account .start ≡ before .account .start) ×
+        (after .account .given ≡ before .account .given)
+    gone =
+        let x = only-standing p g e a b before before-stands in
+        let y = only-standing p g e a b after after-stands in
+        (
+          y .same-seen ∙ (ap (λ (s : List Given). seenOf (alone p s (worldOf e))) same-givens ∙ sym (x .same-seen)),
+          y .steps-are ∙ (ap (λ (s : List (List ℕ)). length s + e .log .steps) as-before ∙ sym (x .steps-are)),
+          y .start-is ∙ sym (x .start-is),
+          y .given-is ∙ (ap (λ (s : List Given). a .given + allGiven p s (worldOf e)) same-givens ∙ sym (x .given-is)),
+        )
+
+-- ---- a sheet's fresh run
+
+module _ (p : Plan) (g : Given) (r : Rules) (depths records before lasts began : List ℕ) (u : Run) (freshly : Freshens p r before records (Done u) lasts) where
+  number-none : freshNumber p r before records ≡ 0
+  number-none = sym (done-is (freshNumber p r before records) (freshRun r (roomSlots p records)) u (freshly .answer) .1)
+
+  no-rows : length (hatchRows (opened u .hatches) (opened u .litres)) ≡ 0
+  unfolding namedBelow pick
+  no-rows = rows-long (opened u .hatches) (opened u .litres) {count = 0} refl
+
+  sheet-begins : roomSlots p records ≤ mostSlots → roomSlots p records ≤ slotsIn mostHatches (length began) → length (g .inflow) ≤ tableRoom inflowKind →
+      Begins p g (evening depths lasts records began (opened u)) (accountOpened (water p depths) 0)
+  sheet-begins few rates fits =
+      record {
+        fresh = demand-3 p .fresh-is r depths records before lasts u freshly;
+        some = let d : roomSlots p records ≡ 0 → ⊥ = fresh-slots p r before records number-none in omega arith;
+        slots-few = few;
+        rates-suffice = rates;
+        rates-nine = refl;
+        account-long = length-replicate {A = ℕ} mostSlots 0;
+        table-fits = omega (arith, fits, no-rows, length-append (g .inflow) (hatchRows (opened u .hatches) (opened u .litres)));
+        steps-low = omega arith;
+        given-low = omega arith;
+      }
+
+  sheet-balanced : Balanced p g (evening depths lasts records began (opened u)) (accountOpened (water p depths) 0)
+  sheet-balanced = omega (arith, fresh-holds p r depths records before lasts u freshly [])
+
+-- ---- the theorems
+
+module _ (p : Plan) (g : Given) where
+  pub desk-evening : DeskEvening p g
+  desk-evening =
+      record {
+        only-standing = λ e a b deeds. only-standing p g e a b (deskAfter p g deeds (atFirst e a)) (stands p g e a b deeds);
+        back-whole = λ e a b deeds count l. back-whole p g e a b (deskAfter p g deeds (atFirst e a)) (stands p g e a b deeds) count l;
+        back-beyond = λ e a b deeds count l. back-beyond p g e a b (deskAfter p g deeds (atFirst e a)) (stands p g e a b deeds) count l;
+        step-alone = λ e a b q deeds. step-alone p g e a b (deskAfter p g deeds (atFirst e a)) (stands p g e a b deeds) q;
+        from-sheet = λ r depths records before lasts began u freshly few rates fits.
+            (sheet-begins p g r depths records before lasts began u freshly few rates fits, sheet-balanced p g r depths records before lasts began u freshly);
+      }
+
+  pub desk-taken-back : DeskTakenBack p g
+  desk-taken-back = record { gone = λ e a b deeds trial made same l. gone p g e a b deeds trial made same l }
