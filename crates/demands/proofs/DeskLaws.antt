@@ -37,11 +37,9 @@ use Rattle.flood.specs.Step.{stepNumber, stepped}
 use Rattle.flood.specs.Run.{Ended, goOn}
 use Rattle.flood.proofs.RunToLaws.{checks-passed, still-valid, clock-on}
 use Rattle.hatches.specs.Log.{Evening, evening, opened, mostHatches, hatchRows, tableWith, lineFine, drawFine, standingFine, keptFine, hatchNamed, ratesKept}
-use Rattle.hatches.specs.inner.Rates.{Beside}
 use Rattle.hatches.proofs.RatesLaws.{beside-step}
 use Rattle.hatches.proofs.RowLaws.{namedBelow, rows-long}
 use Rattle.hatches.proofs.RefusalLaws.{back-kept}
-use Rattle.hatches.specs.declared.lines.Entry.the-variants.{Hatch, Back}
 use Rattle.hatches.specs.declared.log.Hatches.{Hatches}
 use Rattle.hatches.specs.declared.log.Log.{Log}
 use Rattle.evenings.specs.Taking.{drawn, worldOf, backFrom, afterHatch, afterBack}
@@ -52,10 +50,10 @@ use Rattle.trying.specs.Given.{mostSlots, accountOpened}
 use Rattle.trying.specs.Lines.{Came, came, tried, nameRefusals, nameTried, drawRefusals, drawTried, logAt, tryRefusals, stepGiven, stepCame, eveningNext, accountNext, worldNext, backRefusals, backCame, givenBack, nothingGiven}
 use Rattle.trying.specs.declared.given.Account.{Account}
 use Rattle.trying.specs.declared.lines.Tried.{Tried}
-use Rattle.demands.specs.Demand3.{Call, stepping, Trail, start, called, series, alone, AllMade}
+use Rattle.demands.specs.Demand3.{stepping, Trail, start, called, series, alone, AllMade}
 use Rattle.demands.specs.Account.{allGiven}
 use Rattle.demands.specs.HatchLog.{Notes, notes, notedBack, notedWith, Page}
-use Rattle.demands.specs.Desk.{Deed, naming, drawing, oneStep, goingBack, Desk, atFirst, notedDeed, withLog, deedCame, deedNumber, deskWith, deskAfter, givensOf, Begins, Balanced, OnlyStanding, DeskEvening, DeskTakenBack}
+use Rattle.demands.specs.Desk.{Deed, naming, drawing, oneStep, goingBack, Desk, atFirst, notedDeed, withLog, deedCame, deedNumber, deskWith, deskAfter, givensOf, Begins, Balanced, OnlyStanding, DeskEvening, DeskTakenBack, Turn, atOne, atOther, inTurn, ofOne, ofOther, TwoDesks}
 use Rattle.demands.proofs.Demand3.{demand-3}
 use Rattle.demands.proofs.Account.{alone-balance, fresh-holds}
 use Rattle.demands.proofs.HatchLaws.{beside-same, drop-more, series-snoc, trail, never, Goes, goes-whole, Follows, follow-back, follow-hatch, seen-alone}
@@ -705,8 +703,7 @@ module _ (p : Plan) (g : Given) (e : Evening) (a : Account) (b : Begins p g e a)
         (after .account .given ≡ before .account .given)
     gone =
         let x = only-standing p g e a b before before-stands in
-        let y = only-standing p g e a b after after-stands in
-        (
+        let y = only-standing p g e a b after after-stands in (
           y .same-seen ∙ (ap (λ (s : List Given). seenOf (alone p s (worldOf e))) same-givens ∙ sym (x .same-seen)),
           y .steps-are ∙ (ap (λ (s : List (List ℕ)). length s + e .log .steps) as-before ∙ sym (x .steps-are)),
           y .start-is ∙ sym (x .start-is),
@@ -757,3 +754,15 @@ module _ (p : Plan) (g : Given) where
 
   pub desk-taken-back : DeskTakenBack p g
   desk-taken-back = record { gone = λ e a b deeds trial made same l. gone p g e a b deeds trial made same l }
+
+-- ---- two desks
+
+module _ (p : Plan) (g : Given) (q : Plan) (h : Given) where
+  apart : (turns : List Turn) (x y : Desk) → inTurn p g q h turns x y ≡ (deskAfter p g (ofOne turns) x, deskAfter q h (ofOther turns) y)
+  unfolding inTurn ofOne ofOther deskAfter
+  apart [] x y = refl
+  apart (atOne d ∷ rest) x y = apart rest (deskWith p g d x) y
+  apart (atOther d ∷ rest) x y = apart rest x (deskWith q h d y)
+
+  pub two-desks : TwoDesks p g q h
+  two-desks = record { apart = apart }

@@ -10,7 +10,7 @@ use Rattle.reckon.specs.Tests.{pick}
 use Rattle.reckon.specs.Tables.{inflowKind, tableRoom}
 use Rattle.trials.specs.Ring.{slotsIn}
 use Rattle.rule.specs.declared.rules.Rules.{Rules}
-use Rattle.ledger.specs.Runs.{Plan, World, seenOf}
+use Rattle.ledger.specs.Runs.{Plan, seenOf}
 use Rattle.ledger.specs.Record.{roomSlots}
 use Rattle.ledger.specs.Account.{water, held}
 use Rattle.ledger.specs.declared.runs.Run.{Run}
@@ -149,3 +149,31 @@ module _ (p : Plan) (g : Given) where
         (after .at .log .steps ≡ before .at .log .steps) ×
         (after .account .start ≡ before .account .start) ×
         (after .account .given ≡ before .account .given)
+
+-- ---- two desks
+
+-- a deed at the one desk or at the other, each with its own sheet
+pub data Turn : Type 0 where
+  atOne : Deed → Turn
+  atOther : Deed → Turn
+
+-- the deeds of each
+unfoldable pub ofOne : List Turn → List Deed
+ofOne [] = []
+ofOne (atOne d ∷ rest) = d ∷ ofOne rest
+ofOne (atOther d ∷ rest) = ofOne rest
+
+unfoldable pub ofOther : List Turn → List Deed
+ofOther [] = []
+ofOther (atOne d ∷ rest) = ofOther rest
+ofOther (atOther d ∷ rest) = d ∷ ofOther rest
+
+module _ (p : Plan) (g : Given) (q : Plan) (h : Given) where
+  unfoldable pub inTurn : List Turn → Desk → Desk → Desk × Desk
+  inTurn [] x y = (x, y)
+  inTurn (atOne d ∷ rest) x y = inTurn rest (deskWith p g d x) y
+  inTurn (atOther d ∷ rest) x y = inTurn rest x (deskWith q h d y)
+
+  -- whatever the order, each comes to where its own deeds alone bring it
+  pub record TwoDesks : Type 0 where
+    pub apart : (turns : List Turn) (x y : Desk) → inTurn turns x y ≡ (deskAfter p g (ofOne turns) x, deskAfter q h (ofOther turns) y)
