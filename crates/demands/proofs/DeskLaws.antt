@@ -8,8 +8,8 @@ use Prim.Native.Nat.{ℕ, zero, suc, _+_, _-_, _*_, _≤_, _<_}
 use native.Mathlib.Omega.{arith}
 use native.Mathlib.Decide.{ℕ-discrete}
 use lib.Dec.{eqb}
-use lib.ListN.{length, getD, set, drop, length-append, length-set, length-replicate}
-use lib.Seq.{getD-set-same, getD-set-other}
+use lib.ListN.{length, getD, set, drop, length-append, length-map, length-set, length-replicate}
+use lib.Seq.{getD-set-same, getD-set-other, drop-append-seam}
 use borrow.Author.Tests.{eq-eqb, ne-eqb, leb-true, le-leb, lt-leb}
 use Rattle.reckon.specs.Tests.{pick, refusal}
 use Rattle.reckon.specs.Tables.{inflowKind, tableRoom}
@@ -65,14 +65,6 @@ map-dropped f zero l = refl
 map-dropped f (suc n) [] = refl
 map-dropped f (suc n) (a ∷ l) = map-dropped f n l
 
-drop-made : {A : Type 0} (made rest : List A) → drop (length made) (made ++ rest) ≡ rest
-drop-made [] rest = refl
-drop-made (a ∷ made) rest = drop-made made rest
-
-map-long : {A B : Type 0} (f : A → B) (l : List A) → length (map f l) ≡ length l
-map-long f [] = refl
-map-long f (a ∷ l) = ap suc (map-long f l)
-
 -- ---- rows with one hatch more
 
 named-before : (named : List Bool) (k n : ℕ) → n ≤ k → namedBelow (set named k true) n ≡ namedBelow named n
@@ -124,7 +116,7 @@ number-of n c e a q = go (ℕ-discrete n 0)
 
 -- ---- the notes and the account after take-backs
 
-back-standing : (n : ℕ) (m : Notes) → notedBack n m .standing ≡ drop n (m .standing)
+pub back-standing : (n : ℕ) (m : Notes) → notedBack n m .standing ≡ drop n (m .standing)
 unfolding notedBack
 back-standing zero m = refl
 back-standing (suc n) m = refl
@@ -180,10 +172,10 @@ module _ (p : Plan) (f : World) where
       omega (arith, alone-balance p (g ∷ gs) f made, most-held p g (stepped p g (alone p gs f)) (after-step p g (alone p gs f) (made .0)), balanced)
 
 module _ (p : Plan) (g : Given) (e₀ : Evening) (a₀ : Account) (first : Begins p g e₀ a₀) where
-  abbrev f : World
+  abbrev pub f : World
   f = worldOf e₀
 
-  abbrev K : ℕ
+  abbrev pub K : ℕ
   K = roomSlots p (e₀ .records)
 
   -- ---- a step
@@ -218,9 +210,9 @@ module _ (p : Plan) (g : Given) (e₀ : Evening) (a₀ : Account) (first : Begin
 
   -- ---- what had been given before each kept step lies in the slot of its record
 
-  record Spent (w : World) (before : List ℕ) (gs : List Given) : Type 0 where
-    long : length before ≡ mostSlots
-    given-before : (j : ℕ) → j < w .run .kept → getD before (slotAgo K (w .run .newest) j) 0 ≡ a₀ .given + allGiven p (drop (suc j) gs) f
+  pub record Spent (w : World) (before : List ℕ) (gs : List Given) : Type 0 where
+    pub long : length before ≡ mostSlots
+    pub given-before : (j : ℕ) → j < w .run .kept → getD before (slotAgo K (w .run .newest) j) 0 ≡ a₀ .given + allGiven p (drop (suc j) gs) f
 
   spent-one : {w : World} {before : List ℕ} {gs : List Given} → backNumber p w ≡ 0 → roomSlots p (w .records) ≡ K → Spent w before gs →
       Spent (takenBack p w) before (drop 1 gs)
@@ -276,15 +268,15 @@ module _ (p : Plan) (g : Given) (e₀ : Evening) (a₀ : Account) (first : Begin
 
   -- ---- a page
 
-  abbrev pageOf : Desk → Page p g
+  abbrev pub pageOf : Desk → Page p g
   pageOf x = record { at = x .at; noted = x .noted }
 
-  record Stands (x : Desk) : Type 0 where
-    follows : Follows p g f (first .fresh) (e₀ .log .steps) (pageOf x)
-    start-is : x .account .start ≡ a₀ .start
-    given-is : x .account .given ≡ a₀ .given + allGiven p (givensOf p g x) f
-    spent : Spent (worldOf (x .at)) (x .account .before) (givensOf p g x)
-    table-fits : length (tableWith (g .inflow) (x .at .log .hatches) (x .at .log .litres)) ≤ tableRoom inflowKind
+  pub record Stands (x : Desk) : Type 0 where
+    pub follows : Follows p g f (first .fresh) (e₀ .log .steps) (pageOf x)
+    pub start-is : x .account .start ≡ a₀ .start
+    pub given-is : x .account .given ≡ a₀ .given + allGiven p (givensOf p g x) f
+    pub spent : Spent (worldOf (x .at)) (x .account .before) (givensOf p g x)
+    pub table-fits : length (tableWith (g .inflow) (x .at .log .hatches) (x .at .log .litres)) ≤ tableRoom inflowKind
 
   seen-is : (x : Page p g) → Follows p g f (first .fresh) (e₀ .log .steps) x →
       seenOf (worldOf (x .at)) ≡ seenOf (alone p (map (drawn g (x .at .log .hatches)) (x .noted .standing)) f)
@@ -296,7 +288,7 @@ module _ (p : Plan) (g : Given) (e₀ : Evening) (a₀ : Account) (first : Begin
       x .at .log .run .clock ≡ alone p (map (drawn g (x .at .log .hatches)) (x .noted .standing)) f .run .clock
   clock-is x h = ap (λ (v : Seen). v .clock) (seen-is x h)
 
-  stands-first : Stands (atFirst e₀ a₀)
+  pub stands-first : Stands (atFirst e₀ a₀)
   unfolding series allGiven
   stands-first =
       record {
@@ -497,17 +489,17 @@ module _ (p : Plan) (g : Given) (e₀ : Evening) (a₀ : Account) (first : Begin
     taken count = backFrom p count 0 (worldOf e)
 
     module _ (count : ℕ) (l : count ≤ e .log .run .kept) where
-      none-refused : taken count .number ≡ 0
+      pub none-refused : taken count .number ≡ 0
       none-refused = goes-whole p g f (first .fresh) count 0 l (h .follows .goes)
 
       all-taken : taken count .steps ≡ count
       all-taken = omega (arith, whole-steps p count 0 (worldOf e) none-refused)
 
-      b : Backed p count 0 (worldOf e) (taken count)
-      b = backed p count 0 (worldOf e)
+      pub back-is : Backed p count 0 (worldOf e) (taken count)
+      back-is = backed p count 0 (worldOf e)
 
-      more-is : b .more ≡ count
-      more-is = omega (arith, all-taken, b .steps-are)
+      pub more-is : back-is .more ≡ count
+      more-is = omega (arith, all-taken, back-is .steps-are)
 
       fewer : drop count gs ≡ map (drawn g hs) (notedBack count m .standing)
       fewer = map-dropped (drawn g hs) count (m .standing) ∙ ap (map (drawn g hs)) (sym (back-standing count m))
@@ -533,9 +525,9 @@ module _ (p : Plan) (g : Given) (e₀ : Evening) (a₀ : Account) (first : Begin
                 ∙ (given-now count l ∙ ap (λ (r : List Given). a₀ .given + allGiven p r f) fewer);
             spent =
                 subst (λ (r : List ℕ). Spent (taken count .world) r (map (drawn g hs) (notedBack count m .standing))) (sym (given-slots a _ _ (taken count .steps)))
-                (subst (λ (w : World). Spent w (a .before) (map (drawn g hs) (notedBack count m .standing))) (sym (b .world-is))
-                (subst (Spent (backs p (b .more) (worldOf e)) (a .before)) (ap (λ (k : ℕ). drop k gs) more-is ∙ fewer)
-                (spent-backs (b .more) (worldOf e) (b .each-made) (h .follows .goes .slots-are) (h .spent))));
+                (subst (λ (w : World). Spent w (a .before) (map (drawn g hs) (notedBack count m .standing))) (sym (back-is .world-is))
+                (subst (Spent (backs p (back-is .more) (worldOf e)) (a .before)) (ap (λ (k : ℕ). drop k gs) more-is ∙ fewer)
+                (spent-backs (back-is .more) (worldOf e) (back-is .each-made) (h .follows .goes .slots-are) (h .spent))));
             table-fits = omega (arith, h .table-fits, table-same (g .inflow) hs (afterBack p nothingGiven e count .log .litres) (e .log .litres));
           }
 
@@ -552,18 +544,18 @@ module _ (p : Plan) (g : Given) (e₀ : Evening) (a₀ : Account) (first : Begin
             ∙ ap (λ (k : ℕ). came k (afterBack p nothingGiven e count) (backed-account count l)) (none-refused count l))
             (made-back count l)
 
-    by-deed : (d : Deed) → Stands (deskWith p g d x)
+    pub by-deed : (d : Deed) → Stands (deskWith p g d x)
     by-deed (naming n row column) = by-naming n row column
     by-deed (drawing n litres) = by-drawing n litres
     by-deed oneStep = by-step
     by-deed (goingBack count) = by-back count
 
-  stands-from : (deeds : List Deed) (x : Desk) → Stands x → Stands (deskAfter p g deeds x)
+  pub stands-from : (deeds : List Deed) (x : Desk) → Stands x → Stands (deskAfter p g deeds x)
   unfolding deskAfter
   stands-from [] x h = h
   stands-from (d ∷ rest) x h = stands-from rest _ (by-deed x h d)
 
-  stands : (deeds : List Deed) → Stands (deskAfter p g deeds (atFirst e₀ a₀))
+  pub stands : (deeds : List Deed) → Stands (deskAfter p g deeds (atFirst e₀ a₀))
   stands deeds = stands-from deeds (atFirst e₀ a₀) stands-first
 
   -- ---- what holds of each page
@@ -581,7 +573,7 @@ module _ (p : Plan) (g : Given) (e₀ : Evening) (a₀ : Account) (first : Begin
         (ap₂ (λ (d : List ℕ) (o : ℕ). water p d + o) (ap (λ (v : Seen). v .depths) seen) (ap (λ (v : Seen). v .outflow) seen))
         (ap (λ (v : Seen). v .soaked) seen)
 
-    only-standing : OnlyStanding p g e₀ a₀ x
+    pub only-standing : OnlyStanding p g e₀ a₀ x
     only-standing =
         record {
           rates-are = h .follows .litres-are;
@@ -594,19 +586,27 @@ module _ (p : Plan) (g : Given) (e₀ : Evening) (a₀ : Account) (first : Begin
           balanced = λ q. omega (arith, same-held, alone-balance p (givensOf p g x) f all-made, q, h .start-is, h .given-is);
         }
 
-    standing-fine : standingFine (x .at .log) ≡ true
+    pub standing-fine : standingFine (x .at .log) ≡ true
     unfolding standingFine
     standing-fine =
         let steps = h .follows .steps-are in
-        let low : x .at .log .steps ≤ x .at .log .run .clock = omega (arith, steps, alone-clock p f (givensOf p g x) all-made, clock-is (pageOf x) (h .follows), map-long (drawn g (x .at .log .hatches)) (x .noted .standing), first .steps-low) in
+        let low : x .at .log .steps ≤ x .at .log .run .clock = omega (arith, steps, alone-clock p f (givensOf p g x) all-made, clock-is (pageOf x) (h .follows), length-map (x .noted .standing) (drawn g (x .at .log .hatches)), first .steps-low) in
         let kept : x .at .log .run .kept ≤ x .at .log .steps = omega (arith, steps, h .follows .goes .beside .few) in
         each-every _ (le-leb _ _ kept, (le-leb _ _ low, tt))
 
+    pub back-made : (count : ℕ) → count ≤ x .at .log .run .kept →
+        backCame p (x .at) (x .account) count ≡
+        came 0 (afterBack p nothingGiven (x .at) count)
+        (givenBack (x .account) (roomSlots p (x .at .records)) (x .at .log .run .newest) (backFrom p count 0 (worldOf (x .at)) .steps))
+    unfolding backCame backRefusals keptFine
+    back-made count l =
+        pick-true _ _ (eq-eqb _ _ (passed-refusal (backRefusals (x .at .log) count) (standing-fine, (le-leb _ _ l, tt))))
+        ∙ ap (λ (k : ℕ). came k (afterBack p nothingGiven (x .at) count) (givenBack (x .account) (roomSlots p (x .at .records)) (x .at .log .run .newest) (backFrom p count 0 (worldOf (x .at)) .steps)))
+        (none-refused x h count l)
+
     back-whole : (count : ℕ) → count ≤ x .at .log .run .kept → deedNumber p g (goingBack count) x ≡ 0
-    unfolding deedCame backCame backRefusals keptFine
-    back-whole count l =
-        ap (λ (c : Came). c .number) (pick-true _ _ (eq-eqb _ _ (passed-refusal (backRefusals (x .at .log) count) (standing-fine, (le-leb _ _ l, tt)))))
-        ∙ none-refused x h count l
+    unfolding deedCame
+    back-whole count l = ap (λ (c : Came). c .number) (back-made count l)
 
     back-beyond : (count : ℕ) → x .at .log .run .kept < count → deedNumber p g (goingBack count) x ≡ 10
     unfolding deedCame backCame backRefusals keptFine
@@ -626,9 +626,9 @@ module _ (p : Plan) (g : Given) (e₀ : Evening) (a₀ : Account) (first : Begin
 -- ---- once the opening is over, hatches stay
 
 module _ (p : Plan) (g : Given) where
-  record Named (hs : Hatches) (log : Log) : Type 0 where
-    same : log .hatches ≡ hs
-    over : log .opening ≡ false
+  pub record Named (hs : Hatches) (log : Log) : Type 0 where
+    pub same : log .hatches ≡ hs
+    pub over : log .opening ≡ false
 
   named-came : (d : Deed) (e : Evening) (a : Account) {hs : Hatches} → Named hs (e .log) → Named hs (deedCame p g d e a .evening .log)
   unfolding deedCame nameTried drawTried stepCame backCame afterBack lineFine
@@ -648,7 +648,7 @@ module _ (p : Plan) (g : Given) where
   named-came (goingBack count) e a {hs} h =
       pick-both (λ (c : Came). Named hs (c .evening .log)) (eqb (refusal (backRefusals (e .log) count)) 0) (record { same = h .same; over = refl }) h
 
-  named-with : (d : Deed) (x : Desk) {hs : Hatches} → Named hs (x .at .log) → Named hs (deskWith p g d x .at .log)
+  pub named-with : (d : Deed) (x : Desk) {hs : Hatches} → Named hs (x .at .log) → Named hs (deskWith p g d x .at .log)
   unfolding deskWith
   named-with d x h = named-came d (x .at) (x .account) h
 
@@ -683,7 +683,7 @@ module _ (p : Plan) (g : Given) (e : Evening) (a : Account) (b : Begins p g e a)
     unfolding deskWith notedDeed
     as-before =
         ap (λ (m : Notes). m .standing) (pick-true _ _ (eq-eqb _ _ (back-whole p g e a b later later-stands (length made) l)))
-        ∙ (back-standing (length made) (later .noted) ∙ (ap (λ (s : List (List ℕ)). drop (length made) s) same ∙ drop-made made (before .noted .standing)))
+        ∙ (back-standing (length made) (later .noted) ∙ (ap (λ (s : List (List ℕ)). drop (length made) s) same ∙ drop-append-seam made (before .noted .standing)))
 
     -- each at the same hatches, or none stands
     same-givens : givensOf p g after ≡ givensOf p g before

@@ -150,6 +150,43 @@ module _ (p : Plan) (g : Given) where
         (after .account .start ≡ before .account .start) ×
         (after .account .given ≡ before .account .given)
 
+  -- ---- saved is not interrupted
+
+  -- what is shown of two desks is the same: all but how many steps are kept
+  pub record ShownAlike (x y : Desk) : Type 0 where
+    pub seen : seenOf (worldOf (x .at)) ≡ seenOf (worldOf (y .at))
+    pub steps : x .at .log .steps ≡ y .at .log .steps
+    pub opening : x .at .log .opening ≡ y .at .log .opening
+    pub hatches : x .at .log .hatches ≡ y .at .log .hatches
+    pub litres : x .at .log .litres ≡ y .at .log .litres
+    pub start : x .account .start ≡ y .account .start
+    pub given : x .account .given ≡ y .account .given
+
+  -- the number that each deed is refused with, 0 for none
+  unfoldable pub numbersOf : List Deed → Desk → List ℕ
+  numbersOf [] x = []
+  numbersOf (d ∷ rest) x = deedNumber d x ∷ numbersOf rest (deskWith d x)
+
+  -- no `back` among them goes below where the desk began
+  abbrev pub Within : Deed → Desk → Type 0
+  Within (goingBack count) x = count ≤ x .at .log .run .kept
+  Within (naming n row column) x = Unit {0}
+  Within (drawing n litres) x = Unit {0}
+  Within oneStep x = Unit {0}
+
+  abbrev pub AllWithin : List Deed → Desk → Type 0
+  AllWithin [] x = Unit {0}
+  AllWithin (d ∷ rest) x = Within d x × AllWithin rest (deskWith d x)
+
+  -- a desk that an evening brought somewhere, and one that began there, with no step kept and as many slots: by the same deeds, of which no `back`
+  -- goes below that place, the same are refused by the same numbers, and the same is shown
+  pub record DeskSaved : Type 0 where
+    pub goes-on : (e : Evening) (a : Account) → Begins e a → (deeds : List Deed) → (e′ : Evening) (a′ : Account) → Begins e′ a′ →
+        let x = deskAfter deeds (atFirst e a) in
+        let y = atFirst e′ a′ in
+        ShownAlike x y → roomSlots p (e′ .records) ≡ roomSlots p (e .records) → (further : List Deed) → AllWithin further y →
+        (numbersOf further x ≡ numbersOf further y) × ShownAlike (deskAfter further x) (deskAfter further y)
+
 -- ---- two desks
 
 -- a deed at the one desk or at the other, each with its own sheet
