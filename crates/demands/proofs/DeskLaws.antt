@@ -17,9 +17,9 @@ use Rattle.reckon.specs.Ranges.{mostDepth, mostOutflow, mostSoaked}
 use Rattle.reckon.proofs.TestLaws.{pick-true, pick-false, pick-both, not-both, every-each, each-every, refusal-passed, passed-refusal, refusal-here, refusal-later}
 use Rattle.reckon.proofs.ListLaws.{sum-le}
 use Rattle.trials.specs.Ring.{slotsIn, slotBefore, slotAfter, slotAgo, keptAfter}
-use Rattle.trials.proofs.RingLaws.{after-below, before-after, ago-none, ago-more, ago-other}
+use Rattle.trials.proofs.RingLaws.{fine-ring, after-below, before-after, ago-none, ago-more, ago-other}
 use Rattle.grid.specs.Squares.{squares, mostSquares}
-use Rattle.ledger.specs.Runs.{Plan, World, Seen, seenOf}
+use Rattle.ledger.specs.Runs.{Plan, World, Seen, seenOf, runFine, runValuesFine}
 use Rattle.ledger.specs.Record.{roomSlots, ringOf}
 use Rattle.ledger.specs.Flows.{shut}
 use Rattle.ledger.specs.Account.{overOpen, water, held}
@@ -39,13 +39,17 @@ use Rattle.flood.proofs.RunToLaws.{checks-passed, still-valid, clock-on}
 use Rattle.hatches.specs.Log.{Evening, evening, opened, mostHatches, hatchRows, tableWith, lineFine, drawFine, standingFine, keptFine, hatchNamed, ratesKept}
 use Rattle.hatches.proofs.RatesLaws.{beside-step}
 use Rattle.hatches.proofs.RowLaws.{namedBelow, rows-long}
-use Rattle.hatches.proofs.RefusalLaws.{back-kept}
+use Rattle.hatches.proofs.RefusalLaws.{back-kept, standing-is}
 use Rattle.hatches.specs.declared.log.Hatches.{Hatches}
 use Rattle.hatches.specs.declared.log.Log.{Log}
 use Rattle.evenings.specs.Taking.{drawn, worldOf, backFrom, afterHatch, afterBack}
 use Rattle.evenings.proofs.BackLaws.{done-is, backs, Backed, backed}
 use Rattle.evenings.proofs.RingSteps.{Moved, step-moved, Returned, back-returned}
-use Rattle.stands.specs.Laying.{mostGiven}
+use Rattle.stands.specs.Laying.{mostGiven, headOf, namedFrom, withHatch, ifHatch, hatchAdded, hatchFields, drawsFine, stateFine, savedFrom, checksOf, numberOf, standOf}
+use Rattle.stands.specs.declared.saved.Laid.{Laid}
+use Rattle.text.specs.Reading.{lineOf}
+use Rattle.text.specs.declared.reading.Fields.{Fields}
+use Rattle.hatches.specs.Lines.{hatchWord}
 use Rattle.trying.specs.Given.{mostSlots, accountOpened}
 use Rattle.trying.specs.Lines.{Came, came, tried, nameRefusals, nameTried, drawRefusals, drawTried, logAt, tryRefusals, stepGiven, stepCame, eveningNext, accountNext, worldNext, backRefusals, backCame, givenBack, nothingGiven}
 use Rattle.trying.specs.declared.given.Account.{Account}
@@ -116,7 +120,7 @@ number-of n c e a q = go (ℕ-discrete n 0)
 
 -- ---- the notes and the account after take-backs
 
-pub back-standing : (n : ℕ) (m : Notes) → notedBack n m .standing ≡ drop n (m .standing)
+back-standing : (n : ℕ) (m : Notes) → notedBack n m .standing ≡ drop n (m .standing)
 unfolding notedBack
 back-standing zero m = refl
 back-standing (suc n) m = refl
@@ -550,7 +554,7 @@ module _ (p : Plan) (g : Given) (e₀ : Evening) (a₀ : Account) (first : Begin
     by-deed oneStep = by-step
     by-deed (goingBack count) = by-back count
 
-  pub stands-from : (deeds : List Deed) (x : Desk) → Stands x → Stands (deskAfter p g deeds x)
+  stands-from : (deeds : List Deed) (x : Desk) → Stands x → Stands (deskAfter p g deeds x)
   unfolding deskAfter
   stands-from [] x h = h
   stands-from (d ∷ rest) x h = stands-from rest _ (by-deed x h d)
@@ -738,6 +742,51 @@ module _ (p : Plan) (g : Given) (r : Rules) (depths records before lasts began :
   sheet-balanced : Balanced p g (evening depths lasts records began (opened u)) (accountOpened (water p depths) 0)
   sheet-balanced = omega (arith, fresh-holds p r depths records before lasts u freshly [])
 
+-- ---- a state laid down
+
+nine-laid : (s : List ℕ) (q n : ℕ) → length (namedFrom s q n .litres) ≡ mostHatches
+unfolding namedFrom withHatch ifHatch pick
+nine-laid s q zero = refl
+nine-laid s q (suc n) = go (lineOf s (namedFrom s q n .next) hatchWord hatchFields) (nine-laid s q n)
+  where
+    by : (f : Fields) (b c : Bool) → length (namedFrom s q n .litres) ≡ mostHatches →
+        length (pick b (pick c (hatchAdded (namedFrom s q n) n f) (namedFrom s q n)) (namedFrom s q n) .litres) ≡ mostHatches
+    by f true true h = length-set (namedFrom s q n .litres) n (getD (f .values) 3 0) ∙ h
+    by f true false h = h
+    by f false c h = h
+
+    go : (f : Fields) → length (namedFrom s q n .litres) ≡ mostHatches → length (ifHatch (namedFrom s q n) n f .litres) ≡ mostHatches
+    go f h = by f (f .found) (eqb (getD (f .values) 0 0) (n + 1)) h
+
+checks-none : (line number : ℕ) → numberOf line number ≡ 0 → number ≡ 0
+unfolding numberOf
+checks-none zero number e = e
+checks-none (suc line) number e = absurd (omega (arith, e))
+
+module _ (p : Plan) (g : Given) (s records began depths lasts : List ℕ) where
+  abbrev slots : ℕ
+  slots = roomSlots p records
+
+  lay-begins : standOf p (g .inflow) slots s .number ≡ 0 → slots ≤ mostSlots → slots ≤ slotsIn mostHatches (length began) →
+      let l = standOf p (g .inflow) slots s in
+      Begins p g (evening depths lasts records began (l .saved .log)) (accountOpened (l .saved .start) (l .saved .given))
+  unfolding standOf checksOf drawsFine stateFine runFine runValuesFine savedFrom
+  lay-begins z few rates =
+      let t = refusal-passed _ tt (checks-none _ _ z) in
+      let draws = every-each _ (t .1 .0) in
+      let states = every-each _ (t .1 .1 .0) in
+      record {
+        fresh = record { kept-none = refl; newest-last = refl };
+        some = fine-ring _ _ _ (every-each _ (states .0) .0) .some;
+        slots-few = few;
+        rates-suffice = rates;
+        rates-nine = nine-laid s (headOf s .next) mostHatches;
+        account-long = length-replicate {A = ℕ} mostSlots 0;
+        table-fits = leb-true _ _ (draws .1 .0);
+        steps-low = standing-is _ (states .1 .0) .1;
+        given-low = leb-true _ _ (states .1 .1 .1 .0);
+      }
+
 -- ---- the theorems
 
 module _ (p : Plan) (g : Given) where
@@ -750,6 +799,9 @@ module _ (p : Plan) (g : Given) where
         step-alone = λ e a b q deeds. step-alone p g e a b (deskAfter p g deeds (atFirst e a)) (stands p g e a b deeds) q;
         from-sheet = λ r depths records before lasts began u freshly few rates fits.
             (sheet-begins p g r depths records before lasts began u freshly few rates fits, sheet-balanced p g r depths records before lasts began u freshly);
+        from-lay = λ s records began before after l lays z few rates.
+            subst (λ (k : Laid). Begins p g (evening (after .depths) (after .lasts) records began (k .saved .log)) (accountOpened (k .saved .start) (k .saved .given))) (sym (lays .answer))
+            (lay-begins p g s records began (after .depths) (after .lasts) (sym (ap (λ (k : Laid). k .number) (lays .answer)) ∙ z) few rates);
       }
 
   pub desk-taken-back : DeskTakenBack p g

@@ -8,13 +8,13 @@ use Prim.Native.Nat.{ℕ, zero, suc, _+_, _-_, _≤_, _<_}
 use native.Mathlib.Omega.{arith}
 use native.Mathlib.Decide.{ℕ-discrete}
 use lib.Dec.{eqb, leb}
-use lib.ListN.{length, getD, set, drop, length-append, List·getD-append}
+use lib.ListN.{length, set, length-append, List·getD-append}
 use lib.Seq.{drop-append-le}
 use borrow.Author.Tests.{eq-eqb, ne-eqb}
 use Rattle.reckon.specs.Tests.{pick, refusal, _unless_}
 use Rattle.reckon.specs.Tables.{inflowKind, tableRoom}
 use Rattle.reckon.proofs.TestLaws.{pick-true, pick-false, pick-ap}
-use Rattle.trials.specs.Ring.{ringFine, keptAfter}
+use Rattle.trials.specs.Ring.{keptAfter}
 use Rattle.trials.proofs.RingLaws.{ring-fine}
 use Rattle.ledger.specs.Runs.{Plan, World, Seen, seenOf}
 use Rattle.ledger.specs.Record.{roomSlots, ringOf}
@@ -24,12 +24,12 @@ use Rattle.checks.proofs.CheckLaws.{ring-is}
 use Rattle.adding.specs.Account.{tablesGive}
 use Rattle.flood.specs.Step.{stepNumber, stepped}
 use Rattle.flood.proofs.RunToLaws.{checks-passed, still-valid}
-use Rattle.hatches.specs.Log.{Evening, tableWith, lineFine, drawFine, standingFine, hatchNamed}
+use Rattle.hatches.specs.Log.{Evening, tableWith, lineFine, drawFine, hatchNamed}
 use Rattle.hatches.specs.declared.log.Hatches.{Hatches}
 use Rattle.hatches.specs.declared.log.Log.{Log}
 use Rattle.evenings.specs.Taking.{drawn, worldOf, afterBack}
 use Rattle.evenings.proofs.BackLaws.{backs, Backed}
-use Rattle.evenings.proofs.RingSteps.{Moved, step-moved, back-returned}
+use Rattle.evenings.proofs.RingSteps.{step-moved, back-returned}
 use Rattle.stands.specs.Laying.{mostGiven}
 use Rattle.trying.specs.Lines.{Came, came, tried, nameRefusals, nameTried, drawRefusals, drawTried, logAt, tryRefusals, stepGiven, stepCame, worldNext, backCame, nothingGiven}
 use Rattle.trying.specs.declared.given.Account.{Account}
@@ -40,7 +40,7 @@ use Rattle.demands.specs.HatchLog.{Notes, notes, notedBack}
 use Rattle.demands.specs.TakenBack.{Alike}
 use Rattle.demands.specs.Desk.{Deed, naming, drawing, oneStep, goingBack, Desk, atFirst, notedDeed, withLog, deedCame, deedNumber, deskWith, deskAfter, givensOf, Begins, OnlyStanding, ShownAlike, numbersOf, Within, AllWithin, DeskSaved}
 use Rattle.demands.proofs.TakenBack.{laid-down}
-use Rattle.demands.proofs.DeskLaws.{Stands, stands, stands-first, by-deed, only-standing, standing-fine, back-made, back-is, more-is, Named, named-with}
+use Rattle.demands.proofs.DeskLaws.{Stands, stands, stands-first, by-deed, only-standing, standing-fine, back-made, back-is, more-is, named-with}
 
 -- ---- lists
 

@@ -20,7 +20,8 @@ use Rattle.checks.specs.Fresh.{Freshens}
 use Rattle.flood.specs.Step.{stepNumber}
 use Rattle.hatches.specs.Log.{Evening, evening, opened, mostHatches, tableWith}
 use Rattle.evenings.specs.Taking.{drawn, worldOf}
-use Rattle.stands.specs.Laying.{mostGiven}
+use Rattle.stands.specs.Laying.{mostGiven, Water, Lays}
+use Rattle.stands.specs.declared.saved.Laid.{Laid}
 use Rattle.trying.specs.Given.{mostSlots, accountOpened}
 use Rattle.trying.specs.Lines.{Came, came, stepGiven, nameTried, drawTried, stepCame, backCame}
 use Rattle.trying.specs.declared.given.Account.{Account}
@@ -131,11 +132,15 @@ module _ (p : Plan) (g : Given) where
     pub step-alone : (e : Evening) (a : Account) → Begins e a → Balanced e a → (deeds : List Deed) →
         let x = deskAfter deeds (atFirst e a) in
         deedNumber oneStep x ≡ stepNumber p (stepGiven p g (x .at) (x .account)) (worldOf (x .at))
-    -- a sheet's fresh run, with the water on its squares as the start, is a beginning and is balanced
+    -- a sheet's fresh run, with the water on its squares as the start, is a beginning, and balanced
     pub from-sheet : (r : Rules) (depths records before lasts began : List ℕ) (u : Run) → Freshens p r before records (Done u) lasts →
         roomSlots p records ≤ mostSlots → roomSlots p records ≤ slotsIn mostHatches (length began) → length (g .inflow) ≤ tableRoom inflowKind →
         let e = evening depths lasts records began (opened u) in
         Begins e (accountOpened (water p depths) 0) × Balanced e (accountOpened (water p depths) 0)
+    -- and so is a saved state that `lay` did not refuse, with no step kept
+    pub from-lay : (s records began : List ℕ) (before after : Water) (l : Laid) → Lays p (g .inflow) (roomSlots p records) s before l after → l .number ≡ 0 →
+        roomSlots p records ≤ mostSlots → roomSlots p records ≤ slotsIn mostHatches (length began) →
+        Begins (evening (after .depths) (after .lasts) records began (l .saved .log)) (accountOpened (l .saved .start) (l .saved .given))
 
   -- A trial taken back was never made: after deeds, and a trial by which some steps stand besides and none of the first was taken back, a `back`
   -- of these steps, as long as they are kept, and all that is seen, the steps standing and the account are as before the trial.
