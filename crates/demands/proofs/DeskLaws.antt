@@ -10,11 +10,11 @@ use native.Mathlib.Decide.{ℕ-discrete}
 use lib.Dec.{eqb}
 use lib.ListN.{length, getD, set, drop, length-append, length-map, length-set, length-replicate}
 use lib.Seq.{getD-set-same, getD-set-other, drop-append-seam}
-use borrow.Author.Tests.{eq-eqb, ne-eqb, leb-true, le-leb, lt-leb}
+use borrow.Author.Tests.{eq-eqb, leb-true, le-leb, lt-leb}
 use Rattle.reckon.specs.Tests.{pick, refusal}
 use Rattle.reckon.specs.Tables.{inflowKind, tableRoom}
 use Rattle.reckon.specs.Ranges.{mostDepth, mostOutflow, mostSoaked}
-use Rattle.reckon.proofs.TestLaws.{pick-true, pick-false, pick-both, not-both, every-each, each-every, refusal-passed, passed-refusal, refusal-here, refusal-later}
+use Rattle.reckon.proofs.TestLaws.{pick-true, pick-false, not-both, every-each, each-every, refusal-passed, passed-refusal, refusal-here, refusal-later}
 use Rattle.reckon.proofs.ListLaws.{sum-le}
 use Rattle.trials.specs.Ring.{slotsIn, slotBefore, slotAfter, slotAgo, keptAfter}
 use Rattle.trials.proofs.RingLaws.{fine-ring, after-below, before-after, ago-none, ago-more, ago-other}
@@ -41,7 +41,6 @@ use Rattle.hatches.proofs.RatesLaws.{beside-step}
 use Rattle.hatches.proofs.RowLaws.{namedBelow, rows-long}
 use Rattle.hatches.proofs.RefusalLaws.{back-kept, standing-is}
 use Rattle.hatches.specs.declared.log.Hatches.{Hatches}
-use Rattle.hatches.specs.declared.log.Log.{Log}
 use Rattle.evenings.specs.Taking.{drawn, worldOf, backFrom, afterHatch, afterBack}
 use Rattle.evenings.proofs.BackLaws.{done-is, backs, Backed, backed}
 use Rattle.evenings.proofs.RingSteps.{Moved, step-moved, Returned, back-returned}
@@ -51,15 +50,15 @@ use Rattle.text.specs.Reading.{lineOf}
 use Rattle.text.specs.declared.reading.Fields.{Fields}
 use Rattle.hatches.specs.Lines.{hatchWord}
 use Rattle.trying.specs.Given.{mostSlots, accountOpened}
-use Rattle.trying.specs.Lines.{Came, came, tried, nameRefusals, nameTried, drawRefusals, drawTried, logAt, tryRefusals, stepGiven, stepCame, eveningNext, accountNext, worldNext, backRefusals, backCame, givenBack, nothingGiven}
+use Rattle.trying.specs.Lines.{Came, came, nameRefusals, logAt, tryRefusals, stepGiven, eveningNext, accountNext, worldNext, backRefusals, givenBack, nothingGiven}
 use Rattle.trying.specs.declared.given.Account.{Account}
-use Rattle.trying.specs.declared.lines.Tried.{Tried}
 use Rattle.demands.specs.Demand3.{stepping, Trail, start, called, series, alone, AllMade}
 use Rattle.demands.specs.Account.{allGiven}
 use Rattle.demands.specs.HatchLog.{Notes, notes, notedBack, notedWith, Page}
-use Rattle.demands.specs.Desk.{Deed, naming, drawing, oneStep, goingBack, Desk, atFirst, notedDeed, withLog, deedCame, deedNumber, deskWith, deskAfter, givensOf, Begins, Balanced, OnlyStanding, DeskEvening, DeskTakenBack, Turn, atOne, atOther, inTurn, ofOne, ofOther, TwoDesks}
+use Rattle.demands.specs.Desk.{Deed, naming, drawing, oneStep, goingBack, Desk, atFirst, notedDeed, deedCame, deedNumber, deskWith, deskAfter, givensOf, Begins, Balanced, OnlyStanding, DeskEvening, DeskTakenBack, Turn, atOne, atOther, inTurn, ofOne, ofOther, TwoDesks}
 use Rattle.demands.proofs.Demand3.{demand-3}
 use Rattle.demands.proofs.Account.{alone-balance, fresh-holds}
+use Rattle.demands.proofs.Deeds.{nameNumber, name-made, name-refused, drawNumber, draw-made, draw-refused, tryNumber, ownNumber, step-unfit, step-refused, step-made, accountAgo, back-refused, back-taken, desk-stays, desk-made, named-with, named-after}
 use Rattle.demands.proofs.HatchLaws.{beside-same, drop-more, series-snoc, trail, never, Goes, goes-whole, Follows, follow-back, follow-hatch, seen-alone}
 
 -- ---- lists
@@ -110,13 +109,6 @@ whole-steps p (suc n) made w e = go (backNumber p w) e (whole-steps p n (suc mad
         goOn k made w (backFrom p n (suc made) (takenBack p w)) .steps ≡ made + suc n
     go zero h ih = omega (arith, ih h)
     go (suc k) h ih = absurd (omega (arith, h))
-
-number-of : (n : ℕ) (c : Came) (e : Evening) (a : Account) → c .number ≡ 0 → pick (eqb n 0) c (came n e a) .number ≡ n
-number-of n c e a q = go (ℕ-discrete n 0)
-  where
-    go : Dec (n ≡ 0) → pick (eqb n 0) c (came n e a) .number ≡ n
-    go (yes z) = ap (λ (k : Came). k .number) (pick-true c (came n e a) (eq-eqb _ _ z)) ∙ (q ∙ sym z)
-    go (no d) = ap (λ (k : Came). k .number) (pick-false c (came n e a) (ne-eqb _ _ d))
 
 -- ---- the notes and the account after take-backs
 
@@ -327,21 +319,12 @@ module _ (p : Plan) (g : Given) (e₀ : Evening) (a₀ : Account) (first : Begin
 
   -- ---- a deed
 
-  abbrev deskOf : Deed → Desk → Came → Desk
-  deskOf d x c = record { at = c .evening; account = c .account; noted = pick (eqb (c .number) 0) (notedDeed d (x .noted)) (x .noted) }
-
   refused-deed : (d : Deed) (x : Desk) {n : ℕ} → deedCame p g d (x .at) (x .account) ≡ came n (x .at) (x .account) → (n ≡ 0 → ⊥) → Stands x → Stands (deskWith p g d x)
-  unfolding deskWith
-  refused-deed d x {n} q z h =
-      subst (λ (c : Came). Stands (deskOf d x c)) (sym q)
-      (subst (λ (m : Notes). Stands (record { at = x .at; account = x .account; noted = m })) (sym (pick-false _ _ (ne-eqb _ _ z))) h)
+  refused-deed d x q z h = subst Stands (sym (desk-stays p g d x q z)) h
 
   made-deed : (d : Deed) (x : Desk) {e : Evening} {a : Account} → deedCame p g d (x .at) (x .account) ≡ came 0 e a →
       Stands (record { at = e; account = a; noted = notedDeed d (x .noted) }) → Stands (deskWith p g d x)
-  unfolding deskWith
-  made-deed d x {e} {a} q h =
-      subst (λ (c : Came). Stands (deskOf d x c)) (sym q)
-      (subst (λ (m : Notes). Stands (record { at = e; account = a; noted = m })) (sym (pick-true _ _ (eq-eqb 0 0 refl))) h)
+  made-deed d x q h = subst Stands (sym (desk-made p g d x q)) h
 
   module _ (x : Desk) (h : Stands x) where
     abbrev e : Evening
@@ -394,16 +377,12 @@ module _ (p : Plan) (g : Given) (e₀ : Evening) (a₀ : Account) (first : Begin
         }
 
     by-naming : (n row column : ℕ) → Stands (deskWith p g (naming n row column) x)
-    unfolding deedCame nameTried notedDeed afterHatch
-    by-naming n row column = go (ℕ-discrete (refusal (nameRefusals p (g .lie .rules) (g .inflow) (e .log) n row column)) 0)
+    unfolding notedDeed afterHatch
+    by-naming n row column = go (ℕ-discrete (nameNumber p g e a n row column) 0)
       where
-        go : Dec (refusal (nameRefusals p (g .lie .rules) (g .inflow) (e .log) n row column) ≡ 0) → Stands (deskWith p g (naming n row column) x)
-        go (yes z) =
-            let q : nameTried p (g .lie .rules) (g .inflow) (e .log) a n row column ≡ tried 0 (hatchNamed (e .log) n row column) a = pick-true _ _ (eq-eqb _ _ z) in
-            made-deed (naming n row column) x (ap (λ (t : Tried). withLog e t) q) (named n row column z)
-        go (no d) =
-            let q : nameTried p (g .lie .rules) (g .inflow) (e .log) a n row column ≡ tried (refusal (nameRefusals p (g .lie .rules) (g .inflow) (e .log) n row column)) (e .log) a = pick-false _ _ (ne-eqb _ _ d) in
-            refused-deed (naming n row column) x (ap (λ (t : Tried). withLog e t) q) d h
+        go : Dec (nameNumber p g e a n row column ≡ 0) → Stands (deskWith p g (naming n row column) x)
+        go (yes z) = made-deed (naming n row column) x (name-made p g e a n row column z) (named n row column z)
+        go (no d) = refused-deed (naming n row column) x (name-refused p g e a n row column d) d h
 
     -- ---- `draw`
 
@@ -430,16 +409,12 @@ module _ (p : Plan) (g : Given) (e₀ : Evening) (a₀ : Account) (first : Begin
         }
 
     by-drawing : (n litres : ℕ) → Stands (deskWith p g (drawing n litres) x)
-    unfolding deedCame drawTried notedDeed
-    by-drawing n litres = go (ℕ-discrete (refusal (drawRefusals (e .log) n litres)) 0)
+    unfolding notedDeed
+    by-drawing n litres = go (ℕ-discrete (drawNumber p g e a n litres) 0)
       where
-        go : Dec (refusal (drawRefusals (e .log) n litres) ≡ 0) → Stands (deskWith p g (drawing n litres) x)
-        go (yes z) =
-            let q : drawTried (e .log) a n litres ≡ tried 0 (logAt (e .log) (set (e .log .litres) (n - 1) litres)) a = pick-true _ _ (eq-eqb _ _ z) in
-            made-deed (drawing n litres) x (ap (λ (t : Tried). withLog e t) q) (drawn-at n litres)
-        go (no d) =
-            let q : drawTried (e .log) a n litres ≡ tried (refusal (drawRefusals (e .log) n litres)) (e .log) a = pick-false _ _ (ne-eqb _ _ d) in
-            refused-deed (drawing n litres) x (ap (λ (t : Tried). withLog e t) q) d h
+        go : Dec (drawNumber p g e a n litres ≡ 0) → Stands (deskWith p g (drawing n litres) x)
+        go (yes z) = made-deed (drawing n litres) x (draw-made p g e a n litres z) (drawn-at n litres)
+        go (no d) = refused-deed (drawing n litres) x (draw-refused p g e a n litres d) d h
 
     -- ---- a step
 
@@ -479,13 +454,13 @@ module _ (p : Plan) (g : Given) (e₀ : Evening) (a₀ : Account) (first : Begin
           }
 
     by-step : Stands (deskWith p g oneStep x)
-    unfolding deedCame stepCame notedDeed
-    by-step = go (ℕ-discrete (refusal (tryRefusals (g .inflow) (e .log) a)) 0) (ℕ-discrete (stepNumber p G (worldOf e)) 0)
+    unfolding notedDeed
+    by-step = go (ℕ-discrete (tryNumber p g e a) 0) (ℕ-discrete (ownNumber p g e a) 0)
       where
-        go : Dec (refusal (tryRefusals (g .inflow) (e .log) a) ≡ 0) → Dec (stepNumber p G (worldOf e) ≡ 0) → Stands (deskWith p g oneStep x)
-        go (no d) y = refused-deed oneStep x (pick-false _ _ (ne-eqb _ _ d)) d h
-        go (yes z) (no d) = refused-deed oneStep x (pick-true _ _ (eq-eqb _ _ z) ∙ pick-false _ _ (ne-eqb _ _ d)) d h
-        go (yes z) (yes y) = made-deed oneStep x (pick-true _ _ (eq-eqb _ _ z) ∙ pick-true _ _ (eq-eqb _ _ y)) (made-step y)
+        go : Dec (tryNumber p g e a ≡ 0) → Dec (ownNumber p g e a ≡ 0) → Stands (deskWith p g oneStep x)
+        go (no d) _ = refused-deed oneStep x (step-unfit p g e a d) d h
+        go (yes z) (no d) = refused-deed oneStep x (step-refused p g e a z d) d h
+        go (yes z) (yes y) = made-deed oneStep x (step-made p g e a z y) (made-step y)
 
     -- ---- `back`
 
@@ -508,16 +483,13 @@ module _ (p : Plan) (g : Given) (e₀ : Evening) (a₀ : Account) (first : Begin
       fewer : drop count gs ≡ map (drawn g hs) (notedBack count m .standing)
       fewer = map-dropped (drawn g hs) count (m .standing) ∙ ap (map (drawn g hs)) (sym (back-standing count m))
 
-      backed-account : Account
-      backed-account = givenBack a (roomSlots p (e .records)) (e .log .run .newest) (taken count .steps)
-
       given-now : (k : ℕ) → k ≤ e .log .run .kept → givenBack a (roomSlots p (e .records)) (e .log .run .newest) k .given ≡ a₀ .given + allGiven p (drop k gs) f
       unfolding givenBack
       given-now zero le = h .given-is
       given-now (suc j) le = ap (λ (k : ℕ). getD (a .before) (slotAgo k (e .log .run .newest) j) 0) (h .follows .goes .slots-are) ∙ h .spent .given-before j le
 
-      made-back : Stands (record { at = afterBack p nothingGiven e count; account = backed-account; noted = notedBack count m })
-      unfolding afterBack notedWith backed-account
+      made-back : Stands (record { at = afterBack p nothingGiven e count; account = accountAgo p g e a count; noted = notedBack count m })
+      unfolding afterBack notedWith
       made-back =
           record {
             follows =
@@ -536,17 +508,14 @@ module _ (p : Plan) (g : Given) (e₀ : Evening) (a₀ : Account) (first : Begin
           }
 
     by-back : (count : ℕ) → Stands (deskWith p g (goingBack count) x)
-    unfolding deedCame backCame notedDeed backRefusals backed-account
+    unfolding notedDeed backRefusals
     by-back count = go (ℕ-discrete (refusal (backRefusals (e .log) count)) 0)
       where
         go : Dec (refusal (backRefusals (e .log) count) ≡ 0) → Stands (deskWith p g (goingBack count) x)
-        go (no d) = refused-deed (goingBack count) x (pick-false _ _ (ne-eqb _ _ d)) d h
+        go (no d) = refused-deed (goingBack count) x (back-refused p g e a count d) d h
         go (yes z) =
             let l = back-kept (e .log) count (refusal-passed _ tt z .1 .0) in
-            made-deed (goingBack count) x
-            (pick-true _ _ (eq-eqb _ _ z)
-            ∙ ap (λ (k : ℕ). came k (afterBack p nothingGiven e count) (backed-account count l)) (none-refused count l))
-            (made-back count l)
+            made-deed (goingBack count) x (back-taken p g e a count z (none-refused count l)) (made-back count l)
 
     pub by-deed : (d : Deed) → Stands (deskWith p g d x)
     by-deed (naming n row column) = by-naming n row column
@@ -598,68 +567,62 @@ module _ (p : Plan) (g : Given) (e₀ : Evening) (a₀ : Account) (first : Begin
         let kept : x .at .log .run .kept ≤ x .at .log .steps = omega (arith, steps, h .follows .goes .beside .few) in
         each-every _ (le-leb _ _ kept, (le-leb _ _ low, tt))
 
+    back-number : (count : ℕ) → count ≤ x .at .log .run .kept → refusal (backRefusals (x .at .log) count) ≡ 0
+    unfolding backRefusals keptFine
+    back-number count l = passed-refusal (backRefusals (x .at .log) count) (standing-fine, (le-leb _ _ l, tt))
+
     pub back-made : (count : ℕ) → count ≤ x .at .log .run .kept →
-        backCame p (x .at) (x .account) count ≡
-        came 0 (afterBack p nothingGiven (x .at) count)
-        (givenBack (x .account) (roomSlots p (x .at .records)) (x .at .log .run .newest) (backFrom p count 0 (worldOf (x .at)) .steps))
-    unfolding backCame backRefusals keptFine
-    back-made count l =
-        pick-true _ _ (eq-eqb _ _ (passed-refusal (backRefusals (x .at .log) count) (standing-fine, (le-leb _ _ l, tt))))
-        ∙ ap (λ (k : ℕ). came k (afterBack p nothingGiven (x .at) count) (givenBack (x .account) (roomSlots p (x .at .records)) (x .at .log .run .newest) (backFrom p count 0 (worldOf (x .at)) .steps)))
-        (none-refused x h count l)
+        deedCame p g (goingBack count) (x .at) (x .account) ≡ came 0 (afterBack p nothingGiven (x .at) count) (accountAgo p g (x .at) (x .account) count)
+    back-made count l = back-taken p g (x .at) (x .account) count (back-number count l) (none-refused x h count l)
 
     back-whole : (count : ℕ) → count ≤ x .at .log .run .kept → deedNumber p g (goingBack count) x ≡ 0
-    unfolding deedCame
     back-whole count l = ap (λ (c : Came). c .number) (back-made count l)
 
     back-beyond : (count : ℕ) → x .at .log .run .kept < count → deedNumber p g (goingBack count) x ≡ 10
-    unfolding deedCame backCame backRefusals keptFine
+    unfolding backRefusals keptFine
     back-beyond count l =
         let ten : refusal (backRefusals (x .at .log) count) ≡ 10 = refusal-later 6 _ standing-fine ∙ refusal-here 10 _ (lt-leb _ _ l) in
-        let some : refusal (backRefusals (x .at .log) count) ≡ 0 → ⊥ = λ z. omega (arith, ten, z) in
-        ap (λ (c : Came). c .number) (pick-false _ _ (ne-eqb _ _ some)) ∙ ten
+        ap (λ (c : Came). c .number) (back-refused p g (x .at) (x .account) count (λ z. omega (arith, ten, z))) ∙ ten
 
-    step-alone : Balanced p g e₀ a₀ → deedNumber p g oneStep x ≡ stepNumber p (stepGiven p g (x .at) (x .account)) (worldOf (x .at))
-    unfolding deedCame stepCame tryRefusals
-    step-alone q =
-        let n = stepNumber p (stepGiven p g (x .at) (x .account)) (worldOf (x .at)) in
-        let given : x .account .given ≤ mostGiven = omega (arith, h .given-is, given-fits p f (givensOf p g x) all-made (a₀ .start) (a₀ .given) (first .given-low) q) in
-        ap (λ (c : Came). c .number) (pick-true _ _ (eq-eqb _ _ (passed-refusal (tryRefusals (g .inflow) (x .at .log) (x .account)) (le-leb _ _ (h .table-fits), (standing-fine, (le-leb _ _ given, tt))))))
-        ∙ number-of n (came 0 (eveningNext p g (x .at) (x .account)) (accountNext p g (x .at) (x .account))) (x .at) (x .account) refl
+    step-alone : Balanced p g e₀ a₀ → deedNumber p g oneStep x ≡ ownNumber p g (x .at) (x .account)
+    unfolding tryRefusals
+    step-alone q = go (ℕ-discrete (ownNumber p g (x .at) (x .account)) 0)
+      where
+        given-low : x .account .given ≤ mostGiven
+        given-low = omega (arith, h .given-is, given-fits p f (givensOf p g x) all-made (a₀ .start) (a₀ .given) (first .given-low) q)
 
--- ---- once the opening is over, hatches stay
+        fits : tryNumber p g (x .at) (x .account) ≡ 0
+        fits =
+            passed-refusal (tryRefusals (g .inflow) (x .at .log) (x .account)) (le-leb _ _ (h .table-fits), (standing-fine, (le-leb _ _ given-low, tt)))
 
-module _ (p : Plan) (g : Given) where
-  pub record Named (hs : Hatches) (log : Log) : Type 0 where
-    pub same : log .hatches ≡ hs
-    pub over : log .opening ≡ false
+        go : Dec (ownNumber p g (x .at) (x .account) ≡ 0) → deedNumber p g oneStep x ≡ ownNumber p g (x .at) (x .account)
+        go (yes z) = ap (λ (c : Came). c .number) (step-made p g (x .at) (x .account) fits z) ∙ sym z
+        go (no d) = ap (λ (c : Came). c .number) (step-refused p g (x .at) (x .account) fits d)
 
-  named-came : (d : Deed) (e : Evening) (a : Account) {hs : Hatches} → Named hs (e .log) → Named hs (deedCame p g d e a .evening .log)
-  unfolding deedCame nameTried drawTried stepCame backCame afterBack lineFine
-  named-came (naming n row column) e a {hs} h =
-      go (ℕ-discrete (refusal (nameRefusals p (g .lie .rules) (g .inflow) (e .log) n row column)) 0)
-    where
-      go : Dec (refusal (nameRefusals p (g .lie .rules) (g .inflow) (e .log) n row column) ≡ 0) →
-          Named hs (pick (eqb (refusal (nameRefusals p (g .lie .rules) (g .inflow) (e .log) n row column)) 0)
-          (tried 0 (hatchNamed (e .log) n row column) a) (tried (refusal (nameRefusals p (g .lie .rules) (g .inflow) (e .log) n row column)) (e .log) a) .log)
-      go (yes z) = not-both (every-each _ (refusal-passed _ tt z .0) .0) (h .over)
-      go (no d) = subst (λ (t : Tried). Named hs (t .log)) (sym (pick-false _ _ (ne-eqb _ _ d))) h
-  named-came (drawing n litres) e a {hs} h =
-      pick-both (λ (t : Tried). Named hs (t .log)) (eqb (refusal (drawRefusals (e .log) n litres)) 0) (record { same = h .same; over = h .over }) h
-  named-came oneStep e a {hs} h =
-      pick-both (λ (c : Came). Named hs (c .evening .log)) (eqb (refusal (tryRefusals (g .inflow) (e .log) a)) 0)
-      (pick-both (λ (c : Came). Named hs (c .evening .log)) (eqb (stepNumber p (stepGiven p g e a) (worldOf e)) 0) (record { same = h .same; over = refl }) h) h
-  named-came (goingBack count) e a {hs} h =
-      pick-both (λ (c : Came). Named hs (c .evening .log)) (eqb (refusal (backRefusals (e .log) count)) 0) (record { same = h .same; over = refl }) h
-
-  pub named-with : (d : Deed) (x : Desk) {hs : Hatches} → Named hs (x .at .log) → Named hs (deskWith p g d x .at .log)
-  unfolding deskWith
-  named-with d x h = named-came d (x .at) (x .account) h
-
-  named-after : (deeds : List Deed) (x : Desk) {hs : Hatches} → Named hs (x .at .log) → Named hs (deskAfter p g deeds x .at .log)
-  unfolding deskAfter
-  named-after [] x h = h
-  named-after (d ∷ rest) x h = named-after rest (deskWith p g d x) (named-with d x h)
+    -- what is refused changes nothing: where a `back` has begun, it is made
+    refused-stays : (d : Deed) → (deedNumber p g d x ≡ 0 → ⊥) → deskWith p g d x ≡ x
+    unfolding backRefusals
+    refused-stays (naming n row column) some = go (ℕ-discrete (nameNumber p g (x .at) (x .account) n row column) 0)
+      where
+        go : Dec (nameNumber p g (x .at) (x .account) n row column ≡ 0) → deskWith p g (naming n row column) x ≡ x
+        go (yes z) = absurd (some (ap (λ (c : Came). c .number) (name-made p g (x .at) (x .account) n row column z)))
+        go (no d) = desk-stays p g (naming n row column) x (name-refused p g (x .at) (x .account) n row column d) d
+    refused-stays (drawing n litres) some = go (ℕ-discrete (drawNumber p g (x .at) (x .account) n litres) 0)
+      where
+        go : Dec (drawNumber p g (x .at) (x .account) n litres ≡ 0) → deskWith p g (drawing n litres) x ≡ x
+        go (yes z) = absurd (some (ap (λ (c : Came). c .number) (draw-made p g (x .at) (x .account) n litres z)))
+        go (no d) = desk-stays p g (drawing n litres) x (draw-refused p g (x .at) (x .account) n litres d) d
+    refused-stays oneStep some = go (ℕ-discrete (tryNumber p g (x .at) (x .account)) 0) (ℕ-discrete (ownNumber p g (x .at) (x .account)) 0)
+      where
+        go : Dec (tryNumber p g (x .at) (x .account) ≡ 0) → Dec (ownNumber p g (x .at) (x .account) ≡ 0) → deskWith p g oneStep x ≡ x
+        go (no d) _ = desk-stays p g oneStep x (step-unfit p g (x .at) (x .account) d) d
+        go (yes z) (no d) = desk-stays p g oneStep x (step-refused p g (x .at) (x .account) z d) d
+        go (yes z) (yes y) = absurd (some (ap (λ (c : Came). c .number) (step-made p g (x .at) (x .account) z y)))
+    refused-stays (goingBack count) some = go (ℕ-discrete (refusal (backRefusals (x .at .log) count)) 0)
+      where
+        go : Dec (refusal (backRefusals (x .at .log) count) ≡ 0) → deskWith p g (goingBack count) x ≡ x
+        go (yes z) = absurd (some (back-whole count (back-kept (x .at .log) count (refusal-passed _ tt z .1 .0))))
+        go (no d) = desk-stays p g (goingBack count) x (back-refused p g (x .at) (x .account) count d) d
 
 -- ---- a trial taken back
 
@@ -796,6 +759,7 @@ module _ (p : Plan) (g : Given) where
         only-standing = λ e a b deeds. only-standing p g e a b (deskAfter p g deeds (atFirst e a)) (stands p g e a b deeds);
         back-whole = λ e a b deeds count l. back-whole p g e a b (deskAfter p g deeds (atFirst e a)) (stands p g e a b deeds) count l;
         back-beyond = λ e a b deeds count l. back-beyond p g e a b (deskAfter p g deeds (atFirst e a)) (stands p g e a b deeds) count l;
+        refused-stays = λ e a b deeds d some. refused-stays p g e a b (deskAfter p g deeds (atFirst e a)) (stands p g e a b deeds) d some;
         step-alone = λ e a b q deeds. step-alone p g e a b (deskAfter p g deeds (atFirst e a)) (stands p g e a b deeds) q;
         from-sheet = λ r depths records before lasts began u freshly few rates fits.
             (sheet-begins p g r depths records before lasts began u freshly few rates fits, sheet-balanced p g r depths records before lasts began u freshly);

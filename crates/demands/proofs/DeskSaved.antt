@@ -8,12 +8,11 @@ use Prim.Native.Nat.{ℕ, zero, suc, _+_, _-_, _≤_, _<_}
 use native.Mathlib.Omega.{arith}
 use native.Mathlib.Decide.{ℕ-discrete}
 use lib.Dec.{eqb, leb}
-use lib.ListN.{length, set, length-append, List·getD-append}
+use lib.ListN.{length, length-append, List·getD-append}
 use lib.Seq.{drop-append-le}
-use borrow.Author.Tests.{eq-eqb, ne-eqb}
 use Rattle.reckon.specs.Tests.{pick, refusal, _unless_}
 use Rattle.reckon.specs.Tables.{inflowKind, tableRoom}
-use Rattle.reckon.proofs.TestLaws.{pick-true, pick-false, pick-ap}
+use Rattle.reckon.proofs.TestLaws.{pick-ap}
 use Rattle.trials.specs.Ring.{keptAfter}
 use Rattle.trials.proofs.RingLaws.{ring-fine}
 use Rattle.ledger.specs.Runs.{Plan, World, Seen, seenOf}
@@ -31,16 +30,16 @@ use Rattle.evenings.specs.Taking.{drawn, worldOf, afterBack}
 use Rattle.evenings.proofs.BackLaws.{backs, Backed}
 use Rattle.evenings.proofs.RingSteps.{step-moved, back-returned}
 use Rattle.stands.specs.Laying.{mostGiven}
-use Rattle.trying.specs.Lines.{Came, came, tried, nameRefusals, nameTried, drawRefusals, drawTried, logAt, tryRefusals, stepGiven, stepCame, worldNext, backCame, nothingGiven}
+use Rattle.trying.specs.Lines.{Came, came, nameRefusals, drawRefusals, tryRefusals, stepGiven, worldNext, nothingGiven}
 use Rattle.trying.specs.declared.given.Account.{Account}
-use Rattle.trying.specs.declared.lines.Tried.{Tried}
 use Rattle.demands.specs.Demand3.{alone, AllMade}
 use Rattle.demands.specs.Account.{allGiven}
 use Rattle.demands.specs.HatchLog.{Notes, notes, notedBack}
 use Rattle.demands.specs.TakenBack.{Alike}
-use Rattle.demands.specs.Desk.{Deed, naming, drawing, oneStep, goingBack, Desk, atFirst, notedDeed, withLog, deedCame, deedNumber, deskWith, deskAfter, givensOf, Begins, OnlyStanding, ShownAlike, numbersOf, Within, AllWithin, DeskSaved}
+use Rattle.demands.specs.Desk.{Deed, naming, drawing, oneStep, goingBack, Desk, atFirst, notedDeed, deedCame, deedNumber, deskWith, deskAfter, givensOf, Begins, OnlyStanding, ShownAlike, numbersOf, Within, AllWithin, DeskSaved}
 use Rattle.demands.proofs.TakenBack.{laid-down}
-use Rattle.demands.proofs.DeskLaws.{Stands, stands, stands-first, by-deed, only-standing, standing-fine, back-made, back-is, more-is, named-with}
+use Rattle.demands.proofs.DeskLaws.{Stands, stands, stands-first, by-deed, only-standing, standing-fine, back-made, back-is, more-is}
+use Rattle.demands.proofs.Deeds.{nameNumber, name-made, name-refused, drawNumber, draw-made, draw-refused, tryNumber, ownNumber, step-unfit, step-refused, step-made, named-with}
 
 -- ---- lists
 
@@ -288,15 +287,13 @@ module _ (p : Plan) (g : Given) (e : Evening) (a : Account) (b : Begins p g e a)
     stay q = record { number-same = q; hatches-same = t .hatches-are; opening-same = t .opening-is; kept-more = t .kept-more }
 
     agree : (d : Deed) → Within p g d y → Agrees (deedCame p g d (x .at) (x .account)) (deedCame p g d (y .at) (y .account))
-    unfolding deedCame nameTried drawTried stepCame backCame afterBack
-    agree (naming n row column) w = go (ℕ-discrete (refusal (nameRefusals p (g .lie .rules) (g .inflow) (y .at .log) n row column)) 0)
+    unfolding afterBack
+    agree (naming n row column) w = go (ℕ-discrete (nameNumber p g (y .at) (y .account) n row column) 0)
       where
-        go : Dec (refusal (nameRefusals p (g .lie .rules) (g .inflow) (y .at .log) n row column) ≡ 0) →
-            Agrees (withLog (x .at) (nameTried p (g .lie .rules) (g .inflow) (x .at .log) (x .account) n row column)) (withLog (y .at) (nameTried p (g .lie .rules) (g .inflow) (y .at .log) (y .account) n row column))
+        go : Dec (nameNumber p g (y .at) (y .account) n row column ≡ 0) →
+            Agrees (deedCame p g (naming n row column) (x .at) (x .account)) (deedCame p g (naming n row column) (y .at) (y .account))
         go (yes z) =
-            let q : nameTried p (g .lie .rules) (g .inflow) (x .at .log) (x .account) n row column ≡ tried 0 (hatchNamed (x .at .log) n row column) (x .account) = pick-true _ _ (eq-eqb _ _ (name-same n row column ∙ z)) in
-            let r : nameTried p (g .lie .rules) (g .inflow) (y .at .log) (y .account) n row column ≡ tried 0 (hatchNamed (y .at .log) n row column) (y .account) = pick-true _ _ (eq-eqb _ _ z) in
-            agrees-by (ap (λ (k : Tried). withLog (x .at) k) q) (ap (λ (k : Tried). withLog (y .at) k) r)
+            agrees-by (name-made p g (x .at) (x .account) n row column (name-same n row column ∙ z)) (name-made p g (y .at) (y .account) n row column z)
             (record {
               number-same = refl;
               hatches-same = ap (λ (l : Log). hatchNamed l n row column .hatches) as-other;
@@ -304,34 +301,29 @@ module _ (p : Plan) (g : Given) (e : Evening) (a : Account) (b : Begins p g e a)
               kept-more = t .kept-more;
             })
         go (no d) =
-            let q : nameTried p (g .lie .rules) (g .inflow) (x .at .log) (x .account) n row column ≡ tried (refusal (nameRefusals p (g .lie .rules) (g .inflow) (x .at .log) n row column)) (x .at .log) (x .account) = pick-false _ _ (ne-eqb _ _ (λ z. d (sym (name-same n row column) ∙ z))) in
-            let r : nameTried p (g .lie .rules) (g .inflow) (y .at .log) (y .account) n row column ≡ tried (refusal (nameRefusals p (g .lie .rules) (g .inflow) (y .at .log) n row column)) (y .at .log) (y .account) = pick-false _ _ (ne-eqb _ _ d) in
-            agrees-by (ap (λ (k : Tried). withLog (x .at) k) q) (ap (λ (k : Tried). withLog (y .at) k) r) (stay (name-same n row column))
-    agree (drawing n litres) w = go (ℕ-discrete (refusal (drawRefusals (y .at .log) n litres)) 0)
+            agrees-by (name-refused p g (x .at) (x .account) n row column (λ z. d (sym (name-same n row column) ∙ z)))
+            (name-refused p g (y .at) (y .account) n row column d) (stay (name-same n row column))
+    agree (drawing n litres) w = go (ℕ-discrete (drawNumber p g (y .at) (y .account) n litres) 0)
       where
-        go : Dec (refusal (drawRefusals (y .at .log) n litres) ≡ 0) →
-            Agrees (withLog (x .at) (drawTried (x .at .log) (x .account) n litres)) (withLog (y .at) (drawTried (y .at .log) (y .account) n litres))
+        go : Dec (drawNumber p g (y .at) (y .account) n litres ≡ 0) →
+            Agrees (deedCame p g (drawing n litres) (x .at) (x .account)) (deedCame p g (drawing n litres) (y .at) (y .account))
         go (yes z) =
-            let q : drawTried (x .at .log) (x .account) n litres ≡ tried 0 (logAt (x .at .log) (set (x .at .log .litres) (n - 1) litres)) (x .account) = pick-true _ _ (eq-eqb _ _ (draw-same n litres ∙ z)) in
-            let r : drawTried (y .at .log) (y .account) n litres ≡ tried 0 (logAt (y .at .log) (set (y .at .log .litres) (n - 1) litres)) (y .account) = pick-true _ _ (eq-eqb _ _ z) in
-            agrees-by (ap (λ (k : Tried). withLog (x .at) k) q) (ap (λ (k : Tried). withLog (y .at) k) r)
+            agrees-by (draw-made p g (x .at) (x .account) n litres (draw-same n litres ∙ z)) (draw-made p g (y .at) (y .account) n litres z)
             (record { number-same = refl; hatches-same = t .hatches-are; opening-same = t .opening-is; kept-more = t .kept-more })
         go (no d) =
-            let q : drawTried (x .at .log) (x .account) n litres ≡ tried (refusal (drawRefusals (x .at .log) n litres)) (x .at .log) (x .account) = pick-false _ _ (ne-eqb _ _ (λ z. d (sym (draw-same n litres) ∙ z))) in
-            let r : drawTried (y .at .log) (y .account) n litres ≡ tried (refusal (drawRefusals (y .at .log) n litres)) (y .at .log) (y .account) = pick-false _ _ (ne-eqb _ _ d) in
-            agrees-by (ap (λ (k : Tried). withLog (x .at) k) q) (ap (λ (k : Tried). withLog (y .at) k) r) (stay (draw-same n litres))
-    agree oneStep w =
-        go (ℕ-discrete (refusal (tryRefusals (g .inflow) (y .at .log) (y .account))) 0) (ℕ-discrete (stepNumber p (stepGiven p g (y .at) (y .account)) (worldOf (y .at))) 0)
+            agrees-by (draw-refused p g (x .at) (x .account) n litres (λ z. d (sym (draw-same n litres) ∙ z)))
+            (draw-refused p g (y .at) (y .account) n litres d) (stay (draw-same n litres))
+    agree oneStep w = go (ℕ-discrete (tryNumber p g (y .at) (y .account)) 0) (ℕ-discrete (ownNumber p g (y .at) (y .account)) 0)
       where
-        go : Dec (refusal (tryRefusals (g .inflow) (y .at .log) (y .account)) ≡ 0) → Dec (stepNumber p (stepGiven p g (y .at) (y .account)) (worldOf (y .at)) ≡ 0) →
-            Agrees (stepCame p g (x .at) (x .account)) (stepCame p g (y .at) (y .account))
-        go (no d) _ = agrees-by (pick-false _ _ (ne-eqb _ _ (λ z. d (sym try-same ∙ z)))) (pick-false _ _ (ne-eqb _ _ d)) (stay try-same)
+        go : Dec (tryNumber p g (y .at) (y .account) ≡ 0) → Dec (ownNumber p g (y .at) (y .account) ≡ 0) →
+            Agrees (deedCame p g oneStep (x .at) (x .account)) (deedCame p g oneStep (y .at) (y .account))
+        go (no d) _ =
+            agrees-by (step-unfit p g (x .at) (x .account) (λ z. d (sym try-same ∙ z))) (step-unfit p g (y .at) (y .account) d) (stay try-same)
         go (yes z) (no d) =
-            agrees-by (pick-true _ _ (eq-eqb _ _ (try-same ∙ z)) ∙ pick-false _ _ (ne-eqb _ _ (λ v. d (sym step-same ∙ v))))
-            (pick-true _ _ (eq-eqb _ _ z) ∙ pick-false _ _ (ne-eqb _ _ d)) (stay step-same)
+            agrees-by (step-refused p g (x .at) (x .account) (try-same ∙ z) (λ v. d (sym step-same ∙ v))) (step-refused p g (y .at) (y .account) z d)
+            (stay step-same)
         go (yes z) (yes v) =
-            agrees-by (pick-true _ _ (eq-eqb _ _ (try-same ∙ z)) ∙ pick-true _ _ (eq-eqb _ _ (step-same ∙ v)))
-            (pick-true _ _ (eq-eqb _ _ z) ∙ pick-true _ _ (eq-eqb _ _ v))
+            agrees-by (step-made p g (x .at) (x .account) (try-same ∙ z) (step-same ∙ v)) (step-made p g (y .at) (y .account) z v)
             (record {
               number-same = refl;
               hatches-same = t .hatches-are;

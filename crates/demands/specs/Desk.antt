@@ -123,6 +123,9 @@ module _ (p : Plan) (g : Given) where
 
   pub record DeskEvening : Type 0 where
     pub only-standing : (e : Evening) (a : Account) → Begins e a → (deeds : List Deed) → OnlyStanding e a (deskAfter deeds (atFirst e a))
+    -- a deed that is refused changes nothing
+    pub refused-stays : (e : Evening) (a : Account) → Begins e a → (deeds : List Deed) (d : Deed) →
+        let x = deskAfter deeds (atFirst e a) in (deedNumber d x ≡ 0 → ⊥) → deskWith d x ≡ x
     -- a `back` within what is kept is made whole, and one beyond it is refused by 10
     pub back-whole : (e : Evening) (a : Account) → Begins e a → (deeds : List Deed) (count : ℕ) →
         let x = deskAfter deeds (atFirst e a) in count ≤ x .at .log .run .kept → deedNumber (goingBack count) x ≡ 0
