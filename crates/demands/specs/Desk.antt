@@ -140,7 +140,7 @@ module _ (p : Plan) (g : Given) where
         roomSlots p records ≤ mostSlots → roomSlots p records ≤ slotsIn mostHatches (length began) → length (g .inflow) ≤ tableRoom inflowKind →
         let e = evening depths lasts records began (opened u) in
         Begins e (accountOpened (water p depths) 0) × Balanced e (accountOpened (water p depths) 0)
-    -- and so is a saved state that `lay` did not refuse, with no step kept
+    -- a saved state that `lay` did not refuse is a beginning; it is balanced where what was saved was, which `lay` does not ask
     pub from-lay : (s records began : List ℕ) (before after : Water) (l : Laid) → Lays p (g .inflow) (roomSlots p records) s before l after → l .number ≡ 0 →
         roomSlots p records ≤ mostSlots → roomSlots p records ≤ slotsIn mostHatches (length began) →
         Begins (evening (after .depths) (after .lasts) records began (l .saved .log)) (accountOpened (l .saved .start) (l .saved .given))
