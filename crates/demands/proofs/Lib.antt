@@ -1,8 +1,11 @@
 pub mod Account
 pub mod Boards
+pub mod Deeds
 pub mod Demand1
 pub mod Demand2
 pub mod Demand3
+pub mod DeskLaws
+pub mod DeskSaved
 pub mod Determined
 pub mod EnginesAgree
 pub mod Exported

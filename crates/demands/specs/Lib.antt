@@ -4,6 +4,7 @@ pub mod Closed
 pub mod Demand1
 pub mod Demand2
 pub mod Demand3
+pub mod Desk
 pub mod Determined
 pub mod EnginesAgree
 pub mod Exported
