@@ -8,7 +8,7 @@ use native.Mathlib.Omega.{arith}
 use lib.Dec.{eqb}
 use lib.ListN.{length, length-append}
 use borrow.Author.Tests.{eq-eqb, ne-eqb, leb-true, not-true, not-false}
-use Rattle.reckon.specs.Tests.{pick, every, refusal}
+use Rattle.reckon.specs.Tests.{every, refusal}
 use Rattle.reckon.proofs.TestLaws.{not-both, and-true, pick-true, pick-false, every-each}
 use Rattle.ledger.specs.Runs.{Plan}
 use Rattle.checks.specs.Given.{Given}
@@ -20,7 +20,7 @@ use Rattle.trying.specs.Lines.{Came, came, stepCame, backCame, TrialLent}
 use Rattle.trying.specs.declared.given.Account.{Account}
 use Rattle.trying.specs.declared.lines.Tried.{Tried}
 use Rattle.desks.specs.State.{deskOut, keptSlots, noSeries, deskWith}
-use Rattle.desks.specs.Lines.{Told, told, plainly, shown, endingText, stateText, backTold, stepRefusals, stepTold, lastTold, oneLess, madeTold, stepsLeft, nextTold, Puts, Answers}
+use Rattle.desks.specs.Lines.{Told, told, plainly, shown, endingText, stateText, backTold, stepRefusals, stepTold, lastTold, oneLess, madeTold, stepsLeft, nextTold, Answers}
 use Rattle.desks.specs.inner.Lent.{Shows, Lends, StatePut, EndingPut, DeskTold}
 use Rattle.desks.specs.declared.state.Desk.{Desk}
 use Rattle.desks.specs.declared.state.Series.{Series}
@@ -139,6 +139,7 @@ module _ (d : Desk) (count end every′ : ℕ) (p : Plan) (depths lasts records 
 
 -- ---- the steps of a line `step`
 
+-- the first test holds, so the second decides
 pub both-hold : (a b : Bool) → a ≡ true → b ≡ every (a ∷ b ∷ [])
 unfolding every
 both-hold true b e = sym (and-true b)
@@ -163,12 +164,11 @@ module _ (t : Tried) (p : Plan) (depths lasts records began : List ℕ) where
         Answers (lastTold p every′ cameTo) d r (evening depths lasts records began (r .log)) old new
     last-shown e x = answers-as (sym (pick-false (plainly cameTo) (shown p cameTo) e)) (answers-of depths lasts records began x)
 
-  -- a step that was made
+  -- a step that was made: its frame, where each is shown
   abbrev frame : List ℕ
   frame = stateText p (t .log) (t .account) depths
 
   module _ (d : Desk) (s : Series) {s′ : Series} (q : s′ ≡ oneLess s) {r : Desk} where
-
     pub made-unshown : {old : List ℕ} → not (s .every) ≡ true → r ≡ deskWith d (t .log) (t .account) s′ 0 →
         Answers (madeTold p s cameTo) d r (evening depths lasts records began (r .log)) old old
     made-unshown n e =
