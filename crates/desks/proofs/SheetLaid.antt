@@ -48,7 +48,7 @@ pub laid-whole :
     a ≡ freshDesk h start k → lasts ≡ replicate (length oldLasts) 0 → SheetLaid h marks depths oldLasts lasts old new a
 laid-whole h marks depths {n} {start} {fresh} {a} {old} {mid} {new} {j = j} {k} e w f o s t q c =
     let s′ : StatePut (stateText (plan (h .shape) (take n marks)) (freshLog h) (accountOpened start 0) (take n depths)) old mid j =
-        subst (λ (x : Desk). StatePut (stateText (plan (h .shape) (take n marks)) (x .log) (x .account) (take n depths)) old mid j) f s in
+    subst (λ (x : Desk). StatePut (stateText (plan (h .shape) (take n marks)) (x .log) (x .account) (take n depths)) old mid j) f s in
     let b = both-put o s′ (t .wrote) (t .short) in
     record {
       desk-is = q ∙ (ap (freshDesk h start) (b .0) ∙ (ap (λ (x : ℕ). freshDesk h x (length (text n x))) w ∙ ap (λ (i : ℕ). freshDesk h (at i) (length (text i (at i)))) e));
