@@ -15,6 +15,7 @@ pub mod HatchRuns
 pub mod Holes
 pub mod HolesRead
 pub mod LineClock
+pub mod LineDeeds
 pub mod LinePlaces
 pub mod Loader
 pub mod Played
