@@ -1,5 +1,6 @@
 pub mod Account
 pub mod Boards
+pub mod CallDeeds
 pub mod Deeds
 pub mod Demand1
 pub mod Demand2

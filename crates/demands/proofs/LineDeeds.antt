@@ -150,11 +150,11 @@ module _ (h : Heading) (fine : ShapeInRange (h .shape)) (marks : List ℕ) (g : 
   abbrev K : ℕ
   K = keptSlots (h .shape)
 
-  slots-are : (e : Evening) → Sized h e → roomSlots p (e .records) ≡ K
+  pub slots-are : (e : Evening) → Sized h e → roomSlots p (e .records) ≡ K
   unfolding roomSlots
   slots-are e z = ap (λ (k : ℕ). k / recordSize p) (z .records) ∙ mul-div-cancel K (omega arith)
 
-  rates-are : (e : Evening) → Sized h e → slotsIn mostHatches (length (e .began)) ≡ K
+  pub rates-are : (e : Evening) → Sized h e → slotsIn mostHatches (length (e .began)) ≡ K
   rates-are e z = ap (λ (k : ℕ). k / mostHatches) (z .began) ∙ mul-div-cancel K (omega arith)
 
   sized-world : {e : Evening} {v : World} {began : List ℕ} {log : Log} → Sized h e → SameLong (worldOf e) v → length began ≡ length (e .began) →
@@ -280,7 +280,7 @@ module _ (d : Desk) (r : Stores) (on : OnDesk d r) where
   abbrev E : Evening
   E = stateOn d r
 
-  shape-fine : ShapeInRange (d .heading .shape)
+  pub shape-fine : ShapeInRange (d .heading .shape)
   shape-fine = fine-is (d .heading) (ready-fine d (on .ready)) .shape
 
   squares-fit : squares (d .heading .shape) ≤ deskSquares
