@@ -1,17 +1,21 @@
 -- What an evening of calls leaves in the rooms, by induction over the calls.
 -- Assumes nothing.
 use mathlib.Core.Path.{_≡_, refl, sym, ap, ap₂, subst, _∙_}
-use mathlib.Core.Bool.{false}
+use mathlib.Core.Bool.{true, false}
 use mathlib.Core.List.{List, [], _∷_, _++_, append-assoc}
 use Prim.Native.Nat.{ℕ, _+_, _-_, _*_, _≤_}
 use native.Mathlib.Omega.{arith}
 use lib.ListN.{length, length-append, length-replicate, length-take}
-use borrow.Author.Tests.{eq-eqb}
+use borrow.Author.Tests.{eq-eqb, le-leb}
 use Rattle.reckon.specs.Tests.{pick}
 use Rattle.reckon.specs.Tables.{inflowKind, tableRoom}
-use Rattle.reckon.proofs.TestLaws.{pick-true}
+use Rattle.reckon.proofs.TestLaws.{pick-true, pick-false, each-every}
+use Rattle.reckon.proofs.ListLaws.{length-filled, sum-ext}
+use Rattle.grid.specs.Squares.{squares}
+use Rattle.grid.specs.Marks.{Alike}
+use Rattle.grid.proofs.MarkLaws.{unless-closed}
 use Rattle.ledger.specs.Runs.{Plan, seenOf}
-use Rattle.ledger.specs.Account.{water, held}
+use Rattle.ledger.specs.Account.{overOpen, water, held}
 use Rattle.ledger.specs.Record.{roomSlots}
 use Rattle.checks.specs.Given.{Given}
 use Rattle.checks.specs.Fresh.{freshRun}
@@ -29,18 +33,23 @@ use Rattle.trying.specs.Given.{mostSlots, accountOpened}
 use Rattle.trying.specs.declared.given.Account.{Account}
 use Rattle.desks.specs.Orders.{order}
 use Rattle.desks.specs.State.{deskText, keptSlots, freshLog}
-use Rattle.desks.specs.Lines.{orderTold, endingText}
-use Rattle.desks.specs.Command.{Left, planOn, commandLeft, stepLeft, sheetLeft, isSheet, wantedBy}
+use Rattle.frames.specs.Frame.{frameText}
+use Rattle.frames.proofs.FrameLaws.{frame-same}
+use Rattle.stands.specs.Laying.{standOf, waterAfter, waterFrom}
+use Rattle.stands.specs.declared.saved.Laid.{Laid}
+use Rattle.trying.specs.Lines.{Came, came, stepCame, backCame}
+use Rattle.desks.specs.Lines.{Told, shown, madeTold, figuresOf, stateText, orderTold, entryTold, backTold, layTold, laidWater, laidEvening, nextTold, stepsLeft, endingText}
+use Rattle.desks.specs.Command.{Left, planOn, toldOn, commandLeft, stepLeft, sheetLeft, isSheet, wantedBy}
 use Rattle.desks.specs.declared.orders.Order.{Order}
-use Rattle.desks.specs.declared.orders.Order.the-variants.{Sheet, Entered, Show}
+use Rattle.desks.specs.declared.orders.Order.the-variants.{Sheet, Entered, Show, Lay}
 use Rattle.desks.specs.declared.state.Desk.{Desk}
 use Rattle.desks.proofs.StateLaws.{fine-is, slots-most, slots-some}
 use Rattle.desks.proofs.RoomLaws.{ready-fine}
 use Rattle.demands.specs.Desk as deeds
-use Rattle.demands.specs.Desk.{Deed, goingBack, atFirst, deskWith, deskAfter, Begins, Balanced, OnlyStanding}
+use Rattle.demands.specs.Desk.{Deed, oneStep, goingBack, Begins, deedCame, deskWith, deskAfter}
 use Rattle.demands.specs.DeskLines.{laysDown, deedOf, OnDesk, stateOn, groundOn, Standing, Does}
 use Rattle.demands.proofs.DeskLaws.{stands, desk-evening, desk-taken-back}
-use Rattle.demands.proofs.LineDeeds.{slots-are, rates-are, shape-fine, state-sized, desk-lines, line-is}
+use Rattle.demands.proofs.LineDeeds.{Sized, put-taken, slots-are, rates-are, shape-fine, state-sized, told-on, sized-one, desk-lines, line-is, next-is, lay-is}
 use Rattle.demands.specs.DeskCalls.{Call, aLine, goingOn, called, deedsOf, Tries, AllTry, afterCalls, deedsIn, BeginsOn, BalancedOn, frameOn, startsAs, comesTo, CallsCome, DeskCalls}
 
 -- deeds, and more deeds
@@ -207,11 +216,72 @@ module _ (d : Desk) (r : Stores) (on : OnDesk d r) (first : BeginsOn d r) where
           (subst (λ (k : ℕ). length made ≤ k)
           (ap (λ (e : Evening). e .log .run .kept) (sym (m .standing .at-is)) ∙ ap (λ (x : deeds.Desk). x .at .log .run .kept) come-to) kept))
 
--- ---- the frame of `show`
+-- ---- frames
 
-show-frame : (d : Desk) (r : Stores) → OnDesk d r → (text : List ℕ) → commandLeft d r text Show .text ≡ frameOn d r ++ endingText 0 0
-unfolding isSheet orderTold
-show-frame d r on text = ap (λ (l : Left). l .text) (line-is d r on text Show refl)
+module _ (d : Desk) (r : Stores) (on : OnDesk d r) where
+  -- a state that is told, with its frame
+  abbrev framed : Came → List ℕ
+  framed c = stateText (planOn d r) (c .evening .log) (c .account) (c .evening .depths)
+
+  told-frame : (t : Told) → Sized (d .heading) (t .evening) →
+      stateText (planOn d r) (t .evening .log) (t .account) (t .evening .depths) ≡ frameOn (toldOn d r t .desk) (toldOn d r t .rooms)
+  told-frame t z =
+      ap (λ (e : Evening). stateText (planOn d r) (t .evening .log) (t .account) (e .depths)) (sym (put-taken (d .heading) r (t .evening) z))
+
+  framed-text : (before : Left) (t : Told) (end : List ℕ) → before ≡ toldOn d r t → Sized (d .heading) (t .evening) →
+      t .text ≡ stateText (planOn d r) (t .evening .log) (t .account) (t .evening .depths) ++ end → before .text ≡ frameOn (before .desk) (before .rooms) ++ end
+  framed-text before t end q z text =
+      subst (λ (l : Left). l .text ≡ frameOn (l .desk) (l .rooms) ++ end) (sym q) (text ∙ ap (λ (l : List ℕ). l ++ end) (told-frame t z))
+
+  show-frame : (text : List ℕ) → commandLeft d r text Show .text ≡ frameOn d r ++ endingText 0 0
+  unfolding isSheet orderTold
+  show-frame text = ap (λ (l : Left). l .text) (line-is d r on text Show refl)
+
+  back-frame : (text : List ℕ) (count : ℕ) → backCame (planOn d r) (stateOn d r) (d .account) count .number ≡ 0 →
+      commandLeft d r text (Entered (Back count)) .text ≡
+      frameOn (commandLeft d r text (Entered (Back count)) .desk) (commandLeft d r text (Entered (Back count)) .rooms) ++ endingText 0 0
+  unfolding isSheet orderTold entryTold backTold deedCame deskAfter deskWith
+  back-frame text count z =
+      framed-text (commandLeft d r text (Entered (Back count))) (shown (planOn d r) c) (endingText 0 0)
+      (line-is d r on text (Entered (Back count)) refl ∙ ap (toldOn d r) (pick-true _ _ (eq-eqb _ _ z))) (sized-one d r on (goingBack count ∷ []) tt)
+      (ap (λ (n : ℕ). framed c ++ endingText n 0) z)
+    where
+      c : Came
+      c = backCame (planOn d r) (stateOn d r) (d .account) count
+
+  step-frame : length (d .log .litres) ≡ mostHatches → d .series .on ≡ true → d .series .every ≡ true → stepsLeft (d .series) (d .log .run .clock) ≡ true →
+      stepCame (planOn d r) (groundOn d r) (stateOn d r) (d .account) .number ≡ 0 → stepLeft d r .text ≡ frameOn (stepLeft d r .desk) (stepLeft d r .rooms)
+  unfolding nextTold deedCame deskAfter deskWith
+  step-frame nine going each more z =
+      subst (λ (l : Left). l .text ≡ frameOn (l .desk) (l .rooms))
+      (sym (next-is d r on going ∙ ap (toldOn d r) (pick-true _ _ more ∙ pick-true _ _ (eq-eqb _ _ z))))
+      (pick-true _ _ each ∙ told-frame (madeTold (planOn d r) (d .series) (stepCame (planOn d r) (groundOn d r) (stateOn d r) (d .account))) (sized-one d r on (oneStep ∷ []) nine))
+
+  end-frame : d .series .on ≡ true → d .series .every ≡ false → stepsLeft (d .series) (d .log .run .clock) ≡ false →
+      stepLeft d r .text ≡ frameOn (stepLeft d r .desk) (stepLeft d r .rooms) ++ endingText 0 0
+  unfolding nextTold
+  end-frame going each none =
+      framed-text (stepLeft d r) (shown (planOn d r) (came 0 (stateOn d r) (d .account))) (endingText 0 0)
+      (next-is d r on going ∙ ap (toldOn d r) (pick-false _ _ none ∙ pick-false _ _ each)) (state-sized d r on) refl
+
+-- ---- walls
+
+water-same : (p : Plan) {a b : List ℕ} → Alike (p .marks) a b → water p a ≡ water p b
+unfolding water overOpen
+water-same p h = sum-ext (squares (p .shape)) _ _ (λ i l. unless-closed (p .marks) i 0 (λ o. h .at i o))
+
+state-same : (p : Plan) (log : Log) (a : Account) {x y : List ℕ} → Alike (p .marks) x y → stateText p log a x ≡ stateText p log a y
+unfolding stateText
+state-same p log a {x} {y} h =
+    frame-same (p .marks) h (figuresOf log a (keptSlots (p .shape)) (water p x)) (log .litres) (p .shape)
+    ∙ ap (λ (n : ℕ). frameText (figuresOf log a (keptSlots (p .shape)) n) (log .litres) (p .shape) (p .marks) y) (water-same p h)
+
+walls : (d : Desk) (r s : Stores) → OnDesk d r → OnDesk d s → planOn d r ≡ planOn d s → Alike (planOn d r .marks) (stateOn d r .depths) (stateOn d s .depths) →
+    (text : List ℕ) → commandLeft d r text Show .text ≡ commandLeft d s text Show .text
+walls d r s on also same alike text =
+    show-frame d r on text
+    ∙ (ap (λ (l : List ℕ). l ++ endingText 0 0) (state-same (planOn d r) (d .log) (d .account) alike ∙ ap (λ (p : Plan). stateText p (d .log) (d .account) (stateOn d s .depths)) same)
+    ∙ sym (show-frame d s also text))
 
 -- ---- beginnings
 
@@ -263,11 +333,71 @@ sheet-begins d r text bytes h whole read =
     (sym (pick-true _ _ refl ∙ (pick-true _ _ (eq-eqb _ _ whole) ∙ ap (λ (s : reading.Sheet). sheetLeft text s d r) read)))
     (λ on. fresh-begins (sheetLeft text (Read h) d r .desk) (sheetLeft text (Read h) d r .rooms) on refl refl)
 
+-- a saved state
+module _ (d : Desk) (r : Stores) (on : OnDesk d r) (text : List ℕ) where
+  abbrev laid : ℕ → Laid
+  laid slots = standOf (planOn d r) (groundOn d r .inflow) slots text
+
+  abbrev laidAt : ℕ → Evening
+  laidAt slots = laidEvening (planOn d r) (stateOn d r) (d .account) text (laid slots .saved .log)
+
+  abbrev opensAt : ℕ → Account
+  opensAt slots = accountOpened (laid slots .saved .start) (laid slots .saved .given)
+
+  slots : roomSlots (planOn d r) (stateOn d r .records) ≡ keptSlots (d .heading .shape)
+  slots = slots-are (d .heading) (shape-fine d r on) (planOn d r .marks) (groundOn d r) (stateOn d r) (state-sized d r on)
+
+  laid-begins : laid (keptSlots (d .heading .shape)) .number ≡ 0 →
+      Begins (planOn d r) (groundOn d r) (laidAt (keptSlots (d .heading .shape))) (opensAt (keptSlots (d .heading .shape)))
+  laid-begins = subst (λ (k : ℕ). laid k .number ≡ 0 → Begins (planOn d r) (groundOn d r) (laidAt k) (opensAt k)) slots by-own
+    where
+      own : ℕ
+      own = roomSlots (planOn d r) (stateOn d r .records)
+
+      by-own : laid own .number ≡ 0 → Begins (planOn d r) (groundOn d r) (laidAt own) (opensAt own)
+      by-own z =
+          desk-evening (planOn d r) (groundOn d r) .from-lay text (stateOn d r .records) (stateOn d r .began)
+          (record { depths = stateOn d r .depths; lasts = stateOn d r .lasts }) (laidWater (planOn d r) (stateOn d r) (d .account) text) (laid own)
+          (record { answer = refl; rooms-are = ap (λ (n : ℕ). waterAfter (planOn d r) text n (record { depths = stateOn d r .depths; lasts = stateOn d r .lasts })) (sym z) }) z
+          (omega (arith, slots, slots-most (d .heading .shape)))
+          (omega (arith, slots, rates-are (d .heading) (shape-fine d r on) (planOn d r .marks) (groundOn d r) (stateOn d r) (state-sized d r on)))
+
+  lay-begins : (bytes : ℕ) → length text ≡ bytes → length text ≤ deskText → laid (keptSlots (d .heading .shape)) .number ≡ 0 →
+      let l = commandLeft d r text (Lay bytes) in
+      OnDesk (l .desk) (l .rooms) × BeginsOn (l .desk) (l .rooms)
+  unfolding layTold waterAfter waterFrom
+  lay-begins bytes whole few z =
+      subst (λ (l : Left). OnDesk (l .desk) (l .rooms) × BeginsOn (l .desk) (l .rooms))
+      (sym (lay-is d r on text bytes
+      ∙ ap (toldOn d r) (pick-true _ _ (each-every _ (eq-eqb _ _ whole, (le-leb _ _ few, tt))) ∙ pick-true _ _ (eq-eqb _ _ z))))
+      (
+        told-on d r on t sized,
+        subst (λ (e : Evening). Begins (planOn d r) (groundOn d r) e (t .account)) (sym (put-taken (d .heading) r (t .evening) sized)) (laid-begins z),
+      )
+    where
+      t : Told
+      t = shown (planOn d r) (came 0 (laidAt (keptSlots (d .heading .shape))) (opensAt (keptSlots (d .heading .shape))))
+
+      sized : Sized (d .heading) (t .evening)
+      sized =
+          let z = state-sized d r on in
+          record {
+            depths = length-filled _ _ _ (stateOn d r .depths) ∙ z .depths;
+            lasts = length-filled _ _ _ (stateOn d r .lasts) ∙ z .lasts;
+            records = z .records;
+            began = z .began;
+          }
+
 pub desk-calls : DeskCalls
 desk-calls =
     record {
       sheet-begins = λ d r text bytes h whole read. sheet-begins d r text bytes h whole read;
       come = λ d r on first calls t. come d r on first calls t;
       gone = λ d r on first calls trial line text made t asked same kept. gone d r on first calls trial line text made t asked same kept;
+      lay-begins = λ d r on text bytes whole few z. lay-begins d r on text bytes whole few z;
       show-frame = λ d r on text. show-frame d r on text;
+      back-frame = λ d r on text count z. back-frame d r on text count z;
+      step-frame = λ d r on nine going each more z. step-frame d r on nine going each more z;
+      end-frame = λ d r on going each none. end-frame d r on going each none;
+      walls = λ d r s on also same alike text. walls d r s on also same alike text;
     }

@@ -316,7 +316,7 @@ module _ (d : Desk) (r : Stores) (on : OnDesk d r) where
         ready-stays = refl;
       }
 
-  told-on : (t : Told) → Sized (d .heading) (t .evening) → OnDesk (toldOn d r t .desk) (toldOn d r t .rooms)
+  pub told-on : (t : Told) → Sized (d .heading) (t .evening) → OnDesk (toldOn d r t .desk) (toldOn d r t .rooms)
   unfolding readyNumber
   told-on t z =
       record {
@@ -341,12 +341,12 @@ module _ (d : Desk) (r : Stores) (on : OnDesk d r) where
       }
 
   -- no deed, or one
-  abbrev OneOf : List Deed → Type 0
+  abbrev pub OneOf : List Deed → Type 0
   OneOf [] = Unit {0}
   OneOf (deed ∷ []) = Nine deed E
   OneOf (deed ∷ (x ∷ rest)) = ⊥
 
-  sized-one : (ds : List Deed) → OneOf ds → Sized (d .heading) (deskAfter P G ds (deeds.atFirst E (d .account)) .at)
+  pub sized-one : (ds : List Deed) → OneOf ds → Sized (d .heading) (deskAfter P G ds (deeds.atFirst E (d .account)) .at)
   unfolding deskAfter deskWith
   sized-one [] n = state-sized
   sized-one (deed ∷ []) n = sized-came (d .heading) shape-fine (P .marks) G deed E (d .account) n state-sized
@@ -416,7 +416,7 @@ module _ (d : Desk) (r : Stores) (on : OnDesk d r) where
 
   -- ---- the next step
 
-  next-is : (d .series .on ≡ true) → stepLeft d r ≡ toldOn d r (nextTold P G E (d .account) (d .series))
+  pub next-is : (d .series .on ≡ true) → stepLeft d r ≡ toldOn d r (nextTold P G E (d .account) (d .series))
   unfolding stepLeft
   next-is q = pick-true _ _ q ∙ pick-true _ _ (eq-eqb _ _ (on .ready))
 
@@ -463,7 +463,7 @@ module _ (d : Desk) (r : Stores) (on : OnDesk d r) where
     abbrev laidNumber : ℕ
     laidNumber = standOf P (G .inflow) (keptSlots (d .heading .shape)) text .number
 
-    lay-is : commandLeft d r text (Lay bytes) ≡ toldOn d r (layTold P E (d .account) (G .inflow) bytes text)
+    pub lay-is : commandLeft d r text (Lay bytes) ≡ toldOn d r (layTold P E (d .account) (G .inflow) bytes text)
     unfolding isSheet orderTold
     lay-is = line-is text (Lay bytes) refl
 
