@@ -5,11 +5,12 @@ use mathlib.Core.Bool.{true, false}
 use mathlib.Core.List.{List, [], _∷_, _++_, append-assoc}
 use Prim.Native.Nat.{ℕ, _+_, _-_, _*_, _≤_}
 use native.Mathlib.Omega.{arith}
+use lib.Dec.{leb}
 use lib.ListN.{length, length-append, length-replicate, length-take}
 use borrow.Author.Tests.{eq-eqb, le-leb}
 use Rattle.reckon.specs.Tests.{pick}
 use Rattle.reckon.specs.Tables.{inflowKind, tableRoom}
-use Rattle.reckon.proofs.TestLaws.{pick-true, pick-false, each-every}
+use Rattle.reckon.proofs.TestLaws.{pick-true, pick-false, every-each, each-every, passed-refusal}
 use Rattle.reckon.proofs.ListLaws.{length-filled, sum-ext}
 use Rattle.grid.specs.Squares.{squares}
 use Rattle.grid.specs.Marks.{Alike}
@@ -21,7 +22,10 @@ use Rattle.checks.specs.Given.{Given}
 use Rattle.checks.specs.Fresh.{freshRun}
 use Rattle.sheet.specs.declared.reading.Heading.{Heading}
 use Rattle.sheet.specs.declared.reading.Sheet as reading
-use Rattle.sheet.specs.declared.reading.Sheet.the-variants.{Read}
+use Rattle.sheet.specs.declared.reading.Sheet.the-variants.{Read, Refused}
+use Rattle.sheet.specs.Sheet.{roomsAfter, roomsFilled, cellsFilled, roomsFine, headingOf}
+use Rattle.sheet.proofs.SheetLaws.{Well, well, rain-few, inflow-few}
+use Rattle.text.proofs.ReadingLaws.{by-test}
 use Rattle.programs.specs.Reading.{sheetWithin}
 use Rattle.hatches.specs.Log.{Evening, mostHatches, hatchRows, tableWith}
 use Rattle.hatches.specs.declared.log.Log.{Log}
@@ -32,22 +36,22 @@ use Rattle.evenings.specs.Taking.{worldOf}
 use Rattle.trying.specs.Given.{mostSlots, accountOpened}
 use Rattle.trying.specs.declared.given.Account.{Account}
 use Rattle.desks.specs.Orders.{order}
-use Rattle.desks.specs.State.{deskText, keptSlots, freshLog}
+use Rattle.desks.specs.State.{deskText, keptSlots, headingFine, freshLog}
 use Rattle.frames.specs.Frame.{frameText}
 use Rattle.frames.proofs.FrameLaws.{frame-same}
 use Rattle.stands.specs.Laying.{standOf, waterAfter, waterFrom}
 use Rattle.stands.specs.declared.saved.Laid.{Laid}
 use Rattle.trying.specs.Lines.{Came, came, stepCame, backCame}
 use Rattle.desks.specs.Lines.{Told, shown, madeTold, figuresOf, stateText, orderTold, entryTold, backTold, layTold, laidWater, laidEvening, nextTold, stepsLeft, endingText}
-use Rattle.desks.specs.Command.{Left, planOn, toldOn, commandLeft, stepLeft, sheetLeft, isSheet, wantedBy}
+use Rattle.desks.specs.Command.{Left, planOn, toldOn, commandLeft, stepLeft, sheetLeft, readyNumber, isSheet, wantedBy}
 use Rattle.desks.specs.declared.orders.Order.{Order}
 use Rattle.desks.specs.declared.orders.Order.the-variants.{Sheet, Entered, Show, Lay}
 use Rattle.desks.specs.declared.state.Desk.{Desk}
 use Rattle.desks.proofs.StateLaws.{fine-is, slots-most, slots-some}
 use Rattle.desks.proofs.RoomLaws.{ready-fine}
 use Rattle.demands.specs.Desk as deeds
-use Rattle.demands.specs.Desk.{Deed, oneStep, goingBack, Begins, deedCame, deskWith, deskAfter}
-use Rattle.demands.specs.DeskLines.{laysDown, deedOf, OnDesk, stateOn, groundOn, Standing, Does}
+use Rattle.demands.specs.Desk.{Deed, oneStep, goingBack, Begins, deedCame, deedNumber, deskWith, deskAfter}
+use Rattle.demands.specs.DeskLines.{laysDown, deedOf, RoomsWhole, OnDesk, stateOn, groundOn, Standing, Does}
 use Rattle.demands.proofs.DeskLaws.{stands, desk-evening, desk-taken-back}
 use Rattle.demands.proofs.LineDeeds.{Sized, put-taken, slots-are, rates-are, shape-fine, state-sized, told-on, sized-one, desk-lines, line-is, next-is, lay-is}
 use Rattle.demands.specs.DeskCalls.{Call, aLine, goingOn, called, deedsOf, Tries, AllTry, afterCalls, deedsIn, BeginsOn, BalancedOn, frameOn, startsAs, comesTo, CallsCome, DeskCalls}
@@ -136,6 +140,29 @@ module _ (d : Desk) (r : Stores) (on : OnDesk d r) (first : BeginsOn d r) where
             ap₂ (λ (p : Plan) (e : Evening). water p (e .depths) + e .log .run .outflow + e .log .run .soaked) (h .plan-is) (sym (h .standing .at-is))
             ∙ (o .balanced q ∙ ap (λ (a : Account). a .start + a .given) (h .standing .account-is));
       }
+
+  refused : (calls : List Call) (c : Call) (deed : Deed) → AllTry calls → Tries c →
+      let now = afterCalls calls d r in
+      let l = called c (now .0) (now .1) in
+      deedsOf c (now .0) ≡ deed ∷ [] → (deedNumber P G deed (comesTo d r calls) ≡ 0 → ⊥) →
+      (stateOn (l .desk) (l .rooms) ≡ stateOn (now .0) (now .1)) × (l .desk .account ≡ now .0 .account)
+  unfolding deskAfter
+  refused calls c deed t u is some =
+      (sym (next .standing .at-is) ∙ (ap (λ (x : deeds.Desk). x .at) same ∙ h .standing .at-is), sym (next .standing .account-is) ∙ (ap (λ (x : deeds.Desk). x .account) same ∙ h .standing .account-is))
+    where
+      now : Desk × Stores
+      now = afterCalls calls d r
+
+      h : Reached P G (now .0) (now .1) (comesTo d r calls)
+      h = reached calls t
+
+      next : Reached P G (called c (now .0) (now .1) .desk) (called c (now .0) (now .1) .rooms) (deskAfter P G (deedsOf c (now .0)) (comesTo d r calls))
+      next = one-call P G c (now .0) (now .1) (comesTo d r calls) u (nine-next P G (deedsIn calls d r) (startsAs d r) nine-first) h
+
+      same : deskAfter P G (deedsOf c (now .0)) (comesTo d r calls) ≡ comesTo d r calls
+      same =
+          ap (λ (ds : List Deed). deskAfter P G ds (comesTo d r calls)) is
+          ∙ desk-evening P G .refused-stays E (d .account) first (deedsIn calls d r) deed some
 
   -- what follows some calls goes on from what they left
   calls-both : (calls more : List Call) (d : Desk) (r : Stores) → afterCalls (calls ++ more) d r ≡ afterCalls more (afterCalls calls d r .0) (afterCalls calls d r .1)
@@ -324,14 +351,51 @@ fresh-begins d r on fresh opens =
     inflow-fits =
         omega (arith, length-take (inflowKind .width * d .heading .«inflow_rows») (r .sheet .inflow), fine-is (d .heading) (ready-fine d (on .ready)) .inflow)
 
-sheet-begins : (d : Desk) (r : Stores) (text : List ℕ) (bytes : ℕ) (h : Heading) → length text ≡ bytes → sheetWithin deskText text (r .sheet) ≡ Read h →
-    let l = commandLeft d r text (Sheet bytes) in
-    OnDesk (l .desk) (l .rooms) → BeginsOn (l .desk) (l .rooms) × BalancedOn (l .desk) (l .rooms)
-unfolding commandLeft isSheet wantedBy sheetLeft
-sheet-begins d r text bytes h whole read =
-    subst (λ (l : Left). OnDesk (l .desk) (l .rooms) → BeginsOn (l .desk) (l .rooms) × BalancedOn (l .desk) (l .rooms))
-    (sym (pick-true _ _ refl ∙ (pick-true _ _ (eq-eqb _ _ whole) ∙ ap (λ (s : reading.Sheet). sheetLeft text s d r) read)))
-    (λ on. fresh-begins (sheetLeft text (Read h) d r .desk) (sheetLeft text (Read h) d r .rooms) on refl refl)
+-- a sheet that was read lies on the desk
+module _ (d : Desk) (r : Stores) (whole : RoomsWhole r) (text : List ℕ) (h : Heading) (read : sheetWithin deskText text (r .sheet) ≡ Read h) where
+  is-well : Well text (r .sheet) h
+  unfolding sheetWithin
+  is-well =
+      well text (r .sheet) h
+      (by-test (leb (length text) deskText) (λ e. sym read ∙ pick-true _ _ e) (λ e. never-read (sym read ∙ pick-false _ _ e)))
+    where
+      never-read : {A : Type 0} {n l : ℕ} → Read h ≡ Refused n l → A
+      never-read e = absurd (let z : _≡_ {A = ℕ} 0 1 = cc in omega arith)
+
+  heading-fine : headingFine h ≡ true
+  unfolding headingFine headingOf roomsFine
+  heading-fine =
+      subst (λ (k : Heading). headingFine k ≡ true) (sym (is-well .heading))
+      (each-every _ (
+        every-each _ (is-well .fine) .0,
+        (le-leb _ _ (rain-few text (is-well .checks)), (le-leb _ _ (inflow-few text (is-well .checks)), tt)),
+      ))
+
+  abbrev laidSheet : Left
+  laidSheet = sheetLeft text (Read h) d r
+
+  sheet-on : OnDesk (laidSheet .desk) (laidSheet .rooms)
+  unfolding sheetLeft readyNumber roomsAfter roomsFilled cellsFilled
+  sheet-on =
+      record {
+        ready = passed-refusal _ (refl, (heading-fine, tt));
+        whole =
+            record {
+              depths-long = length-filled _ _ _ (r .sheet .cells .depths) ∙ whole .depths-long;
+              lasts-long = length-replicate {A = ℕ} (length (r .lasts)) 0 ∙ whole .lasts-long;
+              records-long = whole .records-long;
+              began-long = whole .began-long;
+            };
+      }
+
+  sheet-begins : (bytes : ℕ) → length text ≡ bytes →
+      let l = commandLeft d r text (Sheet bytes) in
+      OnDesk (l .desk) (l .rooms) × BeginsOn (l .desk) (l .rooms) × BalancedOn (l .desk) (l .rooms)
+  unfolding commandLeft isSheet wantedBy sheetLeft
+  sheet-begins bytes whole =
+      subst (λ (l : Left). OnDesk (l .desk) (l .rooms) × BeginsOn (l .desk) (l .rooms) × BalancedOn (l .desk) (l .rooms))
+      (sym (pick-true _ _ refl ∙ (pick-true _ _ (eq-eqb _ _ whole) ∙ ap (λ (s : reading.Sheet). sheetLeft text s d r) read)))
+      (let b = fresh-begins (laidSheet .desk) (laidSheet .rooms) sheet-on refl refl in (sheet-on, b .0, b .1))
 
 -- a saved state
 module _ (d : Desk) (r : Stores) (on : OnDesk d r) (text : List ℕ) where
@@ -391,8 +455,9 @@ module _ (d : Desk) (r : Stores) (on : OnDesk d r) (text : List ℕ) where
 pub desk-calls : DeskCalls
 desk-calls =
     record {
-      sheet-begins = λ d r text bytes h whole read. sheet-begins d r text bytes h whole read;
+      sheet-begins = λ d r rooms text bytes h whole read. sheet-begins d r rooms text h read bytes whole;
       come = λ d r on first calls t. come d r on first calls t;
+      refused = λ d r on first calls c deed t u is some. refused d r on first calls c deed t u is some;
       gone = λ d r on first calls trial line text made t asked same kept. gone d r on first calls trial line text made t asked same kept;
       lay-begins = λ d r on text bytes whole few z. lay-begins d r on text bytes whole few z;
       show-frame = λ d r on text. show-frame d r on text;

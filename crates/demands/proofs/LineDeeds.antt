@@ -295,16 +295,16 @@ module _ (d : Desk) (r : Stores) (on : OnDesk d r) where
   pub state-sized : Sized (d .heading) E
   state-sized =
       record {
-        depths = length-take-le _ (r .sheet .cells .depths) (omega (arith, on .depths-long, squares-fit));
-        lasts = length-take-le _ (r .lasts) (omega (arith, on .lasts-long, squares-fit));
-        records = length-take-le _ (r .records) (omega (arith, on .records-long, records-fit));
-        began = length-take-le _ (r .began) (omega (arith, on .began-long, began-fit));
+        depths = length-take-le _ (r .sheet .cells .depths) (omega (arith, on .whole .depths-long, squares-fit));
+        lasts = length-take-le _ (r .lasts) (omega (arith, on .whole .lasts-long, squares-fit));
+        records = length-take-le _ (r .records) (omega (arith, on .whole .records-long, records-fit));
+        began = length-take-le _ (r .began) (omega (arith, on .whole .began-long, began-fit));
       }
 
   pub stays-put : storesWith r E ≡ r
   stays-put =
-      taken-put (d .heading) r (d .log) (omega (arith, on .depths-long, squares-fit)) (omega (arith, on .lasts-long, squares-fit))
-      (omega (arith, on .records-long, records-fit)) (omega (arith, on .began-long, began-fit))
+      taken-put (d .heading) r (d .log) (omega (arith, on .whole .depths-long, squares-fit)) (omega (arith, on .whole .lasts-long, squares-fit))
+      (omega (arith, on .whole .records-long, records-fit)) (omega (arith, on .whole .began-long, began-fit))
 
   told-stays : (t : Told) → t .evening ≡ E → t .account ≡ d .account → Stays d r (toldOn d r t)
   told-stays t q s =
@@ -321,10 +321,12 @@ module _ (d : Desk) (r : Stores) (on : OnDesk d r) where
   told-on t z =
       record {
         ready = on .ready;
-        depths-long = length-placed (r .sheet .cells .depths) 0 (t .evening .depths) (omega (arith, z .depths, on .depths-long, squares-fit)) ∙ on .depths-long;
-        lasts-long = length-placed (r .lasts) 0 (t .evening .lasts) (omega (arith, z .lasts, on .lasts-long, squares-fit)) ∙ on .lasts-long;
-        records-long = length-placed (r .records) 0 (t .evening .records) (omega (arith, z .records, on .records-long, records-fit)) ∙ on .records-long;
-        began-long = length-placed (r .began) 0 (t .evening .began) (omega (arith, z .began, on .began-long, began-fit)) ∙ on .began-long;
+        whole = record {
+          depths-long = length-placed (r .sheet .cells .depths) 0 (t .evening .depths) (omega (arith, z .depths, on .whole .depths-long, squares-fit)) ∙ on .whole .depths-long;
+          lasts-long = length-placed (r .lasts) 0 (t .evening .lasts) (omega (arith, z .lasts, on .whole .lasts-long, squares-fit)) ∙ on .whole .lasts-long;
+          records-long = length-placed (r .records) 0 (t .evening .records) (omega (arith, z .records, on .whole .records-long, records-fit)) ∙ on .whole .records-long;
+          began-long = length-placed (r .began) 0 (t .evening .began) (omega (arith, z .began, on .whole .began-long, began-fit)) ∙ on .whole .began-long;
+        };
       }
 
   told-does : (ds : List Deed) (t : Told) → Tells P G E (d .account) ds t → Sized (d .heading) (t .evening) → Does ds d r (toldOn d r t)
@@ -426,14 +428,7 @@ module _ (d : Desk) (r : Stores) (on : OnDesk d r) where
       record {
         plan-same = refl;
         ground-same = refl;
-        still-on =
-            record {
-              ready = on .ready;
-              depths-long = on .depths-long;
-              lasts-long = on .lasts-long;
-              records-long = on .records-long;
-              began-long = on .began-long;
-            };
+        still-on = record { ready = on .ready; whole = on .whole };
         does = λ x h. record { at-is = h .at-is; account-is = h .account-is };
       }
 

@@ -25,8 +25,8 @@ use Rattle.desks.specs.Command.{Left, planOn, commandLeft, stepLeft}
 use Rattle.desks.specs.declared.orders.Order.the-variants.{Sheet, Entered, Show, Lay}
 use Rattle.desks.specs.declared.state.Desk.{Desk}
 use Rattle.demands.specs.Desk as deeds
-use Rattle.demands.specs.Desk.{Deed, atFirst, deskAfter, Begins, OnlyStanding}
-use Rattle.demands.specs.DeskLines.{laysDown, deedOf, stepDeed, OnDesk, stateOn, groundOn, Standing}
+use Rattle.demands.specs.Desk.{Deed, atFirst, deedNumber, deskAfter, Begins, OnlyStanding}
+use Rattle.demands.specs.DeskLines.{laysDown, deedOf, stepDeed, RoomsWhole, OnDesk, stateOn, groundOn, Standing}
 
 -- ---- call after call
 
@@ -94,15 +94,22 @@ pub record CallsCome (d : Desk) (r : Stores) (calls : List Call) (d′ : Desk) (
 
 pub record DeskCalls : Type 0 where
   -- a sheet that is read, and a saved state that is not refused, are beginnings; a sheet's is balanced
-  pub sheet-begins : (d : Desk) (r : Stores) (text : List ℕ) (bytes : ℕ) (h : Heading) → length text ≡ bytes → sheetWithin deskText text (r .sheet) ≡ Read h →
+  pub sheet-begins : (d : Desk) (r : Stores) → RoomsWhole r → (text : List ℕ) (bytes : ℕ) (h : Heading) → length text ≡ bytes →
+      sheetWithin deskText text (r .sheet) ≡ Read h →
       let l = commandLeft d r text (Sheet bytes) in
-      OnDesk (l .desk) (l .rooms) → BeginsOn (l .desk) (l .rooms) × BalancedOn (l .desk) (l .rooms)
+      OnDesk (l .desk) (l .rooms) × BeginsOn (l .desk) (l .rooms) × BalancedOn (l .desk) (l .rooms)
   pub lay-begins : (d : Desk) (r : Stores) → OnDesk d r → (text : List ℕ) (bytes : ℕ) → length text ≡ bytes → length text ≤ deskText →
       standOf (planOn d r) (groundOn d r .inflow) (keptSlots (d .heading .shape)) text .number ≡ 0 →
       let l = commandLeft d r text (Lay bytes) in
       OnDesk (l .desk) (l .rooms) × BeginsOn (l .desk) (l .rooms)
   pub come : (d : Desk) (r : Stores) → OnDesk d r → BeginsOn d r → (calls : List Call) → AllTry calls →
       CallsCome d r calls (afterCalls calls d r .0) (afterCalls calls d r .1)
+  -- a call whose deed is refused leaves the state and the account as they were
+  pub refused : (d : Desk) (r : Stores) → OnDesk d r → BeginsOn d r → (calls : List Call) (c : Call) (deed : Deed) → AllTry calls → Tries c →
+      let now = afterCalls calls d r in
+      let l = called c (now .0) (now .1) in
+      deedsOf c (now .0) ≡ deed ∷ [] → (deedNumber (planOn d r) (groundOn d r) deed (comesTo d r calls) ≡ 0 → ⊥) →
+      (stateOn (l .desk) (l .rooms) ≡ stateOn (now .0) (now .1)) × (l .desk .account ≡ now .0 .account)
   -- a trial taken back was never made: by the line `back` with the number of its steps
   pub gone : (d : Desk) (r : Stores) → OnDesk d r → BeginsOn d r → (calls trial : List Call) (line text : List ℕ) (made : List (List ℕ)) →
       AllTry (calls ++ trial) → order line ≡ Entered (Back (length made)) →
