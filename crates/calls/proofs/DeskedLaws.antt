@@ -12,6 +12,7 @@ use Rattle.sheet.specs.declared.reading.Sheet as reading
 use Rattle.sheet.specs.declared.reading.Sheet.the-variants.{Read, Refused}
 use Rattle.programs.specs.Reading.{sheetWithin}
 use Rattle.evenings.specs.Program.{Stores, givenHeld}
+use Rattle.desks.specs.Orders.{order}
 use Rattle.desks.specs.State.{deskText}
 use Rattle.desks.specs.Lines.{Told, endingText, orderTold, nextTold}
 use Rattle.desks.specs.Command.{Left, Leaves, planOn, eveningOn, inflowOn, toldOn, untouched, readyNumber, isSheet, wantedBy, sheetLeft, otherLeft, commandLeft, stepLeft}
@@ -70,19 +71,20 @@ left-is {l} {a} {after} {old} {new} long w =
         _≡_ {A = Left} (record { desk = d; rooms = r; text = t }) (record { desk = d′; rooms = r′; text = t′ })
     join p q s = cc
 
-pub after-command : (d : Desk) (r : Stores) (text : List ℕ) (o : Order) {a : Desk} {after : Stores} {old new : List ℕ} →
-    Leaves (commandLeft d r text o) a after old new → AfterCommand d r o (leftWith a after new)
-after-command d r text o w =
-    subst (AfterCommand d r o) (sym (left-is (command-long d r text o) w))
+pub after-command : (d : Desk) (r : Stores) (line text : List ℕ) {a : Desk} {after : Stores} {old new : List ℕ} →
+    Leaves (commandLeft d r text (order line)) a after old new → AfterCommand d r line text (leftWith a after new)
+after-command d r line text w =
+    subst (AfterCommand d r line text) (sym (left-is (command-long d r text (order line)) w))
     (record {
-      looking = λ on l none. desk-lines .looking d r on text o l none;
-      does = λ on l. desk-lines .each-line d r on text o l;
-      ends = λ on l. desk-lines .line-ends d r on text o l;
-      not-ready = λ z q. desk-lines .not-ready d r z text o q .0;
+      is-call = refl;
+      looking = λ on l none. desk-lines .looking d r on text (order line) l none;
+      does = λ on l. desk-lines .each-line d r on text (order line) l;
+      ends = λ on l. desk-lines .line-ends d r on text (order line) l;
+      not-ready = λ z q. desk-lines .not-ready d r z text (order line) q .0;
     })
 
 pub after-step : (d : Desk) (r : Stores) {a : Desk} {after : Stores} {old new : List ℕ} → Leaves (stepLeft d r) a after old new → AfterStep d r (leftWith a after new)
 unfolding isSheet
 after-step d r w =
     subst (AfterStep d r) (sym (left-is (step-long d r) w))
-    (record { does = λ on nine. desk-lines .each-step d r on nine; not-ready = λ z. desk-lines .not-ready d r z [] Show refl .1 })
+    (record { is-call = refl; does = λ on nine. desk-lines .each-step d r on nine; not-ready = λ z. desk-lines .not-ready d r z [] Show refl .1 })

@@ -10,7 +10,6 @@ use reckon::tables::INFLOW_ROOM;
 use reckon::tables::RAIN_ROOM;
 ghost use Rattle.sheet.specs.Sheet.{rooms};
 ghost use Rattle.evenings.specs.Program.{stores};
-ghost use Rattle.desks.specs.Orders.{order};
 ghost use Rattle.calls.specs.Desked.{AfterCommand, AfterStep, leftWith};
 
 pub fn after_command(
@@ -29,7 +28,7 @@ pub fn after_command(
     began: &mut [u32; DESK_RATES],
     out: &mut [u8; DESK_OUT],
 ) -> Desk
-    ensures { λ r. ⌜ AfterCommand desk (stores (rooms (now (marks .entry)) (now (beds .entry)) (now (roughness .entry)) (now (rates .entry)) (now (depths .entry)) (now (rain .entry)) (now (inflow .entry))) (now (lasts .entry)) (now (records .entry)) (now (began .entry))) (order (now (line .entry))) (leftWith r (stores (rooms (now (marks .exit)) (now (beds .exit)) (now (roughness .exit)) (now (rates .exit)) (now (depths .exit)) (now (rain .exit)) (now (inflow .exit))) (now (lasts .exit)) (now (records .exit)) (now (began .exit))) (now (out .exit))) ⌝ }
+    ensures { λ r. ⌜ AfterCommand desk (stores (rooms (now (marks .entry)) (now (beds .entry)) (now (roughness .entry)) (now (rates .entry)) (now (depths .entry)) (now (rain .entry)) (now (inflow .entry))) (now (lasts .entry)) (now (records .entry)) (now (began .entry))) (now (line .entry)) (now (text .entry)) (leftWith r (stores (rooms (now (marks .exit)) (now (beds .exit)) (now (roughness .exit)) (now (rates .exit)) (now (depths .exit)) (now (rain .exit)) (now (inflow .exit))) (now (lasts .exit)) (now (records .exit)) (now (began .exit))) (now (out .exit))) ⌝ }
 {
     command(
         desk,
@@ -49,7 +48,7 @@ pub fn after_command(
     )
 }
 
-pub fn after_going_on(
+pub fn after_go_on(
     desk: Desk,
     marks: &[u8; DESK_SQUARES],
     beds: &[u32; DESK_SQUARES],
