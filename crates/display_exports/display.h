@@ -57,10 +57,11 @@ struct flood_board {
 /* Steps by the wet walk to an end of the clock, and how many were made, with a list of boards refreshed at the start and after each step. */
 uint32_t flood_run_to_boards(size_t rows, size_t columns, const uint64_t *rules, size_t rules_numbers, uint64_t end,
     const uint8_t *marks, size_t marks_numbers, const uint32_t *beds, size_t beds_numbers, const uint32_t *roughness,
-    size_t roughness_numbers, const uint32_t *rates, size_t rates_numbers, const uint32_t *rain, size_t rain_numbers,
-    const uint32_t *inflow, size_t inflow_numbers, uint32_t *depths, size_t depths_numbers, uint32_t *lasts,
-    size_t lasts_numbers, uint32_t *records, size_t records_numbers, uint64_t *run, size_t run_numbers, uint64_t *steps,
-    size_t steps_numbers, struct flood_board *boards, size_t boards_count);
+    size_t roughness_numbers, const uint32_t *rates, size_t rates_numbers, const uint32_t *rain,
+    size_t rain_numbers /* FLOOD_RAIN_NUMBERS(its rows) */, const uint32_t *inflow,
+    size_t inflow_numbers /* FLOOD_INFLOW_NUMBERS(its rows) */, uint32_t *depths, size_t depths_numbers,
+    uint32_t *lasts, size_t lasts_numbers, uint32_t *records, size_t records_numbers, uint64_t *run, size_t run_numbers,
+    uint64_t *steps, size_t steps_numbers, struct flood_board *boards, size_t boards_count);
 
 #ifdef __cplusplus
 }

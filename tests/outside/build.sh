@@ -1,6 +1,6 @@
 # shellcheck shell=bash
 # shellcheck disable=SC2034 # what is set here is used by those who read it
-# Read by the gate, tests/outside.sh, tests/stack.sh and bin/speed at the repository's root. Rust programs that link a static library are
+# Read by the gate, tests/outside.sh, tests/stack.sh, bin/speed and bin/release at the repository's root. Rust programs that link a static library are
 # x86-64: there any rustc builds them and they run as they are; on Arm they are built with Debian's packages for x86-64 and run under
 # Debian's emulator.
 
@@ -42,14 +42,12 @@ one_archive() {
     fi
 }
 
-# archive [NAME..]: builds these static libraries, or all of them. Tests that run at the same time wait for one another here, so that the first
-# alone builds them.
+# archive: builds the static libraries. Tests that run at the same time wait for one another here, so that the first alone builds them.
 archive() {
     local name
-    [ "$#" -gt 0 ] || set -- "${libraries[@]}"
     (
         flock 9
-        for name in "$@"; do
+        for name in "${libraries[@]}"; do
             one_archive "$name" || exit 1
         done
     ) 9>"$built/staticlib.lock"
@@ -58,9 +56,20 @@ archive() {
 # for release, in one unit
 release=(--edition 2021 -C opt-level=3 -C codegen-units=1)
 
-# build NAME: tests/outside/NAME.rs with the static libraries that it declares, to target/outside/NAME
+# wrapper: the crate rust/ with the static libraries in it, as cargo would build it, to target/outside/libflood.rlib, unless it is newer than
+# they are; the first alone builds it
+wrapper() {
+    (
+        flock 9
+        [ -n "$(find rust/src target/staticlib/*.a -newer "$built/libflood.rlib" 2>&1 | head -n 1)" ] || exit 0
+        "${compile[@]}" "${release[@]}" --crate-type rlib --crate-name flood -L native=target/staticlib "${libraries[@]/#/-lstatic=}" \
+            --out-dir "$built" rust/src/lib.rs
+    ) 9>"$built/wrapper.lock"
+}
+
+# build NAME: tests/outside/NAME.rs with the crate rust/, to target/outside/NAME
 build() {
-    "${compile[@]}" "${release[@]}" -L native=target/staticlib -o "$built/$1" "tests/outside/$1.rs"
+    "${compile[@]}" "${release[@]}" --extern "flood=$built/libflood.rlib" -o "$built/$1" "tests/outside/$1.rs"
 }
 
 # build_c NAME: the same of tests/outside/NAME.c
@@ -75,12 +84,12 @@ build_engine() {
 
 # build_placed BYTES: tests/outside/speed.rs with so much room before its code, to target/outside/speed-BYTES; the engines are built
 build_placed() {
-    local externs=() engine
+    local externs=(--extern "flood=$built/libflood.rlib") engine
     for engine in "$built"/libengine_*.rlib; do
         engine=$(basename "$engine" .rlib)
         externs+=(--extern "${engine#lib}=$built/$engine.rlib")
     done
-    PADDING=$1 "${compile[@]}" "${release[@]}" -L native=target/staticlib "${externs[@]}" -o "$built/speed-$1" tests/outside/speed.rs
+    PADDING=$1 "${compile[@]}" "${release[@]}" "${externs[@]}" -o "$built/speed-$1" tests/outside/speed.rs
 }
 
 # build_counter: the emulator's plugin of tests/outside/count.c, to target/outside/count.so; 1 where this emulator takes none
