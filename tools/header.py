@@ -1,8 +1,9 @@
-"""Writes how C and Rust call the exported functions, from the functions themselves: crates/exports/flood.h and crates/display_exports/display.h,
-and for Rust declared.rs and declared_boards.rs under rust/src. A slice becomes a pointer and a length.
+"""Writes how C, Rust and Python call the exported functions, from the functions themselves: crates/exports/flood.h and
+crates/display_exports/display.h, for Rust declared.rs and declared_boards.rs under rust/src, and for Python python/flood/declared.py. A slice
+becomes a pointer and a length.
 
     python3 tools/header.py            prints both headers
-    python3 tools/header.py --write    writes all four files
+    python3 tools/header.py --write    writes all five files
 """
 
 import re
@@ -16,6 +17,7 @@ from begin import ended
 ROOT = Path(__file__).resolve().parent.parent
 CRATES = ROOT / "crates"
 RUST = ROOT / "rust" / "src"
+PYTHON = ROOT / "python" / "flood" / "declared.py"
 
 IN_C = {"bool": "bool", "u8": "uint8_t", "u32": "uint32_t", "u64": "uint64_t", "usize": "size_t", "f64": "double", "Board": "struct flood_board"}
 # how many bytes a number has, which is also what its place is a multiple of
@@ -231,6 +233,12 @@ BOTTOM = """\
 RUST_TOP = """\
 //! The exported functions as a Rust program links and calls them. Made from crates/exports/src by tools/header.py, and kept true by
 //! tests/header.py.
+
+"""
+
+PYTHON_TOP = """\
+\"\"\"The exported functions and their constants as Python calls them. Made from crates/exports/src by tools/header.py, and kept true by
+tests/header.py.\"\"\"
 
 """
 
@@ -524,13 +532,37 @@ def declared(library):
     return text + "".join(called_in_rust(*function) for function in functions(library)).rstrip("\n") + "\n"
 
 
+# ---------------------------------------------------------------- Python
+
+
+def declared_in_python():
+    """The constants by name, and of each function of flood.h what it gives and its parameters with their types, as the sources have them."""
+    text = PYTHON_TOP + f'VERSION = "{version()}"\n'
+    for name, crate, source, words in FLOOD.constants:
+        text += f"{name} = {constant(crate, source)[1]}" + (f"  # {words}" if words else "") + "\n"
+    text += "".join(f"HEADING_{name} = {at}\n" for name, at in heading_places())
+    text += "\n# what each refusal is about\nREFUSALS = {\n" + "".join(f'    {number}: "{words}",\n' for number, _, words in FLOOD.refusals) + "}\n"
+    text += "\n# of each function what it gives, and its parameters; & says an array, and mut that it is written\nFUNCTIONS = {\n"
+    for _, name, parameters, result in functions(FLOOD):
+        text += f'    "{name}": (\n        "{result}",\n' + "".join(f'        ("{parameter}", "{kind}"),\n' for parameter, kind in parameters) + "    ),\n"
+    return text + "}\n"
+
+
+# ---------------------------------------------------------------- all files
+
+
+def files():
+    """Every file that is made, with its text."""
+    made = {library.header: header(library) for library in LIBRARIES} | {library.declared: declared(library) for library in LIBRARIES}
+    return made | {PYTHON: declared_in_python()}
+
+
 def main():
-    for library in LIBRARIES:
-        if "--write" in sys.argv[1:]:
-            library.header.write_text(header(library))
-            library.declared.write_text(declared(library))
-        else:
-            print(header(library), end="")
+    if "--write" in sys.argv[1:]:
+        for path, text in files().items():
+            path.write_text(text)
+    else:
+        print("".join(map(header, LIBRARIES)), end="")
     return 0
 
 
