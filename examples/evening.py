@@ -20,13 +20,13 @@ CLOSED = 0
 
 def try_opening(meadow, litres):
     """Forty steps with the hatch at so many litres a second, taken back."""
-    before, without = str(meadow.depths), meadow.inflow
+    before, without = [list(row) for row in meadow.depths], meadow.inflow
     meadow.inflow = [*without, flood.Inflow(4, 1, 0, A_WEEK, litres)]
     meadow.step(OPENING)
     print(f"{litres} l/s: row 4, column 1 stands at {meadow.depths[4][1]} µm after forty steps; taken back", file=sys.stderr)
     meadow.back(OPENING)
     meadow.inflow = without
-    if str(meadow.depths) != before:
+    if [list(row) for row in meadow.depths] != before:
         sys.exit("evening: a trial has left a mark")
 
 

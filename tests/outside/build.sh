@@ -53,6 +53,26 @@ archive() {
     ) 9>"$built/staticlib.lock"
 }
 
+# joined: the static libraries as one, to target/flood: libflood.a, and libflood.so, which the linker makes only where all code is position
+# independent (-z text) and nothing is missing (-z defs). Unless they are newer; the first alone makes them.
+joined() {
+    local folder=target/flood parts name
+    mkdir -p "$folder"
+    (
+        flock 9
+        [ -n "$(find target/staticlib/*.a -newer "$folder/libflood.so" 2>&1 | head -n 1)" ] || exit 0
+        parts=$(mktemp -d) || exit 1
+        trap 'rm -rf "$parts"' EXIT
+        for name in "${libraries[@]}"; do
+            ar x --output "$parts" "target/staticlib/lib$name.a" || exit 1
+        done
+        rm -f "$folder/libflood.a"
+        ar crD "$folder/libflood.a" "$parts"/*.o &&
+            "${compile_c[@]}" -shared -nostartfiles -Wl,-soname,libflood.so -Wl,-z,text -Wl,-z,defs -Wl,-z,noexecstack -Wl,--build-id=none \
+                -Wl,--whole-archive "$folder/libflood.a" -Wl,--no-whole-archive -o "$folder/libflood.so"
+    ) 9>"$built/joined.lock"
+}
+
 # for release, in one unit
 release=(--edition 2021 -C opt-level=3 -C codegen-units=1)
 
