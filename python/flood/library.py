@@ -58,6 +58,9 @@ def passed(name, kind, value):
     """What is passed for a parameter; an array has numbers of its kind."""
     letter = ARRAY.fullmatch(kind)
     if not letter:
+        # ctypes would pass the lowest bits of any other number
+        if not 0 <= value < 1 << 8 * ctypes.sizeof(KINDS[kind]):
+            raise OverflowError(f"{name} is {value}, which no {kind} is")
         return (value,)
     if value.typecode != LETTERS[letter[1]]:
         raise TypeError(f"{name} is an array of {value.typecode}, and {LETTERS[letter[1]]} is wanted")
