@@ -99,7 +99,8 @@ def hold_programs(checks, room, folder):
         stored, given = CRATES / name / "stdout", CRATES / name / "stdin"
         place = Path(folder) / f"data-{name}"
         shutil.copytree(CRATES / name / "data", place) if (CRATES / name / "data").exists() else place.mkdir()
-        done = ran([room / "bin" / "run", name], place, given.read_bytes() if given.exists() else None)
+        words = (CRATES / name / "args").read_text().splitlines() if (CRATES / name / "args").exists() else []
+        done = ran([room / "bin" / "run", name, *words], place, given.read_bytes() if given.exists() else None)
         wanted = stored.read_bytes() if stored.exists() else b""
         checks.hold(done.returncode == 0 and done.stdout == wanted, f"{name} of the archive: status {done.returncode}, or it prints something else; {done.stderr[:300]}")
         manual = room / "man" / "man1" / f"{name}.1"
