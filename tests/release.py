@@ -132,6 +132,9 @@ def hold_first_page(checks, room):
     found = commands(room)
     evenings = [command for command in found if command.endswith("samples/walled-evening.sheet")]
     checks.hold(found[0] == "bin/meadow samples/walled-meadow.sheet" and len(evenings) == 3, f"the archive's first page has the commands {found}")
+    for path in ("include/flood.h", "examples/evening.c"):
+        (compiled,) = re.findall(r"^ +(cc .*)$", (room / path).read_text(), re.M)
+        checks.hold(any(command.startswith(compiled) for command in evenings), f"{path} is compiled by {compiled}, and the first page has {evenings}")
     for command in found:
         program = NEEDS.get(command.split()[0])
         if command in evenings or program and not shutil.which(program):

@@ -116,7 +116,8 @@ TOP = """\
 
        cc -std=c99 -Iinclude examples/evening.c lib/libflood.a -o evening
 
-   or anywhere, with PKG_CONFIG_PATH at its lib/pkgconfig: cc -std=c99 NAME.c $(pkg-config --cflags --libs flood) -o NAME. The library is for x86-64.
+   or anywhere, where PKG_CONFIG_PATH has the whole path of its lib/pkgconfig: cc -std=c99 NAME.c $(pkg-config --cflags --libs flood) -o NAME.
+   The library is for x86-64.
 
    Each function gives a refusal's number, 0 for none, unless it says otherwise. An array is followed by how many numbers it
    has. A caller owes what Rust's slices owe: each array is there, aligned and initialised, its pointer not null even where it has no
@@ -189,7 +190,8 @@ BOARD_STACK = {"flood_run_to_boards": 192}
 BOARD_TOP = """\
 /* Level boards in C: a run to an end that keeps boards. Made from crates/display and crates/display_exports by tools/header.py, and kept true by
    tests/header.py. It stands beside flood.h, whose first words hold here too: what a caller owes, what each array has, and what numbers say.
-   libdisplay_exports.a has this call alone and rests on nothing of libexports.a; a program that makes calls of both headers links both.
+   A release's libflood.a and libflood.so have this call beside those of flood.h. Built apart, libdisplay_exports.a has this call alone and rests on
+   nothing of libexports.a; a program that makes calls of both headers then links both.
 
    flood_run_to_boards is flood_run_to_wet with one array more, the boards, which is followed by how many there are. It gives and writes just
    what flood_run_to_wet does, but for what 13 refuses: that comes after 1 to 6 and before any step, also where no step would be made.

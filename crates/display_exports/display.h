@@ -1,6 +1,7 @@
 /* Level boards in C: a run to an end that keeps boards. Made from crates/display and crates/display_exports by tools/header.py, and kept true by
    tests/header.py. It stands beside flood.h, whose first words hold here too: what a caller owes, what each array has, and what numbers say.
-   libdisplay_exports.a has this call alone and rests on nothing of libexports.a; a program that makes calls of both headers links both.
+   A release's libflood.a and libflood.so have this call beside those of flood.h. Built apart, libdisplay_exports.a has this call alone and rests on
+   nothing of libexports.a; a program that makes calls of both headers then links both.
 
    flood_run_to_boards is flood_run_to_wet with one array more, the boards, which is followed by how many there are. It gives and writes just
    what flood_run_to_wet does, but for what 13 refuses: that comes after 1 to 6 and before any step, also where no step would be made.

@@ -3,7 +3,8 @@
 
        cc -std=c99 -Iinclude examples/evening.c lib/libflood.a -o evening
 
-   or anywhere, with PKG_CONFIG_PATH at its lib/pkgconfig: cc -std=c99 NAME.c $(pkg-config --cflags --libs flood) -o NAME. The library is for x86-64.
+   or anywhere, where PKG_CONFIG_PATH has the whole path of its lib/pkgconfig: cc -std=c99 NAME.c $(pkg-config --cflags --libs flood) -o NAME.
+   The library is for x86-64.
 
    Each function gives a refusal's number, 0 for none, unless it says otherwise. An array is followed by how many numbers it
    has. A caller owes what Rust's slices owe: each array is there, aligned and initialised, its pointer not null even where it has no
