@@ -1,12 +1,12 @@
 """python/flood gives what the library gives: series of steps, runs, take-backs and looks on samples are held to document 01 in plain Python, damaged
 sheets to their answers, and refusals carry their numbers; depths come as arrays of numpy where there is one, and without. Where libflood.so cannot
-be loaded, the words name the program instead.
+be loaded, the words name the program instead. The crate rust/ passes its own tests, built offline by cargo.
 
 `bin/test bindings --seed N` makes other series.
 """
 import os
-import platform
 import random
+import re
 import subprocess
 import sys
 import tempfile
@@ -23,6 +23,7 @@ from meadow.rule.refusals import Refused
 from meadow.rule.world import rows_of
 from meadow.sheets.lines import answer_text
 from meadow.sheets.reading import meadow_of, read
+from outward import ON_X86, built_by
 
 SAMPLES = [TOP / "samples" / f"{name}.sheet" for name in ("document-01", "dry-weather", "held-pond", "soaking-meadow", "walled-evening")]
 NOTEBOOK = TOP / "tests" / "support" / "notebook.py"
@@ -199,13 +200,24 @@ def hold_elsewhere(checks):
     checks.hold(words and "/nowhere/libflood.so" in words and "bin/meadow SHEET" in words, f"with no library: {words}")
 
 
+def hold_rust(checks):
+    """What cargo says of the crate's tests."""
+    _, _, around = built_by()
+    places = {"FLOOD_LIB": TOP / "target" / "flood", "CARGO_TARGET_DIR": TOP / "target" / "outside" / "cargo"}
+    words = ["cargo", "test", "--offline", "--locked", "--manifest-path", TOP / "rust" / "Cargo.toml", "--test", "calls"]
+    told = subprocess.run(words, env={**os.environ, **places, **around}, stdin=subprocess.DEVNULL, capture_output=True, text=True)
+    passed = re.search(r"^test result: ok\. (\d+) passed; 0 failed; 0 ignored", told.stdout, re.M)
+    checks.hold(passed and int(passed[1]) > 0 and told.returncode == 0, f"cargo test: {told.stdout[-1000:]}{told.stderr[-1000:]}")
+
+
 def main():
     checks = Checks("bindings")
     seed = int(sys.argv[2]) if sys.argv[1:2] == ["--seed"] else SEED
     hold_elsewhere(checks)
-    if platform.machine() == library.MACHINE:
-        made = subprocess.run([TOP / "bin" / "release", "--library"], stdin=subprocess.DEVNULL, capture_output=True, text=True)
-        if checks.hold(made.returncode == 0, f"bin/release --library: {made.stderr}"):
+    made = subprocess.run([TOP / "bin" / "release", "--library"], stdin=subprocess.DEVNULL, capture_output=True, text=True)
+    if checks.hold(made.returncode == 0, f"bin/release --library: {made.stderr}"):
+        hold_rust(checks)
+        if ON_X86:
             for path in SAMPLES:
                 hold_series(checks, path, random.Random(f"{seed} {path.name}"))
             for part in (hold_sheets, hold_refusals, hold_arrays):

@@ -3,7 +3,6 @@ off the path, every program prints what is stored, every command of its first pa
 trials ends with what `meadow` prints, in C, Rust and Python."""
 import hashlib
 import os
-import platform
 import re
 import shutil
 import subprocess
@@ -16,12 +15,12 @@ import release
 import tools
 from meadow.counted import Checks
 from meadow.programs import TOP
+from outward import ON_X86, built_by
 
 CRATES = TOP / "crates"
 EVENING = TOP / "samples" / "walled-evening.out"
 # what a line of the first page needs besides the archive
 NEEDS = {"man": "man"}
-ON_X86 = platform.machine() == "x86_64"
 
 
 def without_the_kit(folder):
@@ -144,15 +143,6 @@ def hold_first_page(checks, room):
     checks.hold((room / "map.svg").read_text() == (TOP / "docs" / "pictures" / "walled-meadow.svg").read_text(), "the archive's map is another")
     for command in evenings:
         hold_evening(checks, room, command)
-
-
-def built_by():
-    """The words that compile C for x86-64 here, those that run such a program, and what cargo must know to do both."""
-    told = subprocess.run(["bash", "-c", '. tests/outside/build.sh; tools; echo "${compile_c[*]}"; echo "${run_by[*]}"'], cwd=TOP, capture_output=True, text=True)
-    compiler, runner = (told.stdout.splitlines() + ["cc", ""])[:2]
-    target = "CARGO_TARGET_X86_64_UNKNOWN_LINUX_GNU"
-    cross = {"CARGO_BUILD_TARGET": "x86_64-unknown-linux-gnu", f"{target}_LINKER": compiler, f"{target}_RUNNER": runner, "RUSTC": "/usr/bin/rustc"}
-    return compiler, runner, {} if ON_X86 else cross
 
 
 def hold_evening(checks, room, command):
