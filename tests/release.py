@@ -79,7 +79,8 @@ def unpacked(checks, archive, folder):
     checks.hold(summed.keys() == files.keys() - {release.SUMS}, "the sums are of other files")
     for name, data in files.items():
         checks.hold(name == release.SUMS or hashlib.sha256(data).hexdigest() == summed.get(name), f"{name} has another sum")
-        checks.hold(bytes(TOP) not in data, f"{name} names the folder in which it was made")
+        built = name.startswith(("programs/", "lib/"))
+        checks.hold(not built or bytes(TOP) + b"/" not in data, f"{name} names the folder in which it was built")
     return room
 
 
@@ -97,7 +98,9 @@ def hold_programs(checks, room, folder):
     for name in names:
         stored, given = CRATES / name / "stdout", CRATES / name / "stdin"
         place = Path(folder) / f"data-{name}"
-        shutil.copytree(CRATES / name / "data", place) if (CRATES / name / "data").exists() else place.mkdir()
+        place.mkdir()
+        if (CRATES / name / "data").exists():
+            shutil.copytree(CRATES / name / "data", place, dirs_exist_ok=True)
         words = (CRATES / name / "args").read_text().splitlines() if (CRATES / name / "args").exists() else []
         done = ran([room / "bin" / "run", name, *words], place, given.read_bytes() if given.exists() else None)
         wanted = stored.read_bytes() if stored.exists() else b""
