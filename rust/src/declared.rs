@@ -1,6 +1,19 @@
 //! The exported functions as a Rust program links and calls them. Made from crates/exports/src by tools/header.py, and kept true by
 //! tests/header.py.
 
+/// a wall: no water enters it or leaves it
+pub const MARK_CLOSED: u8 = 0;
+pub const MARK_OPEN: u8 = 1;
+/// open, on the rim, and water may leave the grid there
+pub const MARK_EXIT: u8 = 2;
+/// numbers of one rain row: from, to, rate
+pub const RAIN_WIDTH: usize = 3;
+/// numbers of one inflow row: row, column, from, to, litres per second
+pub const INFLOW_WIDTH: usize = 5;
+/// numbers of a record before its squares
+pub const RECORD_HEAD: usize = 2;
+/// numbers of a record for each square
+pub const RECORD_SQUARE: usize = 7;
 pub const RULES_NUMBERS: usize = 7;
 pub const RUN_NUMBERS: usize = 6;
 pub const STEPS_NUMBERS: usize = 1;
@@ -10,13 +23,19 @@ pub const COUNT_NUMBERS: usize = 1;
 pub const HEADING_NUMBERS: usize = 12;
 pub const LINE_NUMBERS: usize = 1;
 pub const OUT_ROOM: usize = 40960;
+/// numbers of a room for any sheet's rain
 pub const RAIN_ROOM: usize = 192;
+/// numbers of a room for any sheet's inflow
 pub const INFLOW_ROOM: usize = 320;
+/// flood_arrow: the speeds are written
 pub const MOVING: u32 = 0;
+/// flood_arrow: what the square is instead
 pub const CLOSED: u32 = 101;
 pub const DRY: u32 = 102;
 pub const STILL: u32 = 103;
+/// flood_step_bounds: both figures are written
 pub const BOUNDED: u32 = 0;
+/// flood_step_bounds: the clock is no multiple of U, or past the end
 pub const NOT_BOUNDED: u32 = 104;
 pub const REFUSED_SHAPE: u32 = 1;
 pub const REFUSED_GROUND: u32 = 2;
@@ -31,10 +50,14 @@ pub const REFUSED_NONE_KEPT: u32 = 10;
 pub const REFUSED_RECORD: u32 = 11;
 pub const REFUSED_TEXT: u32 = 12;
 pub const REFUSED_SOAKED: u32 = 15;
+pub const HEADING_RULES: usize = 2;
+pub const HEADING_END: usize = 9;
+pub const HEADING_RAIN_ROWS: usize = 10;
+pub const HEADING_INFLOW_ROWS: usize = 11;
 
 /// The numbers of one record.
 pub const fn record_numbers(rows: usize, columns: usize) -> usize {
-    2 + 7 * rows * columns
+    RECORD_HEAD + RECORD_SQUARE * rows * columns
 }
 
 /// KiB of stack that suffice for each call.
@@ -53,7 +76,6 @@ pub const STACK: [(&str, usize); 11] = [
 ];
 
 mod linked {
-    #[link(name = "exports", kind = "static")]
     extern "C" {
         pub fn flood_fresh(rows: usize, columns: usize, rules: *const u64, rules_numbers: usize, marks: *const u8,
             marks_numbers: usize, lasts: *mut u32, lasts_numbers: usize, records: *const u32, records_numbers: usize,

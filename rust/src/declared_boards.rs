@@ -23,7 +23,6 @@ pub struct Board {
 }
 
 mod linked {
-    #[link(name = "display_exports", kind = "static")]
     extern "C" {
         pub fn flood_run_to_boards(rows: usize, columns: usize, rules: *const u64, rules_numbers: usize, end: u64,
             marks: *const u8, marks_numbers: usize, beds: *const u32, beds_numbers: usize, roughness: *const u32,
