@@ -46,8 +46,8 @@ function showPlot(trial, other) {
   const x = clock => PLOT.left + (wide - PLOT.left - PLOT.right) * (clock - from) / (to - from);
   const y = depth => high - PLOT.foot - (high - PLOT.foot - PLOT.top) * depth / top;
   const parts = [...plotLines(x, y, { wide, high, top, gap, from, to }), ...desk.boards.flatMap((board, at) => boardLines(x, y, wide, board, at, trials))];
-  parts.push(`<path d="M${x(frameInView(trial).clock)} ${PLOT.top}V${high - PLOT.foot}" stroke="${FOCUS}" stroke-width="1.2"/>`);
-  if (!desk.boards.length) parts.push(`<text x="${(PLOT.left + wide) / 2}" y="${high / 2}" text-anchor="middle" font-size="12" fill="${PALE}">no boards yet: a click on a square puts one up</text>`);
+  if (desk.boards.length) parts.push(`<path d="M${x(frameInView(trial).clock)} ${PLOT.top}V${high - PLOT.foot}" stroke="${FOCUS}" stroke-width="1.2"/>`);
+  else parts.push(`<text x="${(PLOT.left + wide) / 2}" y="${high / 2}" text-anchor="middle" font-size="12" fill="${PALE}">no boards yet: a click on a square puts one up</text>`);
   svg.setAttribute('viewBox', `0 0 ${wide} ${high}`);
   svg.innerHTML = parts.join('');
 }

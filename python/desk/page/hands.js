@@ -186,6 +186,7 @@ function showPanel(name) {
 
 function askForName(title, name, withCopy, then) {
   $('ask-title').textContent = title;
+  $('ask').querySelector('button.main').textContent = withCopy ? 'Begin' : 'Name it';
   $('ask').querySelector('fieldset').hidden = !withCopy;
   $('copy-label').hidden = !here();
   $('name').value = name;

@@ -71,8 +71,9 @@ function showHeld(trial) {
   box.hidden = !held;
   if (!held) return;
   const wanted = desk.cautions && desk.cautions.wanted;
-  box.textContent = `⚠ held at the shortest, ${desk.ground.run.shortest} ms, in ${plural(held, 'step')} of ${desk.view}`
-    + `${wanted ? `; the water asks for ${wanted} ms` : ''}: too little flows on`;
+  box.textContent = `⚠ held at the shortest, ${desk.ground.run.shortest} ms, in ${group(held)} of ${plural(desk.view, 'step')}`
+    + `${wanted ? `; the water asks for ${wanted}` : ''}: too little flows`;
+  box.title = 'Too little water flows on, and what is shown misleads: the sheet wants a shorter shortest step';
 }
 
 function showAccount(frame) {

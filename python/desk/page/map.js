@@ -54,7 +54,7 @@ function drawMap(canvas, picture) {
   drawWalls(paper, picture.frame);
   if (desk.figuresOn) drawFigures(paper, picture);
   if (picture.other) drawDifferences(paper, picture.frame, picture.other);
-  if (picture.main) {
+  if (picture.main && desk.layer === 'depth') {
     drawArrows(paper, picture.frame);
     drawStanding(paper);
   }
