@@ -468,9 +468,8 @@ def hold_sizes(checks, page):
         page.wait(f"innerWidth === {wide} && !isQueued")
         page.idle()
         checks.hold(page.js("document.documentElement.scrollWidth") <= wide, f"the page scrolls sideways on a {name}")
-        if wide < 1_100:
-            low = page.js("[...document.querySelectorAll('#transport button')].map(e => e.getBoundingClientRect().height).filter(h => h < 34)")
-            checks.hold(low == [], f"buttons of a {name} are low: {low}")
+        low = page.js("[...document.querySelectorAll('#transport button, header button')].map(e => e.getBoundingClientRect().height).filter(h => h < 36)")
+        checks.hold(low == [], f"buttons of a {name} are low: {low}")
         page.shot(name)
     page.size(*LAPTOP)
     page.wait(f"innerWidth === {LAPTOP[0]} && !isQueued")

@@ -37,7 +37,7 @@ function* stepTicks(x, trial, wide, width) {
   for (let step = 0; step <= wide; step += gap) {
     const frame = trial.frames[step], anchor = step === 0 ? 'start' : step === wide ? 'end' : 'middle';
     yield `<path d="M${x(step)} ${LINE.top + LINE.thick}v4" stroke="#555"/>`;
-    if (step && step !== wide && x(wide) - x(step) < 70 || step && x(step) - x(0) < 62) continue;
+    if (step && step !== wide && x(wide) - x(step) < 80 || step && x(step) - x(0) < 62) continue;
     const words = frame ? `${step} · ${shortClock(frame.clock)}` : step;
     yield `<text x="${x(step)}" y="${LINE.high - 2}" font-size="10" text-anchor="${anchor}" fill="${frame ? '#1c211d' : '#5f5f5f'}">${words}</text>`;
   }
