@@ -22,7 +22,7 @@ from desk import logs, stands
 from desk.engine import Engine
 from desk.frames import frames_of
 from desk.season import Season
-from desks import SAMPLE, SEASON, Room, files_of, water_in
+from desks import DESK, SAMPLE, SEASON, Room, files_of, water_in
 from meadow.counted import Checks
 from meadow.programs import TOP, built, printed_of_named
 from meadow.rule.ranges import LAST_CLOCK
@@ -522,6 +522,23 @@ def hold_bad_logs(checks, folder):
     checks.hold(told.returncode == 1 and "season.sheet" in told.stderr, "a folder that is no season is run")
 
 
+def hold_alone(checks, folder):
+    """bin/desk alone opens a sample, in which a hatch is drawn and one key moves water; nothing of it stays, and the sample is as it was."""
+    before = files_of(SAMPLE)
+    with Room(folder) as room:
+        room.start(words=[DESK, "--port", "0", "--no-browser"], env={**os.environ, "TMPDIR": str(folder)})
+        (told,) = json.loads(room.get("/api/desk")[1])["trials"]
+        checks.hold(told["begins"] > 0 and told["made"] == 0, f"the sample opens with {told}")
+        frames = room.change(told["key"], "step", count=5)
+        checks.hold(frames.count("frame\t") == 5 and "\t600\t" in frames, "the sample's hatch is not drawn, or no water moves")
+        checks.hold(any(folder.glob("desk-*")), "the sample has no place of its own")
+        room.server.send_signal(signal.SIGINT)
+        checks.hold(room.server.wait() == 128 + signal.SIGINT and not any(folder.glob("desk-*")), "the sample leaves something behind")
+    checks.hold(files_of(SAMPLE) == before, "the sample is changed")
+    told = subprocess.run([DESK, folder, "--no-browser"], capture_output=True, text=True)
+    checks.hold(told.returncode == 1 and "season.sheet" in told.stderr, "a folder that is no season is opened")
+
+
 def main():
     checks = Checks("desk_server")
     seed = int(sys.argv[2]) if sys.argv[1:2] == ["--seed"] else 1
@@ -549,6 +566,7 @@ def main():
         hold_other_sheet(checks, room)
         hold_keeper(checks, Path(folder))
         hold_bad_logs(checks, Path(folder))
+        hold_alone(checks, Path(folder) / "alone")
     checks.end()
 
 

@@ -29,10 +29,10 @@ class Room:
     def __exit__(self, *_):
         self.kill()
 
-    def start(self, **how):
-        """Starts the server, at the port of the time before where there was one."""
-        words = [DESK, self.season, self.trials, "--port", str(self.port), "--no-browser"]
-        self.server = subprocess.Popen(words, stdout=subprocess.PIPE, stderr=subprocess.DEVNULL, text=True, **how)
+    def start(self, words=(), **how):
+        """Starts the server, at the port of the time before where there was one; or by other words."""
+        usual = [DESK, self.season, self.trials, "--port", str(self.port), "--no-browser"]
+        self.server = subprocess.Popen(words or usual, stdout=subprocess.PIPE, stderr=subprocess.DEVNULL, text=True, **how)
         self.port = int(re.search(r":(\d+)/", self.server.stdout.readline())[1])
         self.token = re.search(r'name="token" content="([^"]+)"', self.ask("GET", "/")[1])[1]
 

@@ -80,8 +80,10 @@ function boardLines(x, y, wide, { square, mark }, at, trials) {
 function showBoardTable(trial) {
   const table = $('board-table');
   if (table.contains(document.activeElement) && document.activeElement.matches('input')) return;
+  const rows = desk.boards.map((board, at) => boardRow(trial, board, at));
   const heads = make('tr', {}, ...['board', 'now', 'highest', 'mark, cm', 'first reached', ''].map(words => make('th', { textContent: words, scope: 'col' })));
-  table.replaceChildren(...(desk.boards.length ? [heads, ...desk.boards.map((board, at) => boardRow(trial, board, at))] : []));
+  const signature = `${desk.current} ${JSON.stringify(desk.boards)} ${rows.map(row => row.textContent).join()}`;
+  refill(table, signature, ...(rows.length ? [heads, ...rows] : []));
 }
 
 function boardRow(trial, board, at) {
@@ -90,14 +92,14 @@ function boardRow(trial, board, at) {
   const highest = `${depthText(course.highest[square])}${course.highest[square] > 0 ? ` at ${shortClock(course.when[square])}` : ''}`;
   const now = frame.depths[square] === 0 && course.highest[square] > 0 ? 'dry now' : depthText(frame.depths[square]);
   const mark = make('input', {
-    type: 'number', min: 0, max: 10000, step: 0.1, value: board.mark ? board.mark / 10000 : '', ariaLabel: `Mark of board ${letterOf(at)}, centimetres`,
+    id: 'mark-of-' + letterOf(at), type: 'number', min: 0, max: 10000, step: 0.1, value: board.mark ? board.mark / 10000 : '', ariaLabel: `Mark of board ${letterOf(at)}, centimetres`,
     onchange: event => {
       board.mark = Math.max(0, Math.round((+event.target.value || 0) * 10000));
       event.target.blur();
       keepBoards();
     },
   });
-  const away = make('button', { className: 'x', textContent: '✕', ariaLabel: `Take board ${letterOf(at)} down`, onclick: () => toggleBoard(square) });
+  const away = make('button', { id: 'down-' + letterOf(at), className: 'x', textContent: '✕', ariaLabel: `Take board ${letterOf(at)} down`, onclick: () => toggleBoard(square) });
   const name = make('td', {}, make('b', { textContent: letterOf(at) }), ` ${rowOf(square)},${columnOf(square)}`);
   const cells = [now, highest, mark, reached ? shortClock(reached.clock) : '–', away].map(inside => make('td', {}, inside));
   return make('tr', {}, name, ...cells);

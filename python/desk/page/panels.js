@@ -3,13 +3,14 @@
 
 function showTabs() {
   const tab = key => make('button', {
-    role: 'tab', textContent: key === 'season' ? 'Season' : `${key} · ${desk.trials[key].name}`, ariaSelected: String(key === desk.current),
+    id: 'tab-of-' + key, role: 'tab', textContent: key === 'season' ? 'Season' : `${key} · ${desk.trials[key].name}`, ariaSelected: String(key === desk.current),
     title: key === 'season' ? 'The season, read only' : desk.trials[key].name, onclick: () => openTrial(key),
   });
-  $('tabs').replaceChildren(...['season', ...desk.order].map(tab));
+  const signature = JSON.stringify([desk.current, desk.order.map(key => desk.trials[key].name)]);
+  refill($('tabs'), signature, ...['season', ...desk.order].map(tab));
   const others = desk.order.filter(key => key !== desk.current), select = $('beside');
   const option = key => make('option', { value: key, textContent: `${key} · ${desk.trials[key].name}` });
-  select.replaceChildren(make('option', { value: '', textContent: 'nothing' }), ...others.map(option));
+  refill(select, signature, make('option', { value: '', textContent: 'nothing' }), ...others.map(option));
   select.value = desk.beside;
   select.disabled = desk.current === 'season' || !others.length;
 }
@@ -18,6 +19,7 @@ function showTabs() {
 
 function showBanner(trial) {
   const box = $('what');
+  $('banner').setAttribute('aria-busy', !!desk.playing);
   if (trial) showTrialBanner(box, trial);
   else showSeasonBanner(box);
   showSeason();
@@ -37,7 +39,8 @@ function showTrialBanner(box, trial) {
     make('button', { id: 'take-here', textContent: 'Take back to here', onclick: () => takeBack(made - desk.view) }),
     make('button', { id: 'return', textContent: 'Return', onclick: () => look(made) }),
   ] : [make('button', { id: 'rename', textContent: 'Name', title: 'Give this trial another name', onclick: rename })];
-  box.replaceChildren(make('span', {}, ...words), make('span', { className: 'grow' }), water, ...ways);
+  const said = make('span', {}, ...words);
+  refill(box, `${desk.current} ${said.textContent} ${water.textContent} ${made}`, said, make('span', { className: 'grow' }), water, ...ways);
 }
 
 function showSeasonBanner(box) {
@@ -45,7 +48,8 @@ function showSeasonBanner(box) {
   const bold = text => make('b', { textContent: text });
   const when = desk.season ? [', clock ', bold(clockText(desk.season.clock)), `, step ${group(desk.season.steps)}`] : [];
   const begin = make('button', { id: 'begin', className: 'main', textContent: 'Begin a trial from here', onclick: askForTrial });
-  box.replaceChildren(make('span', {}, bold('The season'), ...when, '. Read only: nothing on this desk writes here.'), make('span', { className: 'grow' }), begin);
+  const said = make('span', {}, bold('The season'), ...when, '. Read only: nothing on this desk writes here.');
+  refill(box, said.textContent, said, make('span', { className: 'grow' }), begin);
 }
 
 function showSeason() {
@@ -54,7 +58,8 @@ function showSeason() {
   const bold = text => make('b', { textContent: text });
   const since = same ? [bold('✓ untouched'), ` since ${opened}`] : [isRunning ? 'the keeper’s run is going on' : 'moved on by the keeper'];
   const name = run && make('code', { id: 'season-name', textContent: run.state.slice(0, 12) });
-  box.replaceChildren(...(run ? ['Season at ', bold(clockText(run.clock)), ' · ', name, ' · '] : ['The season’s run has not begun · ']), ...since);
+  const said = make('span', {}, ...(run ? ['Season at ', bold(clockText(run.clock)), ' · ', name, ' · '] : ['The season’s run has not begun · ']), ...since);
+  refill(box, said.textContent, said);
 }
 
 /* ---- hatches */
@@ -127,7 +132,7 @@ function showPanels(trial, other) {
 
 function showBoards(trial, other) {
   $('plot').toggleAttribute('hidden', !trial);
-  if (!trial) return $('board-table').replaceChildren(make('caption', { textContent: 'Boards are read in a trial.' }));
+  if (!trial) return refill($('board-table'), 'none', make('caption', { textContent: 'Boards are read in a trial.' }));
   showPlot(trial, other);
   showBoardTable(trial);
 }
@@ -135,19 +140,19 @@ function showBoards(trial, other) {
 function showTrials() {
   const heads = ['trial', 'clock', 'steps', '1 cm deep', 'gone by exits'].map(words => make('th', { textContent: words, scope: 'col' }));
   const row = told => {
-    const name = make('button', { className: 'link', textContent: `${told.key} · ${told.name}`, onclick: () => openTrial(told.key) });
+    const name = make('button', { id: 'row-of-' + told.key, className: 'link', textContent: `${told.key} · ${told.name}`, onclick: () => openTrial(told.key) });
     const cells = [clockText(told.clock), group(told.made), areaText(told.wet), cubic(told.out) + ' m³'].map(words => make('td', { textContent: words }));
     return make('tr', { className: told.key === desk.current ? 'here' : '' }, make('td', {}, name), ...cells);
   };
   const rows = desk.told.trials.map(row);
   const aside = desk.told.aside.map(words => make('p', { textContent: words }));
-  $('trials').replaceChildren(rows.length ? make('table', {}, make('tr', {}, ...heads), ...rows) : make('p', { textContent: 'No trial yet: N begins one.' }), ...aside);
+  refill($('trials'), JSON.stringify([desk.current, desk.told.trials, desk.told.aside]), rows.length ? make('table', {}, make('tr', {}, ...heads), ...rows) : make('p', { textContent: 'No trial yet: N begins one.' }), ...aside);
 }
 
 function showSlips() {
   const { slips } = desk.ground;
   const title = make('p', { textContent: slips.length ? 'What in this season’s sheet is likely a slip, before the first step:' : 'Nothing in this season’s sheet looks like a slip.' });
-  $('slips').replaceChildren(title, make('ul', {}, ...slips.map(words => make('li', { textContent: words }))));
+  refill($('slips'), slips.join(), title, make('ul', {}, ...slips.map(words => make('li', { textContent: words }))));
 }
 
 /* ---- the keeper's run */
@@ -156,13 +161,14 @@ function showKeeper(trial) {
   const box = $('keeper'), { run, files, same, opened } = desk.told.season;
   box.hidden = !!trial;
   if (trial) return;
-  if (!run) return box.replaceChildren(make('h2', { textContent: 'The keeper’s run' }), make('p', {}, 'It has not begun: ', make('code', { textContent: `bin/season ${desk.ground.name}` }), ' starts it.'));
+  if (!run) return refill(box, 'none', make('h2', { textContent: 'The keeper’s run' }), make('p', {}, 'It has not begun: ', make('code', { textContent: `bin/season ${desk.ground.name}` }), ' starts it.'));
   const share = run.end ? Math.round(100 * run.clock / run.end) : 100, fill = make('i');
   fill.style.width = share + '%';
   const bar = make('div', { className: 'bar', role: 'progressbar', ariaLabel: 'How far the season’s run has come', ariaValueNow: share, ariaValueMin: 0, ariaValueMax: 100 }, fill);
   const line = words => make('p', { innerHTML: words });
   const names = make('table', {}, ...Object.entries(files).map(([name, hash]) => make('tr', {}, make('td', { textContent: name }), make('td', {}, make('code', { textContent: hash })))));
-  box.replaceChildren(
+  refill(
+    box, JSON.stringify(desk.told.season),
     make('h2', {}, 'The keeper’s run ', make('small', { textContent: run.how })), bar,
     line(`clock <b>${clockText(run.clock)}</b> of ${clockText(run.end)} · step <b>${group(run.steps)}</b>${run.pace ? ` · ${run.pace} steps a second when last seen` : ''}`),
     line(run.most === null ? 'How many steps the whole run needs cannot be told before.' : `The whole run needs at least <b>${group(run.least)}</b> and at most <b>${group(run.most)}</b> steps: proved before the first is made.`),
@@ -183,7 +189,8 @@ function showPaperHead(trial, frame) {
   const steps = trial ? `${plural(desk.view, 'step')} past the season` : `step ${group(frame.steps)}`;
   const water = trial && desk.view === madeOf(trial) ? trial.water : '';
   const line = words => make('p', { textContent: words });
-  $('paper-head').replaceChildren(
+  refill(
+    $('paper-head'), `${title} ${steps} ${frame.clock} ${hatches} ${water} ${desk.layer} ${new Date().toLocaleString('en-GB')}`,
     make('h1', { textContent: `${title}: ${clockText(frame.clock)}, ${steps}` }),
     line(`Printed ${new Date().toLocaleString('en-GB')}${trial ? '. A trial: nothing here is in the season' : ''}${trial ? `. ${layerNow().title}` : ''}.`),
     line(`Sheet ${sheet}`), line(`Settings: ${settings}`), line(`Hatches, litres a second: ${hatches || 'none'}`),

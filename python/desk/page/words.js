@@ -10,6 +10,15 @@ function make(tag, more = {}, ...inside) {
   return element;
 }
 
+/* other inside for a box, where it says something else than before; what had the focus has it again, by its id */
+function refill(box, signature, ...inside) {
+  if (box.dataset.signature === signature) return;
+  box.dataset.signature = signature;
+  const held = box.contains(document.activeElement) ? document.activeElement.id : '';
+  box.replaceChildren(...inside);
+  if (held && $(held)) $(held).focus({ preventScroll: true });
+}
+
 /* a text that may stand in markup */
 const safe = text => String(text).replace(/[&<>"']/g, letter => `&#${letter.charCodeAt(0)};`);
 
