@@ -486,9 +486,12 @@ def hold_print(checks, page):
     words = page.text("paper-head")
     checks.hold(page.js("desk.ground.sheet") in words and "update time" in words and re.search(r"Printed \d\d/\d\d/\d{4}", words), f"a printed sheet says {words!r}")
     checks.hold("Ash bed" in words and page.js("here().water") in words, "a printed sheet has no hatches, or no water's name")
+    told = page.driver.execute_cdp_cmd("Page.printToPDF", {"preferCSSPageSize": True, "printBackground": True})
+    paper = base64.b64decode(told["data"])
+    sheets = len(re.findall(rb"/Type\s*/Page\b", paper))
+    checks.hold(1 <= sheets <= 2, f"a printed map with its boards takes {sheets} sheets")
     if page.folder:
-        told = page.driver.execute_cdp_cmd("Page.printToPDF", {"preferCSSPageSize": True, "printBackground": True})
-        (Path(page.folder) / "desk-print.pdf").write_bytes(base64.b64decode(told["data"]))
+        (Path(page.folder) / "desk-print.pdf").write_bytes(paper)
     page.driver.execute_cdp_cmd("Emulation.setEmulatedMedia", {"media": ""})
     page.wait("getComputedStyle(document.getElementById('paper-head')).display === 'none'")
 

@@ -29,6 +29,7 @@ function drawNow() {
   const other = trial && desk.beside && desk.trials[desk.beside].frames.length ? desk.trials[desk.beside] : null;
   document.body.classList.toggle('two', !!other);
   $('right').hidden = !other;
+  document.body.classList.toggle('boarded', !!trial && desk.panel === 'boards' && desk.boards.length > 0);
   $('maps').className = trial ? 'trial' : 'season';
   $('layer').disabled = !trial;
   const slips = desk.panel === 'slips', picture = pictureOf(trial, frame, { rates: trial ? ratesInView(trial) : frame.rates, main: true, slips });

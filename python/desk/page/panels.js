@@ -185,7 +185,7 @@ function showPaperHead(trial, frame) {
   const settings = `${rows} by ${columns} squares of ${side} m · slope tolerance ${run.tolerance} · steps ${run.shortest} to ${run.longest} ms · update time ${run.update} ms · edge slope ${run.edge} · edition ${run.edition}`;
   const rates = trial ? trial.rates : frame.rates;
   const hatches = Object.keys(desk.ground.hatches).map(number => `${number}${hatchName(number) ? ' ' + hatchName(number) : ''} ${rates[number - 1]}`).join(' · ');
-  const title = trial ? `Trial ${desk.current}, “${trial.name}”, of the season ${name}` : `The season ${name}`;
+  const title = trial ? `Trial ${desk.current}, “${trial.name}”, of “${name}”` : `The season “${name}”`;
   const steps = trial ? `${plural(desk.view, 'step')} past the season` : `step ${group(frame.steps)}`;
   const water = trial && desk.view === madeOf(trial) ? trial.water : '';
   const line = words => make('p', { textContent: words });
@@ -194,6 +194,6 @@ function showPaperHead(trial, frame) {
     make('h1', { textContent: `${title}: ${clockText(frame.clock)}, ${steps}` }),
     line(`Printed ${new Date().toLocaleString('en-GB')}${trial ? '. A trial: nothing here is in the season' : ''}${trial ? `. ${layerNow().title}` : ''}.`),
     line(`Sheet ${sheet}`), line(`Settings: ${settings}`), line(`Hatches, litres a second: ${hatches || 'none'}`),
-    ...(water ? [line(`Water ${water}`)] : []),
+    ...(water ? [line(`Water ${water}`)] : []), ...(trial && heldSteps(trial, desk.view) ? [line($('held').textContent)] : []),
   );
 }
