@@ -451,10 +451,18 @@ return [...document.querySelectorAll('button,input,select,canvas,[role=tab],[rol
 
 
 def hold_for_all(checks, page):
-    """Text is seen against what is behind it, and every control has a name; a refusal has words."""
+    """Text is seen against what is behind it, every control has a name, a refusal has words, and the focus stays where a key was pressed."""
+    from selenium.webdriver.common.keys import Keys
+
     checks.hold(page.driver.execute_script(CONTRAST) == [], f"text of too little contrast: {page.driver.execute_script(CONTRAST)}")
     checks.hold(page.driver.execute_script(UNNAMED) == [], f"controls without a name: {page.driver.execute_script(UNNAMED)}")
     checks.hold(page.js("[1, 2, 3, 4, 5, 6, 7, 8, 9, 10, 12, 15].every(n => REFUSALS[n])"), "a refusal has no words")
+    for key in ("A", "B"):
+        page.find(f"tab-of-{key}").send_keys(Keys.ENTER)
+        page.wait(f"desk.current === '{key}'")
+        page.idle()
+        checks.hold(page.js("document.activeElement.id") == f"tab-of-{key}", "a tab that is opened by Enter loses the focus")
+    page.away()
     page.keys("?")
     page.wait("document.getElementById('keys').open")
     checks.hold("never made" in page.text("keys") and "What is not" in page.text("keys"), "the help does not say what is proved and what is not")

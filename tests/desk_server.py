@@ -303,6 +303,14 @@ def hold_full_disk(checks, room, key):
     checks.hold(room.post(f"/api/trial/{key}/step", at=serial, count=5)[0] == 200, "after the disk has room again nothing goes on")
 
 
+def hold_second(checks, room):
+    """A second desk over the same trials is not opened, and says where the first is; nor is one over a folder that cannot be."""
+    told = subprocess.run([DESK, room.season, room.trials, "--no-browser"], capture_output=True, text=True)
+    checks.hold(told.returncode == 1 and f":{room.port}/" in told.stderr, f"a second desk over the same trials: {told.stderr}")
+    told = subprocess.run([DESK, room.season, room.season / "season.sheet" / "no", "--no-browser"], capture_output=True, text=True)
+    checks.hold(told.returncode == 1 and "Traceback" not in told.stderr, f"trials where none can be: {told.stderr}")
+
+
 def hold_other_sheet(checks, room):
     """Trials of another sheet are left aside, with a word, and never made on it."""
     room.kill()
@@ -560,6 +568,7 @@ def main():
         hold_engine_killed(checks, room, key)
         hold_full_disk(checks, room, key)
         hold_evening(checks, room, seed, 30)
+        hold_second(checks, room)
         log = hold_log(checks, room)
         checks.hold(files_of(room.season) == before, "the desk changed the season's files")
         hold_keep(checks, room, log)

@@ -1,9 +1,15 @@
-"""Files: one written whole or not at all, and one read within a size."""
+"""Files: one written whole or not at all, one read within a size, and one that only one program holds."""
+import fcntl
 import hashlib
 import os
+from contextlib import contextmanager
 from pathlib import Path
 
 MOST_FILE = 1 << 20
+
+
+class Held(Exception):
+    """Another program holds a file; what it wrote there."""
 
 
 class TooLarge(Exception):
@@ -47,3 +53,16 @@ def written(path, data):
         new.unlink(missing_ok=True)
         raise
     on_disk(path.parent)
+
+
+@contextmanager
+def held(path):
+    """A file that no other program holds meanwhile, opened to write a word in it for those who come after."""
+    with open(path, "a+", encoding="utf-8") as file:
+        try:
+            fcntl.flock(file, fcntl.LOCK_EX | fcntl.LOCK_NB)
+        except BlockingIOError:
+            file.seek(0)
+            raise Held(file.read(MOST_FILE)) from None
+        file.truncate(0)
+        yield file

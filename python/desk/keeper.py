@@ -5,7 +5,6 @@ under way, and the same command goes on, to the same water bit for bit.
 bin/season keep FOLDER TRIAL.log: shows what would change in the season's log, asks, and adopts a trial that the desk saved. No button does.
 """
 import argparse
-import fcntl
 import signal
 import sys
 import time
@@ -20,7 +19,7 @@ from meadow.words.units import time as time_in_words
 
 from . import logs
 from .engine import MOST_STEPS, Engine, Gone
-from .files import bytes_of, written
+from .files import Held, bytes_of, held, written
 from .frames import numbers_of
 from .season import LOG, STAND, NoSeason, Season
 from .stands import stand_of
@@ -36,12 +35,11 @@ class Cannot(Exception):
 @contextmanager
 def alone(season):
     """No other run of the season is under way."""
-    with open(season.folder / LOCK, "w", encoding="ascii") as lock:
-        try:
-            fcntl.flock(lock, fcntl.LOCK_EX | fcntl.LOCK_NB)
-        except BlockingIOError:
-            raise Cannot("another run of this season is under way") from None
-        yield
+    try:
+        with held(season.folder / LOCK):
+            yield
+    except Held:
+        raise Cannot("another run of this season is under way") from None
 
 
 class Run:

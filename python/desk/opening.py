@@ -14,6 +14,7 @@ from meadow.programs import TOP, built, ended
 
 from . import keeper
 from .evening import Evening
+from .files import Held, held
 from .season import NoSeason, Season
 from .server import Server
 
@@ -51,18 +52,22 @@ def served(port, evening):
 
 
 def opened(folder, trials, given, first=False):
-    """The desk over a season, until it is stopped."""
-    evening = Evening(trials, Season(folder))
-    try:
-        server = served(given.port, evening)
-        if first:
-            begin_trial(evening)
-        print(f"the desk is at {server.address()}; Ctrl-C closes it", flush=True)
-        if not given.no_browser:
-            webbrowser.open(server.address())
-        server.serve_forever()
-    finally:
-        evening.close()
+    """The desk over a season, until it is stopped; one desk at a time holds a folder of trials, since each writes their journals."""
+    season = Season(folder)
+    trials.mkdir(parents=True, exist_ok=True)
+    with held(trials / "desk.lock") as lock:
+        evening = Evening(trials, season)
+        try:
+            server = served(given.port, evening)
+            if first:
+                begin_trial(evening)
+            print(f"the desk is at {server.address()}; Ctrl-C closes it", flush=True)
+            print(server.address(), file=lock, flush=True)
+            if not given.no_browser:
+                webbrowser.open(server.address())
+            server.serve_forever()
+        finally:
+            evening.close()
 
 
 def main():
@@ -80,10 +85,12 @@ def main():
                 opened(folder, trials, given, first=True)
         else:
             folder = Path(given.season).resolve()
-            opened(folder, given.trials or folder.with_name(folder.name + ".trials"), given)
+            opened(folder, Path(given.trials or f"{folder}.trials"), given)
     except NoSeason as why:
         print(f"desk: {why}", file=sys.stderr)
-        return 1
+    except Held as where:
+        print(f"desk: it is open already over these trials, at {str(where).strip() or 'another window'}", file=sys.stderr)
+    return 1
 
 
 if __name__ == "__main__":

@@ -130,8 +130,10 @@ class Handler(BaseHTTPRequestHandler):
             self.json({"fault": "refused", "number": refused.number}, 422)
         except Gone:
             self.json({"fault": ENGINE_ENDS}, 503)
-        except (BrokenPipeError, ConnectionResetError, TimeoutError):
+        except (ConnectionError, TimeoutError):
             self.close_connection = True
+        except OSError as why:
+            self.json({"fault": f"a file cannot be read or written: {why.strerror}"}, 500)
 
     # ---- what is asked
 

@@ -56,7 +56,7 @@ function showSeason() {
   const { same, run, opened } = desk.told.season, isRunning = run && run.how === 'running', box = $('season');
   box.className = same || isRunning ? '' : 'moved';
   const bold = text => make('b', { textContent: text });
-  const since = same ? [bold('✓ untouched'), ` since ${opened}`] : [isRunning ? 'the keeper’s run is going on' : 'moved on by the keeper'];
+  const since = same ? [bold('✓ untouched'), ` since ${opened}`] : [isRunning ? `the keeper’s run, seen ${run.saved.slice(11)}` : 'moved on by the keeper'];
   const name = run && make('code', { id: 'season-name', textContent: run.state.slice(0, 12) });
   const said = make('span', {}, ...(run ? ['Season at ', bold(clockText(run.clock)), ' · ', name, ' · '] : ['The season’s run has not begun · ']), ...since);
   refill(box, said.textContent, said);
