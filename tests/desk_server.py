@@ -22,12 +22,13 @@ from desk import logs, stands
 from desk.engine import Engine
 from desk.frames import frames_of
 from desk.season import Season
+from desk_pace import large_season
 from desks import DESK, SAMPLE, SEASON, Room, files_of, water_in
 from meadow.counted import Checks
 from meadow.programs import TOP, built, printed_of_named
 from meadow.rule.ranges import LAST_CLOCK
 from meadow.rule.refusals import Refused
-from meadow.sheets.lines import HOUR, answer_text
+from meadow.sheets.lines import HOUR, SECOND, Sheet, answer_text
 from meadow.sheets.reading import read
 
 SAMPLES = ("document-01", "dry-weather", "held-pond", "soaking-meadow", "walled-meadow")
@@ -393,6 +394,30 @@ def hold_evening(checks, room, seed, changes):
         room.post(f"/api/trial/{each}/drop")
 
 
+def hold_refused_step(checks, folder):
+    """A step that is refused ends a series: the steps before it stand, and are shown; the keeper's run stops there likewise."""
+    tiny = folder / "tiny"
+    tiny.mkdir()
+    sheet = Sheet(1, 1, 1, shortest=SECOND, longest=SECOND, update=SECOND)
+    sheet.put((0, 0), 0, 100)
+    (tiny / "season.sheet").write_text(sheet.text(SECOND), encoding="ascii")
+    (tiny / "season.log").write_text("hatch\t1\t0\t0\n", encoding="ascii")
+    with Room(folder / "refused", tiny) as room:
+        room.start()
+        key = room.new("too much")
+        room.change(key, "draw", hatch=1, litres=60_000)
+        told = room.change(key, "step", count=5)
+        checks.hold(told.count("frame\t") == 1 and "\nrefused\t8\n" in told and room.now(key)["made"] == 1, f"a step above 100 m is answered by {told!r}")
+        room.change(key, "back", count=1)
+        checks.hold("\nrow\t0\n" in room.get(f"/api/trial/{key}/frames")[1], "the step before a refused one is not taken back")
+        room.change(key, "draw", hatch=1, litres=10)
+        checks.hold("refused" not in room.change(key, "step", count=5), "after a refused step nothing goes on")
+        (room.season / "season.log").write_text("hatch\t1\t0\t0\n0\t1\t60000\n5000\t1\t0\n", encoding="ascii")
+        told = room.run_season()
+        saved = stands.read(room.season / "stand").told
+        checks.hold(told.returncode == 1 and saved["how"] == "refused 8" and saved["clock"] == SECOND, f"the keeper's run above 100 m: {saved}")
+
+
 # ---- the keeper
 
 
@@ -576,6 +601,10 @@ def main():
         hold_keeper(checks, Path(folder))
         hold_bad_logs(checks, Path(folder))
         hold_alone(checks, Path(folder) / "alone")
+        hold_refused_step(checks, Path(folder))
+        with Room(Path(folder) / "wide", large_season(Path(folder) / "large")) as wide:
+            wide.start()
+            hold_evening(checks, wide, seed, 30)
     checks.end()
 
 

@@ -15,12 +15,12 @@ DESK, SEASON = TOP / "bin" / "desk", TOP / "bin" / "season"
 
 
 class Room:
-    """A folder with a copy of the sample season and a place for trials; `with` it no server is left running."""
+    """A folder with a copy of a season, the sample's where no other is said, and a place for trials; `with` it no server is left running."""
 
-    def __init__(self, folder):
+    def __init__(self, folder, season=SAMPLE):
         self.folder = Path(folder)
         self.season, self.trials = self.folder / "season", self.folder / "trials"
-        shutil.copytree(SAMPLE, self.season)
+        shutil.copytree(season, self.season)
         self.server, self.port, self.token = None, 0, None
 
     def __enter__(self):
