@@ -285,6 +285,10 @@ def hold_engine_killed(checks, room, key):
     checks.hold(water_in(room.get(f"/api/trial/{key}/frames")[1]) == water_in(told), "a page that opens after a kill sees other water")
     room.kill_engines()
     checks.hold(room.get(f"/api/trial/{key}/arrows")[1].endswith("end\n"), "no arrows after a kill")
+    for what, asked in (("back", {"count": 1_000}), ("mark", {"name": "here"})):
+        room.kill_engines()
+        answer = room.change(key, what, **asked)
+        checks.hold(answer.endswith("end\n") and water_in(answer) == water_in(told), f"{what} after a kill, which needs no engine, is answered by {answer!r}")
 
 
 def hold_full_disk(checks, room, key):

@@ -181,7 +181,9 @@ class Trial:
     # ---- what the page asks for
 
     def remember(self):
-        """The name of the water that stands, kept by its step, to be compared when a take-back comes there again."""
+        """The name of the water that stands, kept by its step, to be compared when a take-back comes there again. A change that was refused before
+        the engine had it may find the engine ended only here."""
+        self.look_after()
         self.names[self.made()] = stands.water_of(self.engine.stand())
         return self.names[self.made()]
 
