@@ -201,7 +201,7 @@ def hold_forty(checks, page):
     first, water = page.depths(), page.js("here().water")
     page.keys(" ")
     page.wait("madeOf(here()) === 40")
-    page.wait("desk.view > 0 && desk.playing")
+    page.wait("desk.view > 11 && desk.playing")
     page.keys(" ")
     page.wait("!desk.playing")
     page.idle()
@@ -293,6 +293,8 @@ def hold_windows(checks, page):
     page.wait("!desk.inLine && here().serial === here().latest")
     page.idle()
     checks.hold(page.js("madeOf(here())") == 81 and "another window" in page.text("trouble"), "a stale request is made, or not told")
+    page.click("trouble")
+    page.wait("document.getElementById('trouble').hidden")
     for handle in page.driver.window_handles:
         if handle != one:
             page.driver.switch_to.window(handle)

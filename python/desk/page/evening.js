@@ -112,6 +112,7 @@ async function changeNow(what, body, film) {
   const trial = here();
   if (!trial) return;
   stopFilm();
+  if (!desk.offline) $('trouble').hidden = true;
   desk.busy = true;
   trial.same = '-';
   desk.said = '';
