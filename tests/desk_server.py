@@ -15,6 +15,7 @@ import socket
 import subprocess
 import sys
 import tempfile
+import threading
 import time
 from pathlib import Path
 
@@ -228,7 +229,7 @@ def hold_bodies(checks, room, key):
         checks.hold(room.post(f"/api/trial/{key}/{what}", at=0, **asked)[0] == 422, f"{what} {asked}: taken")
     checks.hold(room.post("/api/trial/Q/step", at=0, count=1)[0] == 422, "a trial that is not there is stepped")
     checks.hold(room.post(f"/api/trial/{key}/flood", at=0)[0] == 404, "a change that is none is made")
-    for at in (None, 1, -1, "0", True):
+    for at in (None, 1, -1, "0", False, True):
         checks.hold(room.post(f"/api/trial/{key}/step", at=at, count=1)[0] == 409, f"a change at the serial {at!r} is made")
     checks.hold(journal.read_bytes() == before and len(list(room.trials.glob("*.journal"))) == 1, "what was refused came into a journal")
 
@@ -255,6 +256,12 @@ def hold_twice(checks, room, key):
 
 
 # ---- what happens to machines
+
+
+def wait_for(what):
+    """Waits until something is so."""
+    while not what():
+        time.sleep(0.01)
 
 
 def hold_torn(checks, room, key):
@@ -289,6 +296,27 @@ def hold_engine_killed(checks, room, key):
         room.kill_engines()
         answer = room.change(key, what, **asked)
         checks.hold(answer.endswith("end\n") and water_in(answer) == water_in(told), f"{what} after a kill, which needs no engine, is answered by {answer!r}")
+
+
+def hold_sleep(checks, room, key):
+    """The laptop is closed after a line is in the journal and before the engine has made it: the answer comes whole when it is opened."""
+    room.change(key, "back", count=5)
+    told, journal = [], room.trials / f"{key}.journal"
+    size = journal.stat().st_size
+    engines = room.engines()
+    for engine in engines:
+        os.kill(engine, signal.SIGSTOP)
+    asked = {"at": room.now(key)["serial"], "count": 5}
+    asking = threading.Thread(target=lambda: told.append(room.post(f"/api/trial/{key}/step", **asked)))
+    asking.start()
+    wait_for(lambda: journal.stat().st_size > size)
+    checks.hold(not told, "an engine that is stopped answers")
+    for engine in engines:
+        os.kill(engine, signal.SIGCONT)
+    asking.join()
+    slept = water_in(told[0][1])
+    room.change(key, "back", count=5)
+    checks.hold(water_in(room.change(key, "step", count=5)) == slept, "a sleep in the middle leaves other water")
 
 
 def hold_full_disk(checks, room, key):
@@ -476,12 +504,6 @@ def head_of(folder):
     return found.told if found else {"steps": 0}
 
 
-def wait_for(what):
-    """Waits until something is so."""
-    while not what():
-        time.sleep(0.01)
-
-
 def started(folder):
     """The keeper's run of a folder under way."""
     return subprocess.Popen([SEASON, folder], stdout=subprocess.DEVNULL, stderr=subprocess.DEVNULL)
@@ -595,6 +617,7 @@ def main():
         hold_twice(checks, room, key)
         hold_torn(checks, room, key)
         hold_engine_killed(checks, room, key)
+        hold_sleep(checks, room, key)
         hold_full_disk(checks, room, key)
         hold_evening(checks, room, seed, 30)
         hold_second(checks, room)

@@ -22,8 +22,7 @@ FILES = {"/": PAGE / "index.html", **{f"/{path.name}": path for path in sorted(P
 POLICY = "; ".join(
     (
         "default-src 'none'",
-        *(f"{kind}-src 'self'" for kind in ("script", "style", "connect")),
-        "img-src 'self' data: blob:",
+        *(f"{kind}-src 'self'" for kind in ("script", "style", "img", "connect")),
         *(f"{kind} 'none'" for kind in ("base-uri", "form-action", "frame-ancestors")),
     )
 )

@@ -51,7 +51,7 @@ class Trial:
         self.tables = Tables(season.sheet, self.hatches)
         self.lock = threading.RLock()
         self.engine, self.reworked, self.same = None, 0, True
-        self.marks, self.names, self.serial = [], {}, 0
+        self.marks, self.names, self.serial, self.closed = [], {}, 0, False
         self.begin()
         for words in self.journal.lines:
             self.replay(words)
@@ -190,7 +190,9 @@ class Trial:
     def change(self, at, *words):
         """One change, as text for the page, while it is made; the journal has it before the engine."""
         with self.lock:
-            if at != self.serial:
+            self.hold_open()
+            # true is no number of changes
+            if at != self.serial or isinstance(at, bool):
                 raise Stale
             if words[0] == "step" and self.made() + words[1] > MOST_STANDING:
                 raise Fault(f"a trial holds {MOST_STANDING:,} steps: take some back, or begin another")
@@ -228,6 +230,7 @@ class Trial:
     def all(self):
         """Every standing frame, for a page that opens."""
         with self.lock:
+            self.hold_open()
             self.look_after()
             yield from (frame.text(self.frames[0]) for frame in self.frames)
             yield self.standing()
@@ -242,6 +245,7 @@ class Trial:
     def arrows(self):
         """The arrows of the state that stands."""
         with self.lock:
+            self.hold_open()
             self.look_after()
             try:
                 yield from self.engine.lines("arrows")
@@ -293,7 +297,13 @@ class Trial:
                 "gone": now.out - self.frames[0].out,
             }
 
+    def hold_open(self):
+        """A request that waited while the trial was dropped finds none."""
+        if self.closed:
+            raise Fault("there is no such trial any more")
+
     def close(self):
         """Ends the engine; the trial stays on the disk."""
         with self.lock:
+            self.closed = True
             self.engine.close()
