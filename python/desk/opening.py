@@ -10,7 +10,7 @@ import webbrowser
 from contextlib import contextmanager
 from pathlib import Path
 
-from meadow.programs import TOP, built, ended
+from meadow.programs import TOP, ended, words_of
 
 from . import keeper
 from .evening import Evening
@@ -78,7 +78,8 @@ def main():
     parser.add_argument("--port", type=int, help=f"the port of the page, else {PORT} or, where that is taken, a free one; 0 for a free one")
     parser.add_argument("--no-browser", action="store_true", help="opens no browser")
     given = parser.parse_args()
-    built("desk")
+    # built before anything is opened, where it is not
+    words_of("desk")
     try:
         if given.season is None:
             with sample() as (folder, trials):
