@@ -1,6 +1,6 @@
 """An evening at the desk in a real browser: trials made and taken back by keys and by hand, an engine and the server killed, two windows, a saved log
-through `hatchlog`, likely slips, steps held at the shortest, two sizes of screen, grey, print; and the season as it was, to the byte. Every wait is for
-a state of the page, none for a time. It is led by Debian's chromium-driver and python3-selenium, whatever python3 comes first on the path.
+through `hatchlog`, likely slips, steps held at the shortest, three sizes of screen, grey, print; and the season as it was, to the byte. Every wait is
+for a state of the page, none for a time. It is led by Debian's chromium-driver and python3-selenium, whatever python3 comes first on the path.
 
 `bin/test desk_page --pictures FOLDER` also leaves pictures of the evening there."""
 import base64
@@ -19,7 +19,7 @@ from meadow.sheets.lines import answer_text
 from meadow.sheets.reading import read
 from png import Picture
 
-DEBIANS_PYTHON = "/usr/bin/python3"
+DEBIANS_PYTHON, DRIVER = "/usr/bin/python3", "/usr/bin/chromedriver"
 LAPTOP, TABLET, TABLET_ACROSS = (1366, 768), (820, 1180), (1180, 820)
 # seconds in which a state must come, however busy the machine is
 PATIENCE = 60
@@ -50,7 +50,7 @@ class Page:
         for word in ("--headless=new", "--no-sandbox", "--disable-gpu", "--disable-dev-shm-usage", "--force-device-scale-factor=1"):
             options.add_argument(word)
         options.set_capability("goog:loggingPrefs", {"browser": "ALL"})
-        self.driver = webdriver.Chrome(options=options, service=webdriver.ChromeService("/usr/bin/chromedriver") if hasattr(webdriver, "ChromeService") else service())
+        self.driver = webdriver.Chrome(options=options, service=service())
         self.driver.set_script_timeout(PATIENCE)
 
     def __enter__(self):
@@ -121,10 +121,10 @@ class Page:
 
 
 def service():
-    """The driver, as older packages start it."""
+    """What leads the browser."""
     from selenium.webdriver.chrome.service import Service
 
-    return Service("/usr/bin/chromedriver")
+    return Service(DRIVER)
 
 
 # ---- parts of the evening
@@ -302,6 +302,14 @@ def hold_windows(checks, page):
     page.driver.switch_to.window(one)
 
 
+WAS_WET = """
+const square = arguments[0], trial = { frames: here().frames.slice(0, 2).map(frame => ({ ...frame, depths: frame.depths.slice() })) };
+Object.assign(trial.frames[0], { clock: 30000 }).depths[square] = 26000;
+trial.frames[1].depths[square] = 0;
+return squareText(trial, trial.frames[1], square);
+"""
+
+
 def hold_layers(checks, page):
     """The other layers, arrows and figures, each told beside the map; a board that is dry now says how high the water was."""
     page.click("arrows")
@@ -312,15 +320,15 @@ def hold_layers(checks, page):
         page.keys("l")
         page.wait(f"desk.layer === '{layer}' && !isQueued")
         checks.hold(page.js("document.querySelector('#legend h3').textContent") == page.js("layerNow().title"), f"the legend is not that of {layer}")
-        checks.hold(page.js("layerNow().values(here(), frameInView(here())).every((v, s) => (v < 0) === (desk.ground.marks[s] === 'x'))"), f"a wall has {layer}")
+        dry = "layerNow().values(here(), frameInView(here())).every((value, square) => (value < 0) === (desk.ground.marks[square] === 'x'))"
+        checks.hold(page.js(dry), f"a wall has {layer}")
         page.shot(layer)
     page.keys("l", "f")
     page.wait("desk.layer === 'depth' && desk.figuresOn && !isQueued")
     page.keys("f")
     dry = page.js("here().frames[0].depths.findIndex((d, s) => d >= 0)")
-    said = "(() => { const t = { frames: here().frames.slice(0, 2).map(f => ({ ...f, depths: f.depths.slice() })) }; "
-    said += f"t.frames[0].depths[{dry}] = 26000; t.frames[0].clock = 30000; t.frames[1].depths[{dry}] = 0; return squareText(t, t.frames[1], {dry}); }})()"
-    checks.hold(page.js(said) == "dry now; highest 2.6 cm at 0:30", f"a square that was wet is said to be {page.js(said)!r}")
+    said = page.driver.execute_script(WAS_WET, dry)
+    checks.hold(said == "dry now; highest 2.6 cm at 0:30", f"a square that was wet is said to be {said!r}")
 
 
 def hold_beside(checks, page):
@@ -401,6 +409,20 @@ def hold_far(checks, page, first, water):
 # ---- what is seen
 
 
+# the edges of the walls on the screen; where the legend's shades are
+WALLS = """
+const canvas = document.querySelector('#left canvas'), { left, top } = canvas.getBoundingClientRect(), { x, y } = canvas.paper;
+const walls = [...desk.ground.marks].map((mark, square) => mark === 'x' ? square : -1).filter(square => square >= 0);
+const rows = walls.map(rowOf), columns = walls.map(columnOf);
+const last = [left + x(Math.max(...columns) + 1) - 2, top + y(Math.max(...rows) + 1) - 2];
+return [left + x(Math.min(...columns)) + 2, top + y(Math.min(...rows)) + 2, ...last];
+"""
+SWATCHES = """
+const boxes = [...document.querySelectorAll('#legend .classes svg')].map(swatch => swatch.getBoundingClientRect());
+return boxes.map(({ left, top }) => [left + 4, top + 4]);
+"""
+
+
 def shades_in(picture, box):
     """The colours of a part of a picture."""
     left, top, right, foot = (round(edge) for edge in box)
@@ -409,20 +431,15 @@ def shades_in(picture, box):
 
 def hold_walls(checks, page):
     """No pixel of a wall has a shade of water; in grey each class of water is darker than the one before by a clear step."""
-    box = page.js(
-        "(() => { const c = document.querySelector('#left canvas'), b = c.getBoundingClientRect(), p = c.paper;"
-        " const walls = [...desk.ground.marks].map((m, s) => m === 'x' ? s : -1).filter(s => s >= 0), rows = walls.map(rowOf), columns = walls.map(columnOf);"
-        " return [b.left + p.x(Math.min(...columns)) + 2, b.top + p.y(Math.min(...rows)) + 2,"
-        " b.left + p.x(Math.max(...columns) + 1) - 2, b.top + p.y(Math.max(...rows) + 1) - 2]; })()"
-    )
+    box = page.driver.execute_script(WALLS)
     water = [tuple(int(colour[at : at + 2], 16) for at in (1, 3, 5)) for _, colour, _ in CLASSES]
-    found = shades_in(Picture(page.shot("walls") if not page.folder else page.shot("colour")), box)
+    found = shades_in(Picture(page.shot("colour")), box)
     near = [shade for shade in found for other in water if max(abs(a - b) for a, b in zip(shade, other)) <= NEAR and max(shade) - min(shade) > NEAR]
     checks.hold(found and not near, f"a wall has pixels in shades of water: {near[:3]}")
     page.away()
     page.keys("g")
     page.wait("document.body.classList.contains('grey')")
-    swatches = page.js("[...document.querySelectorAll('#legend .classes svg')].map(e => { const b = e.getBoundingClientRect(); return [b.left + 4, b.top + 4]; })")
+    swatches = page.driver.execute_script(SWATCHES)
     picture = Picture(page.shot("grey"))
     shades = [picture.at(round(x), round(y)) for x, y in swatches]
     checks.hold(all(max(shade) - min(shade) <= 2 for shade in shades), f"grey is not grey: {shades}")
@@ -434,14 +451,21 @@ def hold_walls(checks, page):
 
 
 CONTRAST = """
-const light = c => { const v = c.map(x => x / 255).map(x => x <= .03928 ? x / 12.92 : ((x + .055) / 1.055) ** 2.4); return .2126 * v[0] + .7152 * v[1] + .0722 * v[2]; };
-const numbers = c => (c.match(/[\\d.]+/g) || []).map(Number);
-const behind = e => { for (; e; e = e.parentElement) { const c = numbers(getComputedStyle(e).backgroundColor); if (c.length === 3 || c[3] > .9) return c.slice(0, 3); } return [255, 255, 255]; };
+const linear = part => part / 255 <= .03928 ? part / 255 / 12.92 : ((part / 255 + .055) / 1.055) ** 2.4;
+const light = ([red, green, blue]) => .2126 * linear(red) + .7152 * linear(green) + .0722 * linear(blue);
+const numbers = colour => (colour.match(/[\\d.]+/g) || []).map(Number);
+const behind = e => {
+  for (; e; e = e.parentElement) {
+    const colour = numbers(getComputedStyle(e).backgroundColor);
+    if (colour.length === 3 || colour[3] > .9) return colour;
+  }
+  return [255, 255, 255];
+};
 const found = [];
 for (const e of document.querySelectorAll('body *')) {
   const own = [...e.childNodes].some(n => n.nodeType === 3 && n.textContent.trim()), style = getComputedStyle(e);
   if (!own || !e.getClientRects().length || style.visibility === 'hidden' || e.closest(':disabled,option,svg,.skip,script')) continue;
-  const [a, b] = [light(numbers(style.color).slice(0, 3)), light(behind(e))].sort((x, y) => y - x), ratio = (a + .05) / (b + .05);
+  const [a, b] = [light(numbers(style.color)), light(behind(e))].sort((x, y) => y - x), ratio = (a + .05) / (b + .05);
   if (ratio < 4.5) found.push(`${e.tagName}#${e.id}.${e.className} ${ratio.toFixed(2)} ${e.textContent.trim().slice(0, 20)}`);
 }
 return found;
@@ -476,13 +500,15 @@ def hold_for_all(checks, page):
 def hold_sizes(checks, page):
     """Nothing scrolls on the laptop; on a tablet, either way up, nothing scrolls sideways and buttons can be hit by a finger."""
     wide, high = LAPTOP
-    checks.hold(page.js("[document.documentElement.scrollWidth, document.documentElement.scrollHeight]") == [wide, high], "the page scrolls on the laptop")
+    scrolled = page.js("[document.documentElement.scrollWidth, document.documentElement.scrollHeight]")
+    checks.hold(scrolled == [wide, high], f"the page scrolls on the laptop: {scrolled}")
     for name, (wide, high) in (("tablet", TABLET), ("tablet-across", TABLET_ACROSS)):
         page.size(wide, high, mobile=True)
         page.wait(f"innerWidth === {wide} && !isQueued")
         page.idle()
         checks.hold(page.js("document.documentElement.scrollWidth") <= wide, f"the page scrolls sideways on a {name}")
-        low = page.js("[...document.querySelectorAll('#transport button, header button')].map(e => e.getBoundingClientRect().height).filter(h => h < 36)")
+        heights = page.js("[...document.querySelectorAll('#transport button, header button')].map(e => e.getBoundingClientRect().height)")
+        low = [height for height in heights if height < 36]
         checks.hold(low == [], f"buttons of a {name} are low: {low}")
         page.shot(name)
     page.size(*LAPTOP)
@@ -494,7 +520,8 @@ def hold_print(checks, page):
     page.driver.execute_cdp_cmd("Emulation.setEmulatedMedia", {"media": "print"})
     page.wait("getComputedStyle(document.getElementById('paper-head')).display === 'block'")
     words = page.text("paper-head")
-    checks.hold(page.js("desk.ground.sheet") in words and "update time" in words and re.search(r"Printed \d\d/\d\d/\d{4}", words), f"a printed sheet says {words!r}")
+    dated = re.search(r"Printed \d\d/\d\d/\d{4}", words)
+    checks.hold(page.js("desk.ground.sheet") in words and "update time" in words and dated, f"a printed sheet says {words!r}")
     checks.hold("Ash bed" in words and page.js("here().water") in words, "a printed sheet has no hatches, or no water's name")
     told = page.driver.execute_cdp_cmd("Page.printToPDF", {"preferCSSPageSize": True, "printBackground": True})
     paper = base64.b64decode(told["data"])
@@ -529,7 +556,7 @@ def slipped_season(room):
 def hold_slips(checks, page):
     """Likely slips stand on the page before the first step, on the map too; steps held at the shortest are told in red."""
     page.open()
-    checks.hold("bed 0 at row 20, column 10" in page.text("slips") and page.find("slips").is_displayed(), "a hole in the survey is not told before the first step")
+    checks.hold("bed 0 at row 20, column 10" in page.text("slips"), "a hole in the survey is not told before the first step")
     begin_trial(page, "with a slip")
     checks.hold(page.find("slips").is_displayed() and "likely a slip" in page.text("legend"), "likely slips are not told before a trial's first step")
     page.shot("slips")
@@ -569,7 +596,8 @@ def evening(checks, webdriver, folder, pictures):
             hold_log(checks, page)
             hold_far(checks, page, first, water)
             hold_motion(checks, page)
-            checks.hold("untouched" in page.text("season") and files_of(room.season) == before, "the season is not as it was, to the byte and the time")
+            checks.hold("untouched" in page.text("season"), "the page does not say that the season is untouched")
+            checks.hold(files_of(room.season) == before, "the season is not as it was, to the byte and the time")
             logged = [entry["message"] for entry in page.driver.get_log("browser") if entry["level"] == "SEVERE"]
             faults = [message for message in logged if "net::ERR_" not in message and " 409 " not in message]
             checks.hold(faults == [], f"the browser complains: {faults[:3]}")
@@ -585,7 +613,7 @@ def main():
     checks = Checks("desk_page")
     webdriver = led()
     pictures = sys.argv[2] if sys.argv[1:2] == ["--pictures"] else None
-    if webdriver is None or not Path("/usr/bin/chromedriver").exists():
+    if webdriver is None or not Path(DRIVER).exists():
         checks.skip("the desk's page", "no browser that a test can lead; bin/setup installs it")
         checks.end()
     built("desk", "hatchlog")

@@ -174,7 +174,7 @@ def hold_strangers(checks, room):
     }
     for what, (method, path, sent, headers) in strangers.items():
         checks.hold(room.ask(method, path, sent, **headers)[0] == 403, f"{what}: let through")
-    for path in ("/../server.py", "/%2e%2e/server.py", "/server.py", "/page/index.html", "/token", "/api/trial/../frames", "/api/trial/A", "/api/nothing"):
+    for path in ("/../server.py", "/%2e%2e/server.py", "/server.py", "/page/index.html", "/token", "/api/trial/../frames", "/api/trial/A", "/api"):
         checks.hold(room.get(path)[0] in (404, 422), f"{path} is there")
     for method in ("PUT", "DELETE", "OPTIONS", "HEAD"):
         checks.hold(room.ask(method, "/api/desk", b"{}", token=token)[0] == 501, f"{method} is answered")
@@ -295,7 +295,7 @@ def hold_engine_killed(checks, room, key):
     for what, asked in (("back", {"count": 1_000}), ("mark", {"name": "here"})):
         room.kill_engines()
         answer = room.change(key, what, **asked)
-        checks.hold(answer.endswith("end\n") and water_in(answer) == water_in(told), f"{what} after a kill, which needs no engine, is answered by {answer!r}")
+        checks.hold(answer.endswith("end\n") and water_in(answer) == water_in(told), f"{what}, which needs no engine, after a kill: {answer!r}")
 
 
 def hold_sleep(checks, room, key):
@@ -351,7 +351,8 @@ def hold_other_sheet(checks, room):
     sheet.write_bytes(sheet.read_bytes().replace(b"rain\t0\t", b"rain\t1\t", 1))
     room.start()
     told = json.loads(room.get("/api/desk")[1])
-    checks.hold(told["trials"] == [] and all("another sheet" in words for words in told["aside"]) and told["aside"], f"trials of another sheet: {told}")
+    aside = [words for words in told["aside"] if "another sheet" in words]
+    checks.hold(told["trials"] == [] and aside == told["aside"] != [], f"trials of another sheet: {told}")
     sheet.write_bytes((SAMPLE / "season.sheet").read_bytes())
     room.kill()
     (room.trials / "Z.journal").write_bytes(b"no journal\n")
@@ -415,7 +416,8 @@ def hold_evening(checks, room, seed, changes):
         checks.hold("DIFFERS" not in told and told.endswith("end\n"), f"evening {seed}, change {at}: {what} {asked} says {told[-200:]}")
         if what == "back" or at == changes - 1:
             frames = room.get(f"/api/trial/{key}/frames")[1]
-            checks.hold(standing_again(season, frames, stand) == water_in(frames), f"evening {seed}, change {at}: other water than by the standing steps")
+            again = standing_again(season, frames, stand)
+            checks.hold(again == water_in(frames), f"evening {seed}, change {at}: other water than by the standing steps")
     water = room.water(key)
     copy = room.new("its copy", copy=key)
     checks.hold(room.water(copy) == water, f"evening {seed}: a copy has other water")
@@ -439,7 +441,8 @@ def hold_refused_step(checks, folder):
         key = room.new("too much")
         room.change(key, "draw", hatch=1, litres=60_000)
         told = room.change(key, "step", count=5)
-        checks.hold(told.count("frame\t") == 1 and "\nrefused\t8\n" in told and room.now(key)["made"] == 1, f"a step above 100 m is answered by {told!r}")
+        shown = told.count("frame\t"), "\nrefused\t8\n" in told, room.now(key)["made"]
+        checks.hold(shown == (1, True, 1), f"a step above 100 m is answered by {told!r}")
         room.change(key, "back", count=1)
         checks.hold("\nrow\t0\n" in room.get(f"/api/trial/{key}/frames")[1], "the step before a refused one is not taken back")
         room.change(key, "draw", hatch=1, litres=10)
@@ -478,7 +481,8 @@ def hold_keep(checks, room, log):
     """A trial is adopted only after a yes, and only where its beginning is the season's; the run then goes on by it."""
     before = files_of(room.season)
     told = subprocess.run([SEASON, "keep", room.season, log], input="no\n", capture_output=True, text=True)
-    checks.hold(told.returncode == 1 and "+" in told.stdout and files_of(room.season)["season.log"] == before["season.log"], "a log is adopted without a yes")
+    same = files_of(room.season)["season.log"] == before["season.log"]
+    checks.hold(told.returncode == 1 and "+" in told.stdout and same, "a log is adopted without a yes")
     other = room.folder / "other.log"
     other.write_text(log.read_text().replace("120000\t3\t160", "120000\t3\t170"))
     told = subprocess.run([SEASON, "keep", room.season, other], input="yes\n", capture_output=True, text=True)
@@ -487,7 +491,8 @@ def hold_keep(checks, room, log):
     checks.hold(told.returncode == 0 and (room.season / "season.log").read_bytes() == log.read_bytes(), f"a log is not adopted: {told.stderr}")
     checks.hold(room.run_season().returncode == 0, "the season does not go on by an adopted log")
     stand, printed = stands.read(room.season / "stand"), printed_of_named("hatchlog", room.season / "season.sheet", log)
-    checks.hold(f"clock\t{stand.told['clock']}\n" in printed and f"steps\t{stand.told['steps']}\n" in printed, "the season's run is not that of its log")
+    lines = [f"{name}\t{stand.told[name]}\n" for name in ("clock", "steps")]
+    checks.hold(all(line in printed for line in lines), "the season's run is not that of its log")
 
 
 def long_season(folder):
@@ -515,7 +520,8 @@ def hold_keeper(checks, folder):
     told = subprocess.run([SEASON, whole], capture_output=True, text=True)
     end = head_of(whole)
     checks.hold(told.returncode == 0 and end["how"] == "done" and end["clock"] == HOUR, f"an unbroken run ends so: {told.stderr[-300:]}")
-    checks.hold(f"at least {end['least']:,} and at most {end['most']:,} steps" in told.stderr.splitlines()[0], "the steps are not told before the run")
+    bounds = f"at least {end['least']:,} and at most {end['most']:,} steps"
+    checks.hold(bounds in told.stderr.splitlines()[0], "the steps are not told before the run")
     checks.hold(end["least"] <= end["steps"] <= end["most"], f"{end['steps']} steps are not between the figures told before")
     run = started(broken)
     wait_for(lambda: head_of(broken)["steps"] > 100)

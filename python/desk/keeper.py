@@ -172,7 +172,8 @@ def keep(season, path, asked=input):
     """Shows what would change in the season's log, asks, and writes it; whether it did."""
     with alone(season):
         new = adopted(season, bytes_of(path))
-        change = list(unified_diff(*(text.decode("ascii").splitlines() for text in (season.log_text, new)), "the season's log", str(path), lineterm=""))
+        lines = [text.decode("ascii").splitlines() for text in (season.log_text, new)]
+        change = list(unified_diff(*lines, "the season's log", str(path), lineterm=""))
         if not change:
             print("the season's log says the same already")
             return False

@@ -276,7 +276,8 @@ class Trial:
                 if moved % update:
                     raise Fault(f"hatch {hatch} was moved at {moved:,} ms, and a hatch log knows only multiples of {update:,} ms")
             if clock % update or not self.hatches:
-                raise Fault(f"the trial stands at {clock:,} ms, and a hatch log comes only to multiples of {update:,} ms: the key U goes on to the next")
+                stands_at = f"the trial stands at {clock:,} ms, and a hatch log comes only to multiples of {update:,} ms"
+                raise Fault(f"{stands_at}: the key U goes on to the next")
             first = min(self.hatches)
             lines = [*changes, (clock, first, self.rates[first - 1])]
             return self.stand.told["log"] + "".join("\t".join(map(str, line)) + "\n" for line in lines)

@@ -48,7 +48,8 @@ function drawNow() {
   showPaperHead(trial, frame);
   showButtons(trial);
   const wet = frame.depths.filter(depth => depth >= WET).length;
-  $('left').querySelector('canvas').setAttribute('aria-label', `Map of the meadow at ${clockText(frame.clock)}: ${plural(wet, 'square')} at least 1 cm deep. Arrow keys move, Enter puts up a board.`);
+  const words = `Map of the meadow at ${clockText(frame.clock)}: ${plural(wet, 'square')} at least 1 cm deep. Arrow keys move, Enter puts up a board.`;
+  $('left').querySelector('canvas').setAttribute('aria-label', words);
 }
 
 function showCaption(trial, frame, other) {
@@ -60,9 +61,10 @@ function drawOther(trial, frame, other) {
   const its = frameInView(other), endsEarlier = its.clock < frame.clock && its === lastOf(other);
   const isDepth = desk.layer === 'depth';
   drawMap($('right').querySelector('canvas'), pictureOf(other, its, { rates: its.rates, other: endsEarlier || !isDepth ? null : frame }));
-  const when = `${desk.beside} at ${clockText(its.clock)}`;
-  const compared = `${its.clock === frame.clock ? '' : ', its state just before'}: + deeper, − shallower than ${desk.current}; bold from 1 cm, thin from 1 mm`;
-  $('right').querySelector('figcaption').textContent = when + (endsEarlier ? `: it ends here, earlier than ${desk.current}, so the two are not compared` : isDepth ? compared : '');
+  const when = `${desk.beside} at ${clockText(its.clock)}${its.clock === frame.clock || endsEarlier ? '' : ', its state just before'}`;
+  const compared = `: + deeper, − shallower than ${desk.current}; bold from 1 cm, thin from 1 mm`;
+  const notCompared = `: it ends here, earlier than ${desk.current}, so the two are not compared`;
+  $('right').querySelector('figcaption').textContent = when + (endsEarlier ? notCompared : isDepth ? compared : '');
 }
 
 function showButtons(trial) {
@@ -231,15 +233,17 @@ async function drawAll(litresOf) {
 }
 
 const CLICKS = {
-  new: askForTrial, one: () => makeSteps(1), forty: fortySteps, next: goToNext, 'back-one': () => takeBack(1), 'back-forty': () => takeBack(40),
-  'all-back': allBack, mark: addMark, 'to-mark': backToMark, save: saveLog, print: () => print(), help: () => $('keys').showModal(), drop: askToDrop,
-  arrows: toggleArrows, figures: toggleFigures, grey: toggleGrey, shut: () => drawAll(() => 0), 'as-season': () => drawAll(number => here().frames[0].rates[number - 1]),
+  new: askForTrial, drop: askToDrop, save: saveLog, print: () => print(), help: () => $('keys').showModal(),
+  one: () => makeSteps(1), forty: fortySteps, next: goToNext, 'back-one': () => takeBack(1), 'back-forty': () => takeBack(40), 'all-back': allBack,
+  mark: addMark, 'to-mark': backToMark, arrows: toggleArrows, figures: toggleFigures, grey: toggleGrey,
+  shut: () => drawAll(() => 0), 'as-season': () => drawAll(number => here().frames[0].rates[number - 1]),
   'tab-boards': () => showPanel('boards'), 'tab-trials': () => showPanel('trials'), 'tab-slips': () => showPanel('slips'),
 };
 const KEYS = {
-  ' ': fortySteps, ArrowRight: () => makeSteps(1), ArrowLeft: event => takeBack(event.shiftKey ? 40 : 1), Home: allBack, u: goToNext, m: addMark, b: backToMark,
-  ',': () => look(desk.view - 1), '.': () => look(desk.view + 1), Escape: () => here() && look(madeOf(here())), l: nextLayer, a: toggleArrows, f: toggleFigures,
-  g: toggleGrey, t: () => showPanel(after(PANELS, desk.panel)), n: askForTrial, s: saveLog, p: () => print(), '?': () => $('keys').showModal(),
+  ' ': fortySteps, ArrowRight: () => makeSteps(1), ArrowLeft: event => takeBack(event.shiftKey ? 40 : 1), Home: allBack, u: goToNext,
+  m: addMark, b: backToMark, ',': () => look(desk.view - 1), '.': () => look(desk.view + 1), Escape: () => here() && look(madeOf(here())),
+  l: nextLayer, a: toggleArrows, f: toggleFigures, g: toggleGrey,
+  t: () => showPanel(after(PANELS, desk.panel)), n: askForTrial, s: saveLog, p: () => print(), '?': () => $('keys').showModal(),
 };
 const OF_A_SLIDER = ['ArrowLeft', 'ArrowRight', 'ArrowUp', 'ArrowDown', 'Home', 'End', 'PageUp', 'PageDown'];
 const IN_A_TRIAL = [' ', 'u', 'm', 'b', ',', '.', 'a'];

@@ -30,6 +30,8 @@ function courseOf(trial, upTo) {
   return course;
 }
 
+const spanText = (trial, frame) => `from ${shortClock(trial.frames[0].clock)} to ${shortClock(frame.clock)}`;
+
 const LAYERS = {
   depth: {
     title: 'Depth of water',
@@ -45,7 +47,7 @@ const LAYERS = {
     classes: () => desk.ground.classes,
     none: 'dry all the time',
     film: () => desk.ground.film,
-    caption: (trial, frame) => `highest water of this trial from ${shortClock(trial.frames[0].clock)} to ${shortClock(frame.clock)}, not what stands now`,
+    caption: (trial, frame) => `highest water of this trial ${spanText(trial, frame)}, not what stands now`,
   },
   wet: {
     title: 'Time 1 cm deep or deeper',
@@ -53,7 +55,7 @@ const LAYERS = {
     classes: () => TIMES.map(([least, name], at) => [least, desk.ground.classes[at][1], name]),
     none: 'never',
     film: () => 'under 1 min',
-    caption: (trial, frame) => `time 1 cm deep or deeper, from ${shortClock(trial.frames[0].clock)} to ${shortClock(frame.clock)}`,
+    caption: (trial, frame) => `time 1 cm deep or deeper, ${spanText(trial, frame)}`,
   },
 };
 const LAYER_NAMES = Object.keys(LAYERS);

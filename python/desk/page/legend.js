@@ -7,14 +7,16 @@ const entry = (sign, words, amount = '') => `<div class="e">${sign}<span>${words
 const PAPER_GROUND = '#fcfaf3';
 
 const SIGNS = {
-  wall: boxed('<rect x=".5" y=".5" width="19" height="14" fill="#fff" stroke="#111" stroke-width="1.6"/><path d="M2 14L14 1M8 14L19 2M-2 10L7 1" stroke="#444" stroke-width="1.5"/>'),
+  wall: boxed('<rect x=".5" y=".5" width="19" height="14" fill="#fff" stroke="#111" stroke-width="1.6"/>'
+    + '<path d="M2 14L14 1M8 14L19 2M-2 10L7 1" stroke="#444" stroke-width="1.5"/>'),
   exit: boxed('<path d="M3 5h6V1l9 6.5L9 14v-4H3z" fill="#b35c00"/>'),
   drawn: boxed('<circle cx="10" cy="7.5" r="6.4" fill="#8c2d04"/>'),
   shut: boxed('<circle cx="10" cy="7.5" r="6" fill="#fff" stroke="#8c2d04" stroke-width="2"/>'),
   contour: boxed('<path d="M1 8h18" stroke="#8a6a35" stroke-width="1.4"/>'),
   flow: boxed('<path d="M2 8h14M11 4l5 4l-5 4" stroke="#111" fill="none" stroke-width="1.3"/>'),
   stands: boxed('<path d="M10 1.5l6 6l-6 6l-6-6z" fill="#fff" stroke="#c4001d" stroke-width="1.6"/>'),
-  slip: boxed('<path d="M10 1l7 12.5H3z" fill="#fff" stroke="#111" stroke-width="1.4"/><path d="M10 5v4M10 10.5v1.5" stroke="#111" stroke-width="1.6"/>'),
+  slip: boxed('<path d="M10 1l7 12.5H3z" fill="#fff" stroke="#111" stroke-width="1.4"/>'
+    + '<path d="M10 5v4M10 10.5v1.5" stroke="#111" stroke-width="1.6"/>'),
 };
 
 function areasOf(frame, values, classes) {
@@ -46,8 +48,8 @@ function showLegend(picture) {
     desk.cautions && desk.cautions.standing.length ? entry(SIGNS.stands, 'stands') : '',
     picture.slips && desk.ground.odd.length ? entry(SIGNS.slip, 'likely a slip') : '',
   ];
-  $('legend').innerHTML = `<h3>${layer.title}</h3><div class="classes">${shades.join('')}</div><h3>Signs</h3><div class="signs">${signs.join('')}</div>`
-    + `<div class="now"><h3>Now</h3>${nowWords(frame)}</div>`;
+  $('legend').innerHTML = `<h3>${layer.title}</h3><div class="classes">${shades.join('')}</div>`
+    + `<h3>Signs</h3><div class="signs">${signs.join('')}</div><div class="now"><h3>Now</h3>${nowWords(frame)}</div>`;
 }
 
 function nowWords(frame) {
@@ -83,7 +85,8 @@ function showAccount(frame) {
     ['at the season’s start', frame.start], [here() ? 'given before this trial' : 'given', before],
     ...(here() ? [['rain since', rain], ['hatches since', hatches]] : []), ['came', frame.start + before + given, 't'],
   ];
-  $('sums').innerHTML = rows.map(([name, amount, kind = '']) => `<span class="${kind}">${name}</span><span class="${kind}">${cubic(amount)}</span>`).join('');
+  const cell = (words, kind = '') => `<span class="${kind}">${words}</span>`;
+  $('sums').innerHTML = rows.map(([name, amount, kind]) => cell(name, kind) + cell(cubic(amount), kind)).join('');
   const balanced = $('balanced');
   balanced.textContent = off === 0 ? '✓ to the µm' : `OFF BY ${group(off)} µm`;
   balanced.className = off === 0 ? 'ok' : 'bad';

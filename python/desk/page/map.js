@@ -305,6 +305,7 @@ function drawEdge({ g, x, y, left, top, size, rows, columns }) {
 function squareAt(canvas, event) {
   const paper = canvas.paper, box = canvas.getBoundingClientRect();
   if (!paper) return null;
-  const column = Math.floor((event.clientX - box.left - paper.left) / paper.size), row = Math.floor((event.clientY - box.top - paper.top) / paper.size);
+  const column = Math.floor((event.clientX - box.left - paper.left) / paper.size);
+  const row = Math.floor((event.clientY - box.top - paper.top) / paper.size);
   return row >= 0 && column >= 0 && row < paper.rows && column < paper.columns ? row * paper.columns + column : null;
 }

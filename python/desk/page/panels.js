@@ -1,15 +1,18 @@
 'use strict';
-/* The panels: tabs, banner, hatches, the table of trials, likely slips, the keeper's run, and the head of a printed sheet. */
+/* The panels: tabs, banner, hatches, the table of trials and likely slips. */
+
+const titleOf = key => `${key} · ${desk.trials[key].name}`;
+const bold = text => make('b', { textContent: text });
 
 function showTabs() {
   const tab = key => make('button', {
-    id: 'tab-of-' + key, role: 'tab', textContent: key === 'season' ? 'Season' : `${key} · ${desk.trials[key].name}`, ariaSelected: String(key === desk.current),
+    id: 'tab-of-' + key, role: 'tab', ariaSelected: String(key === desk.current), textContent: key === 'season' ? 'Season' : titleOf(key),
     title: key === 'season' ? 'The season, read only' : desk.trials[key].name, onclick: () => openTrial(key),
   });
   const signature = JSON.stringify([desk.current, desk.order.map(key => desk.trials[key].name)]);
   refill($('tabs'), signature, ...['season', ...desk.order].map(tab));
   const others = desk.order.filter(key => key !== desk.current), select = $('beside');
-  const option = key => make('option', { value: key, textContent: `${key} · ${desk.trials[key].name}` });
+  const option = key => make('option', { value: key, textContent: titleOf(key) });
   refill(select, signature, make('option', { value: '', textContent: 'nothing' }), ...others.map(option));
   select.value = desk.beside;
   select.disabled = desk.current === 'season' || !others.length;
@@ -28,11 +31,11 @@ function showBanner(trial) {
 function showTrialBanner(box, trial) {
   const made = madeOf(trial), frame = frameInView(trial), isPast = desk.view < made && !desk.playing;
   box.className = isPast ? 'past' : '';
-  const bold = text => make('b', { textContent: text });
   const name = make('span', { id: 'trial-name', textContent: `“${trial.name}”` });
-  const words = desk.said ? [bold(desk.said)]
-    : isPast ? [bold('Looking back'), ` at step ${desk.view}, clock ${clockText(frame.clock)}. The trial still stands at step ${made}.`]
-    : [bold(`Trial ${desk.current}`), ', ', name, ': ', bold(`${desk.playing ? desk.view : made}`), ' steps, clock ', bold(clockText(frame.clock)), '. Nothing here is in the season.'];
+  const past = [bold('Looking back'), ` at step ${desk.view}, clock ${clockText(frame.clock)}. The trial still stands at step ${made}.`];
+  const steps = [bold(`${desk.playing ? desk.view : made}`), ' steps, clock ', bold(clockText(frame.clock))];
+  const present = [bold(`Trial ${desk.current}`), ', ', name, ': ', ...steps, '. Nothing here is in the season.'];
+  const words = desk.said ? [bold(desk.said)] : isPast ? past : present;
   const water = make('code', { id: 'water', textContent: desk.view === made && trial.water ? 'water ' + trial.water.slice(0, 12) : '' });
   water.title = 'The name of this water: a hash of every depth, last leaving, clock, length, and what has left, soaked and was given';
   const ways = isPast ? [
@@ -45,7 +48,6 @@ function showTrialBanner(box, trial) {
 
 function showSeasonBanner(box) {
   box.className = 'season';
-  const bold = text => make('b', { textContent: text });
   const when = desk.season ? [', clock ', bold(clockText(desk.season.clock)), `, step ${group(desk.season.steps)}`] : [];
   const begin = make('button', { id: 'begin', className: 'main', textContent: 'Begin a trial from here', onclick: askForTrial });
   const said = make('span', {}, bold('The season'), ...when, '. Read only: nothing on this desk writes here.');
@@ -55,10 +57,11 @@ function showSeasonBanner(box) {
 function showSeason() {
   const { same, run, opened } = desk.told.season, isRunning = run && run.how === 'running', box = $('season');
   box.className = same || isRunning ? '' : 'moved';
-  const bold = text => make('b', { textContent: text });
-  const since = same ? [bold('✓ untouched'), ` since ${opened}`] : [isRunning ? `the keeper’s run, seen ${run.saved.slice(11)}` : 'moved on by the keeper'];
+  const moved = isRunning ? `the keeper’s run, seen ${run.saved.slice(11)}` : 'moved on by the keeper';
+  const since = same ? [bold('✓ untouched'), ` since ${opened}`] : [moved];
   const name = run && make('code', { id: 'season-name', textContent: run.state.slice(0, 12) });
-  const said = make('span', {}, ...(run ? ['Season at ', bold(clockText(run.clock)), ' · ', name, ' · '] : ['The season’s run has not begun · ']), ...since);
+  const where = run ? ['Season at ', bold(clockText(run.clock)), ' · ', name, ' · '] : ['The season’s run has not begun · '];
+  const said = make('span', {}, ...where, ...since);
   refill(box, said.textContent, said);
 }
 
@@ -138,62 +141,19 @@ function showBoards(trial, other) {
 }
 
 function showTrials() {
-  const heads = ['trial', 'clock', 'steps', '1 cm deep', 'gone by exits'].map(words => make('th', { textContent: words, scope: 'col' }));
+  const heads = ['trial', 'clock', 'steps', '1 cm deep', 'gone by exits'].map(headCell);
   const row = told => {
-    const name = make('button', { id: 'row-of-' + told.key, className: 'link', textContent: `${told.key} · ${told.name}`, onclick: () => openTrial(told.key) });
-    const cells = [clockText(told.clock), group(told.made), areaText(told.wet), cubic(told.out) + ' m³'].map(words => make('td', { textContent: words }));
-    return make('tr', { className: told.key === desk.current ? 'here' : '' }, make('td', {}, name), ...cells);
+    const name = make('button', { id: 'row-of-' + told.key, className: 'link', textContent: titleOf(told.key), onclick: () => openTrial(told.key) });
+    const cells = [name, clockText(told.clock), group(told.made), areaText(told.wet), cubic(told.out) + ' m³'];
+    return make('tr', { className: told.key === desk.current ? 'here' : '' }, ...cells.map(inside => make('td', {}, inside)));
   };
-  const rows = desk.told.trials.map(row);
-  const aside = desk.told.aside.map(words => make('p', { textContent: words }));
-  refill($('trials'), JSON.stringify([desk.current, desk.told.trials, desk.told.aside]), rows.length ? make('table', {}, make('tr', {}, ...heads), ...rows) : make('p', { textContent: 'No trial yet: N begins one.' }), ...aside);
+  const { trials, aside } = desk.told, rows = trials.map(row), line = words => make('p', { textContent: words });
+  const list = rows.length ? make('table', {}, make('tr', {}, ...heads), ...rows) : line('No trial yet: N begins one.');
+  refill($('trials'), JSON.stringify([desk.current, trials, aside]), list, ...aside.map(line));
 }
 
 function showSlips() {
   const { slips } = desk.ground;
-  const title = make('p', { textContent: slips.length ? 'What in this season’s sheet is likely a slip, before the first step:' : 'Nothing in this season’s sheet looks like a slip.' });
-  refill($('slips'), slips.join(), title, make('ul', {}, ...slips.map(words => make('li', { textContent: words }))));
-}
-
-/* ---- the keeper's run */
-
-function showKeeper(trial) {
-  const box = $('keeper'), { run, files, same, opened } = desk.told.season;
-  box.hidden = !!trial;
-  if (trial) return;
-  if (!run) return refill(box, 'none', make('h2', { textContent: 'The keeper’s run' }), make('p', {}, 'It has not begun: ', make('code', { textContent: `bin/season ${desk.ground.name}` }), ' starts it.'));
-  const share = run.end ? Math.round(100 * run.clock / run.end) : 100, fill = make('i');
-  fill.style.width = share + '%';
-  const bar = make('div', { className: 'bar', role: 'progressbar', ariaLabel: 'How far the season’s run has come', ariaValueNow: share, ariaValueMin: 0, ariaValueMax: 100 }, fill);
-  const line = words => make('p', { innerHTML: words });
-  const names = make('table', {}, ...Object.entries(files).map(([name, hash]) => make('tr', {}, make('td', { textContent: name }), make('td', {}, make('code', { textContent: hash })))));
-  refill(
-    box, JSON.stringify(desk.told.season),
-    make('h2', {}, 'The keeper’s run ', make('small', { textContent: run.how })), bar,
-    line(`clock <b>${clockText(run.clock)}</b> of ${clockText(run.end)} · step <b>${group(run.steps)}</b>${run.pace ? ` · ${run.pace} steps a second when last seen` : ''}`),
-    line(run.most === null ? 'How many steps the whole run needs cannot be told before.' : `The whole run needs at least <b>${group(run.least)}</b> and at most <b>${group(run.most)}</b> steps: proved before the first is made.`),
-    names,
-    line(`${same ? `✓ All are as they were when the desk was opened at ${opened}.` : `They changed since ${opened}: the keeper’s own run writes here.`} Saved ${safe(run.saved)}.`),
-    line(`The keeper stops it by a file <code>stop</code> in the folder or by Ctrl-C, and goes on with <code>bin/season ${safe(desk.ground.name)}</code>.`),
-  );
-}
-
-/* ---- the head of a printed sheet: when, of which sheet, by which settings */
-
-function showPaperHead(trial, frame) {
-  const { run, side, sheet, name, rows, columns } = desk.ground;
-  const settings = `${rows} by ${columns} squares of ${side} m · slope tolerance ${run.tolerance} · steps ${run.shortest} to ${run.longest} ms · update time ${run.update} ms · edge slope ${run.edge} · edition ${run.edition}`;
-  const rates = trial ? trial.rates : frame.rates;
-  const hatches = Object.keys(desk.ground.hatches).map(number => `${number}${hatchName(number) ? ' ' + hatchName(number) : ''} ${rates[number - 1]}`).join(' · ');
-  const title = trial ? `Trial ${desk.current}, “${trial.name}”, of “${name}”` : `The season “${name}”`;
-  const steps = trial ? `${plural(desk.view, 'step')} past the season` : `step ${group(frame.steps)}`;
-  const water = trial && desk.view === madeOf(trial) ? trial.water : '';
-  const line = words => make('p', { textContent: words });
-  refill(
-    $('paper-head'), `${title} ${steps} ${frame.clock} ${hatches} ${water} ${desk.layer} ${new Date().toLocaleString('en-GB')}`,
-    make('h1', { textContent: `${title}: ${clockText(frame.clock)}, ${steps}` }),
-    line(`Printed ${new Date().toLocaleString('en-GB')}${trial ? '. A trial: nothing here is in the season' : ''}${trial ? `. ${layerNow().title}` : ''}.`),
-    line(`Sheet ${sheet}`), line(`Settings: ${settings}`), line(`Hatches, litres a second: ${hatches || 'none'}`),
-    ...(water ? [line(`Water ${water}`)] : []), ...(trial && heldSteps(trial, desk.view) ? [line($('held').textContent)] : []),
-  );
+  const title = slips.length ? 'What in this season’s sheet is likely a slip, before the first step:' : 'Nothing in the sheet looks like a slip.';
+  refill($('slips'), slips.join(), make('p', { textContent: title }), make('ul', {}, ...slips.map(words => make('li', { textContent: words }))));
 }

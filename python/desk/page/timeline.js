@@ -1,6 +1,6 @@
 'use strict';
-/* The timeline of a trial: filled what can go back at once, hatched what must be worked again; moves of hatches and marks above it. And how many steps
-   can still go back at once, with a warning before the oldest are forgotten. */
+/* The timeline of a trial: filled what can go back at once, hatched what must be worked again; moves of hatches and marks above it. And how many
+   steps can still go back at once, with a warning before the oldest are forgotten. */
 
 const LINE = { high: 56, inset: 8, top: 26, thick: 13, least: 40 };
 const STEP_GAPS = [1, 5, 10, 20, 50, 100, 200, 500, 1000];
@@ -26,7 +26,8 @@ function showTimeline(trial) {
 
 function* bars(x, made, kept, wide) {
   const bar = (from, to, more) => `<rect x="${x(from)}" y="${LINE.top}" width="${x(to) - x(from)}" height="${LINE.thick}" ${more}/>`;
-  yield '<defs><pattern id="old" width="6" height="6" patternUnits="userSpaceOnUse" patternTransform="rotate(45)"><rect width="6" height="6" fill="#fff"/><rect width="2" height="6" fill="#777"/></pattern></defs>';
+  yield '<defs><pattern id="old" width="6" height="6" patternUnits="userSpaceOnUse" patternTransform="rotate(45)">'
+    + '<rect width="6" height="6" fill="#fff"/><rect width="2" height="6" fill="#777"/></pattern></defs>';
   yield bar(0, wide, 'rx="3" fill="#e6e6e0"');
   if (made > kept) yield bar(0, made - kept, 'fill="url(#old)" stroke="#666"');
   if (kept) yield bar(made - kept, made, 'fill="#8a5a00"');
@@ -65,7 +66,8 @@ function showStands(trial, made, kept) {
   const room = trial.frames[0].room, left = room - kept, box = $('stands');
   const counts = `<b>${group(made)}</b> steps stand, <b>${group(kept)}</b> can go back at once`;
   const older = made > kept ? `; ⚠ the ${group(made - kept)} hatched ones were forgotten and are worked again` : '';
-  const soon = made <= kept && left < 40 ? `; ⚠ after ${left ? plural(left, 'more step') : 'the next step'} the oldest is forgotten, and can only be worked again` : '';
+  const when = left ? plural(left, 'more step') : 'the next step';
+  const soon = made <= kept && left < 40 ? `; ⚠ after ${when} the oldest is forgotten, and can only be worked again` : '';
   box.innerHTML = counts + (older || soon || `; room for ${group(room)}`);
   box.className = older || soon ? 'soon' : '';
 }

@@ -10,6 +10,8 @@ function make(tag, more = {}, ...inside) {
   return element;
 }
 
+const headCell = words => make('th', { textContent: words, scope: 'col' });
+
 /* other inside for a box, where it says something else than before; what had the focus has it again, by its id */
 function refill(box, signature, ...inside) {
   if (box.dataset.signature === signature) return;
