@@ -588,10 +588,15 @@ def hold_bad_logs(checks, folder):
 
 
 def hold_alone(checks, folder):
-    """bin/desk alone opens a sample, in which a hatch is drawn and one key moves water; nothing of it stays, and the sample is as it was."""
+    """bin/desk alone opens a sample and the browser; a hatch is drawn, and one key moves water. Nothing of it stays, and the sample is as it was."""
     before = files_of(SAMPLE)
     with Room(folder) as room:
-        room.start(words=[DESK, "--port", "0", "--no-browser"], env={**os.environ, "TMPDIR": str(folder)})
+        browser, opened = folder / "browser", folder / "opened"
+        browser.write_text(f'#!/bin/sh\necho "$1" >{opened}\n')
+        browser.chmod(0o755)
+        room.start(words=[DESK, "--port", "0"], env={**os.environ, "TMPDIR": str(folder), "BROWSER": f"{browser} %s"})
+        wait_for(lambda: opened.exists() and opened.read_text().endswith("\n"))
+        checks.hold(opened.read_text() == f"http://127.0.0.1:{room.port}/\n", f"the browser is sent to {opened.read_text()!r}")
         (told,) = json.loads(room.get("/api/desk")[1])["trials"]
         checks.hold(told["begins"] > 0 and told["made"] == 0, f"the sample opens with {told}")
         frames = room.change(told["key"], "step", count=5)
