@@ -18,11 +18,14 @@ import tempfile
 import threading
 import time
 from pathlib import Path
+from unittest import mock
 
 from desk import logs, stands
-from desk.engine import Engine
+from desk.engine import Engine, Gone
+from desk.evening import Evening
 from desk.frames import frames_of
 from desk.season import Season
+from desk.trials import Trial
 from desk_pace import large_season
 from desks import DESK, SAMPLE, SEASON, Room, files_of, water_in
 from meadow.counted import Checks
@@ -296,6 +299,29 @@ def hold_engine_killed(checks, room, key):
         room.kill_engines()
         answer = room.change(key, what, **asked)
         checks.hold(answer.endswith("end\n") and water_in(answer) == water_in(told), f"{what}, which needs no engine, after a kill: {answer!r}")
+
+
+def hold_no_engine(checks, folder):
+    """An engine that ends each time it is started: the request is answered in words, and once it starts again the trial is that of its journal."""
+    evening = Evening(folder, Season(SAMPLE))
+    trial = evening.new("no engine")
+    for change in (("draw", 5, 600), ("step", 20, LAST_CLOCK), ("step", 20, LAST_CLOCK)):
+        "".join(trial.change(trial.serial, *change))
+    for change in (("step", 5, LAST_CLOCK), ("back", 30), ("mark", "late")):
+        trial.engine.child.kill()
+        with mock.patch("desk.engine.words_of", lambda name: ["/bin/false"]):
+            try:
+                "".join(trial.change(trial.serial, *change))
+                told = "made"
+            except Gone:
+                told = "gone"
+        checks.hold(told == "gone", f"{change} is {told} without an engine")
+        water, made = water_in("".join(trial.all())), trial.made()
+        again = Trial(folder, trial.key, trial.season)
+        checks.hold((again.made(), water_in("".join(again.all()))) == (made, water), f"after {change} the trial is not that of its journal")
+        again.close()
+    checks.hold(trial.made() == 15 and trial.marks == [("late", 15)], f"{trial.made()} steps stand, with the marks {trial.marks}")
+    evening.close()
 
 
 def hold_sleep(checks, room, key):
@@ -628,6 +654,7 @@ def main():
         hold_twice(checks, room, key)
         hold_torn(checks, room, key)
         hold_engine_killed(checks, room, key)
+        hold_no_engine(checks, Path(folder) / "no-engine")
         hold_sleep(checks, room, key)
         hold_full_disk(checks, room, key)
         hold_evening(checks, room, seed, 30)

@@ -23,9 +23,16 @@ class Engine:
     def __init__(self):
         pipes = {"stdin": subprocess.PIPE, "stdout": subprocess.PIPE, "stderr": subprocess.DEVNULL}
         self.child = subprocess.Popen(words_of("desk"), env={}, cwd="/", start_new_session=True, **pipes)
-        for kind, most in LIMITS.items():
-            resource.prlimit(self.child.pid, kind, (most, most))
+        self.limit()
         self.opening = []
+
+    def limit(self):
+        """What the child may do; one that has ended already is found so when it is asked."""
+        try:
+            for kind, most in LIMITS.items():
+                resource.prlimit(self.child.pid, kind, (most, most))
+        except ProcessLookupError:
+            pass
 
     @classmethod
     def fresh(cls, sheet, hatches):

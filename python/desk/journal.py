@@ -39,3 +39,4 @@ class Journal:
             os.truncate(self.path, self.size)
             raise Full(fault.strerror) from None
         self.size += len(line)
+        self.lines.append(list(map(str, words)))

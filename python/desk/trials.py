@@ -51,11 +51,8 @@ class Trial:
         self.tables = Tables(season.sheet, self.hatches)
         self.lock = threading.RLock()
         self.engine, self.reworked, self.same = None, 0, True
-        self.marks, self.names, self.serial, self.closed = [], {}, 0, False
-        self.begin()
-        for words in self.journal.lines:
-            self.replay(words)
-        self.remember()
+        self.closed = False
+        self.rebuild()
 
     @classmethod
     def begun(cls, folder, key, season, name, stand):
@@ -68,11 +65,21 @@ class Trial:
         """The journal is one, and is of this sheet and of its own beginning."""
         if self.stand is None or len(self.journal.head) != 5 or self.journal.head[:2] != [KIND, FORM]:
             raise Fault("its files are no trial")
-        sheet, state, self.name = self.journal.head[2:]
+        sheet, state = self.journal.head[2:4]
         if sheet != name_of(self.season.sheet_text):
             raise Fault("it is of another sheet")
         if state != self.stand.told["state"]:
             raise Fault("its journal is of another beginning")
+
+    def rebuild(self):
+        """The trial from its journal alone, which is the trial."""
+        self.broken = True
+        self.name, self.marks, self.names, self.serial = self.journal.head[4], [], {}, 0
+        self.begin()
+        for words in self.journal.lines:
+            self.replay(words)
+        self.remember()
+        self.broken = False
 
     def replay(self, words):
         """A line of the journal made again; one that was refused then is refused now."""
@@ -162,12 +169,15 @@ class Trial:
         """The standing steps up to one on a fresh engine, each with its own rates, and these rates after them: demand 3 says that the state is the
         same."""
         stood = self.frames[: until + 1]
+        # an engine that ends on the way leaves a part of the steps, and the trial is then made again from its journal
+        self.broken = True
         self.begin()
         for its_rates, count in alike(stood):
             self.run_hatches_at(its_rates)
             for frame in self.frames_in(self.engine.lines("step", count, LAST_CLOCK, 1)):
                 self.take(frame)
         self.run_hatches_at(rates)
+        self.broken = False
         self.reworked += 1
         self.same = [frame.water() for frame in self.frames] == [frame.water() for frame in stood]
 
@@ -205,6 +215,10 @@ class Trial:
                 yield from self.made_surely(words)
             except Refused as refused:
                 yield f"refused\t{refused.number}\n"
+            except Gone:
+                # the journal has the line, and the engine does not
+                self.broken = True
+                raise
             yield self.standing(words[0] == "back")
 
     def made_surely(self, words):
@@ -275,7 +289,9 @@ class Trial:
             for moved, hatch, _ in changes:
                 if moved % update:
                     raise Fault(f"hatch {hatch} was moved at {moved:,} ms, and a hatch log knows only multiples of {update:,} ms")
-            if clock % update or not self.hatches:
+            if not self.hatches:
+                raise Fault("the season names no hatch, and a hatch log needs one")
+            if clock % update:
                 stands_at = f"the trial stands at {clock:,} ms, and a hatch log comes only to multiples of {update:,} ms"
                 raise Fault(f"{stands_at}: the key U goes on to the next")
             first = min(self.hatches)
@@ -295,13 +311,14 @@ class Trial:
                 "clock": now.clock,
                 "wet": now.wet_squares(),
                 "out": now.out,
-                "gone": now.out - self.frames[0].out,
             }
 
     def hold_open(self):
-        """A request that waited while the trial was dropped finds none."""
+        """A request that waited while the trial was dropped finds none; one after an engine that ended each time finds it made again."""
         if self.closed:
             raise Fault("there is no such trial any more")
+        if self.broken:
+            self.rebuild()
 
     def close(self):
         """Ends the engine; the trial stays on the disk."""
