@@ -428,9 +428,14 @@ def random_change(rng, room, key):
     return "back", {"count": rng.choice((1, 5, rng.randint(0, now["made"] + 3)))}
 
 
+def rates_in(text):
+    """What hatches run at: of each frame in an answer, and at its end now."""
+    return [line.split("\t")[1:] for line in text.splitlines() if line.startswith("rates\t")]
+
+
 def hold_evening(checks, room, seed, changes):
-    """A random evening: each take-back gives the state that was there, no frame has an open account, and what stands is what a fresh engine makes
-    of the standing steps."""
+    """A random evening: each take-back gives the state that was there and the rates when the earliest step taken back began, no frame has an open
+    account, and what stands is what a fresh engine makes of the standing steps."""
     rng, season = random.Random(seed), Season(room.season)
     key = room.new(f"evening {seed}")
     stand = stands.read(room.trials / f"{key}.stand")
@@ -438,7 +443,10 @@ def hold_evening(checks, room, seed, changes):
         what, asked = random_change(rng, room, key)
         if rng.random() < 0.08:
             room.kill_engines()
+        stood = rates_in(room.get(f"/api/trial/{key}/frames")[1])
         told = room.change(key, what, **asked)
+        if what == "back" and asked["count"] and "refused" not in told:
+            checks.hold(rates_in(told) == [stood[-1 - asked["count"]]], f"evening {seed}, change {at}: after {what} {asked} hatches run otherwise")
         checks.hold("DIFFERS" not in told and told.endswith("end\n"), f"evening {seed}, change {at}: {what} {asked} says {told[-200:]}")
         if what == "back" or at == changes - 1:
             frames = room.get(f"/api/trial/{key}/frames")[1]
@@ -452,6 +460,19 @@ def hold_evening(checks, room, seed, changes):
     checks.hold(room.water(key) == water == room.water(copy), f"evening {seed}: the journal gives other water")
     for each in (key, copy):
         room.post(f"/api/trial/{each}/drop")
+
+
+def hold_far_back(checks, room):
+    """Beyond the records the standing steps are worked again: the water that was there, and the rates when the earliest step taken back began."""
+    key, hatch, waters = room.new("far back"), 5, []
+    for litres, count in ((100, 10), (100, 20), (200, 40)):
+        room.change(key, "draw", hatch=hatch, litres=litres)
+        told = room.change(key, "step", count=count)
+        waters.append(water_in(told))
+    room.change(key, "draw", hatch=hatch, litres=300)
+    told = room.change(key, "back", count=60)
+    checks.hold(water_in(told) == waters[0] and "\tsame\t" in told, "far back is other water")
+    checks.hold(rates_in(told)[-1][hatch - 1] == "100", f"far back hatches run at {rates_in(told)}")
 
 
 def hold_refused_step(checks, folder):
@@ -670,6 +691,7 @@ def main():
         with Room(Path(folder) / "wide", large_season(Path(folder) / "large")) as wide:
             wide.start()
             hold_evening(checks, wide, seed, 30)
+            hold_far_back(checks, wide)
     checks.end()
 
 
