@@ -17,7 +17,7 @@ from desk.season import Season
 from desk.server import Server
 from meadow.programs import built
 from meadow.rule.ranges import LAST_CLOCK
-from meadow.sheets.lines import HOUR, SECOND, Sheet
+from meadow.sheets.lines import HOUR, SECOND, Sheet, Unreadable
 
 # squares a side, times that each act is timed, and steps of a warden's look
 LARGE, TIMES, FORTY = 64, 9, 40
@@ -92,8 +92,9 @@ class Client:
         self.key, self.serial = loads(self.ask("/api/trials", name="timed"))["key"], 0
 
     def change(self, what, **asked):
-        """A change of the trial."""
-        self.ask(f"/api/trial/{self.key}/{what}", at=self.serial, **asked)
+        """A change of the trial, which must be made."""
+        if not self.ask(f"/api/trial/{self.key}/{what}", at=self.serial, **asked).endswith("\nend\n"):
+            raise Unreadable(f"the desk does not {what}")
         self.serial += 1
 
 
