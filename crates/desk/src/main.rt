@@ -1,6 +1,6 @@
 // The warden's desk: reads lines from standard input, answers each, and makes the steps of a line `step` one by one.
 use desks::command::command;
-use desks::command::go_on;
+use desks::command::make_next;
 use desks::command::wanted;
 use desks::state::DESK_NUMBERS;
 use desks::state::DESK_OUT;
@@ -131,7 +131,7 @@ fn make_steps(
         if !series.on {
             return desk;
         }
-        desk = go_on(
+        desk = make_next(
             desk,
             marks,
             beds,

@@ -324,7 +324,7 @@ fn step_held(
 }
 
 // The next step of a line `step`, or its end: its answer at the start of out.
-pub fn go_on(
+pub fn make_next(
     desk: Desk,
     marks: &[u8; DESK_SQUARES],
     beds: &[u32; DESK_SQUARES],

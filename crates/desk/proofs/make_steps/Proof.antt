@@ -21,8 +21,8 @@ returns : tie.Need-returns Inv-loop μ-loop
 returns c = search needs
 
 -- src/main.rt:128:9
-go-on-requires : tie.Need-go-on-requires Inv-loop μ-loop
-go-on-requires c κs = search needs
+make-next-requires : tie.Need-make-next-requires Inv-loop μ-loop
+make-next-requires c κs = search needs
 
 -- src/main.rt:142:9
 tell-requires : tie.Need-tell-requires Inv-loop μ-loop
@@ -52,7 +52,7 @@ make-steps-spec =
     μ-loop
     loop-holds
     returns
-    go-on-requires
+    make-next-requires
     tell-requires
     add-calls
     loop-less

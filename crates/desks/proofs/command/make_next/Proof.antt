@@ -5,10 +5,10 @@ use mathlib.Core.Path.{refl}
 use Rattle.checks.proofs.CheckLaws.{fails-by, holds-by}
 use Rattle.desks.proofs.LeftLaws.{step-none, step-refused, step-told}
 use borrow.Author.Needs.{needs}
-use Rattle.desks.proofs.command.go_on.Statement.{statement}
-use Rattle.desks.proofs.command.go_on.Tie as tie
-use Rattle.desks.proofs.command.go_on.Reads as reads
-use Rattle.desks.proofs.command.go_on.Lts as lts
+use Rattle.desks.proofs.command.make_next.Statement.{statement}
+use Rattle.desks.proofs.command.make_next.Tie as tie
+use Rattle.desks.proofs.command.make_next.Reads as reads
+use Rattle.desks.proofs.command.make_next.Lts as lts
 use Rattle.desks.proofs.command.refused_at_once.Reads as refused-at-once-reads
 use Rattle.desks.proofs.command.step_held.Reads as step-held-reads
 use Rattle.desks.proofs.lines.refuse_line.Reads as refuse-line-reads
@@ -45,8 +45,8 @@ returns-3 : tie.Need-returns-3
 returns-3 c =
     step-told (c .before .before .before .before .before .before .before .before .before .before .before .before .before .before .before .before .before .args .desk) (stores (rooms (c .before .before .before .before .before .before .before .before .before .before .before .before .before .before .before .before .before .args .marks .now) (c .before .before .before .before .before .before .before .before .before .before .before .before .before .before .before .before .before .args .beds .now) (c .before .before .before .before .before .before .before .before .before .before .before .before .before .before .before .before .before .args .roughness .now) (c .before .before .before .before .before .before .before .before .before .before .before .before .before .before .before .before .before .args .rates .now) (c .before .before .before .before .before .before .before .before .before .before .before .before .before .before .before .before .before .args .depths .now) (c .before .before .before .before .before .before .before .before .before .before .before .before .before .before .before .before .before .args .rain .now) (c .before .before .before .before .before .before .before .before .before .before .before .before .before .before .before .before .before .args .inflow .now)) (c .before .before .before .before .before .before .before .before .before .before .before .before .before .before .before .before .before .args .lasts .now) (c .before .before .before .before .before .before .before .before .before .before .before .before .before .before .before .before .before .args .records .now) (c .before .before .before .before .before .before .before .before .before .before .before .before .before .before .before .before .before .args .began .now)) (holds-by refl (c .before .before .before .before .before .before .before .before .before .before .before .before .before .before .if1 .left)) (c .before .before .before .before .before .before .before .before .before .before .before .before .before .refused-at-once .ensures) (c .before .before .before .before .before .before .before .before .before .before .before .before .if2 .left) (c .step-held .ensures)
 
-pub go-on-spec : {M : Type 1} → statement M
-go-on-spec =
+pub make-next-spec : {M : Type 1} → statement M
+make-next-spec =
     tie.close
     (tie.spec
     desk-still-requires
