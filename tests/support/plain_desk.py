@@ -80,9 +80,7 @@ class Trial(Evening):
     since the start or the laying what was given before it, and how many steps had been made when the state was saved."""
 
     def __init__(self, sheet):
-        super().__init__(sheet)
-        self.meadow = meadow_of(sheet, records_kept(sheet.rows * sheet.columns))
-        fresh(self.meadow)
+        super().__init__(sheet, records_kept)
         self.start, self.given, self.given_before, self.earlier = self.on(), 0, [], 0
         self.laid = None
 
