@@ -7,14 +7,13 @@ the program to is worked anew too.
 """
 import random
 import re
-import subprocess
 import sys
 
 from desk_refusals import PUDDLE, STEPPED, TAKEN, lay, refused_cases, saved, sent, sheet, without_sheet
 from hatchlog import random_sheet
 from meadow.counted import Checks
 from meadow.logs.entries import written
-from meadow.programs import TOP, printed_often, words_of
+from meadow.programs import TOP, Asked, printed_often
 from meadow.rule.ranges import LAST_CLOCK
 from meadow.sheets.lines import Sheet, refused_text
 from plain_desk import DONE, MOST_TEXT, PlainDesk, order_of, worked
@@ -23,6 +22,7 @@ from printouts import hold_stored, shortened
 SEED, EVENINGS, DAMAGED, MIXED = 140, 240, 400, 12
 # squares a side of the large sheets, and how many steps are kept of each
 LARGE = {32: 219, 64: 54}
+ENDINGS = (b"done\n", b"refused\t")
 ANSWER = re.compile(r"(?:.*\n)*?(?:done|refused\t\d+\t\d+)\n")
 KEPT, OPENING = re.compile(r"^(frame(?:\t\d+){5}\t)\d+", re.MULTILINE), re.compile(r"^(stand(?:\t\d+){3}\t)\d", re.MULTILINE)
 FRAME = re.compile(r"^frame\t(.*)\nrates(?:\t\d+){9}\n((?:row\t.*\n)+)", re.MULTILINE)
@@ -385,38 +385,15 @@ def hold_damaged(checks, chance, nights, many):
 # ---- two programs side by side
 
 
-class Engine:
-    """A program under way that is asked line by line."""
-
-    def __init__(self):
-        self.process = subprocess.Popen(words_of("desk"), stdin=subprocess.PIPE, stdout=subprocess.PIPE)
-
-    def ask(self, text):
-        """The answer, which comes before another line is sent."""
-        self.process.stdin.write(text.encode("latin-1"))
-        self.process.stdin.flush()
-        lines = [b""]
-        while not lines[-1].startswith((b"done\n", b"refused\t")):
-            lines.append(self.process.stdout.readline())
-            if not lines[-1]:
-                break
-        return b"".join(lines).decode("ascii")
-
-    def end(self):
-        """What else is printed at the end of input, and the status."""
-        rest, _ = self.process.communicate(timeout=60)
-        return rest, self.process.returncode
-
-
 def hold_mixed(checks, chance, nights, many):
     """Lines of two evenings mixed over two programs: each answers as it does alone, and ends with its input."""
     for turn in range(many):
         pair = chance.sample(nights, 2)
-        engines, answers = [Engine(), Engine()], [[], []]
+        engines, answers = [Asked("desk", ENDINGS) for _ in pair], [[], []]
         left = [list(night.lines) for night in pair]
         while any(left):
             at = chance.choice([at for at in (0, 1) if left[at]])
-            answers[at].append(engines[at].ask(left[at].pop(0)))
+            answers[at].append(engines[at].ask(left[at].pop(0).encode("ascii")).decode("ascii"))
         for night, engine, own in zip(pair, engines, answers):
             checks.hold("".join(own) == told(night.given()), f"pair {turn}: {night.given()!r} is answered otherwise beside another")
             checks.hold(engine.end() == (b"", 0), f"pair {turn}: a program does not end with its input")
