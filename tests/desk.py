@@ -16,7 +16,7 @@ from meadow.logs.entries import written
 from meadow.programs import TOP, Asked, printed_often
 from meadow.rule.ranges import LAST_CLOCK
 from meadow.sheets.lines import Sheet, refused_text
-from plain_desk import DONE, MOST_TEXT, PlainDesk, order_of, worked
+from plain_desk import DONE, MOST_GIVEN, MOST_TEXT, PlainDesk, order_of, worked
 from printouts import hold_stored, shortened
 
 SEED, EVENINGS, DAMAGED, MIXED = 140, 240, 400, 12
@@ -25,6 +25,7 @@ LARGE = {32: 219, 64: 54}
 ENDINGS = (b"done\n", b"refused\t")
 ANSWER = re.compile(r"(?:.*\n)*?(?:done|refused\t\d+\t\d+)\n")
 KEPT, OPENING = re.compile(r"^(frame(?:\t\d+){5}\t)\d+", re.MULTILINE), re.compile(r"^(stand(?:\t\d+){3}\t)\d", re.MULTILINE)
+LOOK = written("show", "stand")
 FRAME = re.compile(r"^frame\t(.*)\nrates(?:\t\d+){9}\n((?:row\t.*\n)+)", re.MULTILINE)
 
 
@@ -63,6 +64,11 @@ class Night:
         line, _, rest = text.partition("\n")
         self.lines.append(text)
         self.answers.append(self.desk.take(line + "\n", rest))
+
+    def look(self):
+        """The last two lines of an evening: what stands at its end."""
+        for line in LOOK.splitlines(True):
+            self.send(line)
 
     def given(self):
         """All that was sent."""
@@ -130,6 +136,7 @@ def random_night(chance, sheet_text, many):
             night.send(random_line(chance, night.desk.trial))
         if night.lines[-1] == "stand\n":
             stands.append(night.answers[-1].removesuffix(DONE))
+    night.look()
     return night
 
 
@@ -168,15 +175,14 @@ def hold_frames(checks, words, text):
 
 
 def hold_night(checks, words, night):
-    """Each answer of the program is the one in plain Python; how many frames it told."""
-    text = told(night.given())
-    answers = answers_in(text)
+    """Each answer of the program is the one in plain Python; all of them."""
+    answers = answers_in(told(night.given()))
     checks.hold(len(answers) == len(night.answers), f"{words}: {len(answers)} answers to {len(night.answers)} lines")
     for line, answer, by_rule in zip(night.lines, answers, night.answers):
         if not checks.hold(answer == by_rule, f"{words}: {shortened(line)}"):
             print(f"desk: it answers {shortened(answer)}, and by the rule it is {shortened(by_rule)}; all of it: {night.given()!r}")
             break
-    return hold_frames(checks, words, text)
+    return answers
 
 
 def beginning(desk):
@@ -197,14 +203,10 @@ def only_standing(desk):
     return "".join(lines[:-1])
 
 
-LOOK = written("show", "stand")
-
-
-def hold_never_made(checks, words, night):
+def hold_never_made(checks, words, night, answers):
     """What stands at the end is what a fresh program makes of the standing steps; it keeps more of them, and its opening may still be open."""
-    stands = answers_in(told(night.given() + LOOK))[-2:]
-    alone = answers_in(told(only_standing(night.desk) + LOOK))[-2:]
-    same = [without_opening(without_kept("".join(texts))) for texts in (stands, alone)]
+    alone = answers_in(told(only_standing(night.desk) + LOOK))
+    same = [without_opening(without_kept("".join(texts[-2:]))) for texts in (answers, alone)]
     checks.hold(same[0] == same[1], f"{words}: it stands at {same[0]!r}, and the standing steps alone at {same[1]!r}; {night.given()!r}")
 
 
@@ -219,9 +221,8 @@ def goes_on(chance, laid):
     return "".join(laid.lines[first:])
 
 
-def hold_not_interrupted(checks, words, chance, night):
-    """A program that lays what another printed goes on as that one does, but for kept."""
-    *_, stand = answers_in(told(night.given() + "stand\n"))
+def hold_not_interrupted(checks, words, chance, night, stand):
+    """A program that lays what another printed last goes on as that one does, but for kept."""
     laid = Night()
     laid.send(sheet(night.desk.sheet_text))
     laid.send(lay(stand.removesuffix(DONE)))
@@ -238,9 +239,10 @@ def hold_evenings(checks, chance, many):
     for turn in range(many):
         words = f"evening {turn}"
         night = random_night(chance, random_sheet(chance)[1], chance.randint(8, 45))
-        count.add(night, hold_night(checks, words, night))
-        hold_never_made(checks, words, night)
-        hold_not_interrupted(checks, words, chance, night)
+        answers = hold_night(checks, words, night)
+        count.add(night, hold_frames(checks, words, "".join(answers)))
+        hold_never_made(checks, words, night, answers)
+        hold_not_interrupted(checks, words, chance, night, answers[-1])
         nights.append(night)
     print("desk: " + ", ".join(f"{number} {name}" for name, number in vars(count).items()))
     for name, number in vars(count).items():
@@ -279,11 +281,13 @@ def hold_large(checks, chance, size):
     for line in ("hatch 1 0 0", "draw 1 700", "step 3 604800000 1", "arrows", "draw 1 0", "step 2 604800000 0", "arrows", "back 4", "stand"):
         night.send(written(line))
     night.send(lay(night.answers[-1].removesuffix(DONE)))
-    for line in ("draw 1 90", "step 1 604800000 1", "arrows", "back 2", "back 1", "show"):
+    for line in ("draw 1 90", "step 1 604800000 1", "arrows", "back 2", "back 1"):
         night.send(written(line))
+    night.look()
     words = f"{size} by {size}"
-    hold_night(checks, words, night)
-    hold_never_made(checks, words, night)
+    answers = hold_night(checks, words, night)
+    hold_frames(checks, words, "".join(answers))
+    hold_never_made(checks, words, night, answers)
 
 
 def hold_kept(checks, rows, columns, kept):
@@ -293,8 +297,8 @@ def hold_kept(checks, rows, columns, kept):
     *_, too_many, at_end, gone_back, one_more, at_last = (answer.split("\n")[0].split("\t") for answer in answers_in(told(given)))
     words = f"{kept} kept of {rows} by {columns}"
     checks.hold(too_many == one_more == ["refused", "10", "0"], f"{words}: {too_many} and {one_more}")
-    checks.hold([at_end[at] for at in (1, 6, 7)] == [str(kept + 2), str(kept), str(kept)], f"{words}: {at_end}")
-    checks.hold([gone_back[at] for at in (1, 6, 7)] == ["2", "0", str(kept)] and gone_back == at_last, f"{words}: {gone_back}, then {at_last}")
+    checks.hold((at_end[1:2], at_end[6:8]) == ([str(kept + 2)], [str(kept)] * 2), f"{words}: {at_end}")
+    checks.hold((gone_back[1:2], gone_back[6:8]) == (["2"], ["0", str(kept)]) and gone_back == at_last, f"{words}: {gone_back}, then {at_last}")
 
 
 # ---- refusals and damaged bytes
@@ -329,7 +333,7 @@ def hold_series(checks):
 
 def hold_given(checks):
     """Given past what a saved state may have: the step that comes there is made, and the next one is 6."""
-    start = sheet(PUDDLE) + lay(saved(given=9_007_199_254_740_991, hatches=("1 0 0 1",)))
+    start = sheet(PUDDLE) + lay(saved(given=MOST_GIVEN, hatches=("1 0 0 1",)))
     *_, answer = answers_in(told(start + written("step 2 604800000 1")))
     checks.hold(answer.count("frame") == 1 and answer.endswith(refused_text(6, 0)), f"given at its most: {answer!r}")
 
