@@ -1,5 +1,6 @@
 pub mod Account
 pub mod Boards
+pub mod CallDeeds
 pub mod Deeds
 pub mod Demand1
 pub mod Demand2
@@ -15,6 +16,7 @@ pub mod HatchRuns
 pub mod Holes
 pub mod HolesRead
 pub mod LineClock
+pub mod LineDeeds
 pub mod LinePlaces
 pub mod Loader
 pub mod Played

@@ -5,6 +5,8 @@ pub mod Demand1
 pub mod Demand2
 pub mod Demand3
 pub mod Desk
+pub mod DeskCalls
+pub mod DeskLines
 pub mod Determined
 pub mod EnginesAgree
 pub mod Exported
