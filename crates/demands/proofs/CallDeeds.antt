@@ -158,13 +158,12 @@ module _ (d : Desk) (r : Stores) (on : OnDesk d r) (first : BeginsOn d r) where
       (after .desk .account .start ≡ before .0 .account .start) ×
       (after .desk .account .given ≡ before .0 .account .given)
   unfolding deedOf deskAfter laysDown
-  gone calls trial line text made t asked same kept =
-      (
-        ap (λ (e : Evening). seenOf (worldOf e)) (sym (last .standing .at-is)) ∙ (back .0 ∙ ap (λ (e : Evening). seenOf (worldOf e)) (b .standing .at-is)),
-        ap (λ (e : Evening). e .log .steps) (sym (last .standing .at-is)) ∙ (back .1 ∙ ap (λ (e : Evening). e .log .steps) (b .standing .at-is)),
-        ap (λ (a : Account). a .start) (sym (last .standing .account-is)) ∙ (back .2 ∙ ap (λ (a : Account). a .start) (b .standing .account-is)),
-        ap (λ (a : Account). a .given) (sym (last .standing .account-is)) ∙ (back .3 ∙ ap (λ (a : Account). a .given) (b .standing .account-is)),
-      )
+  gone calls trial line text made t asked same kept = (
+    ap (λ (e : Evening). seenOf (worldOf e)) (sym (last .standing .at-is)) ∙ (back .0 ∙ ap (λ (e : Evening). seenOf (worldOf e)) (b .standing .at-is)),
+    ap (λ (e : Evening). e .log .steps) (sym (last .standing .at-is)) ∙ (back .1 ∙ ap (λ (e : Evening). e .log .steps) (b .standing .at-is)),
+    ap (λ (a : Account). a .start) (sym (last .standing .account-is)) ∙ (back .2 ∙ ap (λ (a : Account). a .start) (b .standing .account-is)),
+    ap (λ (a : Account). a .given) (sym (last .standing .account-is)) ∙ (back .3 ∙ ap (λ (a : Account). a .given) (b .standing .account-is)),
+  )
     where
       b : Reached P G (afterCalls calls d r .0) (afterCalls calls d r .1) (comesTo d r calls)
       b = reached calls (first-try calls trial t)
@@ -219,27 +218,31 @@ show-frame d r on text = ap (λ (l : Left). l .text) (line-is d r on text Show r
 fresh-begins : (d : Desk) (r : Stores) (on : OnDesk d r) → d .log ≡ freshLog (d .heading) → d .account ≡ accountOpened (water (planOn d r) (stateOn d r .depths)) 0 →
     BeginsOn d r × BalancedOn d r
 unfolding freshRun namedBelow pick
-fresh-begins d r on fresh opens =
-    (
-      record {
-        fresh =
-            record {
-              kept-none = ap (λ (l : Log). l .run .kept) fresh;
-              newest-last = ap (λ (l : Log). l .run .newest) fresh ∙ ap (λ (k : ℕ). k - 1) (sym slots);
-            };
-        some = omega (arith, slots, slots-some (d .heading .shape) (shape-fine d r on));
-        slots-few = omega (arith, slots, slots-most (d .heading .shape));
-        rates-suffice = omega (arith, slots, rates-are (d .heading) (shape-fine d r on) marks (groundOn d r) (stateOn d r) (state-sized d r on));
-        rates-nine = ap (λ (l : Log). length (l .litres)) fresh;
-        account-long = ap (λ (a : Account). length (a .before)) opens ∙ length-replicate {A = ℕ} mostSlots 0;
-        table-fits =
-            omega (arith, inflow-fits, ap (λ (l : Log). length (tableWith (groundOn d r .inflow) (l .hatches) (l .litres))) fresh, no-rows,
-            length-append (groundOn d r .inflow) (hatchRows (freshLog (d .heading) .hatches) (freshLog (d .heading) .litres)));
-        steps-low = omega (arith, ap (λ (l : Log). l .steps) fresh);
-        given-low = omega (arith, ap (λ (a : Account). a .given) opens);
-      },
-      omega (arith, ap (λ (l : Log). l .run .outflow) fresh, ap (λ (l : Log). l .run .soaked) fresh, ap (λ (a : Account). a .given) opens, ap (λ (a : Account). a .start) opens),
-    )
+fresh-begins d r on fresh opens = (
+  record {
+    fresh =
+        record {
+          kept-none = ap (λ (l : Log). l .run .kept) fresh;
+          newest-last = ap (λ (l : Log). l .run .newest) fresh ∙ ap (λ (k : ℕ). k - 1) (sym slots);
+        };
+    some = omega (arith, slots, slots-some (d .heading .shape) (shape-fine d r on));
+    slots-few = omega (arith, slots, slots-most (d .heading .shape));
+    rates-suffice = omega (arith, slots, rates-are (d .heading) (shape-fine d r on) marks (groundOn d r) (stateOn d r) (state-sized d r on));
+    rates-nine = ap (λ (l : Log). length (l .litres)) fresh;
+    account-long = ap (λ (a : Account). length (a .before)) opens ∙ length-replicate {A = ℕ} mostSlots 0;
+    table-fits =
+        omega (
+          arith,
+          inflow-fits,
+          ap (λ (l : Log). length (tableWith (groundOn d r .inflow) (l .hatches) (l .litres))) fresh,
+          no-rows,
+          length-append (groundOn d r .inflow) (hatchRows (freshLog (d .heading) .hatches) (freshLog (d .heading) .litres)),
+        );
+    steps-low = omega (arith, ap (λ (l : Log). l .steps) fresh);
+    given-low = omega (arith, ap (λ (a : Account). a .given) opens);
+  },
+  omega (arith, ap (λ (l : Log). l .run .outflow) fresh, ap (λ (l : Log). l .run .soaked) fresh, ap (λ (a : Account). a .given) opens, ap (λ (a : Account). a .start) opens),
+)
   where
     marks : List ℕ
     marks = planOn d r .marks
