@@ -295,16 +295,16 @@ module _ (d : Desk) (r : Stores) (on : OnDesk d r) where
   pub state-sized : Sized (d .heading) E
   state-sized =
       record {
-        depths = length-take-le _ (r .sheet .cells .depths) (omega (arith, on .depths-long, squares-fit));
-        lasts = length-take-le _ (r .lasts) (omega (arith, on .lasts-long, squares-fit));
-        records = length-take-le _ (r .records) (omega (arith, on .records-long, records-fit));
-        began = length-take-le _ (r .began) (omega (arith, on .began-long, began-fit));
+        depths = length-take-le _ (r .sheet .cells .depths) (omega (arith, on .whole .depths-long, squares-fit));
+        lasts = length-take-le _ (r .lasts) (omega (arith, on .whole .lasts-long, squares-fit));
+        records = length-take-le _ (r .records) (omega (arith, on .whole .records-long, records-fit));
+        began = length-take-le _ (r .began) (omega (arith, on .whole .began-long, began-fit));
       }
 
   pub stays-put : storesWith r E ≡ r
   stays-put =
-      taken-put (d .heading) r (d .log) (omega (arith, on .depths-long, squares-fit)) (omega (arith, on .lasts-long, squares-fit))
-      (omega (arith, on .records-long, records-fit)) (omega (arith, on .began-long, began-fit))
+      taken-put (d .heading) r (d .log) (omega (arith, on .whole .depths-long, squares-fit)) (omega (arith, on .whole .lasts-long, squares-fit))
+      (omega (arith, on .whole .records-long, records-fit)) (omega (arith, on .whole .began-long, began-fit))
 
   told-stays : (t : Told) → t .evening ≡ E → t .account ≡ d .account → Stays d r (toldOn d r t)
   told-stays t q s =
@@ -316,15 +316,17 @@ module _ (d : Desk) (r : Stores) (on : OnDesk d r) where
         ready-stays = refl;
       }
 
-  told-on : (t : Told) → Sized (d .heading) (t .evening) → OnDesk (toldOn d r t .desk) (toldOn d r t .rooms)
+  pub told-on : (t : Told) → Sized (d .heading) (t .evening) → OnDesk (toldOn d r t .desk) (toldOn d r t .rooms)
   unfolding readyNumber
   told-on t z =
       record {
         ready = on .ready;
-        depths-long = length-placed (r .sheet .cells .depths) 0 (t .evening .depths) (omega (arith, z .depths, on .depths-long, squares-fit)) ∙ on .depths-long;
-        lasts-long = length-placed (r .lasts) 0 (t .evening .lasts) (omega (arith, z .lasts, on .lasts-long, squares-fit)) ∙ on .lasts-long;
-        records-long = length-placed (r .records) 0 (t .evening .records) (omega (arith, z .records, on .records-long, records-fit)) ∙ on .records-long;
-        began-long = length-placed (r .began) 0 (t .evening .began) (omega (arith, z .began, on .began-long, began-fit)) ∙ on .began-long;
+        whole = record {
+          depths-long = length-placed (r .sheet .cells .depths) 0 (t .evening .depths) (omega (arith, z .depths, on .whole .depths-long, squares-fit)) ∙ on .whole .depths-long;
+          lasts-long = length-placed (r .lasts) 0 (t .evening .lasts) (omega (arith, z .lasts, on .whole .lasts-long, squares-fit)) ∙ on .whole .lasts-long;
+          records-long = length-placed (r .records) 0 (t .evening .records) (omega (arith, z .records, on .whole .records-long, records-fit)) ∙ on .whole .records-long;
+          began-long = length-placed (r .began) 0 (t .evening .began) (omega (arith, z .began, on .whole .began-long, began-fit)) ∙ on .whole .began-long;
+        };
       }
 
   told-does : (ds : List Deed) (t : Told) → Tells P G E (d .account) ds t → Sized (d .heading) (t .evening) → Does ds d r (toldOn d r t)
@@ -341,12 +343,12 @@ module _ (d : Desk) (r : Stores) (on : OnDesk d r) where
       }
 
   -- no deed, or one
-  abbrev OneOf : List Deed → Type 0
+  abbrev pub OneOf : List Deed → Type 0
   OneOf [] = Unit {0}
   OneOf (deed ∷ []) = Nine deed E
   OneOf (deed ∷ (x ∷ rest)) = ⊥
 
-  sized-one : (ds : List Deed) → OneOf ds → Sized (d .heading) (deskAfter P G ds (deeds.atFirst E (d .account)) .at)
+  pub sized-one : (ds : List Deed) → OneOf ds → Sized (d .heading) (deskAfter P G ds (deeds.atFirst E (d .account)) .at)
   unfolding deskAfter deskWith
   sized-one [] n = state-sized
   sized-one (deed ∷ []) n = sized-came (d .heading) shape-fine (P .marks) G deed E (d .account) n state-sized
@@ -416,7 +418,7 @@ module _ (d : Desk) (r : Stores) (on : OnDesk d r) where
 
   -- ---- the next step
 
-  next-is : (d .series .on ≡ true) → stepLeft d r ≡ toldOn d r (nextTold P G E (d .account) (d .series))
+  pub next-is : (d .series .on ≡ true) → stepLeft d r ≡ toldOn d r (nextTold P G E (d .account) (d .series))
   unfolding stepLeft
   next-is q = pick-true _ _ q ∙ pick-true _ _ (eq-eqb _ _ (on .ready))
 
@@ -426,14 +428,7 @@ module _ (d : Desk) (r : Stores) (on : OnDesk d r) where
       record {
         plan-same = refl;
         ground-same = refl;
-        still-on =
-            record {
-              ready = on .ready;
-              depths-long = on .depths-long;
-              lasts-long = on .lasts-long;
-              records-long = on .records-long;
-              began-long = on .began-long;
-            };
+        still-on = record { ready = on .ready; whole = on .whole };
         does = λ x h. record { at-is = h .at-is; account-is = h .account-is };
       }
 
@@ -463,7 +458,7 @@ module _ (d : Desk) (r : Stores) (on : OnDesk d r) where
     abbrev laidNumber : ℕ
     laidNumber = standOf P (G .inflow) (keptSlots (d .heading .shape)) text .number
 
-    lay-is : commandLeft d r text (Lay bytes) ≡ toldOn d r (layTold P E (d .account) (G .inflow) bytes text)
+    pub lay-is : commandLeft d r text (Lay bytes) ≡ toldOn d r (layTold P E (d .account) (G .inflow) bytes text)
     unfolding isSheet orderTold
     lay-is = line-is text (Lay bytes) refl
 

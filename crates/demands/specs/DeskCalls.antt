@@ -2,28 +2,31 @@
 -- where their deeds bring it, so that all that Desk.antt says holds of the desk itself and of each frame that is printed.
 -- Assumes nothing.
 use mathlib.Core.Path.{_≡_}
-use mathlib.Core.Bool.{Bool, true, false}
+use mathlib.Core.Bool.{true, false}
 use mathlib.Core.List.{List, [], _∷_, _++_}
 use Prim.Native.Nat.{ℕ, _+_, _≤_}
 use lib.ListN.{length}
+use Rattle.grid.specs.Marks.{Alike}
 use Rattle.ledger.specs.Runs.{seenOf}
 use Rattle.ledger.specs.Account.{water}
 use Rattle.evenings.specs.Taking.{worldOf}
 use Rattle.evenings.specs.Program.{Stores}
+use Rattle.hatches.specs.Log.{mostHatches}
 use Rattle.hatches.specs.declared.lines.Entry.the-variants.{Back}
 use Rattle.stands.specs.Laying.{standOf}
+use Rattle.trying.specs.Lines.{stepCame, backCame}
 use Rattle.programs.specs.Reading.{sheetWithin}
 use Rattle.sheet.specs.declared.reading.Heading.{Heading}
 use Rattle.sheet.specs.declared.reading.Sheet.the-variants.{Read}
 use Rattle.desks.specs.Orders.{order}
-use Rattle.desks.specs.State.{deskText, deskSquares, deskNumbers, deskRates, keptSlots}
+use Rattle.desks.specs.State.{deskText, keptSlots}
 use Rattle.desks.specs.Lines.{endingText, stateText, stepsLeft}
 use Rattle.desks.specs.Command.{Left, planOn, commandLeft, stepLeft}
 use Rattle.desks.specs.declared.orders.Order.the-variants.{Sheet, Entered, Show, Lay}
 use Rattle.desks.specs.declared.state.Desk.{Desk}
 use Rattle.demands.specs.Desk as deeds
-use Rattle.demands.specs.Desk.{Deed, goingBack, atFirst, deedNumber, deskAfter, Begins, Balanced, OnlyStanding}
-use Rattle.demands.specs.DeskLines.{laysDown, deedOf, stepDeed, OnDesk, stateOn, groundOn, Standing, Stays}
+use Rattle.demands.specs.Desk.{Deed, atFirst, deedNumber, deskAfter, Begins, OnlyStanding}
+use Rattle.demands.specs.DeskLines.{laysDown, deedOf, stepDeed, RoomsWhole, OnDesk, stateOn, groundOn, Standing}
 
 -- ---- call after call
 
@@ -91,11 +94,22 @@ pub record CallsCome (d : Desk) (r : Stores) (calls : List Call) (d′ : Desk) (
 
 pub record DeskCalls : Type 0 where
   -- a sheet that is read, and a saved state that is not refused, are beginnings; a sheet's is balanced
-  pub sheet-begins : (d : Desk) (r : Stores) (text : List ℕ) (bytes : ℕ) (h : Heading) → length text ≡ bytes → sheetWithin deskText text (r .sheet) ≡ Read h →
+  pub sheet-begins : (d : Desk) (r : Stores) → RoomsWhole r → (text : List ℕ) (bytes : ℕ) (h : Heading) → length text ≡ bytes →
+      sheetWithin deskText text (r .sheet) ≡ Read h →
       let l = commandLeft d r text (Sheet bytes) in
-      OnDesk (l .desk) (l .rooms) → BeginsOn (l .desk) (l .rooms) × BalancedOn (l .desk) (l .rooms)
+      OnDesk (l .desk) (l .rooms) × BeginsOn (l .desk) (l .rooms) × BalancedOn (l .desk) (l .rooms)
+  pub lay-begins : (d : Desk) (r : Stores) → OnDesk d r → (text : List ℕ) (bytes : ℕ) → length text ≡ bytes → length text ≤ deskText →
+      standOf (planOn d r) (groundOn d r .inflow) (keptSlots (d .heading .shape)) text .number ≡ 0 →
+      let l = commandLeft d r text (Lay bytes) in
+      OnDesk (l .desk) (l .rooms) × BeginsOn (l .desk) (l .rooms)
   pub come : (d : Desk) (r : Stores) → OnDesk d r → BeginsOn d r → (calls : List Call) → AllTry calls →
       CallsCome d r calls (afterCalls calls d r .0) (afterCalls calls d r .1)
+  -- a call whose deed is refused leaves the state and the account as they were
+  pub refused : (d : Desk) (r : Stores) → OnDesk d r → BeginsOn d r → (calls : List Call) (c : Call) (deed : Deed) → AllTry calls → Tries c →
+      let now = afterCalls calls d r in
+      let l = called c (now .0) (now .1) in
+      deedsOf c (now .0) ≡ deed ∷ [] → (deedNumber (planOn d r) (groundOn d r) deed (comesTo d r calls) ≡ 0 → ⊥) →
+      (stateOn (l .desk) (l .rooms) ≡ stateOn (now .0) (now .1)) × (l .desk .account ≡ now .0 .account)
   -- a trial taken back was never made: by the line `back` with the number of its steps
   pub gone : (d : Desk) (r : Stores) → OnDesk d r → BeginsOn d r → (calls trial : List Call) (line text : List ℕ) (made : List (List ℕ)) →
       AllTry (calls ++ trial) → order line ≡ Entered (Back (length made)) →
@@ -108,5 +122,16 @@ pub record DeskCalls : Type 0 where
       (after .desk .log .steps ≡ before .0 .log .steps) ×
       (after .desk .account .start ≡ before .0 .account .start) ×
       (after .desk .account .given ≡ before .0 .account .given)
-  -- the frame that `show` prints is the text of that state
+  -- the frame that is printed is the text of the state left: by `show`, by a `back` that is made,
   pub show-frame : (d : Desk) (r : Stores) → OnDesk d r → (text : List ℕ) → commandLeft d r text Show .text ≡ frameOn d r ++ endingText 0 0
+  pub back-frame : (d : Desk) (r : Stores) → OnDesk d r → (text : List ℕ) (count : ℕ) → backCame (planOn d r) (stateOn d r) (d .account) count .number ≡ 0 →
+      let l = commandLeft d r text (Entered (Back count)) in l .text ≡ frameOn (l .desk) (l .rooms) ++ endingText 0 0
+  -- by each step of "every 1", and at the end of "every 0"
+  pub step-frame : (d : Desk) (r : Stores) → OnDesk d r → length (d .log .litres) ≡ mostHatches → d .series .on ≡ true → d .series .every ≡ true →
+      stepsLeft (d .series) (d .log .run .clock) ≡ true → stepCame (planOn d r) (groundOn d r) (stateOn d r) (d .account) .number ≡ 0 →
+      let l = stepLeft d r in l .text ≡ frameOn (l .desk) (l .rooms)
+  pub end-frame : (d : Desk) (r : Stores) → OnDesk d r → d .series .on ≡ true → d .series .every ≡ false → stepsLeft (d .series) (d .log .run .clock) ≡ false →
+      let l = stepLeft d r in l .text ≡ frameOn (l .desk) (l .rooms) ++ endingText 0 0
+  -- walls: what closed squares hold is not in it
+  pub walls : (d : Desk) (r s : Stores) → OnDesk d r → OnDesk d s → planOn d r ≡ planOn d s → Alike (planOn d r .marks) (stateOn d r .depths) (stateOn d s .depths) →
+      (text : List ℕ) → commandLeft d r text Show .text ≡ commandLeft d s text Show .text

@@ -60,13 +60,17 @@ stepDeed d = pick (every (d .series .on ∷ stepsLeft (d .series) (d .log .run .
 
 -- ---- what lies on the desk
 
--- a sheet lies there, in rooms of the program's sizes
-pub record OnDesk (d : Desk) (r : Stores) : Type 0 where
-  pub ready : readyNumber d ≡ 0
+-- the rooms that lines change are of the program's sizes
+pub record RoomsWhole (r : Stores) : Type 0 where
   pub depths-long : length (r .sheet .cells .depths) ≡ deskSquares
   pub lasts-long : length (r .lasts) ≡ deskSquares
   pub records-long : length (r .records) ≡ deskNumbers
   pub began-long : length (r .began) ≡ deskRates
+
+-- and a sheet lies in them
+pub record OnDesk (d : Desk) (r : Stores) : Type 0 where
+  pub ready : readyNumber d ≡ 0
+  pub whole : RoomsWhole r
 
 module _ (d : Desk) (r : Stores) where
   abbrev pub stateOn : Evening
