@@ -436,8 +436,7 @@ module _ (d : Desk) (r : Stores) (on : OnDesk d r) (text : List ℕ) where
   lay-begins bytes whole few z =
       subst (λ (l : Left). OnDesk (l .desk) (l .rooms) × BeginsOn (l .desk) (l .rooms))
       (sym (lay-is d r on text bytes
-      ∙ ap (toldOn d r) (pick-true _ _ (each-every _ (eq-eqb _ _ whole, (le-leb _ _ few, tt))) ∙ pick-true _ _ (eq-eqb _ _ z))))
-      (
+      ∙ ap (toldOn d r) (pick-true _ _ (each-every _ (eq-eqb _ _ whole, (le-leb _ _ few, tt))) ∙ pick-true _ _ (eq-eqb _ _ z)))) (
         told-on d r on t sized,
         subst (λ (e : Evening). Begins (planOn d r) (groundOn d r) e (t .account)) (sym (put-taken (d .heading) r (t .evening) sized)) (laid-begins z),
       )
