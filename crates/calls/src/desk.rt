@@ -1,6 +1,6 @@
 // The desk's calls, made as they are lent, with contracts in the words of its theorems: what specs/Desked.antt says that their caller has.
 use desks::command::command;
-use desks::command::go_on;
+use desks::command::make_next;
 use desks::state::DESK_NUMBERS;
 use desks::state::DESK_OUT;
 use desks::state::DESK_RATES;
@@ -48,7 +48,7 @@ pub fn after_command(
     )
 }
 
-pub fn after_go_on(
+pub fn after_make_next(
     desk: Desk,
     marks: &[u8; DESK_SQUARES],
     beds: &[u32; DESK_SQUARES],
@@ -64,7 +64,7 @@ pub fn after_go_on(
 ) -> Desk
     ensures { λ r. ⌜ AfterStep desk (stores (rooms (now (marks .entry)) (now (beds .entry)) (now (roughness .entry)) (now (rates .entry)) (now (depths .entry)) (now (rain .entry)) (now (inflow .entry))) (now (lasts .entry)) (now (records .entry)) (now (began .entry))) (leftWith r (stores (rooms (now (marks .entry)) (now (beds .entry)) (now (roughness .entry)) (now (rates .entry)) (now (depths .exit)) (now (rain .entry)) (now (inflow .entry))) (now (lasts .exit)) (now (records .exit)) (now (began .exit))) (now (out .exit))) ⌝ }
 {
-    go_on(
+    make_next(
         desk,
         marks,
         beds,

@@ -1,4 +1,4 @@
--- The warden's desk, call by call: what `command` and `go_on` leave in the rooms that they are lent is what the deeds of Desk.antt come to. A
+-- The warden's desk, call by call: what `command` and `make_next` leave in the rooms that they are lent is what the deeds of Desk.antt come to. A
 -- line that looks, or is refused, leaves everything as it was.
 -- Assumes nothing.
 use mathlib.Core.Path.{_≡_}

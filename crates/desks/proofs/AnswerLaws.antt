@@ -20,8 +20,8 @@ use Rattle.trying.specs.Lines.{Came, came, stepCame, backCame, TrialLent}
 use Rattle.trying.specs.declared.given.Account.{Account}
 use Rattle.trying.specs.declared.lines.Tried.{Tried}
 use Rattle.desks.specs.State.{deskOut, keptSlots, noSeries, deskWith}
-use Rattle.desks.specs.Lines.{Told, told, plainly, shown, endingText, stateText, backTold, stepRefusals, stepTold, lastTold, oneLess, madeTold, stepsLeft, nextTold, Answers}
-use Rattle.desks.specs.inner.Lent.{Shows, Lends, StatePut, EndingPut, DeskTold}
+use Rattle.desks.specs.Lines.{Told, told, plainly, shown, endingText, stateText, backTold, stepRefusals, stepTold, lastTold, oneLess, madeTold, stepsLeft, nextTold}
+use Rattle.desks.specs.inner.Lent.{Shows, Lends, StatePut, EndingPut, DeskTold, Answers}
 use Rattle.desks.specs.declared.state.Desk.{Desk}
 use Rattle.desks.specs.declared.state.Series.{Series}
 

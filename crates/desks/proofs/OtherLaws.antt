@@ -40,8 +40,8 @@ use Rattle.trying.specs.Lines.{came}
 use Rattle.trying.specs.declared.given.Account.{Account}
 use Rattle.trying.specs.declared.lines.Tried.{Tried}
 use Rattle.desks.specs.State.{deskSquares, deskText, deskOut, deskNumbers, keptSlots, noSeries, deskWith}
-use Rattle.desks.specs.Lines.{Told, told, doneText, endingText, stateText, savedOf, shown, refusedAt, arrowsTold, mostTold, standTold, layTold, entryTold, orderTold, Answers}
-use Rattle.desks.specs.inner.Lent.{Shows, EndingPut, DeskTold, mostEnding, refusedIn}
+use Rattle.desks.specs.Lines.{Told, told, doneText, endingText, stateText, savedOf, shown, refusedAt, arrowsTold, mostTold, standTold, layTold, entryTold, orderTold}
+use Rattle.desks.specs.inner.Lent.{Shows, EndingPut, DeskTold, mostEnding, refusedIn, Answers}
 use Rattle.desks.specs.declared.orders.Order.{Order}
 use Rattle.desks.specs.declared.state.Desk.{Desk}
 use Rattle.desks.specs.declared.state.Series.{Series}

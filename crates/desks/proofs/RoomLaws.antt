@@ -22,9 +22,9 @@ use Rattle.sheet.specs.declared.reading.Heading.{Heading}
 use Rattle.hatches.specs.Log.{Evening, evening, mostHatches}
 use Rattle.evenings.specs.Program.{Stores, stores, givenHeld}
 use Rattle.desks.specs.State.{deskSquares, keptSlots, recordsOn, ratesOn, headingFine}
-use Rattle.desks.specs.Lines.{Told, orderTold, nextTold, Answers}
+use Rattle.desks.specs.Lines.{Told, orderTold, nextTold}
 use Rattle.desks.specs.Command.{Leaves, planOn, eveningOn, inflowOn, readyNumber, storesWith, toldOn}
-use Rattle.desks.specs.inner.Lent.{Shows, Lends}
+use Rattle.desks.specs.inner.Lent.{Shows, Lends, Answers}
 use Rattle.desks.specs.inner.Rooms.{RoomsLong, GroundLong}
 use Rattle.desks.specs.inner.Sizes.{SizesAre}
 use Rattle.desks.specs.declared.orders.Order.{Order}

@@ -23,7 +23,7 @@ use Rattle.hatches.specs.Log.{mostHatches, opened}
 use Rattle.hatches.specs.declared.log.Log.{Log}
 use Rattle.trying.specs.Given.{mostSlots, accountOpened}
 use Rattle.trying.specs.declared.given.Account.{Account}
-use Rattle.desks.specs.State.{deskSquares, deskNumbers, deskRates, keptSlots, recordsOn, ratesOn, headingFine, noSeries, freshDesk, KeptSlots}
+use Rattle.desks.specs.State.{deskSquares, deskRates, deskNumbers, keptSlots, recordsOn, ratesOn, headingFine, noSeries, freshDesk, KeptSlots}
 use Rattle.desks.specs.inner.Sizes.{SizesAre}
 use Rattle.desks.specs.declared.sizes.Sizes.{Sizes}
 use Rattle.desks.specs.declared.state.Desk.{Desk}

@@ -208,9 +208,3 @@ nextTold p g e a s =
 pub record Puts (t old new : List ℕ) : Type 0 where
   pub wrote : Wrote t 0 old new (length t)
   pub fits : length t ≤ deskOut
-
--- the desk after a call, what is lent with the log that the desk tells, and the answer
-pub record Answers (t : Told) (d r : Desk) (after : Evening) (old new : List ℕ) : Type 0 where
-  pub desk-is : r ≡ deskWith d (t .evening .log) (t .account) (t .series) (length (t .text))
-  pub evening-is : after ≡ t .evening
-  pub puts : Puts (t .text) old new

@@ -22,7 +22,7 @@ use Rattle.trying.specs.declared.given.Account.{Account}
 use Rattle.desks.specs.declared.state.Desk.{Desk}
 use Rattle.desks.specs.declared.state.Series.{Series}
 
--- "1 to 4,096 squares"
+-- "1 to 4,096 squares": a room of one number each
 abbrev pub deskSquares : ℕ
 deskSquares = 4_096
 
@@ -40,7 +40,7 @@ deskNumbers = 1_572_864
 unfoldable pub keptSlots : Shape → ℕ
 keptSlots s = min mostSlots (deskNumbers / recordSize (plan s []))
 
--- beside each record nine rates
+-- beside each record nine rates: a room for all of them
 abbrev pub deskRates : ℕ
 deskRates = 2_304
 

@@ -35,7 +35,7 @@ ghost use Rattle.sheet.specs.Sheet.{rooms};
 ghost use Rattle.programs.specs.Reading.{sheetWithin};
 ghost use Rattle.evenings.specs.Program.{givenHeld, stores};
 ghost use Rattle.desks.specs.Orders.{order};
-ghost use Rattle.desks.specs.State.{deskOut, deskSquares, deskText};
+ghost use Rattle.desks.specs.State.{deskSquares, deskOut, deskText};
 ghost use Rattle.desks.specs.Lines.{endingText, nextTold, orderTold};
 ghost use Rattle.desks.specs.Command.{Leaves, Wanted, commandLeft, eveningOn, inflowOn, isSheet, otherLeft, planOn, readyNumber, sheetLeft, stepLeft, toldOn, untouched, wantedBy};
 ghost use Rattle.desks.specs.inner.Rooms.{GroundLong, RoomsLong, SheetLaid, SheetRooms};
@@ -324,7 +324,7 @@ fn step_held(
 }
 
 // The next step of a line `step`, or its end: its answer at the start of out.
-pub fn go_on(
+pub fn make_next(
     desk: Desk,
     marks: &[u8; DESK_SQUARES],
     beds: &[u32; DESK_SQUARES],

@@ -36,9 +36,9 @@ ghost use Rattle.checks.specs.Given.{given, ground};
 ghost use Rattle.hatches.specs.Log.{evening};
 ghost use Rattle.trying.specs.Given.{accountOpened};
 ghost use Rattle.trying.specs.Lines.{came, drawTried, nameTried};
-ghost use Rattle.desks.specs.State.{deskOut, deskSquares, noSeries};
-ghost use Rattle.desks.specs.Lines.{Answers, arrowsTold, backTold, cameOf, endingText, entryTold, lastTold, layTold, madeTold, mostTold, nextTold, oneLess, orderTold, plainly, standTold, stateText, stepTold, stepsLeft};
-ghost use Rattle.desks.specs.inner.Lent.{DeskTold, Lends, Shows, mostEnding, refusedIn};
+ghost use Rattle.desks.specs.State.{deskSquares, deskOut, noSeries};
+ghost use Rattle.desks.specs.Lines.{arrowsTold, backTold, cameOf, endingText, entryTold, lastTold, layTold, madeTold, mostTold, nextTold, oneLess, orderTold, plainly, standTold, stateText, stepTold, stepsLeft};
+ghost use Rattle.desks.specs.inner.Lent.{DeskTold, Lends, Shows, mostEnding, refusedIn, Answers};
 
 // The most steps of one line.
 const MOST_STEPS: u32 = 64;

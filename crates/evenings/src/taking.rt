@@ -27,9 +27,8 @@ ghost use Rattle.ledger.specs.Record.{roomSlots};
 ghost use Rattle.checks.specs.Given.{given, ground};
 ghost use Rattle.flood.specs.Run.{ended};
 ghost use Rattle.hatches.specs.Log.{entryRefusals, evening, hatchNamed, keptFine, logWith, mostHatches, standingFine};
-ghost use Rattle.evenings.specs.Taking.{TakesEntry, afterBack, afterRate, backFrom, lineBack, lineRun, ratesWith};
-ghost use Rattle.checks.specs.Given as Givens;
-ghost use Rattle.evenings.specs.inner.Backs.{BacksOnce};
+ghost use Rattle.evenings.specs.Taking.{TakesEntry, afterRate, backFrom, lineRun, ratesWith};
+ghost use Rattle.evenings.specs.inner.Backs.{BackTaken, BacksOnce};
 ghost use Rattle.hatches.specs.declared.lines.Entry.the-variants as kinds;
 
 // The number that a line is refused with, 0 for none, and the log after it.
@@ -214,7 +213,7 @@ pub fn back_line(
 ) -> EntryTaken
     requires { ⌜ (ShapeInRange shape) × (roomSlots (plan shape (now marks)) (now records) ≤ slotsIn mostHatches (length (now began))) ⌝ }
     requires { ⌜ (standingFine log ≡ true) × (keptFine log (kinds.Back count) ≡ true) ⌝ }
-    ensures { λ r. ⌜ ((g : Givens.Given) → (r .number ≡ lineBack (plan shape (now (marks .entry))) g (evening (now (depths .entry)) (now (lasts .entry)) (now (records .entry)) (now (began .entry)) log) count .number) × (evening (now (depths .exit)) (now (lasts .exit)) (now (records .entry)) (now (began .entry)) (r .log) ≡ afterBack (plan shape (now (marks .entry))) g (evening (now (depths .entry)) (now (lasts .entry)) (now (records .entry)) (now (began .entry)) log) count)) ⌝ }
+    ensures { λ r. ⌜ BackTaken (plan shape (now (marks .entry))) (evening (now (depths .entry)) (now (lasts .entry)) (now (records .entry)) (now (began .entry)) log) count (r .number) (evening (now (depths .exit)) (now (lasts .exit)) (now (records .entry)) (now (began .entry)) (r .log)) ⌝ }
 {
     let slots = trials::slots_in(record_size(shape), records.len());
     let back = take_backs(log.run, count, shape, marks, depths, lasts, records);

@@ -27,8 +27,7 @@ ghost use Rattle.reckon.specs.Tables.{inflowKind};
 ghost use Rattle.grid.specs.Squares.{ShapeInRange, squares};
 ghost use Rattle.ledger.specs.Runs.{plan};
 ghost use Rattle.hatches.specs.Log.{drawFine, keptFine, lentFine, lineFine, standingFine};
-ghost use Rattle.hatches.specs.inner.Judged.{EntryJudged, TableFits};
-ghost use Rattle.rule.specs.declared.rules.Rules as Declared;
+ghost use Rattle.hatches.specs.inner.Judged.{EntryJudged, HatchDrawJudged, HatchLineJudged, TableFits};
 ghost use Rattle.ledger.specs.Runs as Runs;
 ghost use Rattle.hatches.specs.declared.lines.Entry.the-variants as kinds;
 
@@ -44,7 +43,7 @@ fn is_multiple(clock: u64, update: u64) -> bool
 
 // 12 for a hatch's line: at the opening, its number is 1 to 9 and not named yet.
 pub fn hatch_line_fine(log: Log, number: u32) -> bool
-    ensures { λ r. ⌜ ((rules : Declared.Rules) (row column : ℕ) → r ≡ lineFine rules log (kinds.Hatch number row column)) ⌝ }
+    ensures { λ r. ⌜ HatchLineJudged log number r ⌝ }
 {
     if !log.opening {
         return false;
@@ -129,7 +128,7 @@ pub fn hatch_draw_fine(
     inflow: &[u32],
 ) -> bool
     requires { ⌜ (ShapeInRange shape) × (length (now marks) ≡ squares shape) ⌝ }
-    ensures { λ r. ⌜ ((number : ℕ) → r ≡ drawFine (plan shape (now (marks .entry))) (now (inflow .entry)) log (kinds.Hatch number row column)) ⌝ }
+    ensures { λ r. ⌜ HatchDrawJudged (plan shape (now (marks .entry))) (now (inflow .entry)) log row column r ⌝ }
 {
     let at_row = row as usize;
     let at_column = column as usize;

@@ -137,9 +137,6 @@ pub record TrialLent (p : Plan) (records began : List ℕ) : Type 0 where
   pub slots-few : roomSlots p records ≤ mostSlots
   pub rates-suffice : roomSlots p records ≤ slotsIn mostHatches (length began)
 
-abbrev pub GivenBack : Account → ℕ → ℕ → ℕ → Account → Type 0
-GivenBack a slots newest steps r = r ≡ givenBack a slots newest steps
-
 abbrev pub Names : Plan → Rules → List ℕ → Log → Account → ℕ → ℕ → ℕ → Tried → Type 0
 Names p r inflow log a n row column t = t ≡ nameTried p r inflow log a n row column
 

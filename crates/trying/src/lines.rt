@@ -39,7 +39,7 @@ ghost use Rattle.adding.specs.inner.Added.{Between, tables};
 ghost use Rattle.hatches.specs.Log.{evening, logWith, mostHatches, ratesKept};
 ghost use Rattle.stands.specs.Laying.{mostGiven};
 ghost use Rattle.trying.specs.Given.{accountWith, mostSlots};
-ghost use Rattle.trying.specs.Lines.{Draws, GivenBack, GoesBack, MakesOne, Names, TrialLent, logAt, tried, tryRefusals};
+ghost use Rattle.trying.specs.Lines.{Draws, GoesBack, MakesOne, Names, TrialLent, givenBack, logAt, tried, tryRefusals};
 
 // What came of a line: the number that it is refused with, 0 for none, the log and the account after it.
 pub struct Tried {
@@ -259,7 +259,7 @@ pub fn step_once(
 // The account after so many take-backs.
 fn given_back(account: Account, steps: u64, slots: usize, newest: usize) -> Account
     requires { ⌜ (0 < steps → newest < slots) × (slots ≤ mostSlots) ⌝ }
-    ensures { λ r. ⌜ GivenBack account slots newest steps r ⌝ }
+    ensures { λ r. ⌜ r ≡ givenBack account slots newest steps ⌝ }
 {
     if steps == 0 {
         return account;

@@ -1,9 +1,15 @@
--- The contract of each layer function of this crate leaves one outcome.
+-- Every layer function of this crate leaves one outcome.
 -- Assumes nothing.
 use mathlib.Core.List.{List}
 use Prim.Native.Nat.{ℕ}
 use Rattle.reckon.specs.Outcomes.{One}
+use Rattle.grid.specs.declared.squares.Shape.{Shape}
 use Rattle.desks.specs.Orders.{OrderRead}
+use Rattle.desks.specs.State.{KeptSlots, DeskEmpty}
+use Rattle.desks.specs.Command.{Wanted}
 
-pub record DeskDetermined : Type 0 where
-  pub order-of : (s : List ℕ) → One (OrderRead s)
+pub record DesksDetermined : Type 0 where
+  pub order-of : (line : List ℕ) → One (OrderRead line)
+  pub wanted : (line : List ℕ) → One (Wanted line)
+  pub kept-slots : (s : Shape) → One (KeptSlots s)
+  pub empty-desk : One DeskEmpty

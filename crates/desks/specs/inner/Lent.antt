@@ -11,9 +11,9 @@ use Rattle.ledger.specs.Record.{roomSlots}
 use Rattle.checks.specs.declared.bounds.Bounds.{Bounds}
 use Rattle.checks.specs.declared.bounds.Bounds.the-variants.{Bounded, NotBounded, Refused}
 use Rattle.text.specs.Writing.{Wrote}
-use Rattle.hatches.specs.Log.{mostHatches}
+use Rattle.hatches.specs.Log.{Evening, mostHatches}
 use Rattle.desks.specs.State.{deskOut, keptSlots, deskWith}
-use Rattle.desks.specs.Lines.{endingText, Puts}
+use Rattle.desks.specs.Lines.{Told, endingText, Puts}
 use Rattle.trying.specs.declared.given.Account.{Account}
 use Rattle.hatches.specs.declared.log.Log.{Log}
 use Rattle.desks.specs.declared.state.Desk.{Desk}
@@ -62,3 +62,9 @@ refusedIn (Bounded b) = 0
 pub record DeskTold (d : Desk) (log : Log) (a : Account) (s : Series) (t old new : List ℕ) (r : Desk) : Type 0 where
   pub desk-is : r ≡ deskWith d log a s (length t)
   pub puts : Puts t old new
+
+-- the desk after a call, what is lent with the log that the desk tells, and the answer
+pub record Answers (t : Told) (d r : Desk) (after : Evening) (old new : List ℕ) : Type 0 where
+  pub desk-is : r ≡ deskWith d (t .evening .log) (t .account) (t .series) (length (t .text))
+  pub evening-is : after ≡ t .evening
+  pub puts : Puts (t .text) old new

@@ -10,7 +10,7 @@ use Rattle.ledger.specs.Runs.{plan}
 use Rattle.ledger.specs.Account.{water}
 use Rattle.sheet.specs.Sheet.{Rooms}
 use Rattle.sheet.specs.declared.reading.Heading.{Heading}
-use Rattle.desks.specs.State.{deskSquares, deskNumbers, deskRates, deskOut, freshDesk}
+use Rattle.desks.specs.State.{deskSquares, deskRates, deskNumbers, deskOut, freshDesk}
 use Rattle.desks.specs.Lines.{Puts}
 use Rattle.desks.specs.Command.{startOn, firstText}
 use Rattle.desks.specs.declared.state.Desk.{Desk}

@@ -5,7 +5,7 @@ use Prim.Native.Nat.{_*_, _≤_}
 use Rattle.reckon.specs.Tables.{rainKind, inflowKind, tableRoom}
 use Rattle.grid.specs.Squares.{squares, ShapeInRange}
 use Rattle.sheet.specs.declared.reading.Heading.{Heading}
-use Rattle.desks.specs.State.{deskSquares, deskNumbers, deskRates, recordsOn, ratesOn}
+use Rattle.desks.specs.State.{deskSquares, deskRates, deskNumbers, recordsOn, ratesOn}
 use Rattle.desks.specs.declared.sizes.Sizes.{Sizes}
 
 pub record SizesAre (h : Heading) (r : Sizes) : Type 0 where
