@@ -20,7 +20,7 @@ use Rattle.desks.specs.declared.orders.Order.{Order}
 use Rattle.desks.specs.declared.orders.Order.the-variants.{Show}
 use Rattle.desks.specs.declared.state.Desk.{Desk}
 use Rattle.demands.proofs.LineDeeds.{desk-lines}
-use Rattle.calls.specs.Desked.{leftWith, AfterCommand, AfterStep}
+use Rattle.calls.specs.Desked.{leftWith, AfterCommand, AfterNext}
 
 -- ---- the desk tells how long its answer is
 
@@ -83,8 +83,8 @@ after-command d r line text w =
       not-ready = λ z q. desk-lines .not-ready d r z text (order line) q .0;
     })
 
-pub after-step : (d : Desk) (r : Stores) {a : Desk} {after : Stores} {old new : List ℕ} → Leaves (stepLeft d r) a after old new → AfterStep d r (leftWith a after new)
+pub after-next : (d : Desk) (r : Stores) {a : Desk} {after : Stores} {old new : List ℕ} → Leaves (stepLeft d r) a after old new → AfterNext d r (leftWith a after new)
 unfolding isSheet
-after-step d r w =
-    subst (AfterStep d r) (sym (left-is (step-long d r) w))
+after-next d r w =
+    subst (AfterNext d r) (sym (left-is (step-long d r) w))
     (record { is-call = refl; does = λ on nine. desk-lines .each-step d r on nine; not-ready = λ z. desk-lines .not-ready d r z [] Show refl .1 })

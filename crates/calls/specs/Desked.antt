@@ -30,7 +30,7 @@ pub record AfterCommand (d : Desk) (r : Stores) (line text : List ℕ) (l : Left
   pub not-ready : (readyNumber d ≡ 0 → ⊥) → isSheet (order line) ≡ false → Stays d r l
 
 -- the next step of a line `step`
-pub record AfterStep (d : Desk) (r : Stores) (l : Left) : Type 0 where
+pub record AfterNext (d : Desk) (r : Stores) (l : Left) : Type 0 where
   pub is-call : l ≡ called goingOn d r
   pub does : OnDesk d r → length (d .log .litres) ≡ mostHatches → Does (stepDeed d) d r l
   pub not-ready : (readyNumber d ≡ 0 → ⊥) → Stays d r l

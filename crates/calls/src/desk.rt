@@ -10,7 +10,7 @@ use reckon::tables::INFLOW_ROOM;
 use reckon::tables::RAIN_ROOM;
 ghost use Rattle.sheet.specs.Sheet.{rooms};
 ghost use Rattle.evenings.specs.Program.{stores};
-ghost use Rattle.calls.specs.Desked.{AfterCommand, AfterStep, leftWith};
+ghost use Rattle.calls.specs.Desked.{AfterCommand, AfterNext, leftWith};
 
 pub fn after_command(
     desk: Desk,
@@ -62,7 +62,7 @@ pub fn after_make_next(
     began: &mut [u32; DESK_RATES],
     out: &mut [u8; DESK_OUT],
 ) -> Desk
-    ensures { λ r. ⌜ AfterStep desk (stores (rooms (now (marks .entry)) (now (beds .entry)) (now (roughness .entry)) (now (rates .entry)) (now (depths .entry)) (now (rain .entry)) (now (inflow .entry))) (now (lasts .entry)) (now (records .entry)) (now (began .entry))) (leftWith r (stores (rooms (now (marks .entry)) (now (beds .entry)) (now (roughness .entry)) (now (rates .entry)) (now (depths .exit)) (now (rain .entry)) (now (inflow .entry))) (now (lasts .exit)) (now (records .exit)) (now (began .exit))) (now (out .exit))) ⌝ }
+    ensures { λ r. ⌜ AfterNext desk (stores (rooms (now (marks .entry)) (now (beds .entry)) (now (roughness .entry)) (now (rates .entry)) (now (depths .entry)) (now (rain .entry)) (now (inflow .entry))) (now (lasts .entry)) (now (records .entry)) (now (began .entry))) (leftWith r (stores (rooms (now (marks .entry)) (now (beds .entry)) (now (roughness .entry)) (now (rates .entry)) (now (depths .exit)) (now (rain .entry)) (now (inflow .entry))) (now (lasts .exit)) (now (records .exit)) (now (began .exit))) (now (out .exit))) ⌝ }
 {
     make_next(
         desk,

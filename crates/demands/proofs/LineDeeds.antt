@@ -86,7 +86,7 @@ roomsOf r depths lasts records began =
     (rooms (r .sheet .cells .marks) (r .sheet .cells .beds) (r .sheet .cells .roughness) (r .sheet .cells .rates) depths (r .sheet .rain) (r .sheet .inflow))
     lasts records began
 
-taken-put : (h : Heading) (r : Stores) (log : Log) → squares (h .shape) ≤ length (r .sheet .cells .depths) → squares (h .shape) ≤ length (r .lasts) →
+pub taken-put : (h : Heading) (r : Stores) (log : Log) → squares (h .shape) ≤ length (r .sheet .cells .depths) → squares (h .shape) ≤ length (r .lasts) →
     recordsOn (h .shape) ≤ length (r .records) → ratesOn (h .shape) ≤ length (r .began) → storesWith r (eveningOn h r log) ≡ r
 taken-put h r log a b c d =
     stores-as r (same-part _ (r .sheet .cells .depths) a) (same-part _ (r .lasts) b) (same-part _ (r .records) c) (same-part _ (r .began) d)
