@@ -129,7 +129,7 @@ given-slots a slots newest (suc n) = refl
 
 -- ---- steps alone: the clock of each goes on, and what they were given fits the account
 
-after-step : (p : Plan) (g : Given) (w : World) → stepNumber p g w ≡ 0 → Ready p g (seenOf (stepped p g w))
+pub after-step : (p : Plan) (g : Given) (w : World) → stepNumber p g w ≡ 0 → Ready p g (seenOf (stepped p g w))
 after-step p g w z = ready p g (ringOf p (stepped p g w)) (seenOf (stepped p g w)) (still-valid p g w (checks-passed p g w z) z)
 
 few-times : (n : ℕ) → n ≤ mostSquares → n * mostDepth ≤ mostSquares * mostDepth
@@ -161,7 +161,7 @@ module _ (p : Plan) (f : World) where
       omega (arith, alone-clock gs (made .1), clock-on p g (alone p gs f) (checks-passed p g (alone p gs f) (made .0)) (made .0))
 
   -- what is given is held, or was held before
-  given-fits : (gs : List Given) → AllMade p gs f → (start given : ℕ) → given ≤ mostGiven → held p f ≡ start + given → given + allGiven p gs f ≤ mostGiven
+  pub given-fits : (gs : List Given) → AllMade p gs f → (start given : ℕ) → given ≤ mostGiven → held p f ≡ start + given → given + allGiven p gs f ≤ mostGiven
   unfolding alone allGiven
   given-fits [] made start given low balanced = omega arith
   given-fits (g ∷ gs) made start given low balanced =

@@ -21,6 +21,8 @@ pub mod LinePlaces
 pub mod Loader
 pub mod Played
 pub mod RunStops
+pub mod SavedCalls
+pub mod SavedDeeds
 pub mod StepCount
 pub mod Surveys
 pub mod Table
