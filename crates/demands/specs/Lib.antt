@@ -7,6 +7,7 @@ pub mod Demand3
 pub mod Desk
 pub mod DeskCalls
 pub mod DeskLines
+pub mod DeskWalls
 pub mod Determined
 pub mod EnginesAgree
 pub mod Exported
