@@ -7,6 +7,7 @@ pub mod Demand2
 pub mod Demand3
 pub mod DeskLaws
 pub mod DeskSaved
+pub mod DeskWalls
 pub mod Determined
 pub mod EnginesAgree
 pub mod Exported

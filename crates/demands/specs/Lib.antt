@@ -8,6 +8,7 @@ pub mod Desk
 pub mod DeskCalls
 pub mod DeskLines
 pub mod DeskSavedCalls
+pub mod DeskWalls
 pub mod Determined
 pub mod EnginesAgree
 pub mod Exported
