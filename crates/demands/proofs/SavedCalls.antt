@@ -143,7 +143,7 @@ module _ (d : Desk) (r : Stores) (on : OnDesk d r) where
         depths-same : e .depths ≡ waterAfter P text 0 old .depths
         depths-same =
             list-same _ _ (depths-long ∙ sym (lay-sized text .depths)) (λ i l.
-                sym (ap (λ (t : List ℕ). getD (waterAfter P t 0 old .depths) i 0) is ∙ at i (omega (arith, l, depths-long, state-sized d r on .depths)) (closed (P .marks) i) refl))
+            sym (ap (λ (t : List ℕ). getD (waterAfter P t 0 old .depths) i 0) is ∙ at i (omega (arith, l, depths-long, state-sized d r on .depths)) (closed (P .marks) i) refl))
           where
             at : (i : ℕ) → i < length (E .depths) → (c : Bool) → closed (P .marks) i ≡ c →
                 getD (waterAfter P (standText P (e .depths) (e .lasts) (savedOf (e .log) a)) 0 old .depths) i 0 ≡ getD (e .depths) i 0
@@ -153,7 +153,7 @@ module _ (d : Desk) (r : Stores) (on : OnDesk d r) where
         lasts-same : e .lasts ≡ waterAfter P text 0 old .lasts
         lasts-same =
             list-same _ _ (lasts-long ∙ sym (lay-sized text .lasts)) (λ i l.
-                sym (ap (λ (t : List ℕ). getD (waterAfter P t 0 old .lasts) i 0) is ∙ at i (omega (arith, l, lasts-long, state-sized d r on .lasts)) (closed (P .marks) i) refl))
+            sym (ap (λ (t : List ℕ). getD (waterAfter P t 0 old .lasts) i 0) is ∙ at i (omega (arith, l, lasts-long, state-sized d r on .lasts)) (closed (P .marks) i) refl))
           where
             at : (i : ℕ) → i < length (E .lasts) → (c : Bool) → closed (P .marks) i ≡ c →
                 getD (waterAfter P (standText P (e .depths) (e .lasts) (savedOf (e .log) a)) 0 old .lasts) i 0 ≡ getD (e .lasts) i 0
