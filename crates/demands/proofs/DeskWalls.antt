@@ -36,11 +36,11 @@ use Rattle.hatches.specs.Log.{Evening, evening, mostHatches, logWith, ratesKept
 use Rattle.hatches.specs.declared.log.Log.{Log}
 use Rattle.hatches.specs.declared.lines.Entry.the-variants.{Hatch, Rate, Back, Unread}
 use Rattle.evenings.specs.Program.{Stores}
-use Rattle.evenings.specs.Taking.{drawn, worldOf, backFrom, afterBack}
+use Rattle.evenings.specs.Taking.{worldOf, backFrom, afterBack}
 use Rattle.stands.specs.Texts.{squareText, squaresText, standText, headText, hatchesText}
 use Rattle.sheet.specs.declared.reading.Heading.{Heading}
 use Rattle.trying.specs.Given.{accountWith}
-use Rattle.trying.specs.Lines.{Came, came, tryRefusals, stepGiven, eveningNext, accountNext, stepCame, backRefusals, givenBack, nothingGiven, backCame}
+use Rattle.trying.specs.Lines.{Came, came, tryRefusals, stepGiven, eveningNext, accountNext, stepCame, backRefusals, givenBack, backCame}
 use Rattle.trying.specs.Lines as trying
 use Rattle.trying.specs.declared.given.Account.{Account}
 use Rattle.desks.specs.Orders.{order}
@@ -51,15 +51,13 @@ use Rattle.desks.specs.declared.orders.Order.{Order}
 use Rattle.desks.specs.declared.orders.Order.the-variants.{Sheet, Entered, Draw, Step, Show, Arrows, Most, Stand, Lay, NoOrder}
 use Rattle.desks.specs.declared.state.Desk.{Desk}
 use Rattle.desks.specs.declared.state.Series.{Series}
-use Rattle.demands.specs.Closed.{SameOpen, SameRecord, SameRoom, SameGiven, SameWorld, SameEnd}
-use Rattle.demands.specs.Demand2.{NoneDepends}
-use Rattle.demands.specs.Desk.{oneStep}
+use Rattle.demands.specs.Closed.{SameOpen, SameRecord, SameRoom, SameWorld, SameEnd}
 use Rattle.demands.specs.DeskLines.{laysDown, deedOf, OnDesk, stateOn, groundOn}
 use Rattle.demands.specs.DeskCalls.{Call, aLine, goingOn, called, Tries, AllTry, afterCalls, deedsIn, BeginsOn}
 use Rattle.demands.specs.DeskWalls.{SameState, SameDesks, SameLeft, answers, SameEvening, DeskWalls}
 use Rattle.demands.proofs.Demand2.{demand-2}
 use Rattle.demands.proofs.DeskLaws.{stands}
-use Rattle.demands.proofs.LineDeeds.{Sized, put-taken, state-sized, told-on, OneOf, sized-one, line-tells, step-tells, line-is, next-is}
+use Rattle.demands.proofs.LineDeeds.{Sized, put-taken, told-on, OneOf, sized-one, line-tells, step-tells, line-is, next-is}
 use Rattle.demands.proofs.CallDeeds.{desk-calls}
 
 -- two choices by one test are related as their sides are
