@@ -312,7 +312,7 @@ walls d r s on also same alike text =
 -- ---- beginnings
 
 -- a state that a sheet began, in its own rooms
-fresh-begins : (d : Desk) (r : Stores) (on : OnDesk d r) → d .log ≡ freshLog (d .heading) → d .account ≡ accountOpened (water (planOn d r) (stateOn d r .depths)) 0 →
+pub fresh-begins : (d : Desk) (r : Stores) (on : OnDesk d r) → d .log ≡ freshLog (d .heading) → d .account ≡ accountOpened (water (planOn d r) (stateOn d r .depths)) 0 →
     BeginsOn d r × BalancedOn d r
 unfolding freshRun namedBelow pick
 fresh-begins d r on fresh opens = (
@@ -356,7 +356,7 @@ fresh-begins d r on fresh opens = (
 
 -- a sheet that was read lies on the desk
 module _ (d : Desk) (r : Stores) (whole : RoomsWhole r) (text : List ℕ) (h : Heading) (read : sheetWithin deskText text (r .sheet) ≡ Read h) where
-  is-well : Well text (r .sheet) h
+  pub is-well : Well text (r .sheet) h
   unfolding sheetWithin
   is-well =
       well text (r .sheet) h
@@ -377,7 +377,7 @@ module _ (d : Desk) (r : Stores) (whole : RoomsWhole r) (text : List ℕ) (h : H
   abbrev laidSheet : Left
   laidSheet = sheetLeft text (Read h) d r
 
-  sheet-on : OnDesk (laidSheet .desk) (laidSheet .rooms)
+  pub sheet-on : OnDesk (laidSheet .desk) (laidSheet .rooms)
   unfolding sheetLeft readyNumber roomsAfter roomsFilled cellsFilled
   sheet-on =
       record {

@@ -135,23 +135,25 @@ after-step p g w z = ready p g (ringOf p (stepped p g w)) (seenOf (stepped p g w
 few-times : (n : ℕ) → n ≤ mostSquares → n * mostDepth ≤ mostSquares * mostDepth
 few-times n h = omega arith
 
-most-held : (p : Plan) (g : Given) (w : World) → Ready p g (seenOf w) → held p w ≤ mostSquares * mostDepth + mostOutflow + mostSoaked
-unfolding held water overOpen
-most-held p g w r =
+pub most-water : (p : Plan) (g : Given) (v : Seen) → Ready p g v → water p (v .depths) ≤ mostSquares * mostDepth
+unfolding water overOpen
+most-water p g v r =
     omega (
       arith,
-      r .outflow-to,
-      r .soaked-to,
-      sum-le (squares (p .shape)) mostDepth (λ i. pick (shut p i) 0 (getD (w .depths) i 0)) square-most,
+      sum-le (squares (p .shape)) mostDepth (λ i. pick (shut p i) 0 (getD (v .depths) i 0)) square-most,
       few-times (squares (p .shape)) (r .waters .fine .few),
     )
   where
-    square-most : (i : ℕ) → i < squares (p .shape) → pick (shut p i) 0 (getD (w .depths) i 0) ≤ mostDepth
+    square-most : (i : ℕ) → i < squares (p .shape) → pick (shut p i) 0 (getD (v .depths) i 0) ≤ mostDepth
     square-most i l = go (shut p i) refl
       where
-        go : (c : Bool) → shut p i ≡ c → pick (shut p i) 0 (getD (w .depths) i 0) ≤ mostDepth
-        go true q = omega (arith, pick-true 0 (getD (w .depths) i 0) q)
-        go false q = omega (arith, pick-false 0 (getD (w .depths) i 0) q, r .flows .lies .depths-to i l q)
+        go : (c : Bool) → shut p i ≡ c → pick (shut p i) 0 (getD (v .depths) i 0) ≤ mostDepth
+        go true q = omega (arith, pick-true 0 (getD (v .depths) i 0) q)
+        go false q = omega (arith, pick-false 0 (getD (v .depths) i 0) q, r .flows .lies .depths-to i l q)
+
+most-held : (p : Plan) (g : Given) (w : World) → Ready p g (seenOf w) → held p w ≤ mostSquares * mostDepth + mostOutflow + mostSoaked
+unfolding held
+most-held p g w r = omega (arith, r .outflow-to, r .soaked-to, most-water p g (seenOf w) r)
 
 module _ (p : Plan) (f : World) where
   alone-clock : (gs : List Given) → AllMade p gs f → f .run .clock + length gs ≤ alone p gs f .run .clock

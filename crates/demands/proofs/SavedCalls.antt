@@ -7,7 +7,7 @@ use mathlib.Core.List.{List, [], _∷_, _++_}
 use Prim.Native.Nat.{ℕ, zero, suc, _≤_, _<_}
 use native.Mathlib.Omega.{arith}
 use lib.ListN.{length, getD}
-use lib.Seq.{length-take-le}
+use lib.Seq.{ext-getD, length-take-le}
 use borrow.Author.Tests.{eq-eqb, le-leb}
 use Rattle.reckon.proofs.TestLaws.{pick-true, each-every}
 use Rattle.reckon.proofs.ListLaws.{length-filled}
@@ -21,6 +21,11 @@ use Rattle.checks.specs.Given.{Given}
 use Rattle.hatches.specs.Log.{Evening}
 use Rattle.evenings.specs.Program.{Stores}
 use Rattle.evenings.specs.Taking.{worldOf}
+use Rattle.programs.specs.Reading.{sheetWithin}
+use Rattle.sheet.specs.Sheet.{headingOf}
+use Rattle.sheet.specs.declared.reading.Heading.{Heading}
+use Rattle.sheet.specs.declared.reading.Sheet as reading
+use Rattle.sheet.specs.declared.reading.Sheet.the-variants.{Read}
 use Rattle.stands.specs.Texts.{standText}
 use Rattle.stands.specs.Laying.{standOf, savedFrom, Water, waterAfter, waterFrom}
 use Rattle.stands.specs.inner.Back.{noneKept, ReadsBack}
@@ -32,18 +37,19 @@ use Rattle.trying.specs.Lines.{came}
 use Rattle.trying.specs.declared.given.Account.{Account}
 use Rattle.desks.specs.State.{deskText, deskSquares, keptSlots}
 use Rattle.desks.specs.Lines.{Told, shown, savedOf, doneText, endingText, stateText, orderTold, standTold, layTold, laidEvening}
-use Rattle.desks.specs.Command.{Left, planOn, isSheet, commandLeft, toldOn}
-use Rattle.desks.specs.declared.orders.Order.the-variants.{Stand, Lay}
+use Rattle.desks.specs.Command.{Left, planOn, isSheet, wantedBy, sheetLeft, commandLeft, toldOn}
+use Rattle.desks.specs.declared.orders.Order.the-variants.{Sheet, Stand, Lay}
 use Rattle.desks.specs.declared.state.Desk.{Desk}
 use Rattle.demands.specs.Desk as deeds
 use Rattle.demands.specs.Desk.{Begins, ShownAlike}
-use Rattle.demands.specs.DeskLines.{OnDesk, stateOn, groundOn}
+use Rattle.demands.specs.DeskLines.{RoomsWhole, OnDesk, stateOn, groundOn}
 use Rattle.demands.specs.DeskCalls.{Call, called, afterCalls, AllTry, deedsIn, BeginsOn, BalancedOn, frameOn, startsAs, comesTo, CallsCome}
 use Rattle.demands.specs.DeskSavedCalls.{CallTurn, callOne, callOther, callsOfOne, callsOfOther, callsInTurn, TwoDesksCalled, SameSheet, savedText, laidOn, LaidAgain, ReadAgain, StandReadBack}
 use Rattle.demands.proofs.DeskSaved.{desk-saved}
 use Rattle.demands.proofs.LineDeeds.{Sized, put-taken, slots-are, shape-fine, state-sized, line-is, lay-is}
-use Rattle.demands.proofs.CallDeeds.{desk-calls}
+use Rattle.demands.proofs.CallDeeds.{desk-calls, is-well}
 use Rattle.demands.proofs.SavedDeeds.{SavableAt, still-savable}
+use Rattle.demands.proofs.SavedSheet.{read-on, read-begins, read-savable}
 
 -- ---- two desks
 
@@ -56,15 +62,6 @@ apart (callOther c ∷ rest) d r d′ r′ = apart rest d r (called c d′ r′ 
 
 pub two-desks-called : TwoDesksCalled
 two-desks-called = record { apart = apart }
-
--- ---- lists
-
-list-same : (l m : List ℕ) → length l ≡ length m → ((i : ℕ) → i < length l → getD l i 0 ≡ getD m i 0) → l ≡ m
-list-same [] [] e h = refl
-list-same [] (b ∷ m) e h = absurd (omega (arith, e))
-list-same (a ∷ l) [] e h = absurd (omega (arith, e))
-list-same (a ∷ l) (b ∷ m) e h =
-    ap₂ (λ (k : ℕ) (n : List ℕ). k ∷ n) (h 0 (omega arith)) (list-same l m (omega (arith, e)) (λ i k. h (suc i) (omega arith)))
 
 -- ---- a text laid on a desk
 
@@ -142,7 +139,7 @@ module _ (d : Desk) (r : Stores) (on : OnDesk d r) where
           (lasts-closed : (i : ℕ) → closed (P .marks) i ≡ true → getD (E .lasts) i 0 ≡ getD (e .lasts) i 0) where
         depths-same : e .depths ≡ waterAfter P text 0 old .depths
         depths-same =
-            list-same _ _ (depths-long ∙ sym (lay-sized text .depths)) (λ i l.
+            ext-getD 0 _ _ (depths-long ∙ sym (lay-sized text .depths)) (λ i l.
             sym (ap (λ (t : List ℕ). getD (waterAfter P t 0 old .depths) i 0) is ∙ at i (omega (arith, l, depths-long, state-sized d r on .depths)) (closed (P .marks) i) refl))
           where
             at : (i : ℕ) → i < length (E .depths) → (c : Bool) → closed (P .marks) i ≡ c →
@@ -152,7 +149,7 @@ module _ (d : Desk) (r : Stores) (on : OnDesk d r) where
 
         lasts-same : e .lasts ≡ waterAfter P text 0 old .lasts
         lasts-same =
-            list-same _ _ (lasts-long ∙ sym (lay-sized text .lasts)) (λ i l.
+            ext-getD 0 _ _ (lasts-long ∙ sym (lay-sized text .lasts)) (λ i l.
             sym (ap (λ (t : List ℕ). getD (waterAfter P t 0 old .lasts) i 0) is ∙ at i (omega (arith, l, lasts-long, state-sized d r on .lasts)) (closed (P .marks) i) refl))
           where
             at : (i : ℕ) → i < length (E .lasts) → (c : Bool) → closed (P .marks) i ≡ c →
@@ -300,5 +297,23 @@ module _ (d : Desk) (r : Stores) (on : OnDesk d r) (marks : length (r .sheet .ce
       let b = desk-calls .lay-begins d r on text bytes whole few z in
       again (left .desk) (left .rooms) (b .0) (b .1) q left-savable calls t d′ r′ same short
 
+-- a sheet that is read has the heading of its text
+from-sheet : (d : Desk) (r : Stores) → RoomsWhole r → (text : List ℕ) (bytes : ℕ) (h : Heading) → length text ≡ bytes → sheetWithin deskText text (r .sheet) ≡ Read h →
+    ReadAgain (commandLeft d r text (Sheet bytes) .desk) (commandLeft d r text (Sheet bytes) .rooms)
+unfolding commandLeft isSheet wantedBy
+from-sheet d r whole text bytes h long read =
+    subst (λ (k : Left). ReadAgain (k .desk) (k .rooms))
+    (sym (pick-true _ _ refl ∙ (pick-true _ _ (eq-eqb _ _ long) ∙ ap (λ (x : reading.Sheet). sheetLeft text x d r) own)))
+    (λ calls t d′ r′ same short.
+    let b = read-begins d r whole text own in
+    again _ _ (read-on d r whole text own) (b .0) (b .1) (read-savable d r whole text own) calls t d′ r′ same short)
+  where
+    own : sheetWithin deskText text (r .sheet) ≡ Read (headingOf text)
+    own = read ∙ ap (λ (k : Heading). Read k) (is-well d r whole text h read .heading)
+
 pub stand-read-back : StandReadBack
-stand-read-back = record { from-lay = λ d r on marks text bytes whole few z q. from-lay d r on marks text bytes whole few z q }
+stand-read-back =
+    record {
+      from-sheet = λ d r whole text bytes h long read. from-sheet d r whole text bytes h long read;
+      from-lay = λ d r on marks text bytes whole few z q. from-lay d r on marks text bytes whole few z q;
+    }

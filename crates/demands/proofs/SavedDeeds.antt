@@ -209,10 +209,10 @@ module _ (p : Plan) (g : Given) (e₀ : Evening) (a₀ : Account) (first : Begin
 
 -- ---- what is seen is in range
 
-abbrev InRange : Plan → Seen → Type 0
+abbrev pub InRange : Plan → Seen → Type 0
 InRange p v = (watersFine p (v .depths) (v .lasts) ≡ true) × (runValuesFine true (v .clock) (v .length) (v .outflow) (v .soaked) ≡ true)
 
-ready-range : (p : Plan) (g : Given) (v : Seen) → Ready p g v → InRange p v
+pub ready-range : (p : Plan) (g : Given) (v : Seen) → Ready p g v → InRange p v
 unfolding watersFine waterFine runValuesFine
 ready-range p g v r = (
   all-of (squares (p .shape)) _ (λ i l.

@@ -8,15 +8,18 @@ use Prim.Native.Nat.{ℕ, _≤_}
 use lib.ListN.{length, getD}
 use Rattle.grid.specs.Marks.{closed}
 use Rattle.evenings.specs.Program.{Stores}
+use Rattle.programs.specs.Reading.{sheetWithin}
+use Rattle.sheet.specs.declared.reading.Heading.{Heading}
+use Rattle.sheet.specs.declared.reading.Sheet.the-variants.{Read}
 use Rattle.stands.specs.Laying.{standOf}
 use Rattle.stands.specs.Texts.{standText}
 use Rattle.desks.specs.State.{deskText, deskSquares, keptSlots}
 use Rattle.desks.specs.Lines.{savedOf, doneText, endingText}
 use Rattle.desks.specs.Command.{Left, planOn, commandLeft}
-use Rattle.desks.specs.declared.orders.Order.the-variants.{Stand, Lay}
+use Rattle.desks.specs.declared.orders.Order.the-variants.{Sheet, Stand, Lay}
 use Rattle.desks.specs.declared.state.Desk.{Desk}
 use Rattle.demands.specs.Desk.{Deed, deskAfter, ShownAlike, numbersOf, AllWithin}
-use Rattle.demands.specs.DeskLines.{OnDesk, stateOn, groundOn}
+use Rattle.demands.specs.DeskLines.{RoomsWhole, OnDesk, stateOn, groundOn}
 use Rattle.demands.specs.DeskCalls.{Call, called, afterCalls, AllTry, BeginsOn, BalancedOn, frameOn, startsAs, comesTo}
 
 -- ---- two desks
@@ -95,6 +98,9 @@ ReadAgain d r =
     length (savedText d r calls d′ r′) ≤ deskText → LaidAgain d r calls d′ r′
 
 pub record StandReadBack : Type 0 where
+  -- from a sheet that is read
+  pub from-sheet : (d : Desk) (r : Stores) → RoomsWhole r → (text : List ℕ) (bytes : ℕ) (h : Heading) → length text ≡ bytes →
+      sheetWithin deskText text (r .sheet) ≡ Read h → let l = commandLeft d r text (Sheet bytes) in ReadAgain (l .desk) (l .rooms)
   -- from a saved state that is not refused, and whose account holds
   pub from-lay : (d : Desk) (r : Stores) → OnDesk d r → length (r .sheet .cells .marks) ≡ deskSquares → (text : List ℕ) (bytes : ℕ) → length text ≡ bytes →
       length text ≤ deskText → standOf (planOn d r) (groundOn d r .inflow) (keptSlots (d .heading .shape)) text .number ≡ 0 →
