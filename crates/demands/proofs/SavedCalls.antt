@@ -1,10 +1,10 @@
 -- Two desks of calls: each call touches its own desk and rooms. And a text that `stand` printed is laid: what stands can be saved, so its text
 -- reads back, into rooms that then hold the same.
 -- Assumes nothing.
-use mathlib.Core.Path.{_≡_, refl, sym, ap, ap₂, subst, _∙_}
+use mathlib.Core.Path.{_≡_, refl, sym, ap, subst, _∙_}
 use mathlib.Core.Bool.{Bool, true, false}
 use mathlib.Core.List.{List, [], _∷_, _++_}
-use Prim.Native.Nat.{ℕ, zero, suc, _≤_, _<_}
+use Prim.Native.Nat.{ℕ, _≤_, _<_}
 use native.Mathlib.Omega.{arith}
 use lib.ListN.{length, getD}
 use lib.Seq.{ext-getD, length-take-le}
@@ -140,7 +140,7 @@ module _ (d : Desk) (r : Stores) (on : OnDesk d r) where
         depths-same : e .depths ≡ waterAfter P text 0 old .depths
         depths-same =
             ext-getD 0 _ _ (depths-long ∙ sym (lay-sized text .depths)) (λ i l.
-                sym (ap (λ (t : List ℕ). getD (waterAfter P t 0 old .depths) i 0) is ∙ at i (omega (arith, l, depths-long, state-sized d r on .depths)) (closed (P .marks) i) refl))
+            sym (ap (λ (t : List ℕ). getD (waterAfter P t 0 old .depths) i 0) is ∙ at i (omega (arith, l, depths-long, state-sized d r on .depths)) (closed (P .marks) i) refl))
           where
             at : (i : ℕ) → i < length (E .depths) → (c : Bool) → closed (P .marks) i ≡ c →
                 getD (waterAfter P (standText P (e .depths) (e .lasts) (savedOf (e .log) a)) 0 old .depths) i 0 ≡ getD (e .depths) i 0
@@ -150,7 +150,7 @@ module _ (d : Desk) (r : Stores) (on : OnDesk d r) where
         lasts-same : e .lasts ≡ waterAfter P text 0 old .lasts
         lasts-same =
             ext-getD 0 _ _ (lasts-long ∙ sym (lay-sized text .lasts)) (λ i l.
-                sym (ap (λ (t : List ℕ). getD (waterAfter P t 0 old .lasts) i 0) is ∙ at i (omega (arith, l, lasts-long, state-sized d r on .lasts)) (closed (P .marks) i) refl))
+            sym (ap (λ (t : List ℕ). getD (waterAfter P t 0 old .lasts) i 0) is ∙ at i (omega (arith, l, lasts-long, state-sized d r on .lasts)) (closed (P .marks) i) refl))
           where
             at : (i : ℕ) → i < length (E .lasts) → (c : Bool) → closed (P .marks) i ≡ c →
                 getD (waterAfter P (standText P (e .depths) (e .lasts) (savedOf (e .log) a)) 0 old .lasts) i 0 ≡ getD (e .lasts) i 0
