@@ -25,6 +25,7 @@ pub mod RunStops
 pub mod SavedCalls
 pub mod SavedDeeds
 pub mod SavedSheet
+pub mod SavedShort
 pub mod StepCount
 pub mod Surveys
 pub mod Table

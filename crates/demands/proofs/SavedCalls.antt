@@ -1,10 +1,10 @@
 -- Two desks of calls: each call touches its own desk and rooms. And a text that `stand` printed is laid: what stands can be saved, so its text
 -- reads back, into rooms that then hold the same.
 -- Assumes nothing.
-use mathlib.Core.Path.{_≡_, refl, sym, ap, ap₂, subst, _∙_}
+use mathlib.Core.Path.{_≡_, refl, sym, ap, subst, _∙_}
 use mathlib.Core.Bool.{Bool, true, false}
 use mathlib.Core.List.{List, [], _∷_, _++_}
-use Prim.Native.Nat.{ℕ, zero, suc, _≤_, _<_}
+use Prim.Native.Nat.{ℕ, _≤_, _<_}
 use native.Mathlib.Omega.{arith}
 use lib.ListN.{length, getD}
 use lib.Seq.{ext-getD, length-take-le}
@@ -50,6 +50,7 @@ use Rattle.demands.proofs.LineDeeds.{Sized, put-taken, slots-are, shape
 use Rattle.demands.proofs.CallDeeds.{desk-calls, is-well}
 use Rattle.demands.proofs.SavedDeeds.{SavableAt, still-savable}
 use Rattle.demands.proofs.SavedSheet.{read-on, read-begins, read-savable}
+use Rattle.demands.proofs.SavedShort.{stand-short}
 
 -- ---- two desks
 
@@ -214,12 +215,17 @@ module _ (d : Desk) (r : Stores) (on : OnDesk d r) (first : BeginsOn d r) (q : B
       savable-as (sym (came-to .plan-same)) (sym (came-to .ground-same)) (came-to .standing .at-is) (came-to .standing .account-is)
       (still-savable (planOn d r) (groundOn d r) (stateOn d r) (d .account) first q (keptSlots (d .heading .shape)) s (deedsIn calls d r))
 
-  module _ (d′ : Desk) (r′ : Stores) (same : SameSheet now rooms d′ r′) (few : length (savedText d r calls d′ r′) ≤ deskText) where
+  module _ (d′ : Desk) (r′ : Stores) (same : SameSheet now rooms d′ r′) where
     abbrev text : List ℕ
     text = savedText d r calls d′ r′
 
     abbrev l : Left
     l = laidOn d r calls d′ r′
+
+    few : length text ≤ deskText
+    few =
+        stand-short (planOn now rooms) (groundOn now rooms .inflow) (keptSlots (now .heading .shape)) (stateOn now rooms .depths) (stateOn now rooms .lasts)
+        (savedOf (now .log) (now .account)) now-savable
 
     text-is : text ≡ standText (planOn d′ r′) (stateOn now rooms .depths) (stateOn now rooms .lasts) (savedOf (now .log) (now .account))
     text-is = ap (λ (p : Plan). standText p (stateOn now rooms .depths) (stateOn now rooms .lasts) (savedOf (now .log) (now .account))) (sym (same .plan-same))
@@ -293,9 +299,9 @@ module _ (d : Desk) (r : Stores) (on : OnDesk d r) (marks : length (r .sheet .ce
       (sym (lay-left d r on text bytes whole few z)) (savable-as {g = groundOn d r} {a = layTells d r on text .account} refl refl (sym (state-laid d r on text)) refl (laid-can d r on marks text z))
 
   from-lay : BalancedOn (left .desk) (left .rooms) → ReadAgain (left .desk) (left .rooms)
-  from-lay q calls t d′ r′ same short =
+  from-lay q calls t d′ r′ same =
       let b = desk-calls .lay-begins d r on text bytes whole few z in
-      again (left .desk) (left .rooms) (b .0) (b .1) q left-savable calls t d′ r′ same short
+      again (left .desk) (left .rooms) (b .0) (b .1) q left-savable calls t d′ r′ same
 
 -- a sheet that is read has the heading of its text
 from-sheet : (d : Desk) (r : Stores) → RoomsWhole r → (text : List ℕ) (bytes : ℕ) (h : Heading) → length text ≡ bytes → sheetWithin deskText text (r .sheet) ≡ Read h →
@@ -304,9 +310,9 @@ unfolding commandLeft isSheet wantedBy
 from-sheet d r whole text bytes h long read =
     subst (λ (k : Left). ReadAgain (k .desk) (k .rooms))
     (sym (pick-true _ _ refl ∙ (pick-true _ _ (eq-eqb _ _ long) ∙ ap (λ (x : reading.Sheet). sheetLeft text x d r) own)))
-    (λ calls t d′ r′ same short.
+    (λ calls t d′ r′ same.
     let b = read-begins d r whole text own in
-    again _ _ (read-on d r whole text own) (b .0) (b .1) (read-savable d r whole text own) calls t d′ r′ same short)
+    again _ _ (read-on d r whole text own) (b .0) (b .1) (read-savable d r whole text own) calls t d′ r′ same)
   where
     own : sheetWithin deskText text (r .sheet) ≡ Read (headingOf text)
     own = read ∙ ap (λ (k : Heading). Read k) (is-well d r whole text h read .heading)

@@ -1,9 +1,9 @@
 -- Whatever deeds follow, what stands can be saved: its numbers pass the very tests of `lay`.
 -- Assumes nothing.
-use mathlib.Core.Path.{_≡_, refl, sym, ap, ap₂, subst, _∙_}
+use mathlib.Core.Path.{_≡_, refl, sym, ap, subst, _∙_}
 use mathlib.Core.Bool.{Bool, true, false, not, _||_}
-use mathlib.Core.List.{List, [], _∷_, map}
-use Prim.Native.Nat.{ℕ, zero, suc, _+_, _-_, _≤_, _<_}
+use mathlib.Core.List.{List, [], _∷_}
+use Prim.Native.Nat.{ℕ, zero, suc, _-_, _≤_, _<_}
 use native.Mathlib.Omega.{arith}
 use native.Mathlib.Decide.{ℕ-discrete}
 use lib.Dec.{leb}
@@ -15,20 +15,19 @@ use Rattle.reckon.specs.Ranges.{mostLitres, waterFine}
 use Rattle.reckon.proofs.TestLaws.{not-both, every-each, each-every, all-at, all-of, or-right, or-of, refusal-passed}
 use Rattle.grid.specs.Squares.{squares}
 use Rattle.ledger.specs.Runs.{Plan, World, Seen, seenOf, runFine, runValuesFine}
-use Rattle.ledger.specs.Record.{roomSlots}
 use Rattle.ledger.specs.Flows.{shut}
 use Rattle.ledger.specs.Checks.{watersFine}
 use Rattle.checks.specs.Given.{Given}
 use Rattle.checks.specs.inner.Ready.{Ready}
-use Rattle.hatches.specs.Log.{Evening, evening, mostHatches, isNamed, lineFine, drawFine, standingFine, hatchNamed}
+use Rattle.hatches.specs.Log.{Evening, mostHatches, isNamed, lineFine, drawFine, standingFine, hatchNamed}
 use Rattle.hatches.proofs.RefusalLaws.{back-kept, standing-is}
 use Rattle.hatches.specs.declared.log.Hatches.{Hatches}
 use Rattle.hatches.specs.declared.log.Log.{Log}
 use Rattle.evenings.specs.Taking.{worldOf, afterBack}
 use Rattle.stands.specs.Laying.{mostStart, mostGiven, hatchFine, hatchesFine, drawsFine, stateFine}
-use Rattle.stands.specs.inner.Back.{Tidy, Savable, noneKept}
+use Rattle.stands.specs.inner.Back.{Tidy, Savable}
 use Rattle.stands.proofs.TidyLaws.{tidy-named, tidy-drawn}
-use Rattle.trying.specs.Lines.{nameRefusals, drawRefusals, backRefusals}
+use Rattle.trying.specs.Lines.{backRefusals}
 use Rattle.trying.specs.declared.given.Account.{Account}
 use Rattle.desks.specs.Lines.{savedOf}
 use Rattle.demands.specs.Demand3.{alone, AllMade}

@@ -91,11 +91,10 @@ module _ (d : Desk) (r : Stores) (calls : List Call) (d′ : Desk) (r′ : Store
         ShownAlike (planOn d r) (groundOn d r) (deskAfter (planOn d r) (groundOn d r) further (comesTo d r calls))
         (deskAfter (planOn d r) (groundOn d r) further (startsAs (laidOn .desk) (laidOn .rooms)))
 
--- from this desk on, whatever calls follow, as long as the text is not longer than a desk takes
+-- from this desk on, whatever calls follow
 abbrev pub ReadAgain : Desk → Stores → Type 0
 ReadAgain d r =
-    (calls : List Call) → AllTry calls → (d′ : Desk) (r′ : Stores) → SameSheet (afterCalls calls d r .0) (afterCalls calls d r .1) d′ r′ →
-    length (savedText d r calls d′ r′) ≤ deskText → LaidAgain d r calls d′ r′
+    (calls : List Call) → AllTry calls → (d′ : Desk) (r′ : Stores) → SameSheet (afterCalls calls d r .0) (afterCalls calls d r .1) d′ r′ → LaidAgain d r calls d′ r′
 
 pub record StandReadBack : Type 0 where
   -- from a sheet that is read
