@@ -1,6 +1,6 @@
 #!/usr/bin/env python3
 """make.py [FOLDER]: makes the sample sheets, the sample log, and a winter's sheets with their list and with level boards for one of them, and the
-answer to each by documents 01 and 02 in Python, in samples/ or in another folder."""
+answer to each by documents 01 and 02 in Python, and a season for the desk, in samples/ or in another folder."""
 import sys
 from pathlib import Path
 
@@ -99,6 +99,37 @@ def winter_sheet(leat, snow, rain, hatches):
     return sheet.text(HOUR)
 
 
+# the season's hatches in the north of the walled meadow: columns, and names
+SEASON_ROW = 3
+SEASON_HATCHES = {
+    6: "Mill stile",
+    8: "Long ham",
+    11: "Old orchard",
+    14: "Ash bed",
+    17: "Middle mead",
+    20: "Wheel-house",
+    23: "Cow leaze",
+    26: "Far ham",
+    28: "Parson's",
+}
+
+
+def season_sheet():
+    """The walled meadow on a wet spring day: clay that takes little, and rain that doubles after a quarter of an hour."""
+    sheet = walled_meadow(120 * MILLIMETRE, shortest=100, longest=8 * SECOND, update=30 * SECOND, edge=50)
+    for place in sheet.ground():
+        sheet.squares[place]["rate"] = 2 * CLAY
+    sheet.rain += [(0, 15 * MINUTE, 6_000), (15 * MINUTE, HOUR, 12_000)]
+    return sheet.text(2 * HOUR)
+
+
+def season_log():
+    """The season's first ten minutes: four hatches drawn one after the other, and the first of them shut again."""
+    named = [f"hatch {number} {SEASON_ROW} {column}" for number, column in enumerate(SEASON_HATCHES, 1)]
+    drawn = ["0 1 120", "0 2 120", "0 8 90", f"{2 * MINUTE} 3 160", f"{5 * MINUTE} 1 0", f"{10 * MINUTE} 8 90"]
+    return written(*named, *drawn)
+
+
 SAMPLES = {
     "document-01": document_01,
     "dry-weather": dry_weather,
@@ -147,6 +178,15 @@ def make_winter(folder):
     (folder / "winter.list.out").write_text(winters.answered(given, sheets.get), encoding="ascii")
 
 
+def make_season(folder):
+    """The season's folder as the keeper has it before the first run."""
+    folder.mkdir(exist_ok=True)
+    (folder / "season.sheet").write_text(season_sheet(), encoding="ascii")
+    (folder / "season.log").write_text(season_log(), encoding="ascii")
+    names = "".join(f"{number}\t{name}\n" for number, name in enumerate(SEASON_HATCHES.values(), 1))
+    (folder / "season.names").write_text(names, encoding="ascii")
+
+
 def main():
     folder = Path(sys.argv[1]) if len(sys.argv) > 1 else Path(__file__).resolve().parent
     for name, made in SAMPLES.items():
@@ -162,6 +202,8 @@ def main():
     make_winter(folder / "winter")
     make_boards(folder / "winter")
     print("winter")
+    make_season(folder / "season")
+    print("season")
     return 0
 
 

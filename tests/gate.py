@@ -187,14 +187,35 @@ def without_the_kit(checks, room):
     path = ":".join([str(room.stand_ins), *(folder for folder in os.environ["PATH"].split(":") if not (Path(folder) / "rt").exists())])
     room.write("target/bin/tool", 'echo "ran bare"')
     os.utime(room.top / "target/bin/tool", (2**33 + 10, 2**33 + 10))
-    for machine, wanted in (("x86_64", (0, "ran bare\n")), ("aarch64", (1, "bin/run: tool is a program for x86-64, and on this machine it needs"))):
+    cases = {"x86_64": (0, "ran bare\n")}
+    if not shutil.which("qemu-x86_64", path=path):
+        cases["aarch64"] = (1, "bin/run: tool is a program for x86-64, and on this machine it needs")
+    for machine, wanted in cases.items():
         room.stand_in("uname", f"echo {machine}")
         status, printed = room.ran("bin/run", "tool", PATH=path)
         checks.hold(status == wanted[0] and printed.startswith(wanted[1]), f"bin/run without the kit on {machine}: status {status}, {printed!r}")
     checks.hold(room.ran("bin/run", "--build", "tool", PATH=path) == (0, ""), "bin/run --build runs what is built, or wants the kit for it")
+    without_sources(checks, path, room)
     os.utime(room.top / "crates/low/src/lib.rt", (2**33 + 20, 2**33 + 20))
     status, printed = room.ran("bin/run", "tool", PATH=path)
     checks.hold(status == 1 and "there is no rt on the path to build it" in printed, f"bin/run without the kit, a source newer: status {status}, {printed!r}")
+
+
+def without_sources(checks, path, room):
+    """A release: the programs lie in a folder of their own and are not built, and on Arm Debian's emulator runs them, with the other libc."""
+    (room.top / "crates").rename(room.top / "put-away")
+    room.write("programs/tool", 'echo "ran released"')
+    ran = lambda *words: room.ran("bin/run", *words, PATH=path)
+    room.stand_in("uname", "echo x86_64")
+    checks.hold(ran("tool") == (0, "ran released\n"), f"bin/run of a release: {ran('tool')}")
+    checks.hold(ran("--words", "tool") == (0, f"{room.top}/programs/tool\n"), f"bin/run --words of a release: {ran('--words', 'tool')}")
+    status, printed = ran("nosuch")
+    checks.hold(status == 2 and printed.endswith("one of: tool\n"), f"bin/run nosuch of a release: status {status}, {printed!r}")
+    room.stand_in("uname", "echo aarch64")
+    room.stand_in("qemu-x86_64", 'echo "emulated ${!#}"')
+    checks.hold(ran("tool") == (0, f"emulated {room.top}/programs/tool\n"), f"bin/run of a release on Arm: {ran('tool')}")
+    (room.stand_ins / "qemu-x86_64").unlink()
+    (room.top / "put-away").rename(room.top / "crates")
 
 
 def main():

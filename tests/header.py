@@ -1,5 +1,6 @@
-"""The headers flood.h and display.h, and the declarations for Rust under tests/outside, say what the exported functions take and give; every
-exported function stands in them, with the stack that suffices for it, and a struct that is lent lies in memory as its header says."""
+"""The headers flood.h and display.h, and the declarations for Rust and Python, say what the exported functions take and give; every exported
+function stands in them, with the stack that suffices for it, and a struct that is lent lies in memory as its header says. The release is that of
+VERSION everywhere."""
 import ctypes
 import re
 
@@ -10,9 +11,7 @@ IN_PYTHON = {"bool": ctypes.c_bool, "u32": ctypes.c_uint32, "u64": ctypes.c_uint
 
 
 def hold_library(checks, library):
-    """One library: its two files are as made, and its functions are those of its sources."""
-    for stored, made in ((library.header, header.header(library)), (library.declared, header.declared(library))):
-        checks.hold(stored.exists() and stored.read_text() == made, f"{stored.name} is not what tools/header.py makes of the sources")
+    """One library: its functions are those of its sources."""
     exported = set()
     for source in library.sources().glob("*.rt"):
         exported |= set(re.findall(r"extern \"C\" fn (\w+)", source.read_text()))
@@ -36,8 +35,23 @@ def hold_structs(checks, library):
             checks.hold(at == getattr(in_c, name).offset, f"{name} of a {struct.name} lies at {getattr(in_c, name).offset} in C, not at {at}")
 
 
+def hold_made(checks):
+    """Every file is as made."""
+    for stored, made in header.files().items():
+        checks.hold(stored.exists() and stored.read_text() == made, f"{stored.name} is not what tools/header.py makes of the sources")
+
+
+def hold_version(checks):
+    """Cargo's two files have the release of VERSION too."""
+    for name in ("Cargo.toml", "Cargo.lock"):
+        told = re.findall(r'^version = "(.*)"$', (header.ROOT / "rust" / name).read_text(), re.M)
+        checks.hold(told == [header.version()], f"rust/{name} has the release {told}, and VERSION {header.version()}")
+
+
 def main():
     checks = Checks("header")
+    hold_made(checks)
+    hold_version(checks)
     for library in header.LIBRARIES:
         hold_library(checks, library)
         hold_structs(checks, library)

@@ -7,7 +7,7 @@ import subprocess
 from meadow.counted import Checks
 from meadow.programs import TOP
 
-FOLDERS = (".ci", "bin", "python", "samples", "tests", "tools", "validation")
+FOLDERS = (".ci", "bin", "examples", "python", "samples", "tests", "tools", "validation")
 # what is read from another file is looked up there
 SHELLCHECK, PYFLAKES = ["shellcheck", "-x", "-f", "gcc"], ["pyflakes3"]
 FINDING = re.compile(r"(.*?):\d+:\d+:? .*")

@@ -61,7 +61,7 @@ told() {
     [ "${PIPESTATUS[0]}" -eq 0 ] || failed=$((failed + 1))
 }
 
-if ! { cases && archive && programs; }; then
+if ! { cases && archive && wrapper && programs; }; then
     ended 0 0 1
 fi
 failed=0

@@ -44,11 +44,11 @@ UNITS = {
     "outflow total": "outflow",
     "total soaked": "soaked",
 }
-PATH = re.compile(r"`((?:\.ci|bin|crates|docs|python|samples|tests|tools|validation)/[\w./-]+?)/?`")
+PATH = re.compile(r"`((?:\.ci|bin|crates|docs|examples|python|rust|samples|tests|tools|validation)/[\w./-]+?)/?`")
 LINK = re.compile(r"\]\((?!http|#)([^)#]+)\)")
 FENCED = re.compile(r"^```.*?^```", re.S | re.M)
 NAME = re.compile(r"[A-Za-z_][\w′'-]*")
-SOURCES = (".ci", "bin", "crates", "python", "samples", "tests", "tools", "validation")
+SOURCES = (".ci", "bin", "crates", "examples", "python", "rust", "samples", "tests", "tools", "validation")
 # docs/CHANGES.md tells what was, with names that have gone since
 OF_THE_PAST = {"CHANGES.md"}
 # names of the kit, which stand in no source of this project
@@ -193,9 +193,9 @@ def hold_edits(checks):
 
 
 def source_names():
-    """Every word that stands in a source or is the name of one, but for this file and for what edits say."""
+    """Every word that stands in a source or is the name of one, but for this file, for what edits say and for what cargo builds."""
     names = set(NAME.findall((TOP / "crates.txt").read_text(encoding="utf-8")))
-    for path in (path for folder in SOURCES for path in (TOP / folder).rglob("*")):
+    for path in (path for folder in SOURCES for path in (TOP / folder).rglob("*") if TOP / "rust" / "target" not in path.parents):
         names |= {path.name, path.stem}
         if path.is_file() and path.suffix not in (".pyc", ".edit") and path != Path(__file__).resolve():
             names |= {name.rstrip("'-") for name in NAME.findall(path.read_text(encoding="utf-8"))}

@@ -1,6 +1,6 @@
 """The samples are what samples/make.py makes, byte for byte; the built `meadow` prints of each sheet the answer beside it, the built `hatchlog`
 of each log, the built `drowned` of the winter's list, and the built `boards` of the boards beside a sheet of it. The sample evening leaves no
-mark of what was tried and taken back."""
+mark of what was tried and taken back. The season for the desk is as made."""
 import subprocess
 import sys
 import tempfile
@@ -11,11 +11,12 @@ from meadow.logs.answers import answered
 from meadow.programs import TOP, printed, printed_of_named
 
 SAMPLES = TOP / "samples"
+KINDS = (".sheet", ".log", ".names", ".list", ".boards", ".out")
 
 
 def named(folder):
-    """The sheets, logs, lists, boards and answers of a folder by name."""
-    return {path.name: path.read_bytes() for path in sorted(folder.iterdir()) if path.suffix in (".sheet", ".log", ".list", ".boards", ".out")}
+    """The sheets, logs, names of hatches, lists, boards and answers of a folder by name."""
+    return {path.name: path.read_bytes() for path in sorted(folder.iterdir()) if path.suffix in KINDS}
 
 
 def hold_winter(checks, made):
@@ -55,7 +56,7 @@ def main():
     checks = Checks("samples")
     with tempfile.TemporaryDirectory() as room:
         subprocess.run([sys.executable, SAMPLES / "make.py", room], check=True, stdout=subprocess.DEVNULL)
-        made, winter = named(Path(room)), named(Path(room) / "winter")
+        made, winter, season = (named(Path(room) / part) for part in (".", "winter", "season"))
     stored = named(SAMPLES)
     for name in sorted(made.keys() | stored.keys()):
         checks.hold(made.get(name) == stored.get(name), f"samples/{name} is not what samples/make.py makes")
@@ -70,6 +71,7 @@ def main():
     checks.hold(logs != [], "samples/ has no log")
     hold_no_mark(checks, stored)
     hold_winter(checks, winter)
+    checks.hold(season == named(SAMPLES / "season") != {}, "samples/season is not what samples/make.py makes")
     checks.end()
 
 

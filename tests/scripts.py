@@ -13,7 +13,7 @@ from meadow.sheets.lines import SQUARE
 
 # the lowest first
 PACKAGES = ("rule", "sheets", "logs", "peaks", "boards", "words", "surveys", "maps")
-FOLDERS = ("python", "samples", "tests", "tools", "validation")
+FOLDERS = ("examples", "python", "samples", "tests", "tools", "validation")
 SAMPLE = [TOP / "samples" / f"walled-meadow.{kind}" for kind in ("sheet", "out")]
 WITH_BOARDS = [TOP / "samples" / "winter" / f"3-christmas.{kind}" for kind in ("sheet", "boards")]
 # a tool, and words with which it prints

@@ -15,7 +15,7 @@ if ! tools; then
     echo "stack: skipped: the stack of the exported calls: $why"
     ended 0 1 0
 fi
-if ! { archive && build stack; }; then
+if ! { archive && wrapper && build stack; }; then
     ended 0 0 1
 fi
 ulimit -c 0

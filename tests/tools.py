@@ -21,7 +21,7 @@ PAGE, README = TOP / "docs" / "TOOLS.md", TOP / "README.md"
 SAMPLES = TOP / "samples"
 # what tools begin with, those that look after the project itself, and the one that the programs' own scripts end with; all others are for the
 # warden and the keeper
-OWN = {"architecture", "begin", "believed", "dev", "edits", "header", "pictures", "places", "sense", "speed", "unused", "walks", "watched"}
+OWN = {"architecture", "begin", "believed", "desk_pace", "desk_speed", "dev", "edits", "header", "manual", "pictures", "places", "release", "sense", "speed", "unused", "walks", "watched"}
 PROGRAMS = [f"bin/{name}" for name in ("meadow", "hatchlog", "drowned", "highest", "boards", "repair", "to_survey", "from_survey")]
 FOR_PEOPLE = [*PROGRAMS, *(f"tools/{path.name}" for path in sorted((TOP / "tools").glob("*.py")) if path.stem not in OWN)]
 LEFT_OUT = "..."
@@ -84,15 +84,19 @@ def hold_page(checks, room):
 
 
 def hold_readme(checks, room):
-    """README's first command, the line of sense that it is said to end with, and the next that makes the map."""
+    """README's three commands; the first, the line of sense that it is said to end with, and the next that makes the map."""
     text = README.read_text(encoding="utf-8")
     commands = [line.split("#")[0].strip() for line in re.findall(r"^ {4}(.*)$", text, re.M)]
-    checks.hold(commands[:2] == ["bin/meadow samples/walled-meadow.sheet", "bash .ci/run"], f"README.md begins with {commands[:2]}")
-    status, printed, sense = ran(commands[0], room)
+    first, *others = commands[:3]
+    checks.hold(
+        first == "bin/meadow samples/walled-meadow.sheet" and others == ["bash .ci/run", "bin/desk"],
+        f"README.md begins with {commands[:3]}",
+    )
+    status, printed, sense = ran(first, room)
     checks.hold(status == 0 and printed == (SAMPLES / "walled-meadow.out").read_text(), "README.md's first command does not print the answer")
-    checks.hold(sense.splitlines() == commands[2:5], f"README.md's first command says {sense!r}, not {commands[2:5]!r}")
-    status, _, complained = ran(commands[5], room)
-    checks.hold(status == 0 and complained == "" and commands[5].startswith("python3 tools/map.py"), f"README.md's next command: {complained}")
+    checks.hold(sense.splitlines() == commands[3:6], f"README.md's first command says {sense!r}, not {commands[3:6]!r}")
+    status, _, complained = ran(commands[6], room)
+    checks.hold(status == 0 and complained == "" and commands[6].startswith("python3 tools/map.py"), f"README.md's next command: {complained}")
     drawn = (room / "map.svg").read_text() if (room / "map.svg").exists() else ""
     checks.hold(drawn == (TOP / "docs" / "pictures" / "walled-meadow.svg").read_text(), "README.md's next command does not make its picture")
 

@@ -22,8 +22,9 @@ from rattle.functions import library_functions
 from rattle.specs import Specs
 
 TOP = Path(__file__).resolve().parent.parent
-# a little above what there is; a request that lands may raise it. 2,300 was set for all of document 02, and is passed: see docs/CHANGES.md
-MOST = 2520
+# a little above what there is; a landing may raise it. 2,300 was set for all of document 02, and is passed: see docs/CHANGES.md. The desk and
+# its saved states are some 630 of them
+MOST = 3150
 WORKED = "Worked"
 BELIEVED, LAYER, IDLE, INNER = "believed", "layers", "reached by nothing", "inner"
 

@@ -1,6 +1,7 @@
 /* Level boards in C: a run to an end that keeps boards. Made from crates/display and crates/display_exports by tools/header.py, and kept true by
    tests/header.py. It stands beside flood.h, whose first words hold here too: what a caller owes, what each array has, and what numbers say.
-   libdisplay_exports.a has this call alone and rests on nothing of libexports.a; a program that makes calls of both headers links both.
+   A release's libflood.a and libflood.so have this call beside those of flood.h. Built apart, libdisplay_exports.a has this call alone and rests on
+   nothing of libexports.a; a program that makes calls of both headers then links both.
 
    flood_run_to_boards is flood_run_to_wet with one array more, the boards, which is followed by how many there are. It gives and writes just
    what flood_run_to_wet does, but for what 13 refuses: that comes after 1 to 6 and before any step, also where no step would be made.
@@ -57,10 +58,11 @@ struct flood_board {
 /* Steps by the wet walk to an end of the clock, and how many were made, with a list of boards refreshed at the start and after each step. */
 uint32_t flood_run_to_boards(size_t rows, size_t columns, const uint64_t *rules, size_t rules_numbers, uint64_t end,
     const uint8_t *marks, size_t marks_numbers, const uint32_t *beds, size_t beds_numbers, const uint32_t *roughness,
-    size_t roughness_numbers, const uint32_t *rates, size_t rates_numbers, const uint32_t *rain, size_t rain_numbers,
-    const uint32_t *inflow, size_t inflow_numbers, uint32_t *depths, size_t depths_numbers, uint32_t *lasts,
-    size_t lasts_numbers, uint32_t *records, size_t records_numbers, uint64_t *run, size_t run_numbers, uint64_t *steps,
-    size_t steps_numbers, struct flood_board *boards, size_t boards_count);
+    size_t roughness_numbers, const uint32_t *rates, size_t rates_numbers, const uint32_t *rain,
+    size_t rain_numbers /* FLOOD_RAIN_NUMBERS(its rows) */, const uint32_t *inflow,
+    size_t inflow_numbers /* FLOOD_INFLOW_NUMBERS(its rows) */, uint32_t *depths, size_t depths_numbers,
+    uint32_t *lasts, size_t lasts_numbers, uint32_t *records, size_t records_numbers, uint64_t *run, size_t run_numbers,
+    uint64_t *steps, size_t steps_numbers, struct flood_board *boards, size_t boards_count);
 
 #ifdef __cplusplus
 }

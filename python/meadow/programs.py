@@ -80,6 +80,29 @@ class Started:
             self.process.wait()
 
 
+class Asked:
+    """A program under way that answers line by line; `endings` are how the last line of an answer begins."""
+
+    def __init__(self, name, endings):
+        self.process, self.endings = subprocess.Popen(words_of(name), stdin=subprocess.PIPE, stdout=subprocess.PIPE), endings
+
+    def ask(self, given):
+        """The answer to some bytes; where the program has ended, what it said last."""
+        self.process.stdin.write(given)
+        self.process.stdin.flush()
+        lines = []
+        while line := self.process.stdout.readline():
+            lines.append(line)
+            if line.startswith(self.endings):
+                break
+        return b"".join(lines)
+
+    def end(self, seconds=60):
+        """What it prints at the end of its input, and its status."""
+        rest, _ = self.process.communicate(timeout=seconds)
+        return rest, self.process.returncode
+
+
 def built(*names):
     """Builds programs that are to be started side by side, where they are not built yet."""
     subprocess.run([TOP / "bin" / "run", "--build", *names], check=True, stdin=subprocess.DEVNULL)

@@ -8,8 +8,20 @@ HEAD = re.compile(r'^pub (?:extern "C" )?(?:const )?fn (\w+)\(', re.M)
 CLAUSE = re.compile(r"^    (requires|ensures) \{(.*?)\}$", re.M | re.S)
 SLICE = re.compile(r"&(mut )?\[")
 # crates of which only our own crates call the functions, but for those named; every other function that asks nothing is an entry point
-LAYERS = ("reckon", "trials", "grid", "rule", "ledger", "settling", "adding", "account", "moves", "text", "raster", "files", "sheet", "programs", "display", "hatches", "desk")
-ENTRIES_OF_LAYERS = {("ledger", "take_back"), ("sheet", "read"), ("programs", "meadow_of"), ("display", "run_boards"), ("display", "run_to_boards")}
+LAYERS = ("reckon", "trials", "grid", "rule", "ledger", "settling", "adding", "account", "moves", "text", "raster", "files", "sheet", "programs", "display", "hatches", "evenings", "frames", "stands", "trying", "desks")
+ENTRIES_OF_LAYERS = {
+    ("ledger", "take_back"),
+    ("sheet", "read"),
+    ("programs", "meadow_of"),
+    ("display", "run_boards"),
+    ("display", "run_to_boards"),
+    ("evenings", "take_entry"),
+    ("evenings", "take_line"),
+    ("evenings", "begin_log"),
+    ("evenings", "go_on"),
+    ("desks", "command"),
+    ("desks", "make_next"),
+}
 
 
 class Function(NamedTuple):

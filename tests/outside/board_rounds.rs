@@ -3,7 +3,7 @@
 
 use crate::calls::{After, Call, Tally};
 use crate::chance::Chance;
-use crate::declared_boards::{Board, MOST_BOARDS, REFUSED_BOARD};
+use flood::declared_boards::{Board, MOST_BOARDS, REFUSED_BOARD};
 use crate::meadows::{self, Lent, MOST_DEPTH};
 use crate::reference::{self, CLOSED, OPEN};
 use crate::steps::at_brim;

@@ -1,6 +1,6 @@
 # shellcheck shell=bash
 # shellcheck disable=SC2034 # what is set here is used by those who read it
-# Read by the gate, tests/outside.sh, tests/stack.sh and bin/speed at the repository's root. Rust programs that link a static library are
+# Read by the gate, tests/outside.sh, tests/stack.sh, bin/speed and bin/release at the repository's root. Rust programs that link a static library are
 # x86-64: there any rustc builds them and they run as they are; on Arm they are built with Debian's packages for x86-64 and run under
 # Debian's emulator.
 
@@ -42,25 +42,54 @@ one_archive() {
     fi
 }
 
-# archive [NAME..]: builds these static libraries, or all of them. Tests that run at the same time wait for one another here, so that the first
-# alone builds them.
+# archive: builds the static libraries. Tests that run at the same time wait for one another here, so that the first alone builds them.
 archive() {
     local name
-    [ "$#" -gt 0 ] || set -- "${libraries[@]}"
     (
         flock 9
-        for name in "$@"; do
+        for name in "${libraries[@]}"; do
             one_archive "$name" || exit 1
         done
     ) 9>"$built/staticlib.lock"
 }
 
+# joined: the static libraries as one, to target/flood: libflood.a, and libflood.so, which the linker makes only where all code is position
+# independent (-z text) and nothing is missing (-z defs). Unless they are newer; the first alone makes them.
+joined() {
+    local folder=target/flood parts name
+    mkdir -p "$folder"
+    (
+        flock 9
+        [ -n "$(find target/staticlib/*.a -newer "$folder/libflood.so" 2>&1 | head -n 1)" ] || exit 0
+        parts=$(mktemp -d) || exit 1
+        trap 'rm -rf "$parts"' EXIT
+        for name in "${libraries[@]}"; do
+            ar x --output "$parts" "target/staticlib/lib$name.a" || exit 1
+        done
+        rm -f "$folder/libflood.a"
+        ar crD "$folder/libflood.a" "$parts"/*.o &&
+            "${compile_c[@]}" -shared -nostartfiles -Wl,-soname,libflood.so -Wl,-z,text -Wl,-z,defs -Wl,-z,noexecstack -Wl,--build-id=none \
+                -Wl,--whole-archive "$folder/libflood.a" -Wl,--no-whole-archive -o "$folder/libflood.so"
+    ) 9>"$built/joined.lock"
+}
+
 # for release, in one unit
 release=(--edition 2021 -C opt-level=3 -C codegen-units=1)
 
-# build NAME: tests/outside/NAME.rs with the static libraries that it declares, to target/outside/NAME
+# wrapper: the crate rust/ with the static libraries in it, as cargo would build it, to target/outside/libflood.rlib, unless it is newer than
+# they are; the first alone builds it
+wrapper() {
+    (
+        flock 9
+        [ -n "$(find rust/src target/staticlib/*.a -newer "$built/libflood.rlib" 2>&1 | head -n 1)" ] || exit 0
+        "${compile[@]}" "${release[@]}" --crate-type rlib --crate-name flood -L native=target/staticlib "${libraries[@]/#/-lstatic=}" \
+            --out-dir "$built" rust/src/lib.rs
+    ) 9>"$built/wrapper.lock"
+}
+
+# build NAME: tests/outside/NAME.rs with the crate rust/, to target/outside/NAME
 build() {
-    "${compile[@]}" "${release[@]}" -L native=target/staticlib -o "$built/$1" "tests/outside/$1.rs"
+    "${compile[@]}" "${release[@]}" --extern "flood=$built/libflood.rlib" -o "$built/$1" "tests/outside/$1.rs"
 }
 
 # build_c NAME: the same of tests/outside/NAME.c
@@ -75,12 +104,12 @@ build_engine() {
 
 # build_placed BYTES: tests/outside/speed.rs with so much room before its code, to target/outside/speed-BYTES; the engines are built
 build_placed() {
-    local externs=() engine
+    local externs=(--extern "flood=$built/libflood.rlib") engine
     for engine in "$built"/libengine_*.rlib; do
         engine=$(basename "$engine" .rlib)
         externs+=(--extern "${engine#lib}=$built/$engine.rlib")
     done
-    PADDING=$1 "${compile[@]}" "${release[@]}" -L native=target/staticlib "${externs[@]}" -o "$built/speed-$1" tests/outside/speed.rs
+    PADDING=$1 "${compile[@]}" "${release[@]}" "${externs[@]}" -o "$built/speed-$1" tests/outside/speed.rs
 }
 
 # build_counter: the emulator's plugin of tests/outside/count.c, to target/outside/count.so; 1 where this emulator takes none

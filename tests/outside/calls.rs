@@ -1,8 +1,8 @@
 //! One call made by the reference and by the library on the same input, a step and a run by each of the library's walks, and everything
 //! compared afterwards: the answer, every number lent, the run. The first difference is printed with its input and ends the program.
 
-use crate::declared::{self, BOUNDS_NUMBERS, COUNT_NUMBERS, HEADING_NUMBERS, LINE_NUMBERS, OUT_ROOM, RULES_NUMBERS, RUN_NUMBERS, SPEED_NUMBERS, STEPS_NUMBERS};
-use crate::declared_boards::Board;
+use flood::declared::{self, BOUNDS_NUMBERS, COUNT_NUMBERS, HEADING_NUMBERS, LINE_NUMBERS, OUT_ROOM, RULES_NUMBERS, RUN_NUMBERS, SPEED_NUMBERS, STEPS_NUMBERS};
+use flood::declared_boards::Board;
 use crate::lent;
 use crate::library::{self, Walk};
 use crate::meadows::{Lent, Sizes};

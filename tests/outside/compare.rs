@@ -6,11 +6,6 @@
 mod board_rounds;
 mod calls;
 mod chance;
-// the comparison uses a part of what is declared
-#[allow(dead_code)]
-mod declared;
-#[allow(dead_code)]
-mod declared_boards;
 mod forged;
 mod lent;
 mod library;
@@ -29,7 +24,7 @@ mod worked;
 
 use calls::{Call, Tally, Text, ANSWERS};
 use chance::Chance;
-use declared::OUT_ROOM;
+use flood::declared::OUT_ROOM;
 use library::Walk;
 use std::time::{Duration, Instant};
 

@@ -14,6 +14,26 @@ static void expect(const char *what, uint64_t got, uint64_t wanted)
     failed = 1;
 }
 
+/* Five hatches of a litre a second on two squares of 1 m, told as so many numbers, give so many millimetres in a second. */
+static void hatches(const uint64_t *rules, size_t numbers, uint64_t millimetres)
+{
+    enum { record = FLOOD_RECORD_NUMBERS(1, 2) };
+    const uint8_t marks[2] = {FLOOD_MARK_OPEN, FLOOD_MARK_OPEN};
+    const uint32_t beds[2] = {0, 0}, roughness[2] = {100, 100}, rates[2] = {0, 0}, rain[1] = {0};
+    uint32_t inflow[FLOOD_INFLOW_NUMBERS(5)], depths[2] = {0, 0}, lasts[2], records[record] = {0};
+    uint64_t run[FLOOD_RUN_NUMBERS];
+    size_t hatch;
+    for (hatch = 0; hatch < 5; hatch++) {
+        const uint32_t row[FLOOD_INFLOW_WIDTH] = {0, hatch % 2, 0, 1000, 1};
+        memcpy(inflow + FLOOD_INFLOW_NUMBERS(hatch), row, sizeof row);
+    }
+    lasts[0] = lasts[1] = 0;
+    expect("fresh for hatches", flood_fresh(1, 2, rules, FLOOD_RULES_NUMBERS, marks, 2, lasts, 2, records, record, run, FLOOD_RUN_NUMBERS), FLOOD_DONE);
+    expect("a step with hatches", flood_step(1, 2, rules, FLOOD_RULES_NUMBERS, marks, 2, beds, 2, roughness, 2, rates, 2, rain, FLOOD_RAIN_NUMBERS(0), inflow, numbers, depths, 2, lasts, 2, records, record, run, FLOOD_RUN_NUMBERS), FLOOD_DONE);
+    expect("what hatches gave", depths[0] + depths[1], 1000 * millimetres);
+    expect("what the record says was added", records[FLOOD_RECORD_HEAD + 5] + records[FLOOD_RECORD_HEAD + FLOOD_RECORD_SQUARE + 5], 1000 * millimetres);
+}
+
 int main(void)
 {
     const char *sheet = "grid\t1\t2\t1\nrun\t100\t1000\t1000\t1000\t1000\t10000\t1\n"
@@ -38,7 +58,9 @@ int main(void)
     expect("edge slope", rules[5], 10000);
     expect("edition", rules[6], 1);
     expect("soak rate", rates[1], 7200);
-    expect("end", heading[FLOOD_HEADING_RULES + FLOOD_RULES_NUMBERS], 1000);
+    expect("end", heading[FLOOD_HEADING_END], 1000);
+    expect("rain and inflow rows", heading[FLOOD_HEADING_RAIN_ROWS] + heading[FLOOD_HEADING_INFLOW_ROWS], 0);
+    expect("the marks", marks[0] + marks[1], 2 * FLOOD_MARK_OPEN);
     expect("fresh", flood_fresh(1, 2, rules, FLOOD_RULES_NUMBERS, marks, 2, lasts, 2, records, record, run, FLOOD_RUN_NUMBERS), FLOOD_DONE);
     expect("last leaving", lasts[0] + lasts[1], 0);
     expect("step", flood_step(1, 2, rules, FLOOD_RULES_NUMBERS, marks, 2, beds, 2, roughness, 2, rates, 2, rain, 0, inflow, 0, depths, 2, lasts, 2, records, record, run, FLOOD_RUN_NUMBERS), FLOOD_DONE);
@@ -86,6 +108,8 @@ int main(void)
     run[5] = 1000000000000000;
     expect("a total soaked that is full", flood_step(1, 2, rules, FLOOD_RULES_NUMBERS, marks, 2, beds, 2, roughness, 2, rates, 2, rain, 0, inflow, 0, depths, 2, lasts, 2, records, record, run, FLOOD_RUN_NUMBERS), FLOOD_REFUSED_SOAKED);
     expect("a total soaked that is full, by the wet walk", flood_step_wet(1, 2, rules, FLOOD_RULES_NUMBERS, marks, 2, beds, 2, roughness, 2, rates, 2, rain, 0, inflow, 0, depths, 2, lasts, 2, records, record, run, FLOOD_RUN_NUMBERS), FLOOD_REFUSED_SOAKED);
+    hatches(rules, FLOOD_INFLOW_NUMBERS(5), 5);
+    hatches(rules, 5, 1);
     expect("printed", flood_meadow(text, strlen(sheet), out, sizeof out), strlen(answer));
     expect("as document 01 prints it", memcmp(out, answer, strlen(answer)), 0);
     if (!failed)

@@ -1,10 +1,6 @@
 //! Where the fields of a board lie that Rust programs lend, as tests/outside/display.c says it of C's: `layout`.
 
-// this program uses a part of what is declared
-#[allow(dead_code)]
-mod declared_boards;
-
-use declared_boards::Board;
+use flood::declared_boards::Board;
 use std::mem::size_of;
 
 fn main() {

@@ -1,7 +1,7 @@
 //! The static library's calls on a meadow, steps and runs by either walk, and rules and run as the numbers that go in and come out.
 
-use crate::declared::*;
-use crate::declared_boards::{flood_run_to_boards, Board};
+use flood::declared::*;
+use flood::declared_boards::{flood_run_to_boards, Board};
 use crate::lent::RunTo;
 use crate::reference::{Meadow, Rules, Run};
 

@@ -4,7 +4,7 @@
 use crate::board_rounds;
 use crate::calls::{Call, Tally, ON_MEADOW};
 use crate::chance::Chance;
-use crate::declared_boards::Board;
+use flood::declared_boards::Board;
 use crate::meadows::{self, Lent, MOST_BED, MOST_CLOCK, MOST_DEPTH, MOST_OUTFLOW, MOST_SOAKED, MOST_SOAK_RATE};
 use crate::reference::{ADDED, CLOSED, LAST, SOAKED, WORDS};
 use crate::worked::go_on;

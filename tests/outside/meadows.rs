@@ -1,7 +1,7 @@
 //! Random meadows, rules, tables and runs that every check passes. What closed squares hold is junk.
 
 use crate::chance::Chance;
-use crate::declared_boards::Board;
+use flood::declared_boards::Board;
 use crate::reference::{Meadow, Rules, Run, CLOSED, EXIT, OPEN};
 
 pub const MOST_BED: u64 = 1_000_000_000;

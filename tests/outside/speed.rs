@@ -7,8 +7,6 @@
 // the benchmark uses a part of what the comparison does
 #[allow(dead_code)]
 mod chance;
-#[allow(dead_code)]
-mod declared;
 mod grounds;
 // only the type of an engine
 #[allow(dead_code)]
@@ -21,7 +19,7 @@ mod meadows;
 mod reference;
 
 use chance::Chance;
-use declared::{RULES_NUMBERS, RUN_NUMBERS};
+use flood::declared::{self, RULES_NUMBERS, RUN_NUMBERS};
 use grounds::{Ground, GROUNDS, RULES, SPAN, STEP_LASTS};
 use lent::RunTo;
 use reference::{Meadow, CLOSED, WORDS};

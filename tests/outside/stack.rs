@@ -1,14 +1,8 @@
 //! One call of the static library, on the largest grid that it takes, on a thread with so much stack: `stack CALL KIB`. A call that needs
 //! more ends the program. Without words: each call and the KiB that its header says suffice for it.
 
-// this program uses a part of what is declared
-#[allow(dead_code)]
-mod declared;
-#[allow(dead_code)]
-mod declared_boards;
-
-use declared::*;
-use declared_boards::{flood_run_to_boards, Board, MOST_BOARDS};
+use flood::declared::*;
+use flood::declared_boards::{self, flood_run_to_boards, Board, MOST_BOARDS};
 use std::fmt::Write;
 
 const ALONG: usize = 64;

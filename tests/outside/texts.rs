@@ -2,7 +2,7 @@
 
 use crate::calls::{Tally, Text};
 use crate::chance::Chance;
-use crate::declared::OUT_ROOM;
+use flood::declared::OUT_ROOM;
 use crate::meadows;
 use crate::reference;
 use crate::sheets;

@@ -1,7 +1,7 @@
 //! Document 01's cases worked by hand, with the document's own numbers: both the reference and the library are held to them.
 
 use crate::calls::{After, Call, Tally, Text};
-use crate::declared::OUT_ROOM;
+use flood::declared::OUT_ROOM;
 use crate::library;
 use crate::meadows::{Lent, Sizes};
 use crate::reference::{Meadow, Rules, Run, CLOSED, EXIT, OPEN, SOAKED, WORDS};

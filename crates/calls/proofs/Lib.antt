@@ -1,3 +1,4 @@
+pub mod DeskedLaws
 pub mod EveningLaws
 pub mod ExportedLaws
 pub mod LibraryLaws

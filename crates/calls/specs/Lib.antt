@@ -1,3 +1,4 @@
+pub mod Desked
 pub mod Evenings
 pub mod Exported
 pub mod Library

@@ -24,7 +24,7 @@ use Rattle.demands.proofs.Demand3.{fresh-run, demand-3}
 
 module _ (p : Plan) where
   -- the standing steps alone
-  alone-balance : (gs : List Given) (f : World) → AllMade p gs f → held p (alone p gs f) ≡ held p f + allGiven p gs f
+  pub alone-balance : (gs : List Given) (f : World) → AllMade p gs f → held p (alone p gs f) ≡ held p f + allGiven p gs f
   unfolding alone allGiven
   alone-balance [] f made = omega arith
   alone-balance (g ∷ gs) f made =
@@ -57,7 +57,7 @@ module _ (p : Plan) where
     stands = demand-3 p .never-made f (demand-3 p .fresh-is r depths records before lasts u freshly) cs
 
     -- a fresh run holds the starting water and no more
-    fresh-holds : held p f ≡ water p depths
+    pub fresh-holds : held p f ≡ water p depths
     unfolding held freshRun
     fresh-holds = rw (fresh-run p r depths records before lasts u freshly) (omega arith)
 

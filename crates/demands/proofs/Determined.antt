@@ -21,7 +21,7 @@ use Rattle.text.proofs.Determined.{written}
 use Rattle.sheet.specs.Sheet.{Rooms, Reads, roomsAfter}
 use Rattle.sheet.specs.declared.reading.Sheet.{Sheet}
 use Rattle.exports.specs.Steps.{ExportsStep, ExportsRun}
-use Rattle.demands.specs.Determined.{LedgerDetermined, ChecksDetermined, FloodDetermined, SightDetermined, SheetDetermined, ProgramsDetermined, PeaksDetermined, SurveyDetermined, HolesDetermined, DisplayDetermined, DisplayExportsDetermined, LevelsDetermined, ListsDetermined, EveningsDetermined, ExportsDetermined, Determined}
+use Rattle.demands.specs.Determined.{LedgerDetermined, ChecksDetermined, FloodDetermined, SightDetermined, SheetDetermined, ProgramsDetermined, PeaksDetermined, SurveyDetermined, HolesDetermined, DisplayDetermined, DisplayExportsDetermined, LevelsDetermined, ListsDetermined, EveningsDetermined, DesksDetermined, ExportsDetermined, Determined}
 use Rattle.peaks.specs.Peaks.{RunsPeaking}
 use Rattle.display.proofs.Determined as Display
 use Rattle.display_exports.proofs.Determined.{exports-boards-one}
@@ -37,6 +37,10 @@ use Rattle.hatches.specs.declared.lines.Entry.{Entry}
 use Rattle.evenings.specs.declared.taking.EntryTaken.{EntryTaken}
 use Rattle.evenings.specs.declared.telling.LineTaken.{LineTaken}
 use Rattle.evenings.specs.declared.program.Night.{Night}
+use Rattle.desks.specs.Orders.{order}
+use Rattle.desks.specs.Command.{commandLeft, stepLeft, Leaves}
+use Rattle.desks.specs.declared.state.Desk.{Desk}
+use Rattle.demands.specs.HatchLog.{storesWith}
 
 -- ---- one outcome
 
@@ -213,6 +217,32 @@ evenings-determined =
       go-on = λ s n r old. going-one;
     }
 
+command-one :
+    (d : Desk) (r : Stores) (text line old : List ℕ) →
+    One {Out = Desk × (Stores × List ℕ)} (λ o. Leaves (commandLeft d r text (order line)) (o .0) (o .1 .0) old (o .1 .1))
+command-one d r text line old a b x y =
+    λ j. (
+      (x .desk-is ∙ sym (y .desk-is)) j,
+      ((x .rooms-are ∙ sym (y .rooms-are)) j, (x .puts .wrote .room ∙ sym (y .puts .wrote .room)) j),
+    )
+
+next-one :
+    (d : Desk) (r : Stores) (old : List ℕ) →
+    One {Out = Desk × (List ℕ × (List ℕ × (List ℕ × (List ℕ × List ℕ))))}
+    (λ o. Leaves (stepLeft d r) (o .0) (storesWith r (o .1 .0) (o .1 .1 .0) (o .1 .1 .1 .0) (o .1 .1 .1 .1 .0)) old (o .1 .1 .1 .1 .1))
+next-one d r old a b x y =
+    let v = x .rooms-are ∙ sym (y .rooms-are) in
+    λ j. (
+      (x .desk-is ∙ sym (y .desk-is)) j,
+      (
+        v j .sheet .cells .depths,
+        (v j .lasts, (v j .records, (v j .began, (x .puts .wrote .room ∙ sym (y .puts .wrote .room)) j))),
+      ),
+    )
+
+desks-determined : DesksDetermined
+desks-determined = record { command = command-one; make-next = next-one }
+
 exported-step-one :
     {p : Plan} {g : Given} {w : World} {rules old : List ℕ} →
     One {Out = ℕ × (List ℕ × (List ℕ × (List ℕ × List ℕ)))} (λ o. ExportsStep p g w rules old (o .0) (o .1 .0) (o .1 .1 .0) (o .1 .1 .1 .0) (o .1 .1 .1 .1))
@@ -290,5 +320,6 @@ determined =
       levels = levels-determined;
       lists = lists-determined;
       evenings = evenings-determined;
+      desks = desks-determined;
       exports = exports-determined;
     }

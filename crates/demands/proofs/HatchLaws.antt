@@ -52,11 +52,11 @@ drop-none : {A : Type 0} (n : ℕ) → drop {A = A} n [] ≡ []
 drop-none zero = refl
 drop-none (suc n) = refl
 
-drop-more : {A : Type 0} (n : ℕ) (l : List A) → drop n (drop 1 l) ≡ drop (suc n) l
+pub drop-more : {A : Type 0} (n : ℕ) (l : List A) → drop n (drop 1 l) ≡ drop (suc n) l
 drop-more n [] = drop-none n
 drop-more n (a ∷ l) = refl
 
-beside-same : {K kept kept′ newest newest′ : ℕ} {began began′ : List ℕ} {s s′ : List (List ℕ)} → kept ≡ kept′ → newest ≡ newest′ → began ≡ began′ → s ≡ s′ →
+pub beside-same : {K kept kept′ newest newest′ : ℕ} {began began′ : List ℕ} {s s′ : List (List ℕ)} → kept ≡ kept′ → newest ≡ newest′ → began ≡ began′ → s ≡ s′ →
     Beside K kept newest began s → Beside K kept′ newest′ began′ s′
 beside-same {K} {kept} {kept′} {newest} {newest′} {began} {began′} {s} {s′} a b c d x =
     subst (λ (k : ℕ). Beside K k newest′ began′ s′) a
@@ -68,28 +68,28 @@ unfolding madeText totalsText
 made-same p u u′ a b c e f = rw (a, b, c, e, f)
 
 module _ (p : Plan) where
-  series-snoc : (cs : List Call) (c : Call) (x : Trail p) → series p (cs ++ (c ∷ [])) x ≡ called p c (series p cs x)
+  pub series-snoc : (cs : List Call) (c : Call) (x : Trail p) → series p (cs ++ (c ∷ [])) x ≡ called p c (series p cs x)
   unfolding series
   series-snoc [] c x = refl
   series-snoc (b ∷ cs) c x = series-snoc cs c (called p b x)
 
 module _ (p : Plan) (g : Given) (f : World) (fresh : Fresh p f) where
-  abbrev K : ℕ
+  abbrev pub K : ℕ
   K = roomSlots p (f .records)
 
-  abbrev trail : List Call → Trail p
+  abbrev pub trail : List Call → Trail p
   trail cs = series p cs (start p f)
 
-  never : (cs : List Call) → NeverMade p f (trail cs)
+  pub never : (cs : List Call) → NeverMade p f (trail cs)
   never cs = demand-3 p .never-made f fresh cs
 
   -- Where a world, its hatches and the rates of the standing steps go with a series of calls.
-  record Goes (hs : Hatches) (w : World) (began : List ℕ) (standing : List (List ℕ)) : Type 0 where
-    calls : List Call
-    world-is : trail calls .at ≡ w
-    standing-is : trail calls .standing ≡ map (drawn g hs) standing
-    beside : Beside K (w .run .kept) (w .run .newest) began standing
-    slots-are : roomSlots p (w .records) ≡ K
+  pub record Goes (hs : Hatches) (w : World) (began : List ℕ) (standing : List (List ℕ)) : Type 0 where
+    pub calls : List Call
+    pub world-is : trail calls .at ≡ w
+    pub standing-is : trail calls .standing ≡ map (drawn g hs) standing
+    pub beside : Beside K (w .run .kept) (w .run .newest) began standing
+    pub slots-are : roomSlots p (w .records) ≡ K
 
   -- ---- a line's steps
 
@@ -169,7 +169,7 @@ module _ (p : Plan) (g : Given) (f : World) (fresh : Fresh p f) where
           (never (x .calls) .back-made (subst (λ (v : World). 0 < v .run .kept) (sym (x .world-is)) (omega arith)))
 
   -- while a step is kept, no take-back is refused
-  goes-whole : {hs : Hatches} (n made : ℕ) {w : World} {began : List ℕ} {standing : List (List ℕ)} → n ≤ w .run .kept → Goes hs w began standing → backFrom p n made w .number ≡ 0
+  pub goes-whole : {hs : Hatches} (n made : ℕ) {w : World} {began : List ℕ} {standing : List (List ℕ)} → n ≤ w .run .kept → Goes hs w began standing → backFrom p n made w .number ≡ 0
   unfolding backFrom goOn
   goes-whole zero made h x = refl
   goes-whole {hs} (suc n) made {w} {began} {standing} h x =
@@ -180,14 +180,15 @@ module _ (p : Plan) (g : Given) (f : World) (fresh : Fresh p f) where
 
   -- ---- a page
 
-  record Follows (x : Page p g) : Type 0 where
-    goes : Goes (x .at .log .hatches) (worldOf (x .at)) (x .at .began) (x .noted .standing)
-    litres-are : x .at .log .litres ≡ x .noted .litres
-    nine : length (x .at .log .litres) ≡ mostHatches
-    opening-none : x .at .log .opening ≡ true → x .noted .standing ≡ []
-    steps-are : x .at .log .steps ≡ length (x .noted .standing)
+  -- so many steps stood before the first line
+  pub record Follows (earlier : ℕ) (x : Page p g) : Type 0 where
+    pub goes : Goes (x .at .log .hatches) (worldOf (x .at)) (x .at .began) (x .noted .standing)
+    pub litres-are : x .at .log .litres ≡ x .noted .litres
+    pub nine : length (x .at .log .litres) ≡ mostHatches
+    pub opening-none : x .at .log .opening ≡ true → x .noted .standing ≡ []
+    pub steps-are : x .at .log .steps ≡ length (x .noted .standing) + earlier
 
-  follow-first : (began : List ℕ) → Opens p g f began → Follows (firstPage p g f began)
+  follow-first : (began : List ℕ) → Opens p g f began → Follows 0 (firstPage p g f began)
   unfolding series
   follow-first began o =
       record {
@@ -213,14 +214,14 @@ module _ (p : Plan) (g : Given) (f : World) (fresh : Fresh p f) where
         steps-are = refl;
       }
 
-  module _ (x : Page p g) (h : Follows x) where
+  module _ {earlier : ℕ} (x : Page p g) (h : Follows earlier x) where
     abbrev e : Evening
     e = x .at
 
     abbrev m : Notes
     m = x .noted
 
-    follow-rate : (clock n litres : ℕ) → Follows (record { at = afterRate p g e clock n litres; noted = notedWith p g e (Rate clock n litres) m })
+    follow-rate : (clock n litres : ℕ) → Follows earlier (record { at = afterRate p g e clock n litres; noted = notedWith p g e (Rate clock n litres) m })
     unfolding afterRate notedWith
     follow-rate clock n litres =
         record {
@@ -249,7 +250,7 @@ module _ (p : Plan) (g : Given) (f : World) (fresh : Fresh p f) where
           noted = notedBack k m;
         }
 
-    follow-none : Follows (backAt 0 (worldOf e))
+    follow-none : Follows earlier (backAt 0 (worldOf e))
     unfolding ratesBack notedBack
     follow-none =
         record {
@@ -260,7 +261,7 @@ module _ (p : Plan) (g : Given) (f : World) (fresh : Fresh p f) where
           steps-are = omega (arith, h .steps-are);
         }
 
-    follow-some : (n : ℕ) → suc n ≤ e .log .run .kept → Follows (backAt (suc n) (backs p (suc n) (worldOf e)))
+    follow-some : (n : ℕ) → suc n ≤ e .log .run .kept → Follows earlier (backAt (suc n) (backs p (suc n) (worldOf e)))
     unfolding ratesBack notedBack
     follow-some n l =
         let b = h .goes .beside in
@@ -273,23 +274,23 @@ module _ (p : Plan) (g : Given) (f : World) (fresh : Fresh p f) where
               ap (λ (k : ℕ). length (recordIn mostHatches (e .began) (slotAgo k (e .log .run .newest) n))) s
               ∙ nine-in (e .began) (slotAgo K (e .log .run .newest) n) (omega (arith, ago-below K n (e .log .run .newest) (b .newest-below), b .room));
           opening-none = λ y. not-both y refl;
-          steps-are = ap (λ (k : ℕ). k - suc n) (h .steps-are) ∙ sym (length-drop (suc n) (m .standing));
+          steps-are = omega (arith, h .steps-are, b .few, length-drop (suc n) (m .standing));
         }
 
-    follow-backs : (k : ℕ) → k ≤ e .log .run .kept → Follows (backAt k (backs p k (worldOf e)))
+    follow-backs : (k : ℕ) → k ≤ e .log .run .kept → Follows earlier (backAt k (backs p k (worldOf e)))
     unfolding backs
     follow-backs zero l = follow-none
     follow-backs (suc n) l = follow-some n l
 
-    follow-back : (count : ℕ) → count ≤ e .log .run .kept → Follows (record { at = afterBack p g e count; noted = notedWith p g e (Back count) m })
+    pub follow-back : (count : ℕ) → count ≤ e .log .run .kept → Follows earlier (record { at = afterBack p g e count; noted = notedWith p g e (Back count) m })
     unfolding afterBack notedWith
     follow-back count l =
         let b : Backed p count 0 (worldOf e) (backFrom p count 0 (worldOf e)) = backed p count 0 (worldOf e) in
         let s : backFrom p count 0 (worldOf e) .steps ≡ b .more = omega (arith, b .steps-are) in
-        subst (λ (k : ℕ). Follows (backAt k (backFrom p count 0 (worldOf e) .world))) (sym s)
-        (subst (λ (w : World). Follows (backAt (b .more) w)) (sym (b .world-is)) (follow-backs (b .more) (omega (arith, b .few))))
+        subst (λ (k : ℕ). Follows earlier (backAt k (backFrom p count 0 (worldOf e) .world))) (sym s)
+        (subst (λ (w : World). Follows earlier (backAt (b .more) w)) (sym (b .world-is)) (follow-backs (b .more) (omega (arith, b .few))))
 
-    follow-hatch : (n row column : ℕ) → e .log .opening ≡ true → Follows (record { at = afterHatch p g e n row column; noted = m })
+    pub follow-hatch : (n row column : ℕ) → e .log .opening ≡ true → Follows earlier (record { at = afterHatch p g e n row column; noted = m })
     unfolding afterHatch
     follow-hatch n row column o =
         let none = h .opening-none o in
@@ -311,7 +312,7 @@ module _ (p : Plan) (g : Given) (f : World) (fresh : Fresh p f) where
         }
 
     -- a line that is not refused before its steps
-    follow-made : (entry : Entry) → refusal (entryRefusals p g e entry) ≡ 0 → Follows (record { at = entered p g e entry; noted = notedWith p g e entry m })
+    follow-made : (entry : Entry) → refusal (entryRefusals p g e entry) ≡ 0 → Follows earlier (record { at = entered p g e entry; noted = notedWith p g e entry m })
     unfolding entered notedWith lineFine
     follow-made (Hatch n row column) z = follow-hatch n row column (every-each _ (entered-is p g e (Hatch n row column) z .line) .0)
     follow-made (Rate clock n litres) z = follow-rate clock n litres
@@ -319,37 +320,37 @@ module _ (p : Plan) (g : Given) (f : World) (fresh : Fresh p f) where
     follow-made Unread z = h
 
     -- any line
-    follow-line : (entry : Entry) → Follows (record { at = afterEntry p g e entry; noted = notedAfter p g e entry m })
+    follow-line : (entry : Entry) → Follows earlier (record { at = afterEntry p g e entry; noted = notedAfter p g e entry m })
     unfolding afterEntry notedAfter
     follow-line entry = go (ℕ-discrete (refusal (entryRefusals p g e entry)) 0)
       where
         go : Dec (refusal (entryRefusals p g e entry) ≡ 0) →
-            Follows (record {
+            Follows earlier (record {
               at = pick (eqb (refusal (entryRefusals p g e entry)) 0) (entered p g e entry) e;
               noted = pick (eqb (refusal (entryRefusals p g e entry)) 0) (notedWith p g e entry m) m;
             })
         go (yes z) =
             let y = eq-eqb _ _ z in
-            subst (λ (a : Evening). Follows (record { at = a; noted = pick (eqb (refusal (entryRefusals p g e entry)) 0) (notedWith p g e entry m) m })) (sym (pick-true _ _ y))
-            (subst (λ (o : Notes). Follows (record { at = entered p g e entry; noted = o })) (sym (pick-true _ _ y)) (follow-made entry z))
+            subst (λ (a : Evening). Follows earlier (record { at = a; noted = pick (eqb (refusal (entryRefusals p g e entry)) 0) (notedWith p g e entry m) m })) (sym (pick-true _ _ y))
+            (subst (λ (o : Notes). Follows earlier (record { at = entered p g e entry; noted = o })) (sym (pick-true _ _ y)) (follow-made entry z))
         go (no d) =
             let y = ne-eqb _ _ d in
-            subst (λ (a : Evening). Follows (record { at = a; noted = pick (eqb (refusal (entryRefusals p g e entry)) 0) (notedWith p g e entry m) m })) (sym (pick-false _ _ y))
-            (subst (λ (o : Notes). Follows (record { at = e; noted = o })) (sym (pick-false _ _ y)) h)
+            subst (λ (a : Evening). Follows earlier (record { at = a; noted = pick (eqb (refusal (entryRefusals p g e entry)) 0) (notedWith p g e entry m) m })) (sym (pick-false _ _ y))
+            (subst (λ (o : Notes). Follows earlier (record { at = e; noted = o })) (sym (pick-false _ _ y)) h)
 
     -- a `back` that is not refused before is made whole
     whole-back : (count : ℕ) → refusal (entryRefusals p g e (Back count)) ≡ 0 → entryNumber p g e (Back count) ≡ 0
     unfolding entryNumber stepsNumber
     whole-back count z = pick-true _ _ (eq-eqb _ _ z) ∙ goes-whole count 0 (back-kept (e .log) count (entered-is p g e (Back count) z .kept)) (h .goes)
 
-  follow-all : (lines : List Entry) (x : Page p g) → Follows x → Follows (pageAfter p g lines x)
+  follow-all : (lines : List Entry) (x : Page p g) → Follows 0 x → Follows 0 (pageAfter p g lines x)
   unfolding pageAfter
   follow-all [] x h = h
   follow-all (entry ∷ rest) x h = follow-all rest _ (follow-line x h entry)
 
   -- ---- so nothing but the standing steps is left
 
-  leaves : (x : Page p g) → Follows x → LeavesNoMark p g f x
+  leaves : (x : Page p g) → Follows 0 x → LeavesNoMark p g f x
   leaves x h =
       let cs = h .goes .calls in
       let nm = never cs in
@@ -361,7 +362,7 @@ module _ (p : Plan) (g : Given) (f : World) (fresh : Fresh p f) where
       let soaked : x .at .log .run .soaked ≡ onlyStanding p g f x .run .soaked = sym (ap (λ (v : World). v .run .soaked) w) ∙ (nm .same-soaked ∙ ap (λ (l : List Given). alone p l f .run .soaked) s) in
       record {
         rates-are = h .litres-are;
-        steps-are = h .steps-are;
+        steps-are = omega (arith, h .steps-are);
         all-made = subst (λ (l : List Given). AllMade p l f) s (nm .all-made);
         same-depths = depths;
         same-lasts = sym (ap (λ (v : World). v .lasts) w) ∙ (nm .same-lasts ∙ ap (λ (l : List Given). alone p l f .lasts) s);
@@ -369,14 +370,14 @@ module _ (p : Plan) (g : Given) (f : World) (fresh : Fresh p f) where
         same-length = sym (ap (λ (v : World). v .run .length) w) ∙ (nm .same-length ∙ ap (λ (l : List Given). alone p l f .run .length) s);
         same-outflow = outflow;
         same-soaked = soaked;
-        printed = made-same p (x .at .log .run) (onlyStanding p g f x .run) depths outflow soaked clock (h .steps-are);
+        printed = made-same p (x .at .log .run) (onlyStanding p g f x .run) depths outflow soaked clock (omega (arith, h .steps-are));
         kept-low = h .goes .beside .few;
       }
 
 -- ---- the theorems
 
 module _ (p : Plan) (g : Given) where
-  follows : (f : World) (began : List ℕ) (o : Opens p g f began) (lines : List Entry) → Follows p g f (o .fresh) (pageAfter p g lines (firstPage p g f began))
+  follows : (f : World) (began : List ℕ) (o : Opens p g f began) (lines : List Entry) → Follows p g f (o .fresh) 0 (pageAfter p g lines (firstPage p g f began))
   follows f began o lines = follow-all p g f (o .fresh) lines (firstPage p g f began) (follow-first p g f (o .fresh) began o)
 
   gone : (f : World) (began : List ℕ) (o : Opens p g f began) (lines : List Entry) → pageAfter p g lines (firstPage p g f began) .noted .standing ≡ [] →
@@ -400,7 +401,7 @@ seen-same : {d d′ l l′ : List ℕ} {c c′ n n′ o o′ k k′ : ℕ} → d
 seen-same a b c d e f = cc
 
 -- what is seen of a series is what is seen of its standing steps alone
-seen-alone : (p : Plan) (f : World) → Fresh p f → (cs : List Call) → seenOf (series p cs (start p f) .at) ≡ seenOf (alone p (series p cs (start p f) .standing) f)
+pub seen-alone : (p : Plan) (f : World) → Fresh p f → (cs : List Call) → seenOf (series p cs (start p f) .at) ≡ seenOf (alone p (series p cs (start p f) .standing) f)
 seen-alone p f fresh cs =
     let n = demand-3 p .never-made f fresh cs in
     seen-same (n .same-depths) (n .same-lasts) (n .same-clock) (n .same-length) (n .same-outflow) (n .same-soaked)

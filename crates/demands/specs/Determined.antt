@@ -54,6 +54,10 @@ use Rattle.hatches.specs.declared.lines.Entry.{Entry}
 use Rattle.evenings.specs.declared.taking.EntryTaken.{EntryTaken}
 use Rattle.evenings.specs.declared.telling.LineTaken.{LineTaken}
 use Rattle.evenings.specs.declared.program.Night.{Night}
+use Rattle.desks.specs.Orders.{order}
+use Rattle.desks.specs.Command.{commandLeft, stepLeft, Leaves}
+use Rattle.desks.specs.declared.state.Desk.{Desk}
+use Rattle.demands.specs.HatchLog.{storesWith}
 
 pub record LedgerDetermined : Type 0 where
   pub take-back : (p : Plan) (w : World) → One {Out = Answer × (List ℕ × List ℕ)} (λ o. TakesBack p w (o .0) (o .1 .0) (o .1 .1))
@@ -133,6 +137,14 @@ pub record EveningsDetermined : Type 0 where
       One {Out = Night × (List ℕ × (List ℕ × (List ℕ × (List ℕ × List ℕ))))}
       (λ o. GoesOn s n r (o .0) (o .1 .0) (o .1 .1 .0) (o .1 .1 .1 .0) (o .1 .1 .1 .1 .0) old (o .1 .1 .1 .1 .1))
 
+-- what `command` leaves in its ten rooms stands together
+pub record DesksDetermined : Type 0 where
+  pub command : (d : Desk) (r : Stores) (text line old : List ℕ) →
+      One {Out = Desk × (Stores × List ℕ)} (λ o. Leaves (commandLeft d r text (order line)) (o .0) (o .1 .0) old (o .1 .1))
+  pub make-next : (d : Desk) (r : Stores) (old : List ℕ) →
+      One {Out = Desk × (List ℕ × (List ℕ × (List ℕ × (List ℕ × List ℕ))))}
+      (λ o. Leaves (stepLeft d r) (o .0) (storesWith r (o .1 .0) (o .1 .1 .0) (o .1 .1 .1 .0) (o .1 .1 .1 .1 .0)) old (o .1 .1 .1 .1 .1))
+
 -- what other languages call
 pub record ExportsDetermined : Type 0 where
   pub fresh : (p : Plan) (r : Rules) (before records rules old : List ℕ) →
@@ -175,4 +187,5 @@ pub record Determined : Type 0 where
   pub levels : LevelsDetermined
   pub lists : ListsDetermined
   pub evenings : EveningsDetermined
+  pub desks : DesksDetermined
   pub exports : ExportsDetermined

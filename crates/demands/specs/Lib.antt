@@ -4,6 +4,11 @@ pub mod Closed
 pub mod Demand1
 pub mod Demand2
 pub mod Demand3
+pub mod Desk
+pub mod DeskCalls
+pub mod DeskLines
+pub mod DeskSavedCalls
+pub mod DeskWalls
 pub mod Determined
 pub mod EnginesAgree
 pub mod Exported

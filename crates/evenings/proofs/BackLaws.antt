@@ -25,12 +25,12 @@ same-records : (p : Plan) (w : World) → takenBack p w .records ≡ w .records
 unfolding takenBack worldBefore
 same-records p w = pick-ap (λ (x : World). x .records) (eqb (backNumber p w) 0) (worldBefore p w (newestRecord p w)) w ∙ pick-same (eqb (backNumber p w) 0) (w .records)
 
-done-is : (n : ℕ) (r u : Run) → Done u ≡ answered n r → (u ≡ r) × (0 ≡ n)
+pub done-is : (n : ℕ) (r u : Run) → Done u ≡ answered n r → (u ≡ r) × (0 ≡ n)
 unfolding answered
 done-is zero r u e = (cc, refl)
 done-is (suc n) r u e = absurd (let y : _≡_ {A = ℕ} 0 1 = cc in omega arith)
 
-refused-is : (n k : ℕ) (r : Run) → Refused k ≡ answered n r → (k ≡ n) × (n ≡ 0 → ⊥)
+pub refused-is : (n k : ℕ) (r : Run) → Refused k ≡ answered n r → (k ≡ n) × (n ≡ 0 → ⊥)
 unfolding answered
 refused-is zero k r e = absurd (let y : _≡_ {A = ℕ} 0 1 = cc in omega arith)
 refused-is (suc n) k r e = (cc, λ z. omega arith)

@@ -1,4 +1,5 @@
 pub mod BackLaws
+pub mod Determined
 pub mod NightLaws
 pub mod RingSteps
 pub mod ShownLaws

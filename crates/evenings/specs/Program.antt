@@ -231,6 +231,10 @@ module _ (sheet log : List ℕ) where
 
 -- ---- what the public functions give
 
+-- a room with 0 written over it
+abbrev pub Cleared : List ℕ → List ℕ → Type 0
+Cleared old new = new ≡ replicate (length old) 0
+
 pub record Begins (sheet log : List ℕ) (a : Night) (after : Stores) (old new : List ℕ) : Type 0 where
   pub begun-is : a ≡ begun sheet log
   pub stores-are : after ≡ begunStores sheet log

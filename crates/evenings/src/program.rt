@@ -36,7 +36,7 @@ ghost use Rattle.reckon.specs.Tests.{every};
 ghost use Rattle.grid.specs.Squares.{ShapeInRange, squares};
 ghost use Rattle.programs.specs.Program.{programRooms, programSquares};
 ghost use Rattle.sheet.specs.Sheet.{rooms};
-ghost use Rattle.evenings.specs.Program.{Begins, GoesOn, firstNight, isLeft, nightFine, nightFits, nightOver, noNight, stores};
+ghost use Rattle.evenings.specs.Program.{Begins, Cleared, GoesOn, firstNight, isLeft, nightFine, nightFits, nightOver, noNight, stores};
 ghost use Rattle.evenings.specs.inner.Sizes.{SizesAre, nightWith, sizesFit};
 
 // The most rates that are kept.
@@ -63,8 +63,8 @@ struct Sizes {
 }
 
 // Writes 0 over a room.
-fn clear(room: &mut [u32])
-    ensures { λ _. ⌜ now (room .exit) ≡ replicate (length (now (room .entry))) 0 ⌝ }
+pub fn clear(room: &mut [u32])
+    ensures { λ _. ⌜ Cleared (now (room .entry)) (now (room .exit)) ⌝ }
 {
     let mut i: usize = 0;
     while i < room.len() {

@@ -18,14 +18,17 @@ use rule::rules::Rules;
 ghost use mathlib.Core.Path.{_≡_};
 ghost use mathlib.Core.Bool.{true};
 ghost use Prim.Native.Nat.{_≤_};
+ghost use lib.ListN.{length};
 ghost use Rattle.reckon.specs.Tests.{refusal};
+ghost use Rattle.trials.specs.Ring.{slotsIn};
+ghost use Rattle.grid.specs.Squares.{ShapeInRange};
 ghost use Rattle.ledger.specs.Runs.{plan, world};
+ghost use Rattle.ledger.specs.Record.{roomSlots};
 ghost use Rattle.checks.specs.Given.{given, ground};
 ghost use Rattle.flood.specs.Run.{ended};
-ghost use Rattle.hatches.specs.Log.{entryRefusals, evening, hatchNamed, keptFine, lentFine, logWith, mostHatches, standingFine};
-ghost use Rattle.evenings.specs.Taking.{TakesEntry, afterBack, afterRate, backFrom, lineBack, lineRun, ratesWith};
-ghost use Rattle.checks.specs.Given as Givens;
-ghost use Rattle.evenings.specs.inner.Backs.{BacksOnce};
+ghost use Rattle.hatches.specs.Log.{entryRefusals, evening, hatchNamed, keptFine, logWith, mostHatches, standingFine};
+ghost use Rattle.evenings.specs.Taking.{TakesEntry, afterRate, backFrom, lineRun, ratesWith};
+ghost use Rattle.evenings.specs.inner.Backs.{BackTaken, BacksOnce};
 ghost use Rattle.hatches.specs.declared.lines.Entry.the-variants as kinds;
 
 // The number that a line is refused with, 0 for none, and the log after it.
@@ -35,7 +38,7 @@ pub struct EntryTaken {
 }
 
 // A log with a hatch named.
-fn name_hatch(log: Log, number: u32, row: u32, column: u32) -> Log
+pub fn name_hatch(log: Log, number: u32, row: u32, column: u32) -> Log
     requires { ⌜ (1 ≤ number) × (number ≤ mostHatches) ⌝ }
     ensures { λ r. ⌜ r ≡ hatchNamed log number row column ⌝ }
 {
@@ -56,7 +59,7 @@ fn name_hatch(log: Log, number: u32, row: u32, column: u32) -> Log
 }
 
 // A log with another run, steps standing and rates; the opening is over.
-fn further(log: Log, run: Run, steps: u64, litres: [u32; 9]) -> Log
+pub fn further(log: Log, run: Run, steps: u64, litres: [u32; 9]) -> Log
     ensures { λ r. ⌜ r ≡ logWith log run steps litres ⌝ }
 {
     let hatches = log.hatches;
@@ -198,7 +201,7 @@ fn take_backs(
 }
 
 // A line `back`.
-fn back_line(
+pub fn back_line(
     log: Log,
     count: u32,
     shape: Shape,
@@ -208,8 +211,9 @@ fn back_line(
     records: &[u32],
     began: &[u32],
 ) -> EntryTaken
-    requires { ⌜ (lentFine (plan shape (now marks)) (now depths) (now records) (now began) ≡ true) × (standingFine log ≡ true) × (keptFine log (kinds.Back count) ≡ true) ⌝ }
-    ensures { λ r. ⌜ ((g : Givens.Given) → (r .number ≡ lineBack (plan shape (now (marks .entry))) g (evening (now (depths .entry)) (now (lasts .entry)) (now (records .entry)) (now (began .entry)) log) count .number) × (evening (now (depths .exit)) (now (lasts .exit)) (now (records .entry)) (now (began .entry)) (r .log) ≡ afterBack (plan shape (now (marks .entry))) g (evening (now (depths .entry)) (now (lasts .entry)) (now (records .entry)) (now (began .entry)) log) count)) ⌝ }
+    requires { ⌜ (ShapeInRange shape) × (roomSlots (plan shape (now marks)) (now records) ≤ slotsIn mostHatches (length (now began))) ⌝ }
+    requires { ⌜ (standingFine log ≡ true) × (keptFine log (kinds.Back count) ≡ true) ⌝ }
+    ensures { λ r. ⌜ BackTaken (plan shape (now (marks .entry))) (evening (now (depths .entry)) (now (lasts .entry)) (now (records .entry)) (now (began .entry)) log) count (r .number) (evening (now (depths .exit)) (now (lasts .exit)) (now (records .entry)) (now (began .entry)) (r .log)) ⌝ }
 {
     let slots = trials::slots_in(record_size(shape), records.len());
     let back = take_backs(log.run, count, shape, marks, depths, lasts, records);

@@ -113,11 +113,13 @@ module _ (p : Plan) (g : Given) (e : Evening) where
       }
 
   pub entered-back : {entry : Entry} {count : ℕ} → refusal (entryRefusals p g e entry) ≡ 0 → entry ≡ Back count →
-      (lentFine p (e .depths) (e .records) (e .began) ≡ true) × (standingFine (e .log) ≡ true) × (keptFine (e .log) (Back count) ≡ true)
+      ((ShapeInRange (p .shape)) × (roomSlots p (e .records) ≤ slotsIn mostHatches (length (e .began)))) ×
+      ((standingFine (e .log) ≡ true) × (keptFine (e .log) (Back count) ≡ true))
   unfolding entryRefusals
   entered-back z h =
       let rows = refusal-passed _ tt z in
-      (rows .1 .0, rows .1 .1 .1 .0, ap (keptFine (e .log)) (sym h) ∙ rows .1 .1 .1 .1 .0)
+      let lent = lent-is _ _ _ _ (rows .1 .0) in
+      ((lent .shape, lent .room), (rows .1 .1 .1 .0, ap (keptFine (e .log)) (sym h) ∙ rows .1 .1 .1 .1 .0))
 
 pub standing-is : (log : Log) → standingFine log ≡ true → (log .run .kept ≤ log .steps) × (log .steps ≤ log .run .clock)
 unfolding standingFine

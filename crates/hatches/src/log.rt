@@ -61,7 +61,7 @@ pub fn open_log(run: Run) -> Log
 }
 
 // Whether a hatch is named.
-pub(crate) fn is_named(hatches: Hatches, number: u32) -> bool
+pub fn is_named(hatches: Hatches, number: u32) -> bool
     ensures { λ r. ⌜ r ≡ isNamed hatches number ⌝ }
 {
     if number < 1 {

@@ -118,7 +118,7 @@ pub fn keep_made(litres: &[u32; 9], slots: usize, newest: usize, steps: u64, beg
 }
 
 // The slot so many places before one.
-fn slot_ago(slots: usize, newest: usize, places: u64) -> usize
+pub fn slot_ago(slots: usize, newest: usize, places: u64) -> usize
     requires { ⌜ newest < slots ⌝ }
     ensures { λ r. ⌜ r ≡ slotAgo slots newest places ⌝ }
 {

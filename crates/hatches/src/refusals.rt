@@ -20,16 +20,14 @@ use reckon::tables::INFLOW_WIDTH;
 use rule::rules::Rules;
 ghost use mathlib.Core.Path.{_≡_};
 ghost use mathlib.Core.Bool.{true};
-ghost use mathlib.Core.List.{List};
 ghost use Prim.Native.Nat.{ℕ, _+_, _*_, _%_, _≤_};
-ghost use lib.Dec.{eqb, leb};
+ghost use lib.Dec.{eqb};
 ghost use lib.ListN.{length};
-ghost use Rattle.reckon.specs.Tables.{inflowKind, tableRoom};
+ghost use Rattle.reckon.specs.Tables.{inflowKind};
 ghost use Rattle.grid.specs.Squares.{ShapeInRange, squares};
 ghost use Rattle.ledger.specs.Runs.{plan};
-ghost use Rattle.hatches.specs.Log.{drawFine, hatchRows, keptFine, lentFine, lineFine, standingFine};
-ghost use Rattle.hatches.specs.inner.Judged.{EntryJudged};
-ghost use Rattle.rule.specs.declared.rules.Rules as Declared;
+ghost use Rattle.hatches.specs.Log.{drawFine, keptFine, lentFine, lineFine, standingFine};
+ghost use Rattle.hatches.specs.inner.Judged.{EntryJudged, HatchDrawJudged, HatchLineJudged, TableFits};
 ghost use Rattle.ledger.specs.Runs as Runs;
 ghost use Rattle.hatches.specs.declared.lines.Entry.the-variants as kinds;
 
@@ -44,8 +42,8 @@ fn is_multiple(clock: u64, update: u64) -> bool
 }
 
 // 12 for a hatch's line: at the opening, its number is 1 to 9 and not named yet.
-fn hatch_line_fine(log: Log, number: u32) -> bool
-    ensures { λ r. ⌜ ((rules : Declared.Rules) (row column : ℕ) → r ≡ lineFine rules log (kinds.Hatch number row column)) ⌝ }
+pub fn hatch_line_fine(log: Log, number: u32) -> bool
+    ensures { λ r. ⌜ HatchLineJudged log number r ⌝ }
 {
     if !log.opening {
         return false;
@@ -110,9 +108,9 @@ fn lent_fine(shape: Shape, marks: &[u8], depths: &[u32], records: &[u32], began:
 }
 
 // Whether so many numbers, a row for each hatch and so many numbers more fit the inflow table.
-fn table_fits(numbers: usize, hatches: Hatches, more: usize) -> bool
+pub fn table_fits(numbers: usize, hatches: Hatches, more: usize) -> bool
     requires { ⌜ more ≤ inflowKind .width ⌝ }
-    ensures { λ r. ⌜ ((litres : List ℕ) → r ≡ leb (numbers + length (hatchRows hatches litres) + more) (tableRoom inflowKind)) ⌝ }
+    ensures { λ r. ⌜ TableFits numbers hatches more r ⌝ }
 {
     if INFLOW_ROOM < numbers {
         return false;
@@ -121,7 +119,7 @@ fn table_fits(numbers: usize, hatches: Hatches, more: usize) -> bool
 }
 
 // 4 for a hatch's line: its square is on the grid and not closed, and one row more fits the table.
-fn hatch_draw_fine(
+pub fn hatch_draw_fine(
     log: Log,
     row: u32,
     column: u32,
@@ -130,7 +128,7 @@ fn hatch_draw_fine(
     inflow: &[u32],
 ) -> bool
     requires { ⌜ (ShapeInRange shape) × (length (now marks) ≡ squares shape) ⌝ }
-    ensures { λ r. ⌜ ((number : ℕ) → r ≡ drawFine (plan shape (now (marks .entry))) (now (inflow .entry)) log (kinds.Hatch number row column)) ⌝ }
+    ensures { λ r. ⌜ HatchDrawJudged (plan shape (now (marks .entry))) (now (inflow .entry)) log row column r ⌝ }
 {
     let at_row = row as usize;
     let at_column = column as usize;
@@ -177,7 +175,7 @@ fn draw_fine(entry: Entry, log: Log, shape: Shape, marks: &[u8], inflow: &[u32])
 }
 
 // 6: as many steps stand as are kept, and each took a ms or more.
-fn standing_fine(log: Log) -> bool
+pub fn standing_fine(log: Log) -> bool
     ensures { λ r. ⌜ r ≡ standingFine log ⌝ }
 {
     let run = log.run;

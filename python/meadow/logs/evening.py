@@ -24,8 +24,8 @@ class Evening:
     """A fresh run of a sheet, whose end is not used, and what a log's lines change: the hatches named, each with its square; the rate of each;
     and of every step that stands the rates when it began."""
 
-    def __init__(self, sheet):
-        self.meadow = meadow_of(sheet, records_kept(sheet.rows * sheet.columns))
+    def __init__(self, sheet, records=records_kept):
+        self.meadow = meadow_of(sheet, records(sheet.rows * sheet.columns))
         fresh(self.meadow)
         self.sheets_rows = self.meadow.inflow
         self.opening, self.places, self.litres, self.began = True, {}, {}, []

@@ -42,10 +42,8 @@ def check_arrow(m, row, column):
     refuse_if(times_wrong(*m.newest_record()[:HEAD_WORDS]), 11)
 
 
-def arrow(m, row, column):
-    """What is seen of a square: its kind, and for a moving one the speeds east and north."""
-    check_arrow(m, row, column)
-    square = row * m.columns + column
+def seen(m, square):
+    """What is seen of a square where nothing is refused: its kind, and for a moving one the speeds east and north."""
     if m.marks[square] == CLOSED:
         return "closed", None
     if m.depths[square] == 0:
@@ -54,6 +52,12 @@ def arrow(m, row, column):
         return "still", None
     north, east, south, west = (speed_outwards(m, square, side) for side in SIDES)
     return "moving", (east - west, north - south)
+
+
+def arrow(m, row, column):
+    """What is seen of a square, or a refusal."""
+    check_arrow(m, row, column)
+    return seen(m, row * m.columns + column)
 
 
 def wet_rows(m, wet_depth, rows):

@@ -3,7 +3,7 @@
 use native.Mathlib.Omega.{arith}
 use Rattle.ledger.specs.Runs.{Plan, plan}
 use Rattle.hatches.specs.Log.{Evening, evening}
-use Rattle.hatches.proofs.RefusalLaws.{Lent, lent-is, standing-is, back-kept, slots-are}
+use Rattle.hatches.proofs.RefusalLaws.{standing-is, back-kept, slots-are}
 use Rattle.evenings.proofs.BackLaws.{backs-few, backs-newest}
 use Rattle.evenings.proofs.TakeLaws.{back-done}
 use borrow.Author.Needs.{needs}
@@ -17,11 +17,8 @@ P s = plan (s .args .shape) (s .args .marks .now)
 abbrev E : tie.Start → Evening
 E s = evening (s .args .depths .now) (s .args .lasts .now) (s .args .records .now) (s .args .began .now) (s .args .log)
 
-lent : (s : tie.Start) → Lent (P s) (s .args .depths .now) (s .args .records .now) (s .args .began .now)
-lent s = lent-is (P s) _ _ _ (s .pre .0)
-
 record-size-requires : tie.Need-record-size-requires
-record-size-requires c κs = let s = (c .before .before .before .before .before) in lent s .shape
+record-size-requires c κs = let s = (c .before .before .before .before .before) in s .pre .0 .0
 
 slots-in-requires : tie.Need-slots-in-requires
 slots-in-requires c κs = search needs
@@ -33,10 +30,10 @@ rates-back-requires : tie.Need-rates-back-requires
 rates-back-requires c κs =
     let s = (c .before .before .before .before .before .before .before .before .before .before .before .before .before .before) in
     let k = slots-are (P s) (s .args .records .now) (c .before .before .before .before .before .before .before .before .record-size .ensures) (c .before .before .before .before .before .before .before .slots-in .ensures) in
-    (λ l. omega (arith, k, backs-newest _ _ _ (c .before .before .before .before .take-backs .ensures) l), omega (arith, k, lent s .room))
+    (λ l. omega (arith, k, backs-newest _ _ _ (c .before .before .before .before .take-backs .ensures) l), omega (arith, k, s .pre .0 .1))
 
 sub-further : tie.Need-sub-further
-sub-further c = let s = (c .before .before .before .before .before .before .before .before .before .before .before .before .before .before .before .before .before .before) in omega (arith, backs-few _ _ _ (c .before .before .before .before .before .before .before .before .take-backs .ensures), standing-is (s .args .log) (s .pre .1), back-kept (s .args .log) (s .args .count) (s .pre .2))
+sub-further c = let s = (c .before .before .before .before .before .before .before .before .before .before .before .before .before .before .before .before .before .before) in omega (arith, backs-few _ _ _ (c .before .before .before .before .before .before .before .before .take-backs .ensures), standing-is (s .args .log) (s .pre .1 .0), back-kept (s .args .log) (s .args .count) (s .pre .1 .1))
 
 further-requires : tie.Need-further-requires
 further-requires c κs = search needs

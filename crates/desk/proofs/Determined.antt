@@ -1,7 +1,0 @@
--- Every contract leaves one outcome: each is an equation for all that a call gives.
--- Assumes nothing.
-use Rattle.reckon.proofs.OutcomeLaws.{exactly}
-use Rattle.desk.specs.inner.Determined.{DeskDetermined}
-
-pub desk-determined : DeskDetermined
-desk-determined = record { order-of = λ s. exactly }

@@ -1,0 +1,10 @@
+pub mod AnswerLaws
+pub mod AnswerParts
+pub mod Determined
+pub mod LeftLaws
+pub mod OrderLaws
+pub mod OtherLaws
+pub mod RoomLaws
+pub mod SheetLaid
+pub mod StateLaws
+pub mod WorkedLaws

@@ -1,0 +1,4 @@
+pub mod Determined
+pub mod Lent
+pub mod Rooms
+pub mod Sizes

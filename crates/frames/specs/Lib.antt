@@ -1,0 +1,5 @@
+pub mod Arrows
+pub mod Bounds
+pub mod Frame
+pub mod Worked
+pub mod inner

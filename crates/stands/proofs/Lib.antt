@@ -1,0 +1,15 @@
+pub mod Determined
+pub mod HeadBack
+pub mod HeadLaws
+pub mod JudgeLaws
+pub mod LaidLaws
+pub mod LayLaws
+pub mod LengthLaws
+pub mod NameBack
+pub mod NameLaws
+pub mod PutLaws
+pub mod SquareBack
+pub mod SquareLaws
+pub mod StandBack
+pub mod TidyLaws
+pub mod WorkedLaws

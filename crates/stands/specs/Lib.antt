@@ -1,0 +1,4 @@
+pub mod Laying
+pub mod Texts
+pub mod Worked
+pub mod inner

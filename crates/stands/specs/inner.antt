@@ -1,0 +1,4 @@
+pub mod Back
+pub mod Determined
+pub mod Passing
+pub mod Putting

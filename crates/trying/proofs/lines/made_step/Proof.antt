@@ -1,0 +1,38 @@
+use mathlib.Core.Path.{_≡_, ap, _∙_}
+use Prim.Native.Nat.{ℕ, _+_}
+use native.Mathlib.Omega.{arith}
+use Rattle.ledger.specs.Runs.{plan}
+use Rattle.trials.specs.Ring.{slotAfter}
+use Rattle.adding.specs.inner.Added.{tables}
+use Rattle.hatches.specs.Log.{logWith}
+use Rattle.trying.specs.Given.{accountWith}
+use Rattle.trying.specs.Lines.{tried}
+use Rattle.trying.proofs.LineLaws.{tables-most}
+use borrow.Author.Needs.{needs}
+use Rattle.trying.proofs.lines.made_step.Statement.{statement}
+use Rattle.trying.proofs.lines.made_step.Tie as tie
+use Rattle.trying.proofs.lines.made_step.Reads as reads
+use Rattle.trying.proofs.lines.made_step.Lts as lts
+use Rattle.account.proofs.tables_give.Reads as tables-give-reads
+use Rattle.trying.proofs.lines.keep_step.Reads as keep-step-reads
+
+-- src/lines.rt:194:9
+tables-give-requires : tie.Need-tables-give-requires
+tables-give-requires c κs = search needs
+
+-- src/lines.rt:195:5
+keep-step-requires : tie.Need-keep-step-requires
+keep-step-requires c κs =
+    (c .before .before .before .before .before .before .before .pre .0, (c .before .before .before .before .before .before .before .pre .1 .0 .0, omega (arith, c .before .tables-give .ensures, tables-most _ _ _ _ (c .before .before .before .before .before .before .before .pre .1 .1), c .before .before .before .before .before .before .before .pre .1 .0 .1, c .before .before .before .before .before .before .before .pre .1 .1 .waters .fine .few)))
+
+-- src/lines.rt:176:1
+same-length : tie.Need-same-length
+same-length c = search needs
+
+-- src/lines.rt:176:1
+returns : tie.Need-returns
+returns c =
+    (c .before .before .keep-step .ensures .0 ∙ ap (λ (m : ℕ). tried 0 (logWith (c .before .before .before .before .before .before .before .before .before .before .args .log) (c .before .before .before .before .before .before .before .before .before .before .args .run) (c .before .before .before .before .before .before .before .before .before .before .args .log .steps + 1) (c .before .before .before .before .before .before .before .before .before .before .args .log .litres)) (accountWith (c .before .before .before .before .before .before .before .before .before .before .args .account) (slotAfter (c .before .before .before .before .before .before .before .before .before .before .args .slots) (c .before .before .before .before .before .before .before .before .before .before .args .log .run .newest)) m)) (c .before .before .before .before .tables-give .ensures), c .before .before .keep-step .ensures .1)
+
+pub made-step-spec : {M : Type 1} → statement M
+made-step-spec = tie.close (tie.spec tables-give-requires keep-step-requires same-length returns)
