@@ -1,7 +1,6 @@
-// Bounds of roots from below, found by shifts. Below the root stands a power of two, a, and above it 2·a. On a straight line from the power of
-// the one to that of the other a number stands for no more than its root, since powers curve upwards: (2·a + n/a) / 3 for squares, and
-// (6·a + n/a²) / 7 for cubes.
-ghost use mathlib.Core.Path.{_≡_};
+// Bounds of roots from below, found by shifts. Of the root of n a is a power of two below it, and 2·a is above. The straight line from the
+// power of a to that of 2·a lies above the power of every number between, since powers curve upwards; so what it has for n is at most the
+// root: (2·a + n/a) / 3 for squares, and (6·a + n/a²) / 7 for cubes.
 ghost use Prim.Native.Nat.{_+_, _^_, _≤_, _<_};
 
 // The place of the highest binary digit.

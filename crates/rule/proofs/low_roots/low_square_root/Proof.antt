@@ -1,7 +1,7 @@
 -- `rule::low_roots::low_square_root` meets its contract: the straight line lies below the root.
 -- Assumes nothing.
-use mathlib.Core.Path.{_≡_, refl}
-use Prim.Native.Nat.{_*_, _/_, _%_, _^_, _+_, _≤_, _<_}
+use mathlib.Core.Path.{refl}
+use Prim.Native.Nat.{_*_, _/_, _%_, _^_, _+_, _<_}
 use native.Mathlib.Omega.{arith}
 use borrow.Author.Needs.{needs}
 use Rattle.rule.proofs.LowRootLaws.{one-moved, square-low, square-fits}
