@@ -23,6 +23,8 @@ SERIES = 64
 # turns, and the steps between the two ends: so many spans, and so many lines of the desk
 STEPS = SPAN * (SERIES - 1)
 NATIVE, EMULATED, SHORT, COUNTED = (9, 6 * STEPS), (3, STEPS), (1, STEPS), (1, STEPS)
+# the words that emulate, where bin/speed has others
+EMULATOR = os.environ.get("EMULATOR", "qemu-x86_64").split()
 COUNTER, LOG = TOP / "target" / "outside" / "count.so", TOP / "target" / "outside" / "count.log"
 
 
@@ -106,8 +108,8 @@ def ran(words, given):
 
 
 def counted(words, given):
-    """The instructions of the same by the emulator's plugin, which comes before the program."""
-    ran([words[0], "-plugin", COUNTER, "-d", "plugin", "-D", LOG, *words[1:]], given)
+    """The instructions of the same, by the emulator's plugin."""
+    ran([*EMULATOR, "-plugin", COUNTER, "-d", "plugin", "-D", LOG, *words[len(EMULATOR) :]], given)
     lines = (line.split("\t") for line in LOG.read_text(encoding="utf-8", errors="replace").splitlines())
     return sum(int(line[1]) for line in lines if line[0] == "executed")
 
@@ -115,7 +117,7 @@ def counted(words, given):
 def words_by(way, name):
     """What starts a program; where bin/run starts it by the kit's emulator, Debian's takes its place."""
     words = [word for word in words_of(name) if not word.endswith("qemu-x86_64")]
-    return ["qemu-x86_64", *words] if way == "emulated" else words
+    return [*EMULATOR, *words] if way == "emulated" else words
 
 
 class Timed:

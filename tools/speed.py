@@ -80,7 +80,7 @@ class Measured:
         """What each turn of a step took, by sheet and program."""
         turns = defaultdict(lambda: defaultdict(list))
         for _, sheet, program, taken in self.lines[kind]:
-            turns[sheet][program].append(float(taken) / 1000)
+            turns[sheet][program].append(float(taken))
         return turns
 
 
@@ -170,21 +170,21 @@ def against_a_run(taken, program):
     return [a / b for a, b in zip(taken[program], taken[RUN])]
 
 
-def program_rows(each, kind):
+def program_rows(each):
     """For each sheet and program what a step takes, and how often that of a run."""
-    for sheet, taken in each.programs(kind).items():
+    for sheet, taken in each.programs("program").items():
         for program, times in taken.items():
-            yield [f"{sheet}, {program}", spread(times), spread(against_a_run(taken, program))]
+            yield [f"{sheet}, {program}", spread([time / 1000 for time in times]), spread(against_a_run(taken, program))]
 
 
 def programs(found):
     """Steps of the programs."""
     for way, each in found.items():
-        yield Table([f"32 by 32, {way}", "µs a step", f"it / {RUN}"], list(program_rows(each, "program")))
+        yield Table([f"32 by 32, {way}", "µs a step", f"it / {RUN}"], list(program_rows(each)))
     if "emulated" in found and found["emulated"].lines["executed"]:
         rows = []
         for sheet, taken in found["emulated"].programs("executed").items():
-            rows += [[f"{sheet}, {name}", f"{1000 * count[0]:,.0f}", f"{count[0] / taken[RUN][0]:.2f}"] for name, count in taken.items()]
+            rows += [[f"{sheet}, {name}", f"{count[0]:,.0f}", f"{count[0] / taken[RUN][0]:.2f}"] for name, count in taken.items()]
         yield Table(["32 by 32, instructions", "a step", f"it / {RUN}"], rows)
 
 
