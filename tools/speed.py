@@ -197,10 +197,10 @@ def targets(found):
     each = found.get("native")
     if not each:
         return
-    rows = [[f"of the {engine}, {meadow}: {matters}", figure(asked), judged(asked, each.ratios(meadow, engine))] for engine, meadow, asked, matters in TARGETS]
+    rows = [[f"of the {engine}; {meadow}: {matters}", figure(asked), judged(asked, each.ratios(meadow, engine))] for engine, meadow, asked, matters in TARGETS]
     for sheet, taken in each.programs("program").items():
         for program in (program for program in taken if program != RUN):
-            rows.append([f"a step of `{program}` of one of `{RUN}`, {sheet}: must hold", figure(MOST_OF_A_RUN), judged(MOST_OF_A_RUN, against_a_run(taken, program))])
+            rows.append([f"a step of `{program}`, of one of `{RUN}`; {sheet}: asked", figure(MOST_OF_A_RUN), judged(MOST_OF_A_RUN, against_a_run(taken, program))])
     yield Table(["target", "asked, at most", "is, native"], rows)
 
 

@@ -22,7 +22,8 @@ pub struct Ground {
 
 /// A ditch's edge slope, for the river's mouths.
 const TO_A_DITCH: Rules = Rules { edge: 10, ..RULES };
-const AT_EVERY_STEP: Rules = Rules { update: STEP_LASTS, ..RULES };
+/// The length could be long, and is looked for at each step; the update time alone holds it.
+const AT_EVERY_STEP: Rules = Rules { update: STEP_LASTS, longest: 60_000, ..RULES };
 
 /// Document 02's first: a tenth of it wet, ten thousand steps. Then other shares of wet squares, and other meadows.
 pub const GROUNDS: [Ground; 11] = [
@@ -177,9 +178,10 @@ fn pond_at_rest() -> Meadow {
     pond(|| (10_000_000, 500_000))
 }
 
-/// Dry uneven ground under rain of 36 mm an hour, which is one micrometre a step.
+/// Uneven ground under half a centimetre of water and rain of 36 mm an hour, which is one micrometre a step.
 fn rain_on_all() -> Meadow {
     let mut meadow = all_dry();
+    meadow.depths.fill(5_000);
     meadow.rain.extend([0, 604_800_000, 36_000]);
     meadow
 }
