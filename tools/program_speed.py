@@ -17,7 +17,8 @@ from meadow.programs import TOP, built, words_of
 from meadow.rule.ranges import LAST_CLOCK
 from meadow.sheets.lines import Sheet, Unreadable
 
-STEP, SPAN, SIZE, BLOCK, FEW = 100, 50, 32, 8, 500
+# a step in ms, steps from one multiple of the update time to the next, squares along a side and along a block's, steps to the first end
+STEP, SPAN, SIZE, BLOCK, FEW, ROUGHNESS = 100, 50, 32, 8, 500, 350
 # the most steps of a desk's line
 SERIES = 64
 # turns, and the steps between the two ends: so many spans, and so many lines of the desk
@@ -28,11 +29,11 @@ EMULATOR = os.environ.get("EMULATOR", "qemu-x86_64").split()
 COUNTER, LOG = TOP / "target" / "outside" / "count.so", TOP / "target" / "outside" / "count.log"
 
 
-def uneven(chance, bed, depth, roughness=350):
+def uneven(chance, bed, depth):
     """A sheet of uneven ground under a depth of water that is uneven too."""
     sheet = Sheet(SIZE, SIZE, 10, tolerance=100, shortest=STEP, longest=STEP, update=SPAN * STEP)
     for place in sheet.squares:
-        sheet.put(place, bed + chance.randrange(300_000), roughness, depth and depth + chance.randrange(depth))
+        sheet.put(place, bed + chance.randrange(300_000), ROUGHNESS, depth and depth + chance.randrange(depth))
     return sheet
 
 
@@ -43,7 +44,7 @@ def tenth_wet():
     for block in range((SIZE // BLOCK) ** 2):
         row, column = BLOCK * (block // (SIZE // BLOCK)) + chance.randrange(1, 7), BLOCK * (block % (SIZE // BLOCK)) + 1
         for part in range(6 + block % 2):
-            sheet.put((row, column + part), 10_000_000 - 20_000 * part, 350, 200_000 + chance.randrange(200_000))
+            sheet.put((row, column + part), 10_000_000 - 20_000 * part, ROUGHNESS, 200_000 + chance.randrange(200_000))
         sheet.inflow.append((row, column, 0, LAST_CLOCK, 200))
     return sheet
 
