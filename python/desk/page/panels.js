@@ -41,7 +41,7 @@ function showTrialBanner(box, trial) {
   const ways = isPast ? [
     make('button', { id: 'take-here', textContent: 'Take back to here', onclick: () => takeBack(made - desk.view) }),
     make('button', { id: 'return', textContent: 'Return', onclick: () => look(made) }),
-  ] : [make('button', { id: 'rename', textContent: 'Name', title: 'Give this trial another name', onclick: rename })];
+  ] : [make('button', { id: 'rename', textContent: 'Name', title: 'Give this trial another name, key R', onclick: rename })];
   const said = make('span', {}, ...words);
   refill(box, `${desk.current} ${said.textContent} ${water.textContent} ${made}`, said, make('span', { className: 'grow' }), water, ...ways);
 }
@@ -55,12 +55,12 @@ function showSeasonBanner(box) {
 }
 
 function showSeason() {
-  const { same, run, opened } = desk.told.season, isRunning = run && run.how === 'running', box = $('season');
+  const { same, run, opened, begun } = desk.told.season, isRunning = run && run.how === 'running', box = $('season');
   box.className = same || isRunning ? '' : 'moved';
   const moved = isRunning ? `the keeper’s run, seen ${run.saved.slice(11)}` : 'moved on by the keeper';
   const since = same ? [bold('✓ untouched'), ` since ${opened}`] : [moved];
   const name = run && make('code', { id: 'season-name', textContent: run.state.slice(0, 12) });
-  const where = run ? ['Season at ', bold(clockText(run.clock)), ' · ', name, ' · '] : ['The season’s run has not begun · '];
+  const where = run ? ['Season at ', bold(clockText(run.clock)), ' · ', name, ' · '] : [begun ? '⚠ The season’s saved state cannot be used · ' : 'The season’s run has not begun · '];
   const said = make('span', {}, ...where, ...since);
   refill(box, said.textContent, said);
 }
@@ -100,10 +100,18 @@ function hatchRow(number) {
     }),
     make('input', {
       type: 'number', id: 'rate' + number, min: 0, max: 100000, ariaLabel: `${name}, exact litres a second`,
-      onfocus: event => event.target.select(), onchange: event => send(event.target.value),
+      onfocus: event => event.target.select(), onchange: event => send(event.target.value), onkeydown: event => leaveRate(event, number),
     }),
     make('span', { className: 'was', id: 'was' + number }),
   ];
+}
+
+/* Enter sends a typed rate and Escape forgets it; both go on to the slider, where Space makes steps */
+function leaveRate(event, number) {
+  if (event.key === 'Escape') event.target.value = here().rates[number - 1];
+  if (event.key !== 'Enter' && event.key !== 'Escape') return;
+  event.stopPropagation();
+  $('slide' + number).focus();
 }
 
 function showRate(number, rate, before, isShut) {
