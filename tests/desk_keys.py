@@ -12,10 +12,20 @@ from meadow.programs import built
 # so many Tabs lead round the page, whatever is on it
 ROUND = 150
 FOCUSED = "document.activeElement.id || document.activeElement.parentElement.id"
-CONTROLS = """
-[...document.querySelectorAll('button,input,select,canvas,a[href]')].filter(e => !e.disabled && e.getClientRects().length && !e.closest('dialog'))
+CONTROLS = """[...document.querySelectorAll('button,input,select,canvas,a[href]')].filter(e => !e.disabled && e.getClientRects().length && !e.closest('dialog'))
   .map(e => e.id || e.parentElement.id || e.className)
 """
+# a key, and what it leads to, one after the other
+LOOKS = [
+    ("l", "desk.layer === 'highest'"),
+    ("l", "desk.layer === 'wet'"),
+    ("l", "desk.layer === 'depth'"),
+    ("a", "desk.arrows"),
+    ("f", "desk.figuresOn && !desk.arrowsOn"),
+    ("f", "!desk.figuresOn"),
+    ("g", "document.body.classList.contains('grey')"),
+    ("g", "!document.body.classList.contains('grey')"),
+]
 
 
 class Keyboard:
@@ -143,13 +153,15 @@ def hold_named(checks, page, keys):
 
 def hold_looks(checks, page, keys):
     """Layers, arrows, figures, grey and panels; the map's squares and boards; looking back, and from there taken back; the season's tab; the help."""
-    for key, state in (("l", "desk.layer === 'highest'"), ("l", "desk.layer === 'wet'"), ("l", "desk.layer === 'depth'"), ("a", "desk.arrows"),
-                       ("f", "desk.figuresOn && !desk.arrowsOn"), ("f", "!desk.figuresOn"), ("g", "document.body.classList.contains('grey')"),
-                       ("g", "!document.body.classList.contains('grey')"), ("t", "desk.panel === 'trials'"), ("t", "desk.panel === 'slips'"),
-                       ("t", "desk.panel === 'boards'")):
+    for key, state in LOOKS:
         keys.press(key)
         page.wait(state)
         page.idle()
+    panels = []
+    while page.js("desk.panel") != "boards" or len(panels) < 3:
+        keys.press("t")
+        panels.append(page.js("desk.panel"))
+    checks.hold(set(panels) == {"boards", "trials", "slips"}, f"T shows {panels}")
     checks.hold(keys.to("left"), "the map is not reached by Tab")
     keys.press("ARROW_UP", "ARROW_LEFT")
     page.wait("desk.cursor !== null && !document.getElementById('tip').hidden")

@@ -13,7 +13,7 @@ from desk.files import name_of
 from desk.journal import Journal
 from desk.trials import FORM, KIND
 from desk_refusals import PUDDLE, TOO_DEEP, TOO_MUCH, odd_week, saved, soaking
-from desks import DESK, SEASON, Room
+from desks import DESK, SEASON, Room, water_in
 from meadow.counted import Checks
 from meadow.programs import TOP, built
 from meadow.rule.ranges import LAST_CLOCK
@@ -26,7 +26,8 @@ SHUT, DRAWN, WIDE = ("1 0 0 0",), ("1 0 0 10",), ("1 0 0 100000",)
 ONE_STEP = ("step", {"count": 1})
 # what is tried, the number, the sheet, the state that the trial begins with, and the change
 CHANGES = [
-    ("more given than can be counted", 6, PUDDLE, saved(given=MOST_GIVEN, hatches=DRAWN), ONE_STEP),
+    # the first of the two steps is given more than can be counted, and stands
+    ("a step after too much was given", 6, PUDDLE, saved(given=MOST_GIVEN, hatches=DRAWN), ("step", {"count": 2})),
     ("a step past a week", 7, odd_week(), saved(clock=LAST_CLOCK - 1, hatches=SHUT), ONE_STEP),
     ("a step that gets too deep", 8, PUDDLE, saved(hatches=WIDE), ONE_STEP),
     ("a step with too much outflow", 9, BASES["exit"], saved(out=10**15, hatches=SHUT, squares=("0 10000 0",)), ONE_STEP),
@@ -72,18 +73,19 @@ def stand_of(sheet, state):
 
 
 def hold_change(checks, folder, words, number, sheet, state, change):
-    """A change that is refused: its number and words, and the water as it was."""
+    """A change that is refused: its number and words, and what stood before it stands, after a restart too."""
     with Room(folder / f"by-{number}", season_of(folder / f"season-{number}", sheet, state)) as room:
         room.start()
         key = room.new("refused")
-        before = room.water(key)
+        before, made = room.water(key), change[1].get("count", 1) - 1
         told = room.change(key, change[0], **change[1])
-        wanted = f"refused\t{number}\t{refusals.change_words(Refused(number))}\n"
-        checks.hold(told.startswith(wanted) and told.endswith("end\n"), f"{words} is answered by {told!r}")
-        checks.hold(number in refusals.OF_A_CHANGE and room.water(key) == before and room.now(key)["made"] == 0, f"after {words} other water stands")
+        wanted = f"\nrefused\t{number}\t{refusals.change_words(Refused(number))}\nnow\t"
+        checks.hold(number in refusals.OF_A_CHANGE and wanted in "\n" + told and told.endswith("end\n"), f"{words} is answered by {told!r}")
+        stood = room.now(key)["made"], room.water(key) == before
+        checks.hold(stood == (made, made == 0), f"after {words} {stood[0]} steps stand, or other water")
         room.kill()
         room.start()
-        checks.hold(room.water(key) == before, f"after {words} the journal gives other water")
+        checks.hold(room.water(key) == water_in(told), f"after {words} the journal gives other water")
 
 
 def hold_requests(checks, room, key):
