@@ -388,14 +388,14 @@ def hold_sizes(checks, page):
 
 def hold_print(checks, page):
     """A printed sheet has its date, the sheet's hash and the settings."""
+    told = page.driver.execute_cdp_cmd("Page.printToPDF", {"preferCSSPageSize": True, "printBackground": True})
+    paper = base64.b64decode(told["data"])
     page.driver.execute_cdp_cmd("Emulation.setEmulatedMedia", {"media": "print"})
     page.wait("getComputedStyle(document.getElementById('paper-head')).display === 'block'")
     words = page.text("paper-head")
     dated = re.search(r"Printed \d\d/\d\d/\d{4}", words)
     checks.hold(page.js("desk.ground.sheet") in words and "update time" in words and dated, f"a printed sheet says {words!r}")
     checks.hold("Ash bed" in words and page.js("here().water") in words, "a printed sheet has no hatches, or no water's name")
-    told = page.driver.execute_cdp_cmd("Page.printToPDF", {"preferCSSPageSize": True, "printBackground": True})
-    paper = base64.b64decode(told["data"])
     sheets = len(re.findall(rb"/Type\s*/Page\b", paper))
     checks.hold(1 <= sheets <= 2, f"a printed map with its boards takes {sheets} sheets")
     if page.folder:

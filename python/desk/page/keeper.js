@@ -26,7 +26,7 @@ function runParts({ run, files, same, opened }) {
   const moved = `They changed since ${opened}: the keeper’s own run writes here.`;
   return [
     make('h2', {}, 'The keeper’s run ', make('small', { textContent: run.how })), progressBar(run), ...(run.why ? [line(bold(run.why))] : []),
-    line('clock ', bold(clockText(run.clock)), ` of ${clockText(run.end)} · step `, bold(group(run.steps)), pace),
+    line('clock ', bold(clockText(run.clock)), ` of ${longClock(run.end)} · step `, bold(group(run.steps)), pace),
     line(...(run.most === null ? ['How many steps the whole run needs cannot be told before.'] : bounds)),
     make('table', {}, ...Object.entries(files).map(fileRow)),
     line(`${same ? untouched : moved} Saved ${run.saved}.`),

@@ -32,8 +32,8 @@ function showTrialBanner(box, trial) {
   const made = madeOf(trial), frame = frameInView(trial), isPast = desk.view < made && !desk.playing;
   box.className = isPast ? 'past' : '';
   const name = make('span', { id: 'trial-name', textContent: `“${trial.name}”` });
-  const past = [bold('Looking back'), ` at step ${desk.view}, clock ${clockText(frame.clock)}. The trial still stands at step ${made}.`];
-  const steps = [bold(`${desk.playing ? desk.view : made}`), ' steps, clock ', bold(clockText(frame.clock))];
+  const past = [bold('Looking back'), ` at step ${desk.view}, clock ${longClock(frame.clock)}. The trial still stands at step ${made}.`];
+  const steps = [bold(plural(desk.playing ? desk.view : made, 'step')), ', clock ', bold(longClock(frame.clock))];
   const present = [bold(`Trial ${desk.current}`), ', ', name, ': ', ...steps, '. Nothing here is in the season.'];
   const words = desk.said ? [bold(desk.said)] : isPast ? past : present;
   const water = make('code', { id: 'water', textContent: desk.view === made && trial.water ? 'water ' + trial.water.slice(0, 12) : '' });
@@ -41,14 +41,14 @@ function showTrialBanner(box, trial) {
   const ways = isPast ? [
     make('button', { id: 'take-here', textContent: 'Take back to here', onclick: () => takeBack(made - desk.view) }),
     make('button', { id: 'return', textContent: 'Return', onclick: () => look(made) }),
-  ] : [make('button', { id: 'rename', textContent: 'Name', title: 'Give this trial another name, key R', onclick: rename })];
+  ] : [make('button', { id: 'rename', textContent: 'Rename', title: 'Give this trial another name, key R', onclick: rename })];
   const said = make('span', {}, ...words);
   refill(box, `${desk.current} ${said.textContent} ${water.textContent} ${made}`, said, make('span', { className: 'grow' }), water, ...ways);
 }
 
 function showSeasonBanner(box) {
   box.className = 'season';
-  const when = desk.season ? [', clock ', bold(clockText(desk.season.clock)), `, step ${group(desk.season.steps)}`] : [];
+  const when = desk.season ? [', clock ', bold(longClock(desk.season.clock)), `, step ${group(desk.season.steps)}`] : [];
   const begin = make('button', { id: 'begin', className: 'main', textContent: 'Begin a trial from here', onclick: askForTrial });
   const said = make('span', {}, bold('The season'), ...when, '. Read only: nothing on this desk writes here.');
   refill(box, said.textContent, said, make('span', { className: 'grow' }), begin);
@@ -60,7 +60,8 @@ function showSeason() {
   const moved = isRunning ? `the keeper’s run, seen ${run.saved.slice(11)}` : 'moved on by the keeper';
   const since = same ? [bold('✓ untouched'), ` since ${opened}`] : [moved];
   const name = run && make('code', { id: 'season-name', textContent: run.state.slice(0, 12) });
-  const where = run ? ['Season at ', bold(clockText(run.clock)), ' · ', name, ' · '] : [begun ? '⚠ The season’s saved state cannot be used · ' : 'The season’s run has not begun · '];
+  if (name) name.title = 'The name of the state that the keeper’s run saved';
+  const where = run ? ['Season at ', bold(longClock(run.clock)), ' · ', name, ' · '] : [begun ? '⚠ The season’s saved state cannot be used · ' : 'The season’s run has not begun · '];
   const said = make('span', {}, ...where, ...since);
   refill(box, said.textContent, said);
 }

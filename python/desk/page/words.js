@@ -37,6 +37,8 @@ function clockText(ms) {
 
 /* to the second, as under a plot */
 const shortClock = ms => clockText(ms).replace(/\..*/, '');
+/* with its units, so that nobody takes it for the time of day */
+const longClock = ms => `${clockText(ms)} ${ms < 3600000 ? 'min:s' : 'h:min:s'}`;
 
 function depthText(depth) {
   if (depth < 0) return 'closed';
