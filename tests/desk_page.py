@@ -205,7 +205,7 @@ def hold_layers(checks, page):
 
 def hold_beside(checks, page):
     """A second trial beside the first, compared by the clock, and both in the table of trials."""
-    begin_trial(page, "only hatch 9, wide")
+    begin_trial(page, "only hatch 9, wide, all the others shut")
     page.click("shut")
     page.idle()
     draw_hatch(page, 9, 900)
@@ -373,6 +373,7 @@ def hold_sizes(checks, page):
     wide, high = LAPTOP
     scrolled = page.js("[document.documentElement.scrollWidth, document.documentElement.scrollHeight]")
     checks.hold(scrolled == [wide, high], f"the page scrolls on the laptop: {scrolled}")
+    checks.hold(page.js("(e => e.scrollWidth <= e.clientWidth)(document.querySelector('#what > span'))"), "the banner's sentence is cut")
     for name, (wide, high) in (("tablet", TABLET), ("tablet-across", TABLET_ACROSS)):
         page.size(wide, high, mobile=True)
         page.wait(f"innerWidth === {wide} && !isQueued")

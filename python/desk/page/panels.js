@@ -2,6 +2,8 @@
 /* The panels: tabs, banner, hatches, the table of trials and likely slips. */
 
 const titleOf = key => `${key} · ${desk.trials[key].name}`;
+/* so that the banner's sentence is never cut */
+const shortName = name => name.length > 24 ? name.slice(0, 23) + '…' : name;
 const bold = text => make('b', { textContent: text });
 
 function showTabs() {
@@ -31,7 +33,7 @@ function showBanner(trial) {
 function showTrialBanner(box, trial) {
   const made = madeOf(trial), frame = frameInView(trial), isPast = desk.view < made && !desk.playing;
   box.className = isPast ? 'past' : '';
-  const name = make('span', { id: 'trial-name', textContent: `“${trial.name}”` });
+  const name = make('span', { id: 'trial-name', textContent: `“${shortName(trial.name)}”`, title: trial.name });
   const past = [bold('Looking back'), ` at step ${desk.view}, clock ${longClock(frame.clock)}. The trial still stands at step ${made}.`];
   const steps = [bold(plural(desk.playing ? desk.view : made, 'step')), ', clock ', bold(longClock(frame.clock))];
   const present = [bold(`Trial ${desk.current}`), ', ', name, ': ', ...steps, '. Nothing here is in the season.'];
@@ -59,9 +61,7 @@ function showSeason() {
   box.className = same || isRunning ? '' : 'moved';
   const moved = isRunning ? `the keeper’s run, seen ${run.saved.slice(11)}` : 'moved on by the keeper';
   const since = same ? [bold('✓ untouched'), ` since ${opened}`] : [moved];
-  const name = run && make('code', { id: 'season-name', textContent: run.state.slice(0, 12) });
-  if (name) name.title = 'The name of the state that the keeper’s run saved';
-  const where = run ? ['Season at ', bold(longClock(run.clock)), ' · ', name, ' · '] : [begun ? '⚠ The season’s saved state cannot be used · ' : 'The season’s run has not begun · '];
+  const where = run ? ['Season at ', bold(longClock(run.clock)), ' · '] : [begun ? '⚠ The season’s saved state cannot be used · ' : 'The season’s run has not begun · '];
   const said = make('span', {}, ...where, ...since);
   refill(box, said.textContent, said);
 }
