@@ -3,11 +3,11 @@
 forty steps and back leave the water's name as it was.
 
 `bin/test desk_emulated --pace` also prints the medians, emulated and not."""
+import os
 import statistics
 import sys
 import tempfile
 import time
-from os import environ
 from pathlib import Path
 
 from around import EMULATOR, arm_path
@@ -17,7 +17,7 @@ from desks import SAMPLE, Room
 from meadow.counted import Checks
 from meadow.programs import built
 
-FORTY, TIMES, OPENINGS = 40, 5, 10
+FORTY, TIMES = 40, 5
 # what was asked, in seconds: to the first frame, and forty steps by the squares of a side
 MOST_FIRST = 2
 MOST_FORTY = {30: 1, 64: 1.5}
@@ -31,25 +31,40 @@ look();
 
 
 def opened(page, around):
-    """How long it takes from the command to the first frame in a browser that is open."""
+    """How long it takes from the command to the first frame in a browser that is open, and the processor's time of server and engines."""
     start = time.perf_counter()
-    page.room.start(env={**environ, **around})
+    page.room.start(env={**os.environ, **around})
     page.open()
-    return time.perf_counter() - start
+    return time.perf_counter() - start, spent(page.room)
 
 
-def first_frames(page, around, most):
-    """The times of several openings, up to the first that takes less than was asked; the last stays open."""
+def spent(room):
+    """The processor's time of a room's server and of all its engines, those that have ended too, in seconds."""
+    stats = [Path(f"/proc/{process}/stat").read_text().rsplit(")", 1)[1].split() for process in (room.server.pid, *room.engines())]
+    return sum(int(field) for fields in stats for field in fields[11:15]) / os.sysconf("SC_CLK_TCK")
+
+
+def first_frames(page, around):
+    """Both times of several openings; the last stays open."""
     taken = []
-    while len(taken) < OPENINGS and (not taken or taken[-1] >= most):
+    for _ in range(TIMES):
         page.room.kill()
         taken.append(opened(page, around))
     return taken
 
 
+def is_within(taken, most):
+    """Whether an act takes less than was asked: by the clock, or where more programs want to run than there are cores, by the processor's time."""
+    by_clock, by_processor = zip(*taken)
+    is_busy = os.getloadavg()[0] > os.cpu_count()
+    return statistics.median(by_clock) < most or is_busy and statistics.median(by_processor) < most
+
+
 def timed(page, key, shift, made):
-    """How long a key takes until so many steps stand and are drawn, in seconds."""
-    return page.driver.execute_async_script(TIMED, key, shift, made) / 1_000
+    """How long a key takes until so many steps stand and are drawn, and the processor's time of server and engines, in seconds."""
+    before = spent(page.room)
+    taken = page.driver.execute_async_script(TIMED, key, shift, made) / 1_000
+    return taken, spent(page.room) - before
 
 
 def forty_and_back(checks, page):
@@ -70,21 +85,24 @@ def forty_and_back(checks, page):
     return steps, backs
 
 
-def hold_pace(checks, webdriver, folder, season, around, most_first=MOST_FIRST):
+def hold_pace(checks, webdriver, folder, season, around):
     """What was asked, on a season; the words that tell the medians."""
     with Room(folder, season) as room, Page(webdriver, room) as page:
         page.size(*LAPTOP)
-        firsts = first_frames(page, around, most_first)
+        firsts = first_frames(page, around)
         steps, backs = forty_and_back(checks, page)
         engines = [Path(f"/proc/{engine}/cmdline").read_bytes() for engine in room.engines()]
         checks.hold(engines and all((EMULATOR.encode() in words) == bool(around) for words in engines), f"engines are {engines}")
         side = page.js("desk.ground.rows")
     if around:
-        checks.hold(min(firsts) < MOST_FIRST, f"the first frame takes {firsts} s")
-        checks.hold(statistics.median(steps) < MOST_FORTY[side], f"forty steps on {side} by {side} squares take {steps} s")
+        checks.hold(is_within(firsts, MOST_FIRST), f"the first frame takes {firsts} s")
+        checks.hold(is_within(steps, MOST_FORTY[side]), f"forty steps on {side} by {side} squares take {steps} s")
     how = f"{side} by {side}, {'emulated' if around else 'not emulated'}"
-    told = {"to the first frame": firsts, "forty steps": steps, "forty back": backs}
-    return [f"{how}: {what} {statistics.median(taken):.2f} s ({min(taken):.2f}..{max(taken):.2f})" for what, taken in told.items()]
+    told = []
+    for what, taken in (("to the first frame", firsts), ("forty steps", steps), ("forty back", backs)):
+        by_clock, by_processor = (f"{statistics.median(times):.2f} s ({min(times):.2f}..{max(times):.2f})" for times in zip(*taken))
+        told.append(f"{how}: {what} {by_clock}, of the processor {by_processor}")
+    return told
 
 
 def main():
@@ -98,7 +116,7 @@ def main():
         for season in seasons:
             if sys.argv[1:] == ["--pace"]:
                 for how, around in (("here", {}), ("on-arm", on_arm)):
-                    print(*hold_pace(checks, webdriver, folder / f"{season.name}-{how}", season, around, most_first=0), sep="\n", flush=True)
+                    print(*hold_pace(checks, webdriver, folder / f"{season.name}-{how}", season, around), sep="\n", flush=True)
             else:
                 hold_pace(checks, webdriver, folder / f"{season.name}-desk", season, on_arm)
     checks.end()

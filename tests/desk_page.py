@@ -66,16 +66,25 @@ def hold_opening(checks, page):
     checks.hold(len(page.find("board-table").find_elements("tag name", "input")) == 2, "two boards are not in the table")
 
 
+# Space again as soon as the film is under way, from within the page, so that no slow machine lets it end before
+STOPS_THE_FILM = """
+const watch = setInterval(() => {
+  if (!desk.playing || desk.view < 12) return;
+  clearInterval(watch);
+  document.body.dispatchEvent(new KeyboardEvent('keydown', { key: ' ', bubbles: true }));
+  window.filmStopped = true;
+}, 5);
+"""
+
+
 def hold_forty(checks, page):
     """Forty steps by a key with their film, and back: every depth and the water's name as before; the same opening gives the same water."""
     from selenium.webdriver.common.keys import Keys
 
     first, water = page.depths(), page.js("here().water")
+    page.driver.execute_script(STOPS_THE_FILM)
     page.keys(" ")
-    page.wait("madeOf(here()) === 40")
-    page.wait("desk.view > 11 && desk.playing")
-    page.keys(" ")
-    page.wait("!desk.playing")
+    page.wait("window.filmStopped && madeOf(here()) === 40")
     page.idle()
     seen = page.js("desk.view")
     checks.hold(0 < seen < 40 and "Looking back" in page.text("what"), f"the film does not stop where it is: {seen}, {page.text('what')!r}")
@@ -131,7 +140,7 @@ def hold_kills(checks, page, water):
     page.click("forty")
     page.made(80)
     page.idle()
-    checks.hold("started again" in page.text("trouble"), "the page does not say that the engine was started again")
+    checks.hold("started again" in page.told(), "the page does not say that the engine was started again")
     killed = page.depths()
     page.click("back-forty")
     page.made(40)
@@ -142,7 +151,7 @@ def hold_kills(checks, page, water):
     last = page.js("here().water")
     page.room.kill()
     page.wait("desk.offline && !document.getElementById('trouble').hidden")
-    checks.hold("Nothing is lost" in page.text("trouble"), f"without a server the page says {page.text('trouble')!r}")
+    checks.hold("Nothing is lost" in page.told(), f"without a server the page says {page.told()!r}")
     page.room.start()
     page.wait("!desk.offline && here() && madeOf(here()) === 80 && !desk.inLine")
     page.idle()
@@ -164,7 +173,8 @@ def hold_windows(checks, page):
     page.driver.execute_script("here().serial -= 1; makeSteps(1)")
     page.wait("!desk.inLine && here().serial === here().latest")
     page.idle()
-    checks.hold(page.js("madeOf(here())") == 81 and "another window" in page.text("trouble"), "a stale request is made, or not told")
+    checks.hold(page.js("madeOf(here())") == 81 and "another window" in page.told(), "a stale request is made, or not told")
+    page.js("trouble('A message', 'that stays')")
     page.click("trouble")
     page.wait("document.getElementById('trouble').hidden")
     for handle in page.driver.window_handles:
@@ -453,9 +463,10 @@ def hold_refused(checks, page):
     page.click("forty")
     page.made(1)
     page.idle()
-    said = page.text("trouble")
+    said = page.told()
     checks.hold("number 8" in said and "100 m deep" in said and "draw the hatches less" in said, f"of a refused step the page says {said!r}")
     page.shot("refused")
+    page.js("trouble('A message', 'that stays')")
     page.keys(Keys.ESCAPE)
     page.wait("document.getElementById('trouble').hidden")
 

@@ -95,6 +95,10 @@ class Page:
         """The words of an element."""
         return self.find(name).text
 
+    def told(self):
+        """The words of the last message, also where it has gone by itself."""
+        return self.js("document.getElementById('trouble').textContent")
+
     def depths(self):
         """Every depth of the state that stands."""
         return self.js("Array.from(lastOf(here()).depths)")
