@@ -14,7 +14,7 @@ from meadow.counted import Checks
 from meadow.peaks.courses import WET, looks_at
 from meadow.peaks.heights import Heights
 from meadow.peaks.wholes import runs_of, whole_of
-from meadow.programs import TOP, printed
+from meadow.programs import REACHED, TOP, printed
 from meadow.rule.steps import fresh, inner_step
 from meadow.sheets.lines import MINUTE, Answer, Sheet
 from meadow.sheets.reading import meadow_of, read
@@ -393,6 +393,28 @@ def ends_when_told(checks, room):
         checks.hold(status == 128 + number and run.stdout.read() == "", f"signal {number}: status {status}")
 
 
+def tells_on_the_way(checks):
+    """Of a long run `meadow` tells steps and clock between its slices, those of the run in Python, which knows no slices and ends alike. Of a short
+    run nothing is told; a refusal in a later slice is the answer; and tools keep to themselves what is told."""
+    program = [TOP / "bin" / "run", "meadow"]
+    sheet, end = small_meadow(shortest=20, longest=20, update=1_000), 4 * MINUTE
+    run = subprocess.run(program, input=sheet.text(end).encode(), capture_output=True, check=True)
+    told = [tuple(map(int, REACHED.fullmatch(line).groups())) for line in run.stderr.splitlines(keepends=True)]
+    checks.hold(5 < len(told) <= 12 and told[-1] == (12_000, end), f"a run of 12,000 steps in slices: {told}")
+    states = {clock: (steps, depths) for steps, depths, clock in by_hand(sheet, end)}
+    checks.hold(all(states[clock][0] == steps for steps, clock in told), f"the run in Python makes other steps than are told: {told}")
+    water = {divmod(at, sheet.columns): deep for at, deep in enumerate(states[end][1])}
+    answer = Answer(run.stdout.decode())
+    checks.hold(all(water[place] == deep for place, deep in answer.depths.items()) and answer.steps == states[end][0], "a run in slices ends otherwise")
+    short = subprocess.run(program, input=small_meadow().text(end).encode(), capture_output=True, check=True)
+    checks.hold(short.stderr == b"" and short.stdout != b"", f"of a short run is told {short.stderr!r}")
+    sheet.inflow = [(0, 0, 2 * MINUTE, 4 * MINUTE, 100_000)] * 64
+    late = subprocess.run(program, input=sheet.text(end).encode(), capture_output=True, check=True)
+    checks.hold(late.stdout == b"refused\t8\t0\n" and late.stderr.count(b"reached") > 5, f"a refusal in a later slice: {late.stdout!r} {late.stderr!r}")
+    heard = subprocess.run([sys.executable, TOP / "tools" / "why.py", "/dev/stdin"], input=sheet.text(end), capture_output=True, text=True)
+    checks.hold("reached" not in heard.stdout + heard.stderr, f"a tool passes on what meadow tells: {heard.stderr!r}")
+
+
 def read_once(checks, room):
     """The sheet is read once: a pipe will do, and one that never ends is refused."""
     text = (TOP / "samples" / "document-01.sheet").read_text()
@@ -429,6 +451,7 @@ PARTS = (pits, anothers, side_files, held, only_the_end, standing, mouths, holes
 def main():
     checks = Checks("hay")
     courses(checks)
+    tells_on_the_way(checks)
     with tempfile.TemporaryDirectory() as folder:
         for part in PARTS:
             part(checks, Room(folder))

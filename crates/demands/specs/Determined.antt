@@ -87,6 +87,9 @@ pub record SheetDetermined : Type 0 where
 pub record ProgramsDetermined : Type 0 where
   pub meadow-of : (text old : List ℕ) → One {Out = ℕ × List ℕ} (λ o. Prints (meadowText text) old (o .1) (o .0))
 
+pub record SlicesDetermined : Type 0 where
+  pub meadow-told : (text old : List ℕ) → One {Out = ℕ × List ℕ} (λ o. Prints (meadowText text) old (o .1) (o .0))
+
 pub record PeaksDetermined : Type 0 where
   pub run-peaks : (p : Plan) (g : Given) (end : ℕ) (w : World) (peaks clocks : List ℕ) →
       One {Out = Ran × (List ℕ × (List ℕ × (List ℕ × (List ℕ × List ℕ))))}
@@ -179,6 +182,7 @@ pub record Determined : Type 0 where
   pub sight : SightDetermined
   pub sheet : SheetDetermined
   pub programs : ProgramsDetermined
+  pub slices : SlicesDetermined
   pub peaks : PeaksDetermined
   pub survey : SurveyDetermined
   pub holes : HolesDetermined
