@@ -87,24 +87,15 @@ pub(crate) fn all_fit(
 
 // ---- the water written
 
-// One of two numbers: the old one where a square is closed, else the new one.
-fn chosen(closed: bool, old: u32, new: u32) -> u32
-    ensures { λ r. ⌜ r ≡ pick closed old new ⌝ }
-{
-    if closed {
-        return old;
-    }
-    new
-}
-
-// Writes a number at a square, or the one that stands there if it is closed: with no store left out, a row is written many squares at a time.
+// Writes a number at a square, unless it is closed.
 fn write_one(marks: &[u8], from: &[u32], square: usize, list: &mut [u32])
     requires { ⌜ (square < length (now marks)) × (square < length (now from)) × (square < length (now list)) ⌝ }
     ensures { λ _. ⌜ now (list .exit) ≡ pick (closed (now (marks .entry)) square) (now (list .entry)) (set (now (list .entry)) square (getD (now (from .entry)) square 0)) ⌝ }
 {
-    let old = list[square];
-    let new = from[square];
-    list[square] = chosen(is_closed(marks, square), old, new);
+    if is_closed(marks, square) {
+        return;
+    }
+    list[square] = from[square];
 }
 
 // The same of a row, by the columns that a mask has.
@@ -121,15 +112,28 @@ fn write_row(shape: Shape, marks: &[u8], from: &[u32], first: usize, mask: u64, 
     }
 }
 
-// The same of all columns of a row, if any is reached: the others have their numbers already.
-fn write_reached(
-    shape: Shape,
-    marks: &[u8],
-    from: &[u32],
-    first: usize,
-    reached: u64,
-    list: &mut [u32],
-)
+// The old number where a square is closed, else the new one.
+fn chosen(closed: bool, old: u32, new: u32) -> u32
+    ensures { λ r. ⌜ r ≡ pick closed old new ⌝ }
+{
+    if closed {
+        return old;
+    }
+    new
+}
+
+// The same as `write_one` with a store at a closed square too, of what stands there: so a row is written many squares at a time.
+fn cover_one(marks: &[u8], from: &[u32], square: usize, list: &mut [u32])
+    requires { ⌜ (square < length (now marks)) × (square < length (now from)) × (square < length (now list)) ⌝ }
+    ensures { λ _. ⌜ now (list .exit) ≡ pick (closed (now (marks .entry)) square) (now (list .entry)) (set (now (list .entry)) square (getD (now (from .entry)) square 0)) ⌝ }
+{
+    let old = list[square];
+    let new = from[square];
+    list[square] = chosen(is_closed(marks, square), old, new);
+}
+
+// Covers all columns of a row, if any is reached: the others have their numbers already.
+fn cover_row(shape: Shape, marks: &[u8], from: &[u32], first: usize, reached: u64, list: &mut [u32])
     requires { ⌜ (ShapeInRange shape) × (InRow shape first) × (length (now marks) ≡ squares shape) × (length (now from) ≡ squares shape) × (length (now list) ≡ squares shape) ⌝ }
     requires { ⌜ WhereClear shape first reached (λ i. closed (now marks) i ≡ false → getD (now list) i 0 ≡ getD (now from) i 0) ⌝ }
     ensures { λ _. ⌜ Written (closed (now (marks .entry))) (λ i. getD (now (from .entry)) i 0) first (first + shape .columns) (now (list .entry)) (now (list .exit)) ⌝ }
@@ -140,7 +144,7 @@ fn write_reached(
     let columns = shape.columns;
     let mut column = 0;
     while column < columns {
-        write_one(marks, from, first + column, list);
+        cover_one(marks, from, first + column, list);
         column += 1;
     }
 }
@@ -168,7 +172,7 @@ pub(crate) fn write_water(
         let columns_worked = worked[row];
         write_row(shape, marks, left, first, columns_worked, lasts);
         let columns_reached = reached(worked, senders, row);
-        write_reached(shape, marks, room, first, columns_reached, depths);
+        cover_row(shape, marks, room, first, columns_reached, depths);
         row += 1;
         first += columns;
     }

@@ -1,31 +1,25 @@
--- `settling::reach::write_one` meets its contract: a number stored where it stands changes nothing.
+-- `settling::reach::write_one` meets its contract: nothing is stored where the square is closed.
 -- Assumes nothing.
-use lib.ListN.{getD}
-use Rattle.settling.proofs.ReachLaws.{store-chosen}
+use mathlib.Core.Path.{sym, _∙_}
+use Rattle.reckon.proofs.TestLaws.{pick-true, pick-false}
 use borrow.Author.Needs.{needs}
 use Rattle.settling.proofs.reach.write_one.Statement.{statement}
 use Rattle.settling.proofs.reach.write_one.Tie as tie
 
-mul-old : tie.Need-mul-old
-mul-old c = search needs
-
-slice-read-old : tie.Need-slice-read-old
-slice-read-old c = search needs
-
-mul-new : tie.Need-mul-new
-mul-new c = search needs
-
-shared-slice-read-new : tie.Need-shared-slice-read-new
-shared-slice-read-new c = search needs
-
 is-closed-requires : tie.Need-is-closed-requires
 is-closed-requires c κs = search needs
 
-chosen-requires : tie.Need-chosen-requires
-chosen-requires c κs = search needs
+returns : tie.Need-returns
+returns c = sym (pick-true _ _ (sym (c .before .is-closed .ensures) ∙ c .if1 .taken))
 
 mul-list : tie.Need-mul-list
 mul-list c = search needs
+
+shared-slice-read-list : tie.Need-shared-slice-read-list
+shared-slice-read-list c = search needs
+
+mul-list-2 : tie.Need-mul-list-2
+mul-list-2 c = search needs
 
 slice-write-list : tie.Need-slice-write-list
 slice-write-list c = search needs
@@ -33,22 +27,18 @@ slice-write-list c = search needs
 same-length : tie.Need-same-length
 same-length c = search needs
 
-returns : tie.Need-returns
-returns c =
-    let s = c .before .before .before .before .before .before .before in
-    store-chosen (s .args .list .now) (s .args .square) (getD (s .args .from .now) (s .args .square) 0) (c .chosen .ensures) (c .before .is-closed .ensures)
+returns-2 : tie.Need-returns-2
+returns-2 c = sym (pick-false _ _ (sym (c .before .before .is-closed .ensures) ∙ c .before .if1 .left))
 
 pub write-one-spec : {M : Type 1} → statement M
 write-one-spec =
     tie.close
     (tie.spec
-    mul-old
-    slice-read-old
-    mul-new
-    shared-slice-read-new
     is-closed-requires
-    chosen-requires
+    returns
     mul-list
+    shared-slice-read-list
+    mul-list-2
     slice-write-list
     same-length
-    returns)
+    returns-2)

@@ -39,10 +39,10 @@ left-written c = c .before .before
 abbrev asked : tie.After-write-row Inv-loop μ-loop → tie.In-loop Inv-loop μ-loop
 asked c = c .before .before .before
 
-abbrev masked : tie.After-write-reached Inv-loop μ-loop → tie.After-reached Inv-loop μ-loop
+abbrev masked : tie.After-cover-row Inv-loop μ-loop → tie.After-reached Inv-loop μ-loop
 masked c = c .before .before
 
-abbrev written : tie.After-slice-known4 Inv-loop μ-loop → tie.After-write-reached Inv-loop μ-loop
+abbrev written : tie.After-slice-known4 Inv-loop μ-loop → tie.After-cover-row Inv-loop μ-loop
 written c = c .before .before
 
 abbrev here : tie.After-slice-known4 Inv-loop μ-loop → tie.In-loop Inv-loop μ-loop
@@ -93,8 +93,8 @@ reached-requires c κs =
     let s = start (turn at) in
     (omega (arith, at .loop-test .taken, s .pre .1 .0), omega (arith, at .loop-test .taken, s .pre .1 .1))
 
-write-reached-requires : tie.Need-write-reached-requires Inv-loop μ-loop
-write-reached-requires c κs =
+cover-row-requires : tie.Need-cover-row-requires Inv-loop μ-loop
+cover-row-requires c κs =
     let at = asked (left-written (c .before .before)) in
     let z = turn at in
     let s = start z in (
@@ -122,7 +122,7 @@ loop-again c =
       row-next (z .loop .inv .0) (at .loop-test .taken),
       then-written (omega arith) (omega arith) (z .loop .inv .1)
           (alike-written (skips-row (p z) (z .loop .row) begins (s .args .worked .now) refl) (left-written (masked stored .before) .write-row .ensures)),
-      then-written (omega arith) (omega arith) (z .loop .inv .2) (stored .write-reached .ensures),
+      then-written (omega arith) (omega arith) (z .loop .inv .2) (stored .cover-row .ensures),
     )
 
 same-length : tie.Need-same-length Inv-loop μ-loop
@@ -148,7 +148,7 @@ write-water-spec =
     shared-slice-read-columns-worked
     write-row-requires
     reached-requires
-    write-reached-requires
+    cover-row-requires
     add-row
     add-first
     loop-less

@@ -1,4 +1,4 @@
--- `settling::reach::write_reached` meets its contract: a row of which nothing is reached is right already; else its columns are written.
+-- `settling::reach::cover_row` meets its contract: a row of which nothing is reached is right already; else its columns are covered.
 -- Assumes nothing.
 use mathlib.Core.Path.{_≡_, refl, sym, ap, _∙_, subst}
 use mathlib.Core.Bool.{false}
@@ -11,8 +11,8 @@ use Rattle.grid.specs.Masks.{bitAt}
 use Rattle.grid.proofs.RestLaws.{zero-bit}
 use Rattle.settling.specs.inner.Settle.{Written}
 use Rattle.settling.proofs.ReachLaws.{one-written, right-written, same-written, then-written}
-use Rattle.settling.proofs.reach.write_reached.Statement.{statement}
-use Rattle.settling.proofs.reach.write_reached.Tie as tie
+use Rattle.settling.proofs.reach.cover_row.Statement.{statement}
+use Rattle.settling.proofs.reach.cover_row.Tie as tie
 
 abbrev Inv-loop : tie.InvT-loop
 Inv-loop marks from first reached list₀ columns column₀ list column =
@@ -26,10 +26,10 @@ abbrev μ-loop : tie.MeasureT-loop
 abbrev start : tie.At-loop Inv-loop μ-loop → tie.Start Inv-loop μ-loop
 start c = c .before .before .before .before .before
 
-abbrev asked : tie.After-write-one Inv-loop μ-loop → tie.In-loop Inv-loop μ-loop
+abbrev asked : tie.After-cover-one Inv-loop μ-loop → tie.In-loop Inv-loop μ-loop
 asked c = c .before .before
 
-abbrev written : tie.After-slice-known2 Inv-loop μ-loop → tie.After-write-one Inv-loop μ-loop
+abbrev written : tie.After-slice-known2 Inv-loop μ-loop → tie.After-cover-one Inv-loop μ-loop
 written c = c .before .before
 
 -- ---- what is known there
@@ -52,11 +52,11 @@ returns c =
 loop-holds : tie.Need-loop-holds Inv-loop μ-loop
 loop-holds c = (omega arith, right-written (λ i x y o. absurd (omega arith)))
 
-add-write-one : tie.Need-add-write-one Inv-loop μ-loop
-add-write-one c = omega (arith, on-grid c, start (c .before) .pre .0 .0 .few)
+add-cover-one : tie.Need-add-cover-one Inv-loop μ-loop
+add-cover-one c = omega (arith, on-grid c, start (c .before) .pre .0 .0 .few)
 
-write-one-requires : tie.Need-write-one-requires Inv-loop μ-loop
-write-one-requires c κs =
+cover-one-requires : tie.Need-cover-one-requires Inv-loop μ-loop
+cover-one-requires c κs =
     let at = c .before in
     let s = start (at .before) in (
       omega (arith, on-grid at, s .pre .0 .2),
@@ -80,7 +80,7 @@ loop-again c =
     let s = start z in
     let own =
     one-written {skips = closed (s .args .marks .now)} {amount = λ i. getD (s .args .from .now) i 0}
-    (omega (arith, on-grid at, s .pre .0 .4, z .loop .inv .1 .long)) refl (stored .write-one .ensures) refl in
+    (omega (arith, on-grid at, s .pre .0 .4, z .loop .inv .1 .long)) refl (stored .cover-one .ensures) refl in
     (omega (arith, at .loop-test .taken), same-written (then-written (omega arith) (omega arith) (z .loop .inv .1) own) (omega arith))
 
 same-length : tie.Need-same-length Inv-loop μ-loop
@@ -89,16 +89,16 @@ same-length c = c .before .loop .inv .1 .long
 returns-2 : tie.Need-returns-2 Inv-loop μ-loop
 returns-2 c = same-written (c .before .loop .inv .1) (omega (arith, c .loop-test .left, c .before .loop .inv .0))
 
-pub write-reached-spec : {M : Type 1} → statement M
-write-reached-spec =
+pub cover-row-spec : {M : Type 1} → statement M
+cover-row-spec =
     tie.close
     (tie.spec
     Inv-loop
     μ-loop
     returns
     loop-holds
-    add-write-one
-    write-one-requires
+    add-cover-one
+    cover-one-requires
     add-column
     loop-less
     loop-again
