@@ -22,8 +22,9 @@ use grid::squares::WEST;
 use grid::squares::beside_on;
 use grid::squares::on_rim;
 use grid::squares::squares_of;
-use grid::walks::next_after;
-use grid::walks::next_within;
+use grid::walks::lowest_set;
+use grid::walks::within_row;
+use grid::walks::without_lowest;
 use ledger::record::leaving;
 use ledger::record::soaked_by;
 use reckon::numbers::number;
@@ -175,8 +176,9 @@ fn spread_row(
 {
     let columns = shape.columns;
     let mut lost = earlier;
-    let mut column = next_within(worked, 0, columns);
-    while column < columns {
+    let mut rest = within_row(worked, columns);
+    while rest != 0 {
+        let column = lowest_set(rest);
         lost = spread_one(
             shape,
             marks,
@@ -188,7 +190,7 @@ fn spread_row(
             lost,
             room,
         );
-        column = next_after(worked, column, columns);
+        rest = without_lowest(rest);
     }
     lost
 }
