@@ -50,8 +50,8 @@ module _
       RunsSheetWet h held a depths lasts records times
   sheet-wet {a} z o =
       let run =
-          runs-sheet h held l c f
-          (record { ends = run-passed (planIn (h .shape) (h .rules) held) (givenIn (h .shape) (h .rules) held) (h .end) W (sym (sheet-passes z)) refl (o .ends) }) in
+      runs-sheet h held l c f
+      (record { ends = run-passed (planIn (h .shape) (h .rules) held) (givenIn (h .shape) (h .rules) held) (h .end) W (sym (sheet-passes z)) refl (o .ends) }) in
       record {
         run = run;
         times-are =

@@ -37,7 +37,7 @@ module _ (p : Plan) (g : Given) (w : World) where
   unfolding wetTimes wetTime sumBelow stepsOn
   wetted-starts {times} e =
       let none : (i : ℕ) → i < squares (p .shape) → getD times i 0 ≡ 0
-          = λ i l. ap (λ (x : List ℕ). getD x i 0) e ∙ getD-replicate (squares (p .shape)) i 0 0 l in
+      = λ i l. ap (λ (x : List ℕ). getD x i 0) e ∙ getD-replicate (squares (p .shape)) i 0 0 l in
       record {
         now-is = refl;
         times-are =

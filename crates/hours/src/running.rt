@@ -142,11 +142,12 @@ pub fn run_sheet_wet(
     requires { ⌜ now times ≡ replicate (squares (heading .shape)) 0 ⌝ }
     ensures { λ r. ⌜ RunsSheetWet heading (rooms (now (marks .entry)) (now (beds .entry)) (now (roughness .entry)) (now (rates .entry)) (now (depths .entry)) (now (rain .entry)) (now (inflow .entry))) r (now (depths .exit)) (now (lasts .exit)) (now (records .exit)) (now (times .exit)) ⌝ }
 {
+    let shape = heading.shape;
     let rules = heading.rules;
     let run = fresh_run(rules, 1);
     let way = Way {
         walk: Walk::Wet,
-        shape: heading.shape,
+        shape: shape,
         rules: rules,
         apart: rows_apart(inflow),
     };
