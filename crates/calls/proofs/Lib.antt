@@ -5,4 +5,5 @@ pub mod LibraryLaws
 pub mod ListedLaws
 pub mod RepairingLaws
 pub mod SurveyedLaws
+pub mod TimedLaws
 pub mod WatchedLaws

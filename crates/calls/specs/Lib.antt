@@ -5,4 +5,5 @@ pub mod Library
 pub mod Listed
 pub mod Repairing
 pub mod Surveyed
+pub mod Timed
 pub mod Watched

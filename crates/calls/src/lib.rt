@@ -7,4 +7,5 @@ pub mod listed;
 pub mod repairing;
 pub mod sliced;
 pub mod surveyed;
+pub mod timed;
 pub mod watched;
