@@ -1,6 +1,6 @@
 """One line of sense about an answer: how much water is where, the deepest place, the clock and the steps; of a run that is seen whole also how
 high the water ever stood, and how long squares were wet."""
-from ..peaks.courses import WET
+from ..peaks.hours import WET
 from .drownings import about
 from .units import depth, graduation, square, squares, steps, time, volume
 
@@ -53,7 +53,8 @@ def wet_words(whole):
     ever, now = ever_wet(whole)
     if not ever:
         return ""
-    long = f", the longest for {time(max(whole.wet.values()))}" if whole.wet else ""
+    times = whole.hours.wet().values()
+    long = f", the longest for {about(max(times))}" if times else ""
     return f"{graduation(WET)} deep or deeper: {squares(len(ever))} at some time, {len(now) or 'none'} at the end{long}"
 
 
