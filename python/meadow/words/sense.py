@@ -74,6 +74,16 @@ def sense(pair):
     return f"{', '.join([*said, deepest_words(pair.answer)])}, after {time(pair.end)}; {steps(pair.answer.steps)}{back}"
 
 
+def hours_sense(hours):
+    """The line about what `hours_wet` printed: how many squares were wet, and the first of those that were for longest."""
+    wet = hours.wet()
+    run = f"of a run of {time(hours.totals['clock'])}; {steps(hours.totals['steps'])}"
+    if not wet:
+        return f"{graduation(WET)} deep or deeper: {'no square' if hours.times else 'every square closed'}, {run}"
+    place = max(sorted(wet), key=lambda place: wet[place])
+    return f"{graduation(WET)} deep or deeper: {squares(len(wet))}, the longest for {about(wet[place])} at {square(place)}, {run}"
+
+
 def night_sense(night):
     """The line about an evening by the log; of one of which nothing was printed, that."""
     return sense(night) if night.answer else "nothing is printed of this log: it has no line with a clock, and none that takes steps back"
