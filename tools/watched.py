@@ -1,5 +1,5 @@
 #!/usr/bin/env python3
-"""watched.py SHEET: runs `meadow` on a sheet, with `highest` and `hatchlog` beside it, and is what bin/meadow does.
+"""watched.py SHEET: runs `meadow` on a sheet, with `highest`, `hours_wet` and `hatchlog` beside it, and is what bin/meadow does.
 
 Standard output is what `meadow` prints, byte for byte. On standard error come, before the run, how many steps it can need and how long that may
 take; while it goes on, from time to time, how far it has come; then one line of sense, what a reader must mind, and what in the sheet is likely a

@@ -4,7 +4,7 @@ from ..sheets.lines import SECOND
 from ..sheets.reading import meadow_of, read
 from .units import squares, steps, time
 
-# so many squares are worked in a second, all of them wet, with three programs on two cores of an x86-64 machine
+# so many squares are worked in a second, all of them wet, with four programs on two cores of an x86-64 machine
 SQUARES_A_SECOND = 4_000_000
 
 
