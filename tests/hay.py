@@ -395,7 +395,7 @@ def ends_when_told(checks, room):
         status = run.wait(10)
         checks.hold(re.match(r"run to 30 min: at most 1,800,000 steps on 412 squares, up to some 3 min", before), f"before a long run: {before!r}")
         checks.hold(re.match(r"at [^;]* of 30 min, [\d,]+ steps; \d+ s so far, some .* left\n", life), f"a long run's sign of life: {life!r}")
-        checks.hold(len(started) == 3 and not any(Path(f"/proc/{child}").exists() for child in started), f"signal {number} leaves some of {started}")
+        checks.hold(len(started) == 4 and not any(Path(f"/proc/{child}").exists() for child in started), f"signal {number} leaves some of {started}")
         checks.hold(status == 128 + number and run.stdout.read() == "", f"signal {number}: status {status}")
 
 
@@ -407,7 +407,7 @@ def tells_on_the_way(checks):
     run = subprocess.run(program, input=sheet.text(end).encode(), capture_output=True, check=True)
     told = [tuple(map(int, REACHED.fullmatch(line).groups())) for line in run.stderr.splitlines(keepends=True)]
     checks.hold(5 < len(told) <= 12 and told[-1] == (12_000, end), f"a run of 12,000 steps in slices: {told}")
-    states = {clock: (steps, depths) for steps, depths, clock in by_hand(sheet, end)}
+    states = {clock: (steps, depths) for steps, (depths, clock) in enumerate(by_hand(sheet, end))}
     checks.hold(all(states[clock][0] == steps for steps, clock in told), f"the run in Python makes other steps than are told: {told}")
     water = {divmod(at, sheet.columns): deep for at, deep in enumerate(states[end][1])}
     answer = Answer(run.stdout.decode())
