@@ -5,5 +5,6 @@ pub mod hatch_log;
 pub mod library;
 pub mod listed;
 pub mod repairing;
+pub mod several;
 pub mod surveyed;
 pub mod watched;
