@@ -2,13 +2,14 @@
 -- Assumes nothing.
 use mathlib.Core.Path.{_≡_, sym, ap, ap₂, subst, _∙_}
 use mathlib.Core.List.{List, _++_, append-assoc}
-use Prim.Native.Nat.{ℕ, _-_}
+use Prim.Native.Nat.{ℕ, _-_, _≤_}
 use native.Mathlib.Omega.{arith}
 use lib.ListN.{length, take, length-append}
 use lib.Seq.{take-at}
 use Rattle.reckon.specs.Lists.{placed}
 use Rattle.evenings.specs.Program.{Stores}
 use Rattle.desks.specs.Orders.{order}
+use Rattle.desks.specs.State.{deskOut}
 use Rattle.desks.specs.Lines.{doneText, endingText}
 use Rattle.desks.specs.Command.{Left, Leaves, commandLeft, stepLeft}
 use Rattle.desks.specs.declared.orders.Order.{Order}
@@ -84,6 +85,11 @@ after-step-back d r line text {a} {b} {after} {later} {old} {new} {next} v w =
 
 -- ---- saved and laid
 
+-- an answer lies within its room
+pub leaves-fit : (d : Desk) (r : Stores) (text : List ℕ) (o : Order) {a : Desk} {after : Stores} {old new : List ℕ} → Leaves (commandLeft d r text o) a after old new →
+    a .length ≤ deskOut
+leaves-fit d r text o w = omega (arith, ap (λ (x : Desk). x .length) (w .desk-is), command-told d r text o, w .puts .fits)
+
 -- of an answer that ends with `done`, what stands before it
 before-done : (old new saved : List ℕ) → new ≡ placed old 0 (saved ++ doneText) → take (length (saved ++ doneText) - 5) new ≡ saved
 unfolding placed
@@ -91,8 +97,8 @@ before-done old new saved q =
     ap (take (length (saved ++ doneText) - 5)) (q ∙ append-assoc saved doneText _)
     ∙ take-at saved _ (length (saved ++ doneText) - 5) (omega (arith, length-append saved doneText))
 
-module _ (d : Desk) (r : Stores) (d′ : Desk) (r′ : Stores) (saving laying text : List ℕ) {a b : Desk} {after there : Stores} {old new past last : List ℕ}
-    (v : Leaves (commandLeft d r text (order saving)) a after old new) (w : Leaves (commandLeft d′ r′ (take (a .length - 5) new) (order laying)) b there past last) where
+module _ (d : Desk) (r : Stores) (d′ : Desk) (r′ : Stores) (saving laying text : List ℕ) {a b : Desk} {after there : Stores} {old new past last : List ℕ} {end : ℕ}
+    (v : Leaves (commandLeft d r text (order saving)) a after old new) (e : end ≡ a .length - 5) (w : Leaves (commandLeft d′ r′ (take end new) (order laying)) b there past last) where
   module _ (f : Desk) (s : Stores) (read : ReadAgain f s) (calls : List Call) (t : AllTry calls) (at : afterCalls calls f s ≡ (d, r)) (same : SameSheet d r d′ r′)
       (asked : order saving ≡ Stand) (told : order laying ≡ Lay (length (standOn d r))) where
     again : LaidAgain f s calls d′ r′
@@ -109,14 +115,14 @@ module _ (d : Desk) (r : Stores) (d′ : Desk) (r′ : Stores) (saving laying te
     length-is : a .length ≡ length (standOn d r ++ doneText)
     length-is = ap (λ (x : Desk). x .length) (v .desk-is) ∙ (command-told d r text (order saving) ∙ ap length saved)
 
-    came : take (a .length - 5) new ≡ standOn d r
+    came : take end new ≡ standOn d r
     came =
-        ap (λ (n : ℕ). take (n - 5) new) length-is
+        ap (λ (n : ℕ). take n new) (e ∙ ap (λ (n : ℕ). n - 5) length-is)
         ∙ before-done old new (standOn d r) (v .puts .wrote .room ∙ ap (placed old 0) saved)
 
     laid : leftWith b there last ≡ laidOn f s calls d′ r′
     laid =
-        command-left d′ r′ (take (a .length - 5) new) (order laying) w
+        command-left d′ r′ (take end new) (order laying) w
         ∙ (ap₂ (commandLeft d′ r′) came told
         ∙ ap (λ (now : Desk × Stores). commandLeft d′ r′ (standOn (now .0) (now .1)) (Lay (length (standOn (now .0) (now .1))))) (sym at))
 

@@ -9,9 +9,12 @@ use desks::state::Desk;
 use reckon::tables::INFLOW_ROOM;
 use reckon::tables::RAIN_ROOM;
 ghost use mathlib.Core.Path.{_≡_};
-ghost use Prim.Native.Nat.{_-_};
+ghost use Prim.Native.Nat.{_-_, _≤_};
+ghost use lib.ListN.{length, take};
 ghost use Rattle.sheet.specs.Sheet.{rooms};
 ghost use Rattle.evenings.specs.Program.{stores};
+ghost use Rattle.desks.specs.Orders.{order};
+ghost use Rattle.desks.specs.Command.{Leaves, commandLeft};
 ghost use Rattle.calls.specs.Desked.{leftWith};
 ghost use Rattle.calls.specs.Several.{AfterSaved, AfterStepBack, AfterTurns, AfterWalls, AfterWallsNext};
 
@@ -300,6 +303,45 @@ fn before_done(length: usize) -> usize
     length - DONE_BYTES
 }
 
+// A line at a desk, with the first bytes of an answer as its text.
+fn lay_saved(
+    desk: Desk,
+    line: &[u8],
+    saved: &[u8],
+    end: usize,
+    marks: &mut [u8; DESK_SQUARES],
+    beds: &mut [u32; DESK_SQUARES],
+    roughness: &mut [u32; DESK_SQUARES],
+    rates: &mut [u32; DESK_SQUARES],
+    rain: &mut [u32; RAIN_ROOM],
+    inflow: &mut [u32; INFLOW_ROOM],
+    depths: &mut [u32; DESK_SQUARES],
+    lasts: &mut [u32; DESK_SQUARES],
+    records: &mut [u32; DESK_NUMBERS],
+    began: &mut [u32; DESK_RATES],
+    out: &mut [u8; DESK_OUT],
+) -> Desk
+    requires { ⌜ end ≤ length (now saved) ⌝ }
+    ensures { λ r. ⌜ Leaves (commandLeft desk (stores (rooms (now (marks .entry)) (now (beds .entry)) (now (roughness .entry)) (now (rates .entry)) (now (depths .entry)) (now (rain .entry)) (now (inflow .entry))) (now (lasts .entry)) (now (records .entry)) (now (began .entry))) (take end (now (saved .entry))) (order (now (line .entry)))) r (stores (rooms (now (marks .exit)) (now (beds .exit)) (now (roughness .exit)) (now (rates .exit)) (now (depths .exit)) (now (rain .exit)) (now (inflow .exit))) (now (lasts .exit)) (now (records .exit)) (now (began .exit))) (now (out .entry)) (now (out .exit)) ⌝ }
+{
+    command(
+        desk,
+        line,
+        &saved[..end],
+        marks,
+        beds,
+        roughness,
+        rates,
+        rain,
+        inflow,
+        depths,
+        lasts,
+        records,
+        began,
+        out,
+    )
+}
+
 // A line at one desk, and at another a line with what the first answered, without its `done`.
 pub fn saved_and_laid(
     desk: Desk,
@@ -349,10 +391,11 @@ pub fn saved_and_laid(
         out,
     );
     let end = before_done(one.length);
-    let other = command(
+    let other = lay_saved(
         other_desk,
         laying,
-        &out[..end],
+        out,
+        end,
         other_marks,
         other_beds,
         other_roughness,
