@@ -131,9 +131,11 @@ def hold_tied(hold, functions, calls):
 
 
 def bodies(top):
-    """{function: its body} of the crate `calls`."""
+    """{public function: its body} of the crate `calls`, with the bodies of the other functions that it calls after it."""
     texts = [path.read_text(encoding="utf-8") for path in sorted((top / "crates" / "calls" / "src").glob("*.rt"))]
-    return {name: body.strip() for text in texts for name, body in re.findall(r"^pub fn (\w+)\(.*?^\{\n(.*?)^\}", text, re.M | re.S)}
+    found = [each for text in texts for each in re.findall(r"^(pub )?fn (\w+)\(.*?^\{\n(.*?)^\}", text, re.M | re.S)]
+    own = {name: body for public, name, body in found if not public}
+    return {name: "".join([body, *(own[word] for word in re.findall(r"(\w+)\(", body) if word in own)]).strip() for public, name, body in found if public}
 
 
 def hold_all(hold, specs, records, functions):
