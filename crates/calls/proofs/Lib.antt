@@ -4,5 +4,6 @@ pub mod ExportedLaws
 pub mod LibraryLaws
 pub mod ListedLaws
 pub mod RepairingLaws
+pub mod SeveralLaws
 pub mod SurveyedLaws
 pub mod WatchedLaws

@@ -4,5 +4,6 @@ pub mod Exported
 pub mod Library
 pub mod Listed
 pub mod Repairing
+pub mod Several
 pub mod Surveyed
 pub mod Watched
