@@ -30,7 +30,7 @@ use Rattle.desks.specs.declared.state.Series.{Series}
 
 -- ---- a desk made of its parts
 
-pub desk-as : (ready : Bool) (h : Heading) (long : ℕ) {l l′ : Log} {a a′ : Account} {s s′ : Series} → l ≡ l′ → a ≡ a′ → s ≡ s′ →
+desk-as : (ready : Bool) (h : Heading) (long : ℕ) {l l′ : Log} {a a′ : Account} {s s′ : Series} → l ≡ l′ → a ≡ a′ → s ≡ s′ →
     _≡_ {A = Desk} (record { ready = ready; heading = h; log = l; account = a; series = s; length = long })
     (record { ready = ready; heading = h; log = l′; account = a′; series = s′; length = long })
 desk-as ready h long e f g = cc
