@@ -15,7 +15,7 @@ use lib.Pow.{pow-mono}
 use borrow.Author.Tests.{leb-false, eqb-true, eq-eqb, not-false}
 use Rattle.reckon.specs.Tests.{pick}
 use Rattle.reckon.specs.Lists.{tabulate}
-use Rattle.reckon.proofs.TestLaws.{not-both, and-left, and-right, and-false, and-true}
+use Rattle.reckon.proofs.TestLaws.{not-both, and-left, and-right}
 use Rattle.reckon.proofs.ListLaws.{getD-tabulate}
 use Rattle.grid.specs.declared.squares.Shape.{Shape}
 use Rattle.grid.specs.declared.walks.Walk.{Walk}

@@ -1,6 +1,6 @@
 -- Laws of a run in slices: a step that is refused in one is the refusal of the run in one, and where each slice has come to is where that run has.
 -- Assumes nothing.
-use mathlib.Core.Path.{_≡_, refl, sym, ap, subst, _∙_}
+use mathlib.Core.Path.{_≡_, refl, sym, ap, _∙_}
 use mathlib.Core.Bool.{true}
 use mathlib.Core.List.{List}
 use Prim.Native.Nat.{ℕ, zero, suc, _+_, _-_, _*_, _/_, _%_, _≤_, _<_}
@@ -21,8 +21,7 @@ use Rattle.checks.specs.Fresh.{freshRun}
 use Rattle.checks.specs.Refusals.{endFine, checkRefusals, runChecks}
 use Rattle.checks.proofs.CheckLaws.{ready, checks-named, run-checks-step, run-checks-end, end-is}
 use Rattle.flood.specs.Step.{stepNumber, stepped}
-use Rattle.flood.specs.Run.{Ended, ended, goOn, goneOn, runFrom, runTo, RunsTo}
-use Rattle.flood.specs.declared.run.Ran.{Ran}
+use Rattle.flood.specs.Run.{Ended, ended, goOn, goneOn, runFrom, runTo}
 use Rattle.flood.proofs.RunToLaws.{Valid, still-valid, clock-on, whole, run-ends, run-refused, run-steps, run-passed}
 use Rattle.flood.proofs.RunInTwoLaws.{run-in-two}
 use Rattle.sheet.specs.Sheet.{Rooms, planIn, givenIn, noLasts, noRecords, checksIn}
