@@ -18,8 +18,8 @@ returns : tie.Need-returns
 returns c = λ j.
     record {
       ready = false;
-      heading = c .before .before .no-night .ensures j .heading;
-      log = c .before .before .no-night .ensures j .log;
+      heading = c .before .before .before .before .no-night .ensures j .heading;
+      log = c .before .before .before .before .no-night .ensures j .log;
       account = c .before .open-account .ensures j;
       series = c .no-series .ensures j;
       length = 0;
