@@ -133,7 +133,7 @@ def three_crates_at_once(checks, room):
     room.write("tests/outside/build.sh", "tools() { :; }; archive() { :; }")
     room.write("tests/linters.py", LINTED)
     room.write("tests/one.py", PASSES)
-    for cores, kilobytes, jobs in ((2, 8000000, "3"), (2, 4000000, ""), (1, 8000000, ""), (8, 64000000, "")):
+    for cores, kilobytes, jobs in ((2, 12000000, "3"), (2, 8000000, ""), (1, 12000000, ""), (8, 64000000, "")):
         room.stand_in("nproc", f"echo {cores}")
         room.stand_in("awk", f"echo {kilobytes}")
         printed = room.ran("bash", ".ci/run")[1].splitlines()
