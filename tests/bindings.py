@@ -31,14 +31,8 @@ SEED, CALLS, KEPT = 43, 120, 5
 LAST_CLOCK = 604_800_000
 # limits that the program has and the library has not
 OF_THE_PROGRAM = {"squares-over-1024", "bytes-65537"}
-# a module that has what python/flood takes of numpy, in the place of one that is not here
-STAND_IN = '''class array(list):
-    def __init__(self, numbers, dtype=None):
-        super().__init__(numbers)
-
-    def reshape(self, rows, columns):
-        return array(list(self[row * columns : (row + 1) * columns]) for row in range(rows))
-'''
+# Debian's own, which has the numpy of its package, whatever other python3 comes first on the path
+DEBIANS = "/usr/bin/python3"
 
 
 def outcome(call, *words):
@@ -174,20 +168,19 @@ def hold_refusals(checks):
 
 def looked_at(around):
     """What a notebook shows of the first sample, with these things around it."""
-    done = subprocess.run([sys.executable, NOTEBOOK, SAMPLES[0]], env={**os.environ, **around}, capture_output=True, text=True)
+    done = subprocess.run([DEBIANS, NOTEBOOK, SAMPLES[0]], env={**os.environ, **around}, capture_output=True, text=True)
     return done.stdout.splitlines() or [done.stderr]
 
 
 def hold_arrays(checks):
-    """Depths as rows, by numpy and without it; tests/long tries a real numpy."""
+    """Depths as rows, by Debian's numpy, whose arrays can be subtracted whole, and by a Python that has none."""
     with tempfile.TemporaryDirectory() as folder:
-        for name, module, kind in (("without", "raise ImportError", "builtins"), ("with", STAND_IN, "numpy")):
-            place = Path(folder) / name
-            place.mkdir()
-            (place / "numpy.py").write_text(module + "\n")
-            shown = looked_at({"PYTHONPATH": str(place)})
-            checks.hold(shown[:3] == [f"{kind} 1 2", "[[969, 31]]", "-31"], f"{name} numpy depths come as {shown}")
-            checks.hold(shown[4:] == ["969", "[1] 1"], f"{name} numpy: what is looked at can be written, or other wet rows: {shown}")
+        (Path(folder) / "numpy.py").write_text("raise ImportError\n")
+        for name, around, kind, least in (("with", {}, "numpy", "-31"), ("without", {"PYTHONPATH": folder}, "builtins", "None")):
+            shown = looked_at(around)
+            checks.hold(shown == [f"{kind} 1 2", "[[969, 31]]", "-31", least, "969", "[1] 1"], f"{name} numpy a notebook shows {shown}")
+    evening = subprocess.run([DEBIANS, "examples/evening.py", SAMPLES[-1]], cwd=TOP, capture_output=True, text=True)
+    checks.hold(evening.stdout == SAMPLES[-1].with_suffix(".out").read_text(), f"the evening ends with other depths; {evening.stderr[-300:]!r}")
 
 
 def hold_elsewhere(checks):

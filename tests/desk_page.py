@@ -4,25 +4,21 @@ for a state of the page, none for a time. It is led by Debian's chromium-driver 
 
 `bin/test desk_page --pictures FOLDER` also leaves pictures of the evening there."""
 import base64
-import json
-import os
 import re
 import sys
 import tempfile
 from pathlib import Path
 
-from desks import SAMPLE, Room, files_of
+from browser import LAPTOP, Page, begin_trial, draw_hatch, led
+from desks import SAMPLE, Room, files_of, one_square
 from meadow.counted import Checks
 from meadow.maps.shades import CLASSES, grey
-from meadow.programs import TOP, built, printed_of_named
+from meadow.programs import built, printed_of_named
 from meadow.sheets.lines import answer_text
 from meadow.sheets.reading import read
 from png import Picture
 
-DEBIANS_PYTHON, DRIVER = "/usr/bin/python3", "/usr/bin/chromedriver"
-LAPTOP, TABLET, TABLET_ACROSS = (1366, 768), (820, 1180), (1180, 820)
-# seconds in which a state must come, however busy the machine is
-PATIENCE = 60
+TABLET, TABLET_ACROSS = (820, 1180), (1180, 820)
 FIRST_HATCH, FIRST_LITRES = 4, 320
 # a step that is apart by so much from the next class of water in grey, of 255
 APART = 12
@@ -30,131 +26,7 @@ APART = 12
 NEAR = 12
 
 
-def led():
-    """The packages that lead a browser, by Debian's Python where this one has none; None where nobody has them."""
-    try:
-        from selenium import webdriver
-    except ImportError:
-        if sys.executable != DEBIANS_PYTHON and Path(DEBIANS_PYTHON).exists():
-            os.execv(DEBIANS_PYTHON, [DEBIANS_PYTHON, str(TOP / "tests" / "support" / "started.py"), "desk_page", *sys.argv[1:]])
-        return None
-    return webdriver
-
-
-class Page:
-    """A browser at the desk's page."""
-
-    def __init__(self, webdriver, room, folder):
-        self.room, self.folder = room, folder
-        options = webdriver.ChromeOptions()
-        for word in ("--headless=new", "--no-sandbox", "--disable-gpu", "--disable-dev-shm-usage", "--force-device-scale-factor=1"):
-            options.add_argument(word)
-        options.set_capability("goog:loggingPrefs", {"browser": "ALL"})
-        self.driver = webdriver.Chrome(options=options, service=service())
-        self.driver.set_script_timeout(PATIENCE)
-
-    def __enter__(self):
-        return self
-
-    def __exit__(self, *_):
-        self.driver.quit()
-
-    def size(self, wide, high, mobile=False):
-        """Another screen."""
-        self.driver.execute_cdp_cmd("Emulation.setDeviceMetricsOverride", {"width": wide, "height": high, "deviceScaleFactor": 1, "mobile": mobile})
-
-    def js(self, words, *lent):
-        """What an expression of the page is."""
-        return self.driver.execute_script(f"return {words}", *lent)
-
-    def wait(self, words):
-        """Waits until an expression of the page is true."""
-        from selenium.webdriver.support.ui import WebDriverWait
-
-        WebDriverWait(self.driver, PATIENCE, 0.02).until(lambda _: self.js(words), f"waited in vain for {words}")
-
-    def idle(self):
-        """Waits until everything asked for is done and drawn."""
-        self.wait("!desk.inLine && !desk.busy && !desk.playing && !isQueued")
-
-    def open(self):
-        """Opens the page and waits until it stands."""
-        self.driver.get(f"http://127.0.0.1:{self.room.port}/")
-        self.wait("document.body.dataset.ready === 'yes'")
-        self.idle()
-
-    def find(self, name):
-        """An element by its id."""
-        return self.driver.find_element("id", name)
-
-    def click(self, name):
-        """A click on an element, and all that it does."""
-        self.find(name).click()
-
-    def keys(self, *keys):
-        """Keys to what has the focus."""
-        self.driver.switch_to.active_element.send_keys(*keys)
-
-    def away(self):
-        """The focus is nowhere."""
-        self.js("document.activeElement.blur()")
-
-    def text(self, name):
-        """The words of an element."""
-        return self.find(name).text
-
-    def depths(self):
-        """Every depth of the state that stands."""
-        return self.js("Array.from(lastOf(here()).depths)")
-
-    def made(self, count):
-        """Waits until so many steps stand, and all is done."""
-        self.wait(f"here() && madeOf(here()) === {count} && !desk.inLine && !desk.busy")
-
-    def shot(self, name):
-        """The picture of the page, kept where pictures are asked for."""
-        self.wait("!isQueued")
-        data = base64.b64decode(self.driver.get_screenshot_as_base64())
-        if self.folder:
-            (Path(self.folder) / f"desk-{name}.png").write_bytes(data)
-        return data
-
-
-def service():
-    """What leads the browser."""
-    from selenium.webdriver.chrome.service import Service
-
-    return Service(DRIVER)
-
-
 # ---- parts of the evening
-
-
-def begin_trial(page, name):
-    """A new trial by keys alone."""
-    from selenium.webdriver.common.keys import Keys
-
-    count = page.js("desk.order.length")
-    page.away()
-    page.keys("n")
-    page.wait("document.getElementById('ask').open")
-    page.keys(Keys.CONTROL, "a")
-    page.keys(name, Keys.ENTER)
-    page.wait(f"desk.order.length === {count + 1} && here() && here().name === {json.dumps(name)}")
-    page.idle()
-
-
-def draw_hatch(page, number, litres):
-    """A hatch by its number and a typed rate."""
-    from selenium.webdriver.common.keys import Keys
-
-    field = page.find(f"rate{number}")
-    field.click()
-    field.send_keys(Keys.CONTROL, "a")
-    field.send_keys(str(litres), Keys.ENTER)
-    page.wait(f"here().rates[{number - 1}] === {litres}")
-    page.idle()
-    page.away()
 
 
 def hold_season(checks, page):
@@ -194,16 +66,25 @@ def hold_opening(checks, page):
     checks.hold(len(page.find("board-table").find_elements("tag name", "input")) == 2, "two boards are not in the table")
 
 
+# Space again as soon as the film is under way, from within the page, so that no slow machine lets it end before
+STOPS_THE_FILM = """
+const watch = setInterval(() => {
+  if (!desk.playing || desk.view < 12) return;
+  clearInterval(watch);
+  document.body.dispatchEvent(new KeyboardEvent('keydown', { key: ' ', bubbles: true }));
+  window.filmStopped = true;
+}, 5);
+"""
+
+
 def hold_forty(checks, page):
     """Forty steps by a key with their film, and back: every depth and the water's name as before; the same opening gives the same water."""
     from selenium.webdriver.common.keys import Keys
 
     first, water = page.depths(), page.js("here().water")
+    page.driver.execute_script(STOPS_THE_FILM)
     page.keys(" ")
-    page.wait("madeOf(here()) === 40")
-    page.wait("desk.view > 11 && desk.playing")
-    page.keys(" ")
-    page.wait("!desk.playing")
+    page.wait("window.filmStopped && madeOf(here()) === 40")
     page.idle()
     seen = page.js("desk.view")
     checks.hold(0 < seen < 40 and "Looking back" in page.text("what"), f"the film does not stop where it is: {seen}, {page.text('what')!r}")
@@ -259,7 +140,7 @@ def hold_kills(checks, page, water):
     page.click("forty")
     page.made(80)
     page.idle()
-    checks.hold("started again" in page.text("trouble"), "the page does not say that the engine was started again")
+    checks.hold("started again" in page.told(), "the page does not say that the engine was started again")
     killed = page.depths()
     page.click("back-forty")
     page.made(40)
@@ -270,7 +151,7 @@ def hold_kills(checks, page, water):
     last = page.js("here().water")
     page.room.kill()
     page.wait("desk.offline && !document.getElementById('trouble').hidden")
-    checks.hold("Nothing is lost" in page.text("trouble"), f"without a server the page says {page.text('trouble')!r}")
+    checks.hold("Nothing is lost" in page.told(), f"without a server the page says {page.told()!r}")
     page.room.start()
     page.wait("!desk.offline && here() && madeOf(here()) === 80 && !desk.inLine")
     page.idle()
@@ -292,7 +173,8 @@ def hold_windows(checks, page):
     page.driver.execute_script("here().serial -= 1; makeSteps(1)")
     page.wait("!desk.inLine && here().serial === here().latest")
     page.idle()
-    checks.hold(page.js("madeOf(here())") == 81 and "another window" in page.text("trouble"), "a stale request is made, or not told")
+    checks.hold(page.js("madeOf(here())") == 81 and "another window" in page.told(), "a stale request is made, or not told")
+    page.js("trouble('A message', 'that stays')")
     page.click("trouble")
     page.wait("document.getElementById('trouble').hidden")
     for handle in page.driver.window_handles:
@@ -333,7 +215,7 @@ def hold_layers(checks, page):
 
 def hold_beside(checks, page):
     """A second trial beside the first, compared by the clock, and both in the table of trials."""
-    begin_trial(page, "only hatch 9, wide")
+    begin_trial(page, "only hatch 9, wide, all the others shut")
     page.click("shut")
     page.idle()
     draw_hatch(page, 9, 900)
@@ -477,12 +359,11 @@ return [...document.querySelectorAll('button,input,select,canvas,[role=tab],[rol
 
 
 def hold_for_all(checks, page):
-    """Text is seen against what is behind it, every control has a name, a refusal has words, and the focus stays where a key was pressed."""
+    """Text is seen against what is behind it, every control has a name, and the focus stays where a key was pressed."""
     from selenium.webdriver.common.keys import Keys
 
     checks.hold(page.driver.execute_script(CONTRAST) == [], f"text of too little contrast: {page.driver.execute_script(CONTRAST)}")
     checks.hold(page.driver.execute_script(UNNAMED) == [], f"controls without a name: {page.driver.execute_script(UNNAMED)}")
-    checks.hold(page.js("[1, 2, 3, 4, 5, 6, 7, 8, 9, 10, 12, 15].every(n => REFUSALS[n])"), "a refusal has no words")
     for key in ("A", "B"):
         page.find(f"tab-of-{key}").send_keys(Keys.ENTER)
         page.wait(f"desk.current === '{key}'")
@@ -502,6 +383,7 @@ def hold_sizes(checks, page):
     wide, high = LAPTOP
     scrolled = page.js("[document.documentElement.scrollWidth, document.documentElement.scrollHeight]")
     checks.hold(scrolled == [wide, high], f"the page scrolls on the laptop: {scrolled}")
+    checks.hold(page.js("(e => e.scrollWidth <= e.clientWidth)(document.querySelector('#what > span'))"), "the banner's sentence is cut")
     for name, (wide, high) in (("tablet", TABLET), ("tablet-across", TABLET_ACROSS)):
         page.size(wide, high, mobile=True)
         page.wait(f"innerWidth === {wide} && !isQueued")
@@ -517,14 +399,14 @@ def hold_sizes(checks, page):
 
 def hold_print(checks, page):
     """A printed sheet has its date, the sheet's hash and the settings."""
+    told = page.driver.execute_cdp_cmd("Page.printToPDF", {"preferCSSPageSize": True, "printBackground": True})
+    paper = base64.b64decode(told["data"])
     page.driver.execute_cdp_cmd("Emulation.setEmulatedMedia", {"media": "print"})
     page.wait("getComputedStyle(document.getElementById('paper-head')).display === 'block'")
     words = page.text("paper-head")
     dated = re.search(r"Printed \d\d/\d\d/\d{4}", words)
     checks.hold(page.js("desk.ground.sheet") in words and "update time" in words and dated, f"a printed sheet says {words!r}")
     checks.hold("Ash bed" in words and page.js("here().water") in words, "a printed sheet has no hatches, or no water's name")
-    told = page.driver.execute_cdp_cmd("Page.printToPDF", {"preferCSSPageSize": True, "printBackground": True})
-    paper = base64.b64decode(told["data"])
     sheets = len(re.findall(rb"/Type\s*/Page\b", paper))
     checks.hold(1 <= sheets <= 2, f"a printed map with its boards takes {sheets} sheets")
     if page.folder:
@@ -570,12 +452,31 @@ def hold_slips(checks, page):
     page.shot("held")
 
 
+def hold_refused(checks, page):
+    """A refused step is said in words, with what to do, and Esc puts the message away."""
+    from selenium.webdriver.common.keys import Keys
+
+    page.open()
+    begin_trial(page, "too much")
+    draw_hatch(page, 1, 60_000)
+    page.js("(document.getElementById('pace').value = '0')")
+    page.click("forty")
+    page.made(1)
+    page.idle()
+    said = page.told()
+    checks.hold("number 8" in said and "100 m deep" in said and "draw the hatches less" in said, f"of a refused step the page says {said!r}")
+    page.shot("refused")
+    page.js("trouble('A message', 'that stays')")
+    page.keys(Keys.ESCAPE)
+    page.wait("document.getElementById('trouble').hidden")
+
+
 def evening(checks, webdriver, folder, pictures):
     """The whole evening over one season, and a short one over a season with slips."""
     with Room(Path(folder) / "desk") as room:
         checks.hold(room.run_season().returncode == 0, "the sample season does not run")
-        for path in room.season.iterdir():
-            path.chmod(0o444)
+        room.read_only()
+        checks.hold(room.lets_write() == [], f"the desk's user can write in the season's folder by {room.lets_write()}")
         before = files_of(room.season)
         room.start()
         with Page(webdriver, room, pictures) as page:
@@ -607,15 +508,17 @@ def evening(checks, webdriver, folder, pictures):
         with Page(webdriver, room, pictures) as page:
             page.size(*LAPTOP)
             hold_slips(checks, page)
+    with Room(Path(folder) / "refused", one_square(Path(folder) / "one")) as room:
+        room.start()
+        with Page(webdriver, room, pictures) as page:
+            page.size(*LAPTOP)
+            hold_refused(checks, page)
 
 
 def main():
     checks = Checks("desk_page")
-    webdriver = led()
+    webdriver = led(checks)
     pictures = sys.argv[2] if sys.argv[1:2] == ["--pictures"] else None
-    if webdriver is None or not Path(DRIVER).exists():
-        checks.skip("the desk's page", "no browser that a test can lead; bin/setup installs it")
-        checks.end()
     built("desk", "hatchlog")
     with tempfile.TemporaryDirectory() as folder:
         evening(checks, webdriver, folder, pictures)

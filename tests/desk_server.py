@@ -27,12 +27,12 @@ from desk.frames import frames_of
 from desk.season import Season
 from desk.trials import Trial
 from desk_pace import large_season
-from desks import DESK, SAMPLE, SEASON, Room, files_of, water_in
+from desks import DESK, SAMPLE, SEASON, Room, files_of, one_square, water_in
 from meadow.counted import Checks
 from meadow.programs import TOP, built, printed_of_named
 from meadow.rule.ranges import LAST_CLOCK
 from meadow.rule.refusals import Refused
-from meadow.sheets.lines import HOUR, SECOND, Sheet, answer_text
+from meadow.sheets.lines import HOUR, SECOND, answer_text
 from meadow.sheets.reading import read
 
 SAMPLES = ("document-01", "dry-weather", "held-pond", "soaking-meadow", "walled-meadow")
@@ -301,21 +301,26 @@ def hold_engine_killed(checks, room, key):
         checks.hold(answer.endswith("end\n") and water_in(answer) == water_in(told), f"{what}, which needs no engine, after a kill: {answer!r}")
 
 
-def hold_no_engine(checks, folder):
-    """An engine that ends each time it is started: the request is answered in words, and once it starts again the trial is that of its journal."""
+# programs in the engine's place: one that ends at once, and one that never answers
+NO_ENGINES = (["/bin/false"], ["/bin/sleep", "1000"])
+
+
+def hold_no_engine(checks, folder, words):
+    """An engine that ends, or does not answer, each time it is started: the request ends with a fault, and once an engine answers again the trial is
+    that of its journal."""
     evening = Evening(folder, Season(SAMPLE))
     trial = evening.new("no engine")
     for change in (("draw", 5, 600), ("step", 20, LAST_CLOCK), ("step", 20, LAST_CLOCK)):
         "".join(trial.change(trial.serial, *change))
     for change in (("step", 5, LAST_CLOCK), ("back", 30), ("mark", "late")):
         trial.engine.child.kill()
-        with mock.patch("desk.engine.words_of", lambda name: ["/bin/false"]):
+        with mock.patch("desk.engine.words_of", lambda name: words), mock.patch.object(Engine, "patience", 0.5):
             try:
                 "".join(trial.change(trial.serial, *change))
                 told = "made"
             except Gone:
                 told = "gone"
-        checks.hold(told == "gone", f"{change} is {told} without an engine")
+        checks.hold(told == "gone", f"{change} is {told} with {words[0]} for an engine")
         water, made = water_in("".join(trial.all())), trial.made()
         again = Trial(folder, trial.key, trial.season)
         checks.hold((again.made(), water_in("".join(again.all()))) == (made, water), f"after {change} the trial is not that of its journal")
@@ -324,20 +329,44 @@ def hold_no_engine(checks, folder):
     evening.close()
 
 
+def stop(room):
+    """Every engine of a room hangs from now on."""
+    for engine in room.engines():
+        os.kill(engine, signal.SIGSTOP)
+
+
+def hold_hang(checks, folder):
+    """An engine that hangs is ended after the server's patience, here a short one: what stood is worked again from the journal's lines, the change is
+    made, and the answer says so; a page that opens meanwhile sees the same water."""
+    with Room(folder) as room:
+        room.start(more=["--patience", "3"])
+        key = room.new("hangs")
+        room.change(key, "draw", hatch=5, litres=600)
+        room.change(key, "step", count=20)
+        stop(room)
+        told = room.change(key, "step", count=5)
+        checks.hold("\nagain\t20\n" in "\n" + told and told.endswith("end\n") and room.now(key)["made"] == 25, f"an engine that hangs: {told[-300:]!r}")
+        room.change(key, "back", count=5)
+        checks.hold(water_in(room.change(key, "step", count=5)) == water_in(told), "with and without the hang the water is another")
+        stop(room)
+        checks.hold(room.water(key) == water_in(told), "a page that opens while an engine hangs sees other water")
+        room.kill()
+        room.start()
+        checks.hold(room.water(key) == water_in(told), "after a hang the journal gives other water")
+
+
 def hold_sleep(checks, room, key):
     """The laptop is closed after a line is in the journal and before the engine has made it: the answer comes whole when it is opened."""
     room.change(key, "back", count=5)
     told, journal = [], room.trials / f"{key}.journal"
     size = journal.stat().st_size
-    engines = room.engines()
-    for engine in engines:
-        os.kill(engine, signal.SIGSTOP)
+    stop(room)
     asked = {"at": room.now(key)["serial"], "count": 5}
     asking = threading.Thread(target=lambda: told.append(room.post(f"/api/trial/{key}/step", **asked)))
     asking.start()
     wait_for(lambda: journal.stat().st_size > size)
     checks.hold(not told, "an engine that is stopped answers")
-    for engine in engines:
+    for engine in room.engines():
         os.kill(engine, signal.SIGCONT)
     asking.join()
     slept = water_in(told[0][1])
@@ -477,18 +506,12 @@ def hold_far_back(checks, room):
 
 def hold_refused_step(checks, folder):
     """A step that is refused ends a series: the steps before it stand, and are shown; the keeper's run stops there likewise."""
-    tiny = folder / "tiny"
-    tiny.mkdir()
-    sheet = Sheet(1, 1, 1, shortest=SECOND, longest=SECOND, update=SECOND)
-    sheet.put((0, 0), 0, 100)
-    (tiny / "season.sheet").write_text(sheet.text(SECOND), encoding="ascii")
-    (tiny / "season.log").write_text("hatch\t1\t0\t0\n", encoding="ascii")
-    with Room(folder / "refused", tiny) as room:
+    with Room(folder / "refused", one_square(folder / "one")) as room:
         room.start()
         key = room.new("too much")
         room.change(key, "draw", hatch=1, litres=60_000)
         told = room.change(key, "step", count=5)
-        shown = told.count("frame\t"), "\nrefused\t8\n" in told, room.now(key)["made"]
+        shown = told.count("frame\t"), "\nrefused\t8\t" in told, room.now(key)["made"]
         checks.hold(shown == (1, True, 1), f"a step above 100 m is answered by {told!r}")
         room.change(key, "back", count=1)
         checks.hold("\nrow\t0\n" in room.get(f"/api/trial/{key}/frames")[1], "the step before a refused one is not taken back")
@@ -498,6 +521,7 @@ def hold_refused_step(checks, folder):
         told = room.run_season()
         saved = stands.read(room.season / "stand").told
         checks.hold(told.returncode == 1 and saved["how"] == "refused 8" and saved["clock"] == SECOND, f"the keeper's run above 100 m: {saved}")
+        checks.hold("100 m deep" in told.stderr and "100 m deep" in saved["why"], f"the keeper's run above 100 m says {told.stderr!r}")
 
 
 # ---- the keeper
@@ -675,7 +699,9 @@ def main():
         hold_twice(checks, room, key)
         hold_torn(checks, room, key)
         hold_engine_killed(checks, room, key)
-        hold_no_engine(checks, Path(folder) / "no-engine")
+        for words in NO_ENGINES:
+            hold_no_engine(checks, Path(folder) / Path(words[0]).name, words)
+        hold_hang(checks, Path(folder) / "hang")
         hold_sleep(checks, room, key)
         hold_full_disk(checks, room, key)
         hold_evening(checks, room, seed, 30)

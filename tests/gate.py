@@ -8,6 +8,7 @@ import subprocess
 import tempfile
 from pathlib import Path
 
+from around import ARM, EMULATOR, KIT, path_without
 from meadow.counted import Checks
 from meadow.programs import TOP
 
@@ -132,7 +133,7 @@ def three_crates_at_once(checks, room):
     room.write("tests/outside/build.sh", "tools() { :; }; archive() { :; }")
     room.write("tests/linters.py", LINTED)
     room.write("tests/one.py", PASSES)
-    for cores, kilobytes, jobs in ((2, 8000000, "3"), (2, 4000000, ""), (1, 8000000, ""), (8, 64000000, "")):
+    for cores, kilobytes, jobs in ((2, 12000000, "3"), (2, 8000000, ""), (1, 12000000, ""), (8, 64000000, "")):
         room.stand_in("nproc", f"echo {cores}")
         room.stand_in("awk", f"echo {kilobytes}")
         printed = room.ran("bash", ".ci/run")[1].splitlines()
@@ -145,8 +146,8 @@ def setup(checks, room):
     for name, body in {"dpkg-query": "exit 1", "dpkg": "exit 0", "apt-get": 'echo "E: no package rustc"; exit 100'}.items():
         room.stand_in(name, body)
     cases = [
-        ("aarch64", 0, "E: no package rustc"),
-        ("aarch64", 1000, "only root can install them"),
+        (ARM, 0, "E: no package rustc"),
+        (ARM, 1000, "only root can install them"),
         ("sparc", 0, "this machine is sparc"),
     ]
     for machine, user, why in cases:
@@ -184,12 +185,10 @@ def runner(checks, room):
 def without_the_kit(checks, room):
     """What is built runs without the kit on x86-64; what is not, and what wants the emulator, says so. `--build` runs nothing."""
     (room.stand_ins / "rt").unlink()
-    path = ":".join([str(room.stand_ins), *(folder for folder in os.environ["PATH"].split(":") if not (Path(folder) / "rt").exists())])
+    path = os.pathsep.join([str(room.stand_ins), path_without(room.stand_ins.parent, KIT, EMULATOR)])
     room.write("target/bin/tool", 'echo "ran bare"')
     os.utime(room.top / "target/bin/tool", (2**33 + 10, 2**33 + 10))
-    cases = {"x86_64": (0, "ran bare\n")}
-    if not shutil.which("qemu-x86_64", path=path):
-        cases["aarch64"] = (1, "bin/run: tool is a program for x86-64, and on this machine it needs")
+    cases = {"x86_64": (0, "ran bare\n"), ARM: (1, "bin/run: tool is a program for x86-64, and on this machine it needs an emulator: Debian's")}
     for machine, wanted in cases.items():
         room.stand_in("uname", f"echo {machine}")
         status, printed = room.ran("bin/run", "tool", PATH=path)
@@ -211,10 +210,10 @@ def without_sources(checks, path, room):
     checks.hold(ran("--words", "tool") == (0, f"{room.top}/programs/tool\n"), f"bin/run --words of a release: {ran('--words', 'tool')}")
     status, printed = ran("nosuch")
     checks.hold(status == 2 and printed.endswith("one of: tool\n"), f"bin/run nosuch of a release: status {status}, {printed!r}")
-    room.stand_in("uname", "echo aarch64")
-    room.stand_in("qemu-x86_64", 'echo "emulated ${!#}"')
+    room.stand_in("uname", f"echo {ARM}")
+    room.stand_in(EMULATOR, 'echo "emulated ${!#}"')
     checks.hold(ran("tool") == (0, f"emulated {room.top}/programs/tool\n"), f"bin/run of a release on Arm: {ran('tool')}")
-    (room.stand_ins / "qemu-x86_64").unlink()
+    (room.stand_ins / EMULATOR).unlink()
     (room.top / "put-away").rename(room.top / "crates")
 
 

@@ -11,10 +11,11 @@ from pathlib import Path
 
 from hay_meadow import HOUSE, bed, hay_meadow, survey
 from meadow.counted import Checks
-from meadow.peaks.courses import WET, looks_at
+from meadow.peaks.courses import looks_at
 from meadow.peaks.heights import Heights
+from meadow.peaks.hours import WET
 from meadow.peaks.wholes import runs_of, whole_of
-from meadow.programs import TOP, printed
+from meadow.programs import REACHED, TOP, printed
 from meadow.rule.steps import fresh, inner_step
 from meadow.sheets.lines import MINUTE, Answer, Sheet
 from meadow.sheets.reading import meadow_of, read
@@ -169,7 +170,7 @@ def held(checks, room):
     full.inflow = [(*full.inflow[0][:4], 14)] * 64
     said = room.ran("bin/meadow", room.write("full.sheet", full.text(30 * MINUTE))).stderr
     right = re.search(r"mind: likely held at the shortest, 500 ms: 3,3\d\d steps of at most 3,600: .*: run with a shorter one", said)
-    checks.hold(right and "the longest for" not in said, f"64 rows of inflow, and steps held: {said}")
+    checks.hold(right and "the longest for " in said, f"64 rows of inflow, and steps held: {said}")
     for side, wanted in ((1, 1), (2, 3), (5, 20), (10, 80), (25, 500), (100, 500)):
         checks.hold(suiting_shortest(side) == wanted, f"squares of {side} m have a shortest of {suiting_shortest(side)} ms")
     room.write("five.asc", survey())
@@ -189,16 +190,23 @@ def small_meadow(**run):
 
 
 def by_hand(sheet, end):
-    """Of a run by document 01 in Python: the water and the steps at each multiple of the update time, from the start on."""
+    """Of a run by document 01 in Python: the water at every state, with its clock, from the start on."""
     m = meadow_of(sheet)
     fresh(m)
-    states, steps = [(0, list(m.depths), m.clock)], 0
+    states = [(list(m.depths), m.clock)]
     while m.clock < end:
         inner_step(m)
-        steps += 1
-        if m.clock % sheet.run["update"] == 0:
-            states.append((steps, list(m.depths), m.clock))
+        states.append((list(m.depths), m.clock))
     return states
+
+
+def wet_by_hand(sheet, states):
+    """The time of the steps at whose end a square is wet, by its place."""
+    wet = {}
+    for (_, before), (depths, clock) in zip(states, states[1:]):
+        for place in (divmod(at, sheet.columns) for at, deep in enumerate(depths) if deep >= WET):
+            wet[place] = wet.get(place, 0) + clock - before
+    return wet
 
 
 def courses(checks):
@@ -207,15 +215,13 @@ def courses(checks):
         sheet, end = small_meadow(shortest=shortest, longest=longest), 5 * MINUTE
         states = by_hand(sheet, end)
         with runs_of(sheet.text(end)) as runs:
-            course = whole_of(sheet.text(end), {name: run.whole().decode() for name, run in runs.items()}).course
-        checks.hold([answer.clock for answer in course.answers] == [clock for _, _, clock in states[1:]], f"{shortest} ms: other looks")
-        wet = {}
-        for _, depths, _ in states[1:]:
-            for place in (divmod(at, sheet.columns) for at, deep in enumerate(depths) if deep >= WET):
-                wet[place] = wet.get(place, 0) + MINUTE
-        checks.hold(course.wet() == wet != {}, f"{shortest} ms: squares are wet for {course.wet()}, not {wet}")
+            whole = whole_of(sheet.text(end), {name: run.whole().decode() for name, run in runs.items()})
+        course, wet = whole.course, wet_by_hand(sheet, states)
+        looks = [steps for steps, (_, clock) in enumerate(states) if clock % MINUTE == 0]
+        checks.hold([answer.clock for answer in course.answers] == [states[steps][1] for steps in looks[1:]], f"{shortest} ms: other looks")
+        checks.hold(whole.hours.wet() == wet != {}, f"{shortest} ms: squares are wet for {whole.hours.wet()}, not {wet}")
         most = MINUTE // shortest
-        made = [steps - before for (steps, _, _), (before, _, _) in zip(states[1:], states)]
+        made = [steps - before for steps, before in zip(looks[1:], looks)]
         wanted = [at for at, steps in enumerate(made) if steps == most and shortest < longest]
         checks.hold(course.held_looks() == wanted and (shortest != 3_000 or wanted != []), f"{shortest} ms: held before {course.held_looks()}, not {wanted}")
     none = small_meadow()
@@ -244,11 +250,11 @@ def only_the_end(checks, room):
     were = sum(text.startswith("row") and "; highest " in text for text in told)
     checks.hold(were == sum(peak.depth > 0 for peak in heights.peaks.values()), f"{were} squares tell a pointer how high they stood")
     wet = [text for text in told if text.startswith("row") and "1 cm deep or deeper for" in text]
-    checks.hold(ever - 5 <= len(wet) <= ever, f"{len(wet)} squares tell a pointer for how long they were wet, and {ever} were")
+    checks.hold(len(wet) == ever, f"{len(wet)} squares tell a pointer for how long they were wet, and {ever} were")
     soaked = Sheet(1, 1, 10)
     soaked.put((0, 0), 0, 350, 26_000, rate=1_000_000)
     said = room.ran("bin/meadow", room.write("soaked.sheet", soaked.text(10 * MINUTE))).stderr
-    wanted = "dry now, after 10 min; highest 2.6 cm at row 0, column 0, at the start; 1 cm deep or deeper: 1 square at some time, none at the end; 60 steps"
+    wanted = "dry now, after 10 min; highest 2.6 cm at row 0, column 0, at the start; 1 cm deep or deeper: 1 square at some time, none at the end, the longest for 50 s; 60 steps"
     checks.hold(wanted in said, f"a square that has soaked dry: {said}")
     dry = hay_meadow(litres=0)
     checks.hold("all dry, after" in room.ran("bin/meadow", room.write("dry.sheet", dry.text(30 * MINUTE))).stderr, "a meadow that never was wet is dry now")
@@ -364,7 +370,7 @@ def arguments(checks, room):
 def helps(checks, room):
     """Every script answers --help, and ends well."""
     scripts = [path for path in sorted((TOP / "tools").glob("*.py")) if path.stem != "begin"]
-    for script in (*scripts, *(TOP / "bin" / name for name in ("boards", "drowned", "hatchlog", "highest", "meadow", "run", "speed", "setup", "test"))):
+    for script in (*scripts, *(TOP / "bin" / name for name in ("boards", "drowned", "hatchlog", "highest", "hours_wet", "meadow", "run", "speed", "setup", "test"))):
         command = [sys.executable, script] if script.suffix else [script]
         done = subprocess.run([*command, "--help"], capture_output=True, text=True, cwd=room.folder)
         right = done.returncode == 0 and (script.stem in done.stdout or "usage" in done.stdout)
@@ -389,8 +395,30 @@ def ends_when_told(checks, room):
         status = run.wait(10)
         checks.hold(re.match(r"run to 30 min: at most 1,800,000 steps on 412 squares, up to some 3 min", before), f"before a long run: {before!r}")
         checks.hold(re.match(r"at [^;]* of 30 min, [\d,]+ steps; \d+ s so far, some .* left\n", life), f"a long run's sign of life: {life!r}")
-        checks.hold(len(started) == 3 and not any(Path(f"/proc/{child}").exists() for child in started), f"signal {number} leaves some of {started}")
+        checks.hold(len(started) == 4 and not any(Path(f"/proc/{child}").exists() for child in started), f"signal {number} leaves some of {started}")
         checks.hold(status == 128 + number and run.stdout.read() == "", f"signal {number}: status {status}")
+
+
+def tells_on_the_way(checks):
+    """Of a long run `meadow` tells steps and clock between its slices, those of the run in Python, which knows no slices and ends alike. Of a short
+    run nothing is told; a refusal in a later slice is the answer; and tools keep to themselves what is told."""
+    program = [TOP / "bin" / "run", "meadow"]
+    sheet, end = small_meadow(shortest=20, longest=20, update=1_000), 4 * MINUTE
+    run = subprocess.run(program, input=sheet.text(end).encode(), capture_output=True, check=True)
+    told = [tuple(map(int, REACHED.fullmatch(line).groups())) for line in run.stderr.splitlines(keepends=True)]
+    checks.hold(5 < len(told) <= 12 and told[-1] == (12_000, end), f"a run of 12,000 steps in slices: {told}")
+    states = {clock: (steps, depths) for steps, (depths, clock) in enumerate(by_hand(sheet, end))}
+    checks.hold(all(states[clock][0] == steps for steps, clock in told), f"the run in Python makes other steps than are told: {told}")
+    water = {divmod(at, sheet.columns): deep for at, deep in enumerate(states[end][1])}
+    answer = Answer(run.stdout.decode())
+    checks.hold(all(water[place] == deep for place, deep in answer.depths.items()) and answer.steps == states[end][0], "a run in slices ends otherwise")
+    short = subprocess.run(program, input=small_meadow().text(end).encode(), capture_output=True, check=True)
+    checks.hold(short.stderr == b"" and short.stdout != b"", f"of a short run is told {short.stderr!r}")
+    sheet.inflow = [(0, 0, 2 * MINUTE, 4 * MINUTE, 100_000)] * 64
+    late = subprocess.run(program, input=sheet.text(end).encode(), capture_output=True, check=True)
+    checks.hold(late.stdout == b"refused\t8\t0\n" and late.stderr.count(b"reached") > 5, f"a refusal in a later slice: {late.stdout!r} {late.stderr!r}")
+    heard = subprocess.run([sys.executable, TOP / "tools" / "why.py", "/dev/stdin"], input=sheet.text(end), capture_output=True, text=True)
+    checks.hold("reached" not in heard.stdout + heard.stderr, f"a tool passes on what meadow tells: {heard.stderr!r}")
 
 
 def read_once(checks, room):
@@ -429,6 +457,7 @@ PARTS = (pits, anothers, side_files, held, only_the_end, standing, mouths, holes
 def main():
     checks = Checks("hay")
     courses(checks)
+    tells_on_the_way(checks)
     with tempfile.TemporaryDirectory() as folder:
         for part in PARTS:
             part(checks, Room(folder))

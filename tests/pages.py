@@ -1,13 +1,14 @@
 """The pages are true of the sources: every public function stands in docs/CONTRACTS.md, every file and name that docs/METHOD.md cites is
 there, its ranges and its worked square are those of document 01 in Python, pictures and tables of crates are as made, no table has a cell too long to read,
-every path and every name in backticks is there, each edit says which fact refuses it and where, README's first sheet gives README's answer, and
-`meadow` is as large as it says."""
+every path and every name in backticks is there, each edit says which fact refuses it and where, README's first sheet gives README's answer,
+docs/SPEED.md has the tables that bin/speed makes, and `meadow` is as large as it says."""
 import re
 from pathlib import Path
 
 import architecture
 import edits
 import pictures
+import speed
 from meadow.counted import Checks
 from meadow.programs import TOP, printed
 from meadow.rule.ranges import RANGES
@@ -244,6 +245,30 @@ def hold_first_sheet(checks):
         checks.hold(told == answer[1].replace(" ", "\t"), f"README.md's first sheet gives {told!r}")
 
 
+def speed_figures():
+    """A run of bin/speed in its form: at the first of two places the wet walk takes half the time of each engine, at the second as long."""
+    for way in speed.WAYS:
+        yield f"{way}\t0\tmachine\tany"
+        for padding, ours in ((0, 1_000), (512, 2_000)):
+            for meadow in (*speed.SHARES, speed.AT_REST):
+                for engine, time in ((speed.OURS, ours), (speed.RIVAL, 2_000), (speed.BOUNDS, 2_000)):
+                    yield f"{way}\t{padding}\ttime\t{meadow}\t{engine}\t{time}"
+                    yield f"{way}\t{padding}\tcount\t{meadow}\t{engine}\t4096"
+        yield f"{way}\t0\texecuted\ta sheet\t{speed.RUN}\t100"
+
+
+def hold_speed(checks):
+    """docs/SPEED.md has each table of tools/speed.py once, so that it can be put in, and what is put in are medians over the places."""
+    page, made = speed.PAGE.read_text(encoding="utf-8"), speed.tables("\n".join(speed_figures()))
+    for table in made:
+        told = [heads for heads, _ in tables(page) if heads[0] == table.heads[0]]
+        checks.hold(len(told) == 1, f"docs/SPEED.md has {len(told)} tables with the head {table.heads[0]!r}")
+    rows = [row for table in made if table.heads[0] == f"{speed.OURS} / it, native" for row in table.rows]
+    checks.hold(rows == [[engine, *["0.75 (0.50..1.00)"] * len(speed.SHARES)] for engine in (speed.RIVAL, speed.BOUNDS)], f"tools/speed.py makes {rows}")
+    asked = [row[-1].split(": ")[1] for table in made if table.heads[0] == "target" for row in table.rows]
+    checks.hold(asked == ["holds"] * len(speed.TARGETS), f"tools/speed.py says of the targets {asked}")
+
+
 def hold_size(checks):
     """README says how large the program is that may be copied elsewhere."""
     told = re.search(r"`target/bin/meadow` has some (\d+)0 kilobytes", (TOP / "README.md").read_text(encoding="utf-8"))
@@ -265,6 +290,7 @@ def main():
     hold_code(checks)
     hold_edits(checks)
     hold_first_sheet(checks)
+    hold_speed(checks)
     hold_size(checks)
     checks.end()
 

@@ -1,6 +1,7 @@
 """The archive that bin/release makes, as somebody meets it who has no kit: made twice, it has the same bytes; unpacked into an empty folder, with `rt`
-off the path, every program prints what is stored, every command of its first page and of docs/TOOLS.md does what stands there, and the evening of
-trials ends with what `meadow` prints, in C, Rust and Python."""
+off the path, every program prints what is stored, every command of its first page and of docs/TOOLS.md does what stands there, the desk and the
+keeper's run work, and the evening of trials ends with what `meadow` prints, in C, Rust and Python. Programs, desk and season work too where scripts
+are told that the machine is an Arm one, by Debian's emulator with a libc that is not the machine's own."""
 import hashlib
 import os
 import re
@@ -13,29 +14,18 @@ from pathlib import Path
 
 import release
 import tools
+from around import KIT, arm_path, path_without
+from desks import Room, water_in
 from meadow.counted import Checks
 from meadow.programs import TOP
 from outward import ON_X86, built_by
 
 CRATES = TOP / "crates"
+# of Debian's package libc6-amd64-cross
+CROSS_LIBC = "/usr/x86_64-linux-gnu/lib/libc.so.6"
 EVENING = TOP / "samples" / "walled-evening.out"
 # what a line of the first page needs besides the archive
 NEEDS = {"man": "man"}
-
-
-def without_the_kit(folder):
-    """The path without `rt`: a folder that has it is replaced by one with everything else that is in it."""
-    path = []
-    for at, place in enumerate(os.environ["PATH"].split(os.pathsep)):
-        if (Path(place) / "rt").exists():
-            stripped = Path(folder) / f"path-{at}"
-            stripped.mkdir()
-            for entry in Path(place).iterdir():
-                if entry.name != "rt":
-                    (stripped / entry.name).symlink_to(entry)
-            place = str(stripped)
-        path.append(place)
-    return os.pathsep.join(path)
 
 
 def made(folder, **around):
@@ -89,26 +79,58 @@ def ran(words, room, given=None, **around):
     return subprocess.run(words, cwd=room, input=given, stdin=None if given else subprocess.DEVNULL, env={**os.environ, **around}, capture_output=True)
 
 
-def hold_programs(checks, room, folder):
-    """Every program of the sources is there, and prints what the gate holds it to."""
-    names = sorted(path.parent.parent.name for path in CRATES.glob("*/src/main.rt"))
+def hold_names(checks, room):
+    """Every program of the sources is there, with its man page; what they are, and the release, is told."""
+    names = sorted(release.programs())
     checks.hold(names == sorted(path.name for path in (room / "programs").iterdir()), f"the archive has other programs than {names}")
     told = ran(["bin/run", "--help"], room).stdout.decode()
     checks.hold(told.endswith(f"one of: {' '.join(names)}\n"), f"bin/run --help of the archive says {told!r}")
     for name in names:
+        checks.hold((room / "man" / "man1" / f"{name}.1").exists(), f"the archive has no man page of {name}")
+    told = ran(["bin/meadow", "--version"], room).stdout.decode()
+    checks.hold(told == f"flood {release.version()}\n", f"bin/meadow --version says {told!r}")
+
+
+def hold_programs(checks, room, folder, **around):
+    """Every program prints what the gate holds it to."""
+    for name in release.programs():
         stored, given = CRATES / name / "stdout", CRATES / name / "stdin"
         place = Path(folder) / f"data-{name}"
-        place.mkdir()
+        place.mkdir(parents=True)
         if (CRATES / name / "data").exists():
             shutil.copytree(CRATES / name / "data", place, dirs_exist_ok=True)
         words = (CRATES / name / "args").read_text().splitlines() if (CRATES / name / "args").exists() else []
-        done = ran([room / "bin" / "run", name, *words], place, given.read_bytes() if given.exists() else None)
+        done = ran([room / "bin" / "run", name, *words], place, given.read_bytes() if given.exists() else None, **around)
         wanted = stored.read_bytes() if stored.exists() else b""
         checks.hold(done.returncode == 0 and done.stdout == wanted, f"{name} of the archive: status {done.returncode}, or it prints something else; {done.stderr[:300]}")
-        manual = room / "man" / "man1" / f"{name}.1"
-        checks.hold(manual.exists(), f"the archive has no man page of {name}")
-    told = ran(["bin/meadow", "--version"], room).stdout.decode()
-    checks.hold(told == f"flood {release.version()}\n", f"bin/meadow --version says {told!r}")
+
+
+def hold_desk(checks, room, folder, **around):
+    """The archive's season is run, and at its desk forty steps move water and go back to the water before."""
+    with Room(folder, room / "samples" / "season") as desk:
+        done = ran([room / "bin" / "season", desk.season], folder, **around)
+        checks.hold(done.returncode == 0, f"bin/season of the archive: status {done.returncode}, {done.stderr[-300:]}")
+        desk.start([room / "bin" / "desk", desk.season, desk.trials, "--port", "0", "--no-browser"], env={**os.environ, **around})
+        key = desk.new("of the archive")
+        before = desk.water(key)
+        desk.change(key, "draw", hatch=5, litres=600)
+        moved = desk.change(key, "step", count=40)
+        checks.hold(moved.count("frame\t") == 40 and water_in(moved) != before, "forty steps at the archive's desk move no water")
+        checks.hold(water_in(desk.change(key, "back", count=40)) == before, "forty steps taken back at the archive's desk leave other water")
+
+
+def hold_on_arm(checks, room, folder):
+    """Scripts that find an Arm machine start the programs by the emulator, with the loader and the libc of Debian's package for other machines;
+    no other libc is opened. Programs, season and desk do there what they do here."""
+    folder.mkdir()
+    around = {"PATH": arm_path(folder)}
+    sheet = (room / "samples" / "document-01.sheet").read_bytes()
+    done = ran([room / "bin" / "run", "meadow"], folder, sheet, QEMU_STRACE="1", **around)
+    checks.hold(done.stdout == (room / "samples" / "document-01.out").read_bytes(), f"meadow on Arm: status {done.returncode}, {done.stderr[-300:]}")
+    opened = re.findall(r'openat\([^"]*"([^"]*/libc\.so\.6)",[^)]*\) = \d', done.stderr.decode("utf-8", "replace"))
+    checks.hold(opened == [CROSS_LIBC], f"on Arm the libc of {opened} is opened")
+    hold_programs(checks, room, folder, **around)
+    hold_desk(checks, room, folder / "desk", **around)
 
 
 def hold_tools(checks, room):
@@ -185,11 +207,14 @@ def main():
     with tempfile.TemporaryDirectory() as folder:
         archive = made_twice(checks, folder)
         if archive:
-            os.environ["PATH"] = without_the_kit(folder)
-            checks.hold(not shutil.which("rt"), "the kit is still on the path")
+            os.environ["PATH"] = path_without(folder, KIT)
+            checks.hold(not shutil.which(KIT), "the kit is still on the path")
             (Path(folder) / "empty").mkdir()
             room = unpacked(checks, archive, Path(folder) / "empty")
-            hold_programs(checks, room, folder)
+            hold_names(checks, room)
+            hold_programs(checks, room, Path(folder) / "here")
+            hold_desk(checks, room, Path(folder) / "desk")
+            hold_on_arm(checks, room, Path(folder) / "arm")
             hold_first_page(checks, room)
             hold_shared(checks, room)
             hold_tools(checks, room)

@@ -1,6 +1,6 @@
 """Every command of docs/TOOLS.md prints what stands below it there, and each tool has an example; README's first command prints the answer
-byte for byte and ends with one line of sense, and its next makes the map; bin/meadow, bin/hatchlog, bin/drowned, bin/highest, bin/boards and
-bin/repair say what is wrong where there is no answer."""
+byte for byte and ends with one line of sense, and its next makes the map; bin/meadow, bin/hatchlog, bin/drowned, bin/highest, bin/hours_wet,
+bin/boards and bin/repair say what is wrong where there is no answer."""
 import re
 import shutil
 import subprocess
@@ -10,7 +10,7 @@ from pathlib import Path
 from damaged import CASES, answer_of, sheet_of
 from meadow.counted import Checks
 from meadow.logs.evening import records_kept
-from meadow.peaks import heights
+from meadow.peaks import heights, hours
 from meadow.programs import TOP
 from meadow.sheets.holes import repaired
 from meadow.sheets.lines import CLOSED, SQUARE, Sheet, line_of
@@ -21,8 +21,8 @@ PAGE, README = TOP / "docs" / "TOOLS.md", TOP / "README.md"
 SAMPLES = TOP / "samples"
 # what tools begin with, those that look after the project itself, and the one that the programs' own scripts end with; all others are for the
 # warden and the keeper
-OWN = {"architecture", "begin", "believed", "desk_pace", "desk_speed", "dev", "edits", "header", "manual", "pictures", "places", "release", "sense", "speed", "unused", "walks", "watched"}
-PROGRAMS = [f"bin/{name}" for name in ("meadow", "hatchlog", "drowned", "highest", "boards", "repair", "to_survey", "from_survey")]
+OWN = {"architecture", "begin", "believed", "desk_pace", "desk_speed", "dev", "edits", "header", "manual", "pictures", "places", "program_speed", "release", "sense", "speed", "unused", "walks", "watched"}
+PROGRAMS = [f"bin/{name}" for name in ("meadow", "hatchlog", "drowned", "highest", "hours_wet", "boards", "repair", "to_survey", "from_survey")]
 FOR_PEOPLE = [*PROGRAMS, *(f"tools/{path.name}" for path in sorted((TOP / "tools").glob("*.py")) if path.stem not in OWN)]
 LEFT_OUT = "..."
 # a sheet's only square
@@ -211,6 +211,32 @@ def hold_heights(checks, room):
     )
 
 
+def hold_hours(checks, room):
+    """bin/hours_wet: each sample with a line, and refused sheets; the sheets of one square are those of bin/highest."""
+    for sheet, said in {
+        "samples/walled-meadow.sheet": "126 squares, the longest for 3 min at row 0, column 4, of a run of 3 min; 153 steps\n",
+        "samples/winter/3-christmas.sheet": "42 squares, the longest for 1 h at row 3, column 1, of a run of 1 h; 435 steps\n",
+        "samples/held-pond.sheet": "36 squares, the longest for 10 min at row 1, column 1, of a run of 10 min; 1,200 steps\n",
+    }.items():
+        status, printed, sense = ran(f"bin/hours_wet {sheet}", room)
+        checks.hold(status == 0 and printed == hours.answered((TOP / sheet).read_bytes()), f"bin/hours_wet {sheet}: status {status}")
+        checks.hold(sense == f"1 cm deep or deeper: {said}", f"bin/hours_wet {sheet} ends with {sense!r}")
+    (room / "hours.out").write_text(hours.answered((SAMPLES / "document-01.sheet").read_bytes()))
+    hold_commands(
+        checks,
+        room,
+        [
+            ("bin/hours_wet dry.sheet", 0, "clock\t60000\n", "1 cm deep or deeper: no square, of a run of 1 min; 6 steps"),
+            ("bin/hours_wet walls.sheet", 0, "clock\t60000\n", "1 cm deep or deeper: every square closed, of a run of 1 min; 6 steps"),
+            ("bin/hours_wet cut.sheet", 1, "refused\t12\t1\n", "refused by 12: line 1: it has 2 fields after its word and should have 3"),
+            ("bin/hours_wet none", 1, "", "none"),
+            ("python3 tools/sense.py --hours dry.sheet hours.out", 1, "", "it has a depth for square 0 1, which is off the grid"),
+            ("python3 tools/sense.py --hours samples/document-01.sheet dry.sheet", 1, "", "no line of an answer"),
+            ("bin/hours_wet", 2, "", "usage: bin/hours_wet SHEET"),
+        ],
+    )
+
+
 def hold_boards(checks, room):
     """bin/boards: the sample byte for byte and one line; refused boards and sheets, a file that is not there, and no boards."""
     sheet, boards = "samples/winter/3-christmas.sheet", "samples/winter/3-christmas.boards"
@@ -285,7 +311,7 @@ def main():
     checks = Checks("tools")
     with tempfile.TemporaryDirectory() as folder:
         room = room_in(folder)
-        for part in (hold_page, hold_readme, hold_samples, hold_refusals, hold_logs, hold_winter, hold_heights, hold_boards, hold_repair):
+        for part in (hold_page, hold_readme, hold_samples, hold_refusals, hold_logs, hold_winter, hold_heights, hold_hours, hold_boards, hold_repair):
             part(checks, room)
     hold_kept(checks)
     checks.end()

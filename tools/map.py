@@ -1,6 +1,6 @@
 #!/usr/bin/env python3
-"""map.py SHEET > MAP.svg: runs `meadow`, `highest` and `hatchlog` on a sheet and draws a map of the water at its end, with what was before it;
-python/meadow/maps/drawing.py says what it shows.
+"""map.py SHEET > MAP.svg: runs `meadow`, `highest`, `hours_wet` and `hatchlog` on a sheet and draws a map of the water at its end, with what was
+before it; python/meadow/maps/drawing.py says what it shows.
 map.py SHEET ANSWER > MAP.svg: draws an answer that is there already; what was answered to another sheet is refused.
 map.py SHEET --log LOG > MAP.svg: runs `hatchlog` on a sheet and a log and draws the water at the log's end, with the log's hatches.
 map.py SHEET ANSWER --log LOG > MAP.svg: draws the end of what `hatchlog` has printed already.

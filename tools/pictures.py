@@ -21,6 +21,8 @@ from meadow.sheets.reading import read
 WATER, WALL, GROUND, INK, PALE = "#9ecae1", "#4a4a4a", "#e9ddb8", "#222222", "#777777"
 COLOURS = ("#08519c", "#31a354", "#8c6d31", "#d94801", "#6a51a3")
 SPEED = TOP / "docs" / "SPEED.md"
+# between two lines of a scale, in µs
+PARTS = (10, 50, 100, 500, 1_000, 5_000)
 
 
 class Drawing:
@@ -121,9 +123,11 @@ def apart(heights, least):
 
 def wet_shares():
     """The time of a step by how much of the meadow is wet, a line for each engine."""
-    left, bottom, width, height, part = 70, 350, 420, 300, 500
+    left, bottom, width, height = 70, 350, 420, 300
     picture, (head, times) = Drawing(680, 400), step_times()
-    parts = int(max(time for line in times.values() for _, time in line) // part) + 1
+    most = max(time for line in times.values() for _, time in line)
+    part = next(part for part in PARTS if most < 7 * part)
+    parts = int(most // part) + 1
     for mark in range(parts + 1):
         y = bottom - height * mark / parts
         picture.line(f"M{left} {y:.0f}H{left + width}", False, "#dddddd", 1)

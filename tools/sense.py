@@ -2,6 +2,7 @@
 """sense.py SHEET ANSWER LOG: one line of sense about what `hatchlog` printed of a sheet and a log: how much water is where, the deepest place, the
 clock and the steps; or, of a refusal, the likeliest reason. bin/hatchlog ends with it.
 sense.py --highest SHEET ANSWER: how deep the water of a sheet ever was, and when, by what `highest` printed. bin/highest ends with it.
+sense.py --hours SHEET ANSWER: how many squares of a sheet were wet, and for how long, by what `hours_wet` printed. bin/hours_wet ends with it.
 sense.py --repair SHEET ANSWER: how many beds were given, and which cannot be, by what `repair` printed. bin/repair ends with it.
 sense.py --drowned ANSWER DEPTH SHEET..: which square drowned most often, by what `drowned` printed of a list. bin/drowned ends with it.
 sense.py --boards ANSWER SHEET BOARDS: which marks were reached, by what `boards` printed of a sheet and its boards. bin/boards ends with it.
@@ -13,6 +14,7 @@ from begin import ended
 from meadow.boards.answers import shown_of
 from meadow.logs.nights import Night, blocks_of
 from meadow.peaks.heights import heights_of
+from meadow.peaks.hours import hours_of
 from meadow.peaks.tally import tally_of
 from meadow.sheets.guesses import repaired_of
 from meadow.sheets.holes import plugged
@@ -27,7 +29,7 @@ from meadow.words.levels import boards_sense
 from meadow.words.list_reasons import list_reasons
 from meadow.words.opening import texts_of
 from meadow.words.reasons import reasons, refusal
-from meadow.words.sense import night_sense
+from meadow.words.sense import hours_sense, night_sense
 
 
 def say_refused(refused, of, why):
@@ -42,6 +44,15 @@ def of_heights(text, told):
     if refused:
         return say_refused(refused, "", reasons(text, *refused))
     print(heights_sense(heights_of(text, told)))
+    return 0
+
+
+def of_hours(text, told):
+    """About what `hours_wet` printed."""
+    refused = refusal(told)
+    if refused:
+        return say_refused(refused, "", reasons(text, *refused))
+    print(hours_sense(hours_of(text, told)))
     return 0
 
 
@@ -121,12 +132,14 @@ def main():
         return of_moving_back(bytes_as_text(files[0]), *files[1:])
     if kind == "--highest" and len(files) == 2:
         return of_heights(*map(bytes_as_text, files))
+    if kind == "--hours" and len(files) == 2:
+        return of_hours(*map(bytes_as_text, files))
     if kind == "--repair" and len(files) == 2:
         return of_repair(*map(bytes_as_text, files))
     if len(files) == 2:
         return of_log((kind, files[1]), bytes_as_text(files[0]))
     print(
-        "usage: sense.py SHEET ANSWER LOG, sense.py --highest SHEET ANSWER, sense.py --repair SHEET ANSWER, "
+        "usage: sense.py SHEET ANSWER LOG, sense.py --highest SHEET ANSWER, sense.py --hours SHEET ANSWER, sense.py --repair SHEET ANSWER, "
         "sense.py --drowned ANSWER DEPTH SHEET.., sense.py --boards ANSWER SHEET BOARDS, "
         "sense.py --to-survey ANSWER SHEET NOTE BED DEPTH ROUGHNESS RATE or "
         "sense.py --from-survey ANSWER NOTE BED DEPTH ROUGHNESS RATE",

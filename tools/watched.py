@@ -1,17 +1,16 @@
 #!/usr/bin/env python3
-"""watched.py SHEET: runs `meadow` on a sheet, with `highest` and `hatchlog` beside it, and is what bin/meadow does.
+"""watched.py SHEET: runs `meadow` on a sheet, with `highest`, `hours_wet` and `hatchlog` beside it, and is what bin/meadow does.
 
 Standard output is what `meadow` prints, byte for byte. On standard error come, before the run, how many steps it can need and how long that may
 take; while it goes on, from time to time, how far it has come; then one line of sense, what a reader must mind, and what in the sheet is likely a
 slip. Of a sheet that is refused it is the likeliest reason. The sheet is read once. Ends with 1 where it is refused; a signal ends the programs too.
 """
 import argparse
-import re
 import sys
 import time
 
 from begin import ended
-from meadow.peaks.wholes import COURSE, END, runs_of, whole_of
+from meadow.peaks.wholes import END, runs_of, whole_of
 from meadow.rule.refusals import Refused, check
 from meadow.sheets.pairs import sheet_text
 from meadow.sheets.reading import meadow_of, read
@@ -23,7 +22,6 @@ from meadow.words.sense import whole_sense
 
 # seconds until the first sign of life, and the most between two
 FIRST_SIGN, MOST_BETWEEN = 5, 60
-TOTALS = re.compile(rb"^steps\t(\d+)\nclock\t(\d+)\n", re.M)
 
 
 def say(*lines):
@@ -41,19 +39,13 @@ def say_before(text):
     say(before_words(sheet, end))
 
 
-def come_to(runs):
-    """The steps and the clock that the run has come to, by what its course has printed; None where nothing is known."""
-    found = TOTALS.findall(runs[COURSE].so_far()) if COURSE in runs else []
-    return tuple(map(int, found[-1])) if found else None
-
-
 def wait_for(runs, text):
     """Waits for one program after the other, with a sign of life ever more seldom; `meadow` is the first, and its answer is written at once."""
     began, wait = time.monotonic(), FIRST_SIGN
     due = began + wait
     for name, run in runs.items():
         while not run.ended_within(max(0, due - time.monotonic())):
-            say(life_words(text, come_to(runs), time.monotonic() - began))
+            say(life_words(text, runs[END].reached, time.monotonic() - began))
             wait = min(2 * wait, MOST_BETWEEN)
             due = time.monotonic() + wait
         if name == END:

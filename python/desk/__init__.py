@@ -3,6 +3,7 @@
     engine       the program as a child process, asked by lines
     frames       a state as the engine told it
     files        a file written whole or not at all, and a file read within a size
+    refusals     what the engine refuses, in a warden's words
     stands       a saved state with what is known of it
     logs         a season's hatch log: its lines, and how far a run has used them
     season       the season's folder, which the desk only reads

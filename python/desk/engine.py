@@ -6,8 +6,8 @@ import threading
 from meadow.programs import words_of
 from meadow.rule.refusals import Refused
 
-# bytes of an answer and of one of its lines, and seconds without one
-MOST_ANSWER, LONGEST_LINE, PATIENCE = 16 << 20, 1 << 16, 30
+# bytes of an answer and of one of its lines
+MOST_ANSWER, LONGEST_LINE = 16 << 20, 1 << 16
 MOST_HATCHES, MOST_STEPS = 9, 64
 # an engine opens a few files while it is started, and writes none
 LIMITS = {resource.RLIMIT_FSIZE: 0, resource.RLIMIT_CORE: 0, resource.RLIMIT_NOFILE: 32}
@@ -19,6 +19,9 @@ class Gone(Exception):
 
 class Engine:
     """A running engine; `opening` is its answer to what it was begun with."""
+
+    # seconds in which an answer must come; one that does not answer is ended
+    patience = 30
 
     def __init__(self):
         pipes = {"stdin": subprocess.PIPE, "stdout": subprocess.PIPE, "stderr": subprocess.DEVNULL}
@@ -59,7 +62,7 @@ class Engine:
         """The answer to a line, line by line; bytes as the last word follow it. `done` is left out, and a refusal raised."""
         text = words[-1] if isinstance(words[-1], bytes) else b""
         said = "\t".join(str(word) for word in words if not isinstance(word, bytes)).encode("ascii") + b"\n"
-        watch = threading.Timer(PATIENCE, self.child.kill)
+        watch = threading.Timer(self.patience, self.child.kill)
         watch.start()
         try:
             self.child.stdin.write(said + text)

@@ -13,7 +13,7 @@ from .engine import Engine, Gone
 from .frames import frames_of
 from .logs import NoLog
 from .season import STAND
-from .trials import Fault, Trial, alike
+from .trials import Fault, Trial, alike, laid
 
 MOST_TRIALS, LONGEST_NAME = 6, 40
 
@@ -114,8 +114,7 @@ class Evening:
 
     def season_frame(self):
         """The season as it stands, told by an engine of its own, which then ends."""
-        stand = self.beginning()
-        engine = Engine.laid(self.season.sheet_text, stand.text)
+        engine = laid(self.season, self.beginning())
         try:
             (frame,) = frames_of(engine.opening, self.season.sheet.rows)
             return frame.text(frame) + "end\n"

@@ -21,6 +21,7 @@ from . import logs
 from .engine import MOST_STEPS, Engine, Gone
 from .files import Held, bytes_of, held, written
 from .frames import numbers_of
+from .refusals import beginning_words, what_words
 from .season import LOG, STAND, NoSeason, Season
 from .stands import stand_of
 
@@ -49,13 +50,16 @@ class Run:
         self.season, self.used = season, 0
         stand = None if anew else self.stand()
         sheet, hatches = season.sheet_text, season.log.hatches
-        self.engine = Engine.laid(sheet, stand.text) if stand else Engine.fresh(sheet, hatches)
+        try:
+            self.engine = Engine.laid(sheet, stand.text) if stand else Engine.fresh(sheet, hatches)
+        except Refused as refused:
+            raise Cannot(beginning_words(refused)) from None
         self.steps, self.clock = numbers_of(self.engine.opening[0])[:2]
         self.first, self.began = (self.steps, self.clock), time.monotonic()
         self.pace = stand.told.get("pace") if stand else None
         self.end = season.log.end(season.end)
         self.most, self.least = self.bounds()
-        self.stopped = False
+        self.stopped, self.why = False, None
 
     def stand(self):
         """The stand that this run goes on from; None where there is none. One of another sheet or log is not thrown away unasked."""
@@ -86,7 +90,7 @@ class Run:
         if made:
             self.pace = round(made / max(lasted, 0.001), 1)
         told = {"how": how, "steps": self.steps, "clock": self.clock, "end": self.end, "most": self.most, "least": self.least}
-        told |= {"pace": self.pace, "saved": time.strftime("%Y-%m-%d %H:%M:%S")}
+        told |= {"why": self.why, "pace": self.pace, "saved": time.strftime("%Y-%m-%d %H:%M:%S")}
         used = self.season.log.text(self.used)
         written(self.season.folder / STAND, stand_of(self.engine.stand(), self.season.sheet_text, used, **told).bytes())
 
@@ -130,6 +134,7 @@ class Run:
             return DONE if self.to(self.end, tell) else STOPPED
         except Refused as refused:
             self.steps, self.clock = numbers_of(self.engine.ask("show")[0])[:2]
+            self.why = what_words(refused)
             return f"refused {refused.number}"
 
     def close(self):
@@ -148,7 +153,7 @@ def run(season, anew=False, tell=print):
             tell(under_way.before_words())
             how = under_way.whole(tell)
             under_way.save(how)
-            tell(f"{how}: {under_way.life_words()}")
+            tell(f"{how}{f', {under_way.why}' if under_way.why else ''}: {under_way.life_words()}")
             return how
         finally:
             for number, handler in before.items():

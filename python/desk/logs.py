@@ -2,7 +2,7 @@
 from typing import NamedTuple
 
 from meadow.logs.entries import BACK, HATCH, entries_in
-from meadow.rule.ranges import LAST_CLOCK, fine
+from meadow.rule.ranges import LAST_CLOCK, MOST_ROWS_OF_A_TABLE, fine
 
 from .engine import MOST_HATCHES
 
@@ -35,6 +35,8 @@ def hold_hatch(sheet, line, hatches, begun, number, row, column):
         raise NoLog(f"line {line}: hatches have the numbers 1 to {MOST_HATCHES}, each once")
     if (row, column) not in sheet.ground():
         raise NoLog(f"line {line}: row {row}, column {column} is closed, or not there")
+    if len(sheet.inflow) + len(hatches) >= MOST_ROWS_OF_A_TABLE:
+        raise NoLog(f"line {line}: with this hatch and the sheet's inflow there are more than {MOST_ROWS_OF_A_TABLE} rows of inflow")
 
 
 def hold_rate(sheet, line, hatches, last, clock, number, litres):

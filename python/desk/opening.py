@@ -13,6 +13,7 @@ from pathlib import Path
 from meadow.programs import TOP, ended, words_of
 
 from . import keeper
+from .engine import Engine
 from .evening import Evening
 from .files import Held, held
 from .season import NoSeason, Season
@@ -76,8 +77,10 @@ def main():
     parser.add_argument("season", metavar="SEASON", nargs="?", help="the season's folder; without one a sample is opened")
     parser.add_argument("trials", metavar="TRIALS", nargs="?", help="where the evening's trials lie")
     parser.add_argument("--port", type=int, help=f"the port of the page, else {PORT} or, where that is taken, a free one; 0 for a free one")
+    parser.add_argument("--patience", type=float, default=Engine.patience, help="seconds in which an engine must answer, else it is started again: 30")
     parser.add_argument("--no-browser", action="store_true", help="opens no browser")
     given = parser.parse_args()
+    Engine.patience = given.patience
     # built before anything is opened, where it is not
     words_of("desk")
     try:

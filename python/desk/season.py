@@ -2,13 +2,14 @@
 where it stands. Here it is only read."""
 from pathlib import Path
 
-from meadow.rule.refusals import check
+from meadow.rule.refusals import Refused, check
 from meadow.sheets.reading import meadow_of
 from meadow.sheets.reading import read as read_sheet
+from meadow.words.reasons import reasons
 
 from . import logs, stands
 from .engine import MOST_HATCHES
-from .files import bytes_of, name_of
+from .files import TooLarge, bytes_of, name_of
 
 SHEET, LOG, NAMES, STAND = "season.sheet", "season.log", "season.names", "stand"
 # the program `desk` takes more squares than `meadow`
@@ -38,13 +39,23 @@ class Season:
         if not (self.folder / SHEET).exists():
             raise NoSeason(f"{folder} is no season: it has no file {SHEET}")
         self.sheet_text, self.log_text = self.part(SHEET), self.part(LOG)
-        self.sheet, self.end = read_sheet(self.sheet_text.decode("latin-1"), MOST_SQUARES)
-        check(meadow_of(self.sheet), self.end)
+        self.sheet, self.end = self.read()
         try:
             self.log = logs.read(self.log_text, self.sheet)
         except logs.NoLog as why:
             raise NoSeason(f"{self.folder / LOG}: {why}") from None
         self.names = names_in(self.part(NAMES))
+
+    def read(self):
+        """The sheet and its end; words where it is refused."""
+        text = self.sheet_text.decode("latin-1")
+        try:
+            sheet, end = read_sheet(text, MOST_SQUARES)
+            check(meadow_of(sheet), end)
+        except Refused as refused:
+            why = "; ".join(reasons(text, refused.number, refused.line, MOST_SQUARES))
+            raise NoSeason(f"{self.folder / SHEET} is refused by {refused.number}: {why}") from None
+        return sheet, end
 
     def part(self, name):
         """The bytes of a file of the folder; none where there is no such file."""
@@ -52,6 +63,8 @@ class Season:
             return bytes_of(self.folder / name)
         except FileNotFoundError:
             return b""
+        except TooLarge as why:
+            raise NoSeason(str(why)) from None
 
     def stand(self):
         """Where the keeper's run stands now; None before its first slice, and where the stand is of another sheet."""

@@ -8,8 +8,6 @@ from http.server import BaseHTTPRequestHandler, ThreadingHTTPServer
 from pathlib import Path
 from urllib.parse import urlsplit
 
-from meadow.rule.refusals import Refused
-
 from .engine import Gone
 from .ground import ground_of
 from .requests import CHANGES, body_of, name_in
@@ -125,8 +123,6 @@ class Handler(BaseHTTPRequestHandler):
             self.json({"fault": "this trial has moved on in another window"}, 409)
         except Fault as fault:
             self.json({"fault": str(fault)}, 422)
-        except Refused as refused:
-            self.json({"fault": "refused", "number": refused.number}, 422)
         except Gone:
             self.json({"fault": ENGINE_ENDS}, 503)
         except (ConnectionError, TimeoutError):

@@ -13,6 +13,7 @@ from .files import name_of, written
 from .frames import frames_of
 from .ground import cautions_of
 from .journal import Full, Journal
+from .refusals import beginning_words, change_words
 
 MOST_STANDING, MOST_MARKS = 2_000, 40
 # the first words of a journal
@@ -35,6 +36,14 @@ def alike(frames):
         for part in range(0, count, MOST_STEPS):
             yield frames[at].rates, min(MOST_STEPS, count - part)
         at += count
+
+
+def laid(season, stand):
+    """An engine of a season's sheet at a saved state; words where that is refused."""
+    try:
+        return Engine.laid(season.sheet_text, stand.text)
+    except Refused as refused:
+        raise Fault(beginning_words(refused)) from None
 
 
 class Trial:
@@ -94,7 +103,7 @@ class Trial:
         """A fresh engine at the trial's beginning."""
         if self.engine:
             self.engine.close()
-        self.engine = Engine.laid(self.season.sheet_text, self.stand.text)
+        self.engine = laid(self.season, self.stand)
         (first,) = self.frames_in(self.engine.opening)
         self.frames, self.rates, self.kept = [first], first.rates, first.kept
 
@@ -214,7 +223,7 @@ class Trial:
             try:
                 yield from self.made_surely(words)
             except Refused as refused:
-                yield f"refused\t{refused.number}\n"
+                yield f"refused\t{refused.number}\t{change_words(refused)}\n"
             except Gone:
                 # the journal has the line, and the engine does not
                 self.broken = True

@@ -1,22 +1,29 @@
 """The built programs, and scripts that end as a reader of their output would have it."""
+import contextlib
 import functools
 import os
+import re
 import signal
 import subprocess
 import sys
 import threading
-from contextlib import contextmanager
 from pathlib import Path
 
 from .rule.refusals import Refused
 from .sheets.lines import Answer, Unreadable
 
 TOP = Path(__file__).resolve().parent.parent.parent
+# a line of standard error in which `meadow` tells the steps made and the clock
+REACHED = re.compile(rb"reached\t(\d+)\t(\d+)\n")
 
 
 def printed(name, given=b"", **how):
     """What a program prints of these bytes at its standard input; `how` says how it is started, as another user say."""
-    return subprocess.run([TOP / "bin" / "run", name], input=given, stdout=subprocess.PIPE, check=True, **how).stdout
+    run = Started(name, given, **how)
+    try:
+        return run.whole()
+    finally:
+        run.stop()
 
 
 @functools.cache
@@ -41,15 +48,17 @@ def meadow(text):
 
 
 class Started:
-    """A program under way: what it prints is kept as it comes."""
+    """A program under way: what it prints is kept as it comes, and so is how far it last told to have come, steps and clock."""
 
-    def __init__(self, name, given):
-        pipes = {"stdin": subprocess.PIPE, "stdout": subprocess.PIPE}
-        self.process = subprocess.Popen([TOP / "bin" / "run", name], start_new_session=True, **pipes)
-        self.parts = []
-        self.reader = threading.Thread(target=self.read, daemon=True)
+    def __init__(self, name, given, **how):
+        pipes = dict.fromkeys(("stdin", "stdout", "stderr"), subprocess.PIPE)
+        self.process = subprocess.Popen([TOP / "bin" / "run", name], start_new_session=True, **pipes, **how)
+        self.parts, self.reached = [], None
+        self.reader, self.hearer = (threading.Thread(target=each, daemon=True) for each in (self.read, self.hear))
         self.reader.start()
-        with self.process.stdin as its_input:
+        self.hearer.start()
+        # a program need not read all that it is given
+        with contextlib.suppress(BrokenPipeError), self.process.stdin as its_input:
             its_input.write(given)
 
     def read(self):
@@ -57,9 +66,15 @@ class Started:
         while part := self.process.stdout.read1(65_536):
             self.parts.append(part)
 
-    def so_far(self):
-        """What it has printed by now."""
-        return b"".join(self.parts)
+    def hear(self):
+        """Takes what is told, and passes on whatever else comes on standard error."""
+        for line in self.process.stderr:
+            told = REACHED.fullmatch(line)
+            if told:
+                self.reached = tuple(map(int, told.groups()))
+            else:
+                sys.stderr.write(line.decode("utf-8", "replace"))
+                sys.stderr.flush()
 
     def ended_within(self, seconds):
         """Whether it has ended, at the latest after so many seconds."""
@@ -69,9 +84,10 @@ class Started:
     def whole(self):
         """All that it prints."""
         self.reader.join()
+        self.hearer.join()
         if self.process.wait() != 0:
             raise subprocess.CalledProcessError(self.process.returncode, self.process.args)
-        return self.so_far()
+        return b"".join(self.parts)
 
     def stop(self):
         """Ends it, and whatever it started, where it has not ended."""
@@ -108,7 +124,7 @@ def built(*names):
     subprocess.run([TOP / "bin" / "run", "--build", *names], check=True, stdin=subprocess.DEVNULL)
 
 
-@contextmanager
+@contextlib.contextmanager
 def side_by_side(given):
     """Built programs started side by side, by name with the bytes that each is given; none is left running."""
     runs = {}

@@ -8,7 +8,7 @@ built=target/outside
 compile=()
 compile_c=()
 run_by=()
-machine=
+emulate=()
 why=
 
 # tools: what builds and runs x86-64 Rust here, which bin/setup installs; else 1, with the reason in `why`
@@ -18,14 +18,20 @@ tools() {
     if [ "$(uname -m)" = x86_64 ]; then
         compile=(rustc)
         compile_c=(cc)
-        machine="x86_64, not emulated"
         return 0
     fi
     # Debian's own rustc: another one on the path has no x86-64 standard library
     compile=(/usr/bin/rustc --target x86_64-unknown-linux-gnu -C linker=x86_64-linux-gnu-gcc)
     compile_c=(x86_64-linux-gnu-gcc)
     run_by=(qemu-x86_64)
-    machine="aarch64, x86-64 programs emulated by $(qemu-x86_64 --version | head -n 1)"
+}
+
+# emulator: what runs an x86-64 program by Debian's emulator, to `emulate`; 1 where it is not here. It makes the processor's own copying and
+# clearing of memory byte by byte: the C library is told to do without.
+emulator() {
+    local never=1000000000
+    command -v qemu-x86_64 >/dev/null || return 1
+    emulate=(qemu-x86_64 -E "GLIBC_TUNABLES=glibc.cpu.x86_rep_stosb_threshold=$never:glibc.cpu.x86_rep_movsb_threshold=$never")
 }
 
 # the crates that other languages call, each a static library of its own: libexports.a and libdisplay_exports.a, in target/staticlib
@@ -102,14 +108,19 @@ build_engine() {
     "${compile[@]}" "${release[@]}" --crate-type rlib --crate-name "$1" --out-dir "$built" "tests/outside/$1.rs"
 }
 
-# build_placed BYTES: tests/outside/speed.rs with so much room before its code, to target/outside/speed-BYTES; the engines are built
-build_placed() {
+# build_speed: tests/outside/speed.rs with the engines, which are built, to target/outside/libspeed.rlib
+build_speed() {
     local externs=(--extern "flood=$built/libflood.rlib") engine
-    for engine in "$built"/libengine_*.rlib; do
-        engine=$(basename "$engine" .rlib)
-        externs+=(--extern "${engine#lib}=$built/$engine.rlib")
+    for engine in tests/outside/engine_*.rs; do
+        engine=$(basename "$engine" .rs)
+        externs+=(--extern "$engine=$built/lib$engine.rlib")
     done
-    PADDING=$1 "${compile[@]}" "${release[@]}" "${externs[@]}" -o "$built/speed-$1" tests/outside/speed.rs
+    "${compile[@]}" "${release[@]}" "${externs[@]}" --crate-type rlib --crate-name speed --out-dir "$built" tests/outside/speed.rs
+}
+
+# build_placed BYTES: the benchmark's program with so much room before its code, to target/outside/speed-BYTES
+build_placed() {
+    PADDING=$1 "${compile[@]}" "${release[@]}" -L "$built" --extern "speed=$built/libspeed.rlib" -o "$built/speed-$1" tests/outside/placed.rs
 }
 
 # build_counter: the emulator's plugin of tests/outside/count.c, to target/outside/count.so; 1 where this emulator takes none
@@ -117,7 +128,7 @@ build_counter() {
     local version
     for version in 1 2 3 4 5; do
         cc -std=c99 -Wall -Wextra -Werror -O -fPIC -shared -DPLUGIN_VERSION="$version" -o "$built/count.so" tests/outside/count.c || return 1
-        ! "${run_by[@]}" -plugin "$built/count.so" "$built/speed-0" engines >/dev/null 2>&1 || return 0
+        ! "${emulate[@]}" -plugin "$built/count.so" "$built/speed-0" engines >/dev/null 2>&1 || return 0
     done
     return 1
 }

@@ -8,7 +8,7 @@ use crate::library::{self, Walk};
 use crate::meadows::{Lent, Sizes};
 use crate::reference::{self, Arrow, Bounds, Heading, Made, Meadow, Run};
 use crate::rival::Rival;
-use crate::roots::{Digits, Guesses};
+use crate::roots::{Bounded, Digits, Guesses};
 use crate::watching::{self, Asked, Shown};
 use std::collections::BTreeMap;
 use std::fmt;
@@ -59,8 +59,9 @@ pub const ANSWERS: [(Call, &[u32]); 10] = [
 ];
 
 /// The benchmark's Rust engines.
-const ENGINES: [(&str, lent::RunTo); 2] = [
+const ENGINES: [(&str, lent::RunTo); 3] = [
     ("the rival (digits)", lent::run_to::<Rival<Digits>>),
+    ("the rival (bounds)", lent::run_to::<Rival<Bounded>>),
     ("the rival (fast roots)", lent::run_to::<Rival<Guesses>>),
 ];
 

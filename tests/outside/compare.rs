@@ -13,6 +13,7 @@ mod limits;
 mod meadows;
 mod reference;
 mod rival;
+mod root_cases;
 mod roots;
 mod sheets;
 mod spans;
@@ -159,6 +160,7 @@ fn answers_missing(tally: &Tally, endless: bool) -> bool {
 
 fn main() {
     let words = words();
+    root_cases::cases();
     let mut tally = Tally { seed: words.seed, ..Tally::default() };
     tally.kind = "worked by hand";
     worked::cases(&mut tally);

@@ -2,7 +2,7 @@
 
 mod lent;
 mod rival;
-// the other kind of roots is not used here
+// other kinds of roots are not used here
 #[allow(dead_code)]
 mod roots;
 

@@ -1,4 +1,4 @@
-//! The benchmark's meadows, 64 by 64 squares: from dry to all wet.
+//! The benchmark's meadows, 64 by 64 squares: from dry to all wet, then some with a tenth wet in other ways, and rain.
 
 use crate::chance::Chance;
 use crate::reference::{Meadow, Rules, EXIT, OPEN, WORDS};
@@ -11,21 +11,33 @@ pub const RULES: Rules =
 
 const SLOTS: usize = 4;
 
-/// A meadow, and how many turns of how many steps each program makes on it.
+/// A meadow with its rules, and how many turns of how many steps each program makes on it.
 pub struct Ground {
     pub name: &'static str,
     pub meadow: fn() -> Meadow,
+    pub rules: Rules,
     pub turns: u64,
     pub steps: u64,
 }
 
-/// Document 02's first: a tenth of it wet, ten thousand steps.
-pub const GROUNDS: [Ground; 5] = [
-    Ground { name: "10 in 100", meadow: tenth_wet, turns: 10, steps: 1_000 },
-    Ground { name: "1 in 100", meadow: hundredth_wet, turns: 3, steps: 1_000 },
-    Ground { name: "50 in 100", meadow: half_wet, turns: 3, steps: 200 },
-    Ground { name: "100 in 100", meadow: all_wet, turns: 3, steps: 200 },
-    Ground { name: "dry", meadow: all_dry, turns: 3, steps: 1_000 },
+/// A ditch's edge slope, for the river's mouths.
+const TO_A_DITCH: Rules = Rules { edge: 10, ..RULES };
+/// The length could be long, and is looked for at each step; the update time alone holds it.
+const AT_EVERY_STEP: Rules = Rules { update: STEP_LASTS, longest: 60_000, ..RULES };
+
+/// Document 02's first: a tenth of it wet, ten thousand steps. Then other shares of wet squares, and other meadows.
+pub const GROUNDS: [Ground; 11] = [
+    Ground { name: "10 in 100", meadow: tenth_wet, rules: RULES, turns: 10, steps: 1_000 },
+    Ground { name: "1 in 100", meadow: hundredth_wet, rules: RULES, turns: 3, steps: 1_000 },
+    Ground { name: "50 in 100", meadow: half_wet, rules: RULES, turns: 3, steps: 200 },
+    Ground { name: "100 in 100", meadow: all_wet, rules: RULES, turns: 3, steps: 200 },
+    Ground { name: "dry", meadow: all_dry, rules: RULES, turns: 3, steps: 1_000 },
+    Ground { name: "river", meadow: river, rules: TO_A_DITCH, turns: 3, steps: 500 },
+    Ground { name: "pond with a hatch", meadow: pond_with_a_hatch, rules: RULES, turns: 3, steps: 500 },
+    Ground { name: "channels without hatches", meadow: closed_channels, rules: RULES, turns: 3, steps: 500 },
+    Ground { name: "pond at rest", meadow: pond_at_rest, rules: RULES, turns: 3, steps: 500 },
+    Ground { name: "U at every step", meadow: tenth_wet, rules: AT_EVERY_STEP, turns: 3, steps: 500 },
+    Ground { name: "rain on all", meadow: rain_on_all, rules: RULES, turns: 3, steps: 200 },
 ];
 
 fn open_meadow(side: usize) -> Meadow {
@@ -116,5 +128,60 @@ fn half_wet() -> Meadow {
     for row in (0..64).step_by(2) {
         cut_channel(&mut meadow, &mut chance, (0..64).map(|column| (row, column)));
     }
+    meadow
+}
+
+/// The channels of the tenth that is wet, with no hatch: their water comes to rest.
+fn closed_channels() -> Meadow {
+    let mut meadow = tenth_wet();
+    meadow.inflow.clear();
+    meadow
+}
+
+/// Six rivers from west to east in pairs, some 0.9 m deep with a fall of 1 in 1,000, a hatch at the head and an exit at the mouth of each.
+fn river() -> Meadow {
+    let mut meadow = all_dry();
+    let mut chance = Chance(4);
+    for row in [4, 5, 20, 21, 40, 41] {
+        for column in 0..64 {
+            let square = row * 64 + column;
+            meadow.beds[square] = 10_000_000 - 10_000 * column as u32;
+            meadow.depths[square] = (900_000 + chance.below(100_000)) as u32;
+        }
+        meadow.inflow.extend([row as u32, 0, 0, 604_800_000, 2_000]);
+        meadow.marks[row * 64 + 63] = EXIT;
+    }
+    meadow
+}
+
+/// A pond of 20 by 20 squares, ten metres below the meadow, with beds and depths as they are given.
+fn pond(mut square: impl FnMut() -> (u32, u32)) -> Meadow {
+    let mut meadow = all_dry();
+    for (row, column) in (22..42).flat_map(|row| (22..42).map(move |column| (row, column))) {
+        let (bed, depth) = square();
+        meadow.beds[row * 64 + column] = bed;
+        meadow.depths[row * 64 + column] = depth;
+    }
+    meadow
+}
+
+/// On uneven ground, with a hatch in a corner.
+fn pond_with_a_hatch() -> Meadow {
+    let mut chance = Chance(5);
+    let mut meadow = pond(|| ((10_000_000 + chance.below(300_000)) as u32, (500_000 + chance.below(200_000)) as u32));
+    meadow.inflow.extend([22, 22, 0, 604_800_000, 200]);
+    meadow
+}
+
+/// On level ground under half a metre: every square is looked at, and nothing moves.
+fn pond_at_rest() -> Meadow {
+    pond(|| (10_000_000, 500_000))
+}
+
+/// Uneven ground under half a centimetre of water and rain of 36 mm an hour, which is one micrometre a step.
+fn rain_on_all() -> Meadow {
+    let mut meadow = all_dry();
+    meadow.depths.fill(5_000);
+    meadow.rain.extend([0, 604_800_000, 36_000]);
     meadow
 }

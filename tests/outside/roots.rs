@@ -1,5 +1,5 @@
-//! Whole-number roots for the rival, in two ways: as on the display panel, and as fast as whole numbers allow. A root is begun first; what
-//! is begun often decides already, and then it is not ended.
+//! Whole-number roots for the rival, in three ways: as on the display panel, the same after a look at bounds, and as fast as whole numbers
+//! allow. A root is begun first; what is begun often decides already, and then it is not ended.
 
 /// A root that is begun: at least `root`, and below `root + place`.
 #[derive(Clone, Copy)]
@@ -101,6 +101,72 @@ impl Roots for Digits {
     #[inline(never)]
     fn end_height(depth: u64, begun: Begun) -> u64 {
         other_digits(depth * depth, begun, |x| x * x * x)
+    }
+}
+
+// ---------------------------------------------------------------- as on the display panel, after a look at bounds
+
+/// A root is begun by a table of bounds, and no digit of it is tried; one that is ended is the panel's from its first digit on.
+pub struct Bounded;
+
+/// Numbers from one power of two to the next are cut into so many pieces, told apart by the bits after their first.
+const PIECES: usize = 8;
+const PIECE_BITS: u32 = PIECES.trailing_zeros();
+/// The roots at the beginning of each piece, and at the end of the last: depths have at most 27 bits, slopes 37.
+static HEIGHT_BOUNDS: [u32; 27 * PIECES + 1] = bounds(true);
+static SQUARE_BOUNDS: [u32; 37 * PIECES + 1] = bounds(false);
+
+const fn bounds<const MANY: usize>(height: bool) -> [u32; MANY] {
+    let mut bounds = [0; MANY];
+    let mut piece = 0;
+    while piece < MANY {
+        let least = (((PIECES + piece % PIECES) << (piece / PIECES)) + PIECES - 1) as u128 / PIECES as u128;
+        bounds[piece] = largest(height, if height { least * least } else { least });
+        piece += 1;
+    }
+    bounds
+}
+
+/// What the table says of the root of a number above 0.
+#[inline(always)]
+fn bounded(of: u64, bounds: &[u32]) -> Begun {
+    let zeros = (of | 1).leading_zeros();
+    let leading = (of << zeros >> (63 - PIECE_BITS)) as usize;
+    let piece = PIECES * (63 - zeros as usize) + leading - PIECES;
+    let root = bounds[piece] as u64;
+    Begun { root, place: bounds[piece + 1] as u64 + 1 - root }
+}
+
+impl Roots for Bounded {
+    #[inline(always)]
+    fn begin_square(of: u64) -> Begun {
+        bounded(of, &SQUARE_BOUNDS)
+    }
+
+    #[inline(always)]
+    fn end_square(of: u64, _: Begun) -> u64 {
+        Digits::square(of)
+    }
+
+    #[inline(always)]
+    fn begin_height(depth: u64) -> Begun {
+        bounded(depth, &HEIGHT_BOUNDS)
+    }
+
+    #[inline(always)]
+    fn end_height(depth: u64, _: Begun) -> u64 {
+        Digits::height(depth)
+    }
+
+    // wanted whole, they may be of any number, and bounds are of no use
+    #[inline(always)]
+    fn square(of: u64) -> u64 {
+        Digits::square(of)
+    }
+
+    #[inline(always)]
+    fn height(depth: u64) -> u64 {
+        Digits::height(depth)
     }
 }
 

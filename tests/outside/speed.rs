@@ -1,8 +1,8 @@
-//! The benchmark's program: the static library and the Rust engines, each built alone, on the same meadows. They take turns, so that a
-//! change of the machine's pace meets all of them, and times are of the processor and not of the clock on the wall. What they leave is
-//! compared, and a difference ends the program. It prints figures by lines of fields, for tools/speed.py; bin/speed links it at several
-//! places and lets it run. Words: `check`; `time`; `time short`, a single turn of a quarter of the steps; `engines`, each with each meadow;
-//! or `count`, a meadow, an engine and steps.
+//! The benchmark: the static library and the Rust engines, each built alone, on the same meadows. They take turns, so that a change of the
+//! machine's pace meets all of them, and times are of the processor and not of the clock on the wall. What they leave is compared, and a
+//! difference ends the program. It prints figures by lines of fields, for tools/speed.py; tests/outside/placed.rs makes it a program, which
+//! bin/speed links at several places and lets run. Words: `check`; `time`; `time short`, a single turn; `engines`,
+//! each with each meadow; or `count`, a meadow, an engine and steps.
 
 // the benchmark uses a part of what the comparison does
 #[allow(dead_code)]
@@ -22,30 +22,21 @@ use chance::Chance;
 use flood::declared::{self, RULES_NUMBERS, RUN_NUMBERS};
 use grounds::{Ground, GROUNDS, RULES, SPAN, STEP_LASTS};
 use lent::RunTo;
-use reference::{Meadow, CLOSED, WORDS};
-
-// Nothing but room, laid in front of the code: it moves all code that comes after it.
-std::arch::global_asm!(
-    ".pushsection .text.unlikely.padding, \"ax\", @progbits",
-    ".globl padding_before_code",
-    "padding_before_code:",
-    concat!(".skip ", env!("PADDING"), ", 0x90"),
-    ".popsection"
-);
+use reference::{Meadow, Rules, CLOSED, WORDS};
 
 extern "C" {
-    fn padding_before_code();
     fn clock_gettime(clock: i32, seconds_and_nanoseconds: *mut [i64; 2]) -> i32;
 }
 
 /// One step, with the parameters of `flood_step`.
 type Step = fn(usize, usize, &[u64], &[u8], &[u32], &[u32], &[u32], &[u32], &[u32], &mut [u32], &mut [u32], &mut [u32], &mut [u64]) -> u32;
 
-fn engines() -> [(&'static str, RunTo); 4] {
+fn engines() -> [(&'static str, RunTo); 5] {
     [
         ("library", declared::flood_run_to),
         ("wet walk", declared::flood_run_to_wet),
         ("rival", engine_rival::RUN_TO),
+        ("rival, bounds", engine_rival_bounds::RUN_TO),
         ("rival, fast roots", engine_rival_fast::RUN_TO),
     ]
 }
@@ -65,8 +56,8 @@ struct Course {
 
 impl Course {
     /// A fresh run.
-    fn new(meadow: &Meadow) -> Course {
-        let mut course = Course { meadow: meadow.clone(), rules: library::rules_numbers(&RULES), run: [0; RUN_NUMBERS] };
+    fn new(meadow: Meadow, rules: &Rules) -> Course {
+        let mut course = Course { meadow, rules: library::rules_numbers(rules), run: [0; RUN_NUMBERS] };
         let number = library::fresh(&mut course.meadow, &course.rules, &mut course.run);
         assert!(number == 0, "a fresh run is refused by {}", number);
         course
@@ -157,7 +148,7 @@ fn check(rounds: u64) {
 
 /// Lets the engines take turns on one meadow, after a few steps that are not counted.
 fn take_turns(ground: &Ground, turns: u64, steps: u64) {
-    let start = Course::new(&(ground.meadow)());
+    let start = Course::new((ground.meadow)(), &ground.rules);
     let mut courses = vec![start.clone(); engines().len()];
     for turn in 0..turns + 1 {
         for ((name, run_to), course) in engines().iter().zip(&mut courses) {
@@ -177,7 +168,7 @@ fn take_turns(ground: &Ground, turns: u64, steps: u64) {
 /// Single steps against steps of a run, on grids of several sizes.
 fn time_calls(calls: u64) {
     for side in [8, 16, 32, 64] {
-        let start = Course::new(&grounds::dry(side));
+        let start = Course::new(grounds::dry(side), &RULES);
         for (name, step, run_to) in STEPS {
             let (mut single, mut run) = (start.clone(), start.clone());
             single.step(step, SPAN);
@@ -188,14 +179,13 @@ fn time_calls(calls: u64) {
     }
 }
 
-fn time(short: bool) {
-    println!("place\tpadding\t{}", padding_before_code as usize % 4096);
+fn time(short: bool, padding: usize) {
     for (name, run_to) in engines() {
+        assert!(padding < run_to as usize, "the code of {} is not moved", name);
         println!("place\t{}\t{}", name, run_to as usize % 4096);
     }
     for ground in GROUNDS {
-        let (turns, steps) = if short { (1, ground.steps / 4) } else { (ground.turns, ground.steps) };
-        take_turns(&ground, turns, steps);
+        take_turns(&ground, if short { 1 } else { ground.turns }, ground.steps);
     }
     time_calls(if short { SPAN } else { 4 * SPAN });
 }
@@ -214,18 +204,19 @@ fn list() {
 fn count(ground: &str, engine: &str, steps: u64) {
     let ground = GROUNDS.iter().find(|each| each.name == ground).expect("a meadow");
     let (_, run_to) = engines().into_iter().find(|each| each.0 == engine).expect("an engine");
-    let mut course = Course::new(&(ground.meadow)());
+    let mut course = Course::new((ground.meadow)(), &ground.rules);
     course.run(engine_rival_fast::RUN_TO, 1_000);
     course.run(run_to, steps);
 }
 
-fn main() {
+/// `padding` is the address of the room before the code.
+pub fn main(padding: usize) {
     let words: Vec<String> = std::env::args().skip(1).collect();
     let words: Vec<&str> = words.iter().map(String::as_str).collect();
     match words[..] {
         ["check"] => check(300),
-        ["time"] => time(false),
-        ["time", "short"] => time(true),
+        ["time"] => time(false, padding),
+        ["time", "short"] => time(true, padding),
         ["engines"] => list(),
         ["count", ground, engine, steps] => count(ground, engine, steps.parse().expect("a number")),
         _ => {

@@ -9,9 +9,14 @@ import subprocess
 from pathlib import Path
 
 from meadow.programs import TOP
+from meadow.sheets.lines import SECOND, Sheet
 
 SAMPLE = TOP / "samples" / "season"
 DESK, SEASON = TOP / "bin" / "desk", TOP / "bin" / "season"
+# a user who owns nothing and reads everything, so that the project may lie anywhere: what root starts so can write only where that user may
+NOBODY = 65_534
+READS = "-all,+dac_read_search"
+AS_NOBODY = ["setpriv", "--reuid", str(NOBODY), "--regid", str(NOBODY), "--clear-groups", f"--inh-caps={READS}", f"--ambient-caps={READS}", "--"]
 
 
 class Room:
@@ -22,6 +27,8 @@ class Room:
         self.season, self.trials = self.folder / "season", self.folder / "trials"
         shutil.copytree(season, self.season)
         self.server, self.port, self.token = None, 0, None
+        # the words before the desk's, where another user starts it
+        self.user = []
 
     def __enter__(self):
         return self
@@ -29,9 +36,24 @@ class Room:
     def __exit__(self, *_):
         self.kill()
 
-    def start(self, words=(), **how):
-        """Starts the server, at the port of the time before where there was one; or by other words."""
-        usual = [DESK, self.season, self.trials, "--port", str(self.port), "--no-browser"]
+    def read_only(self):
+        """From now on nobody may write in the season's folder, and where root is at work a user starts the desk who owns its trials alone."""
+        for path in self.season.iterdir():
+            path.chmod(0o444)
+        self.season.chmod(0o555)
+        self.trials.mkdir()
+        if os.geteuid() == 0:
+            os.chown(self.trials, NOBODY, NOBODY)
+            self.user = AS_NOBODY
+
+    def lets_write(self):
+        """Whether who starts the desk can make a file in the season's folder, or write to one that is there."""
+        tries = [["touch", self.season / "mark"], ["sh", "-c", 'echo >>"$1"', "sh", self.season / "season.log"]]
+        return [words[0] for words in tries if subprocess.run([*self.user, *words], stderr=subprocess.DEVNULL).returncode == 0]
+
+    def start(self, words=(), more=(), **how):
+        """Starts the server, at the port of the time before where there was one, with more words after the usual ones; or by other words."""
+        usual = [*self.user, DESK, self.season, self.trials, "--port", str(self.port), "--no-browser", *more]
         self.server = subprocess.Popen(words or usual, stdout=subprocess.PIPE, stderr=subprocess.DEVNULL, text=True, **how)
         self.port = int(re.search(r":(\d+)/", self.server.stdout.readline())[1])
         self.token = re.search(r'name="token" content="([^"]+)"', self.ask("GET", "/")[1])[1]
@@ -108,6 +130,16 @@ class Room:
     def run_season(self, *words, **how):
         """The keeper's run of the season, to its end."""
         return subprocess.run([SEASON, *words, self.season], capture_output=True, text=True, **how)
+
+
+def one_square(folder):
+    """A season of one square of one metre, with a hatch in it."""
+    folder.mkdir()
+    sheet = Sheet(1, 1, 1, shortest=SECOND, longest=SECOND, update=SECOND)
+    sheet.put((0, 0), 0, 100)
+    (folder / "season.sheet").write_text(sheet.text(SECOND), encoding="ascii")
+    (folder / "season.log").write_text("hatch\t1\t0\t0\n", encoding="ascii")
+    return folder
 
 
 def water_in(text):

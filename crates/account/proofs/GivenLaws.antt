@@ -1,24 +1,42 @@
 -- Laws of what the tables give: the most that one square can get, so that the sum of all squares stays below 64 bits.
 -- Assumes nothing.
-use mathlib.Core.Path.{_≡_, sym, _∙_}
+use mathlib.Core.Path.{_≡_, refl, sym, ap, _∙_}
 use mathlib.Core.Bool.{Bool, true, false}
+use mathlib.Core.List.{List}
 use Prim.Native.Nat.{ℕ, _+_, _*_, _/_, _%_, _^_, _≤_, _<_}
 use native.Mathlib.Nat.{le-refl, le-trans}
 use native.Mathlib.Omega.{arith}
-use lib.ListN.{length}
+use lib.ListN.{length, getD}
 use Rattle.reckon.specs.Tests.{pick}
 use Rattle.reckon.specs.Ranges.{mostRain, lastClock}
 use Rattle.reckon.specs.Tables.{rainKind, inflowKind, hour, tableGives, rainBy, rainAdded, inflowAdded}
 use Rattle.reckon.specs.inner.Fits.{Fits}
 use Rattle.reckon.proofs.QuotientLaws.{div-mono}
 use Rattle.reckon.proofs.TestLaws.{pick-true, pick-false}
+use Rattle.reckon.proofs.ListLaws.{sum-ext}
 use Rattle.reckon.proofs.TableLaws.{terms-le, inflow-le, fine-fits}
+use Rattle.grid.specs.Squares.{squares}
 use Rattle.ledger.specs.Runs.{Plan}
 use Rattle.ledger.specs.Flows.{shut}
+use Rattle.ledger.specs.Account.{overOpen, water}
 use Rattle.checks.specs.Given.{Given}
 use Rattle.adding.specs.Added.{addedFor}
-use Rattle.adding.specs.inner.Added.{Between}
+use Rattle.adding.specs.Account.{tablesGive}
+use Rattle.adding.specs.inner.Added.{Between, WaterAdded}
 use Rattle.account.specs.inner.Given.{GivenTo}
+
+-- what a step would add, summed as if it lay there
+pub given-summed :
+    (p : Plan) (g : Given) (start end : ℕ) (old : List ℕ) {done : Bool} {room : List ℕ} {r : ℕ} → WaterAdded p g start end old done room → done ≡ true →
+    r ≡ water p room → r ≡ tablesGive p g start end
+unfolding water tablesGive overOpen
+given-summed p g start end old {room = room} added done e =
+    e
+    ∙ sum-ext (squares (p .shape)) (λ i. pick (shut p i) 0 (getD room i 0)) (λ i. pick (shut p i) 0 (addedFor p g start end i)) (λ i h. at i h (shut p i) refl)
+  where
+    at : (i : ℕ) → i < squares (p .shape) → (c : Bool) → shut p i ≡ c → pick (shut p i) 0 (getD room i 0) ≡ pick (shut p i) 0 (addedFor p g start end i)
+    at i h true c = pick-true _ _ c ∙ sym (pick-true _ _ c)
+    at i h false c = ap (pick (shut p i) 0) (added .stored done i h c)
 
 -- a square's water is a 32-bit number, or 0
 pub water-small : (closed : Bool) {depth : ℕ} → depth < 2 ^ 32 → pick closed 0 depth < 2 ^ 32

@@ -1,9 +1,14 @@
 // The water account as numbers: the water on the ground, and what rain and hatches give between two clocks.
 //   water_on      the water on all squares not closed
 //   tables_give   what the tables give all squares not closed
+use adding::added::add_water;
+use adding::added::rows_apart;
+use adding::way::Way;
 use grid::marks::is_closed;
+use grid::squares::MOST_SQUARES;
 use grid::squares::Shape;
 use grid::squares::squares_of;
+use grid::walks::Walk;
 use reckon::numbers::number;
 use reckon::tables::inflow_added;
 use reckon::tables::rain_added;
@@ -17,7 +22,7 @@ ghost use Rattle.grid.specs.Squares.{squares};
 ghost use Rattle.grid.specs.Marks.{closed};
 ghost use Rattle.ledger.specs.Runs.{plan};
 ghost use Rattle.ledger.specs.Checks.{WaterLent};
-ghost use Rattle.adding.specs.inner.Added.{Between, tables};
+ghost use Rattle.adding.specs.inner.Added.{Between, rowsApart, tables};
 ghost use Rattle.account.specs.Account.{TablesGive, WaterOn};
 ghost use Rattle.account.specs.inner.Given.{GivenTo};
 
@@ -72,8 +77,8 @@ fn given_to(
     fallen + inflow_added(inflow, row, column, rules.square_side, start, end)
 }
 
-// What rain and inflow give all squares not closed between two clocks, in µm over one square.
-pub fn tables_give(
+// What rain and inflow give all squares not closed, square by square: any amounts.
+fn by_squares(
     shape: Shape,
     rules: Rules,
     marks: &[u8],
@@ -104,4 +109,50 @@ pub fn tables_give(
         square += 1;
     }
     sum
+}
+
+// What rain and inflow give all squares not closed. Where each could hold its own in one step, what such a step adds is stored in the room and summed
+// as if it lay there: so the rain is worked once, and each inflow row.
+fn by_room(
+    way: Way,
+    marks: &[u8],
+    rain: &[u32],
+    inflow: &[u32],
+    start: u64,
+    end: u64,
+    room: &mut [u32],
+) -> u64
+    requires { ⌜ Between (plan (way .shape) (now marks)) (tables (way .rules) (now rain) (now inflow)) start end ⌝ }
+    requires { ⌜ (length (now room) ≡ squares (way .shape)) × (way .apart ≡ rowsApart (now inflow)) ⌝ }
+    ensures { λ r. ⌜ TablesGive (plan (way .shape) (now (marks .entry))) (tables (way .rules) (now (rain .entry)) (now (inflow .entry))) start end r ⌝ }
+{
+    let shape = way.shape;
+    if add_water(way, marks, rain, inflow, start, end, room) {
+        return water_on(shape, marks, room);
+    }
+    by_squares(shape, way.rules, marks, rain, inflow, start, end)
+}
+
+// What rain and inflow give all squares not closed between two clocks, in µm over one square.
+pub fn tables_give(
+    shape: Shape,
+    rules: Rules,
+    marks: &[u8],
+    rain: &[u32],
+    inflow: &[u32],
+    start: u64,
+    end: u64,
+) -> u64
+    requires { ⌜ Between (plan shape (now marks)) (tables rules (now rain) (now inflow)) start end ⌝ }
+    ensures { λ r. ⌜ TablesGive (plan shape (now (marks .entry))) (tables rules (now (rain .entry)) (now (inflow .entry))) start end r ⌝ }
+{
+    let squares = squares_of(shape);
+    let way = Way {
+        walk: Walk::Wet,
+        shape: shape,
+        rules: rules,
+        apart: rows_apart(inflow),
+    };
+    let mut room = [0u32; MOST_SQUARES];
+    by_room(way, marks, rain, inflow, start, end, &mut room[..squares])
 }

@@ -47,6 +47,9 @@ command-long d r text o =
     (told-long d r (orderTold (planOn d r) (eveningOn (d .heading) r (d .log)) (d .account) (d .heading .rules) (inflowOn (d .heading) r) text o))
     (untouched-long d r (endingText (readyNumber d) 0)))
 
+pub command-told : (d : Desk) (r : Stores) (text : List ℕ) (o : Order) → commandLeft d r text o .desk .length ≡ length (commandLeft d r text o .text)
+command-told d r text o = command-long d r text o .told
+
 step-long : (d : Desk) (r : Stores) → Long (stepLeft d r)
 unfolding stepLeft
 step-long d r =
@@ -71,10 +74,17 @@ left-is {l} {a} {after} {old} {new} long w =
         _≡_ {A = Left} (record { desk = d; rooms = r; text = t }) (record { desk = d′; rooms = r′; text = t′ })
     join p q s = cc
 
+pub command-left : (d : Desk) (r : Stores) (text : List ℕ) (o : Order) {a : Desk} {after : Stores} {old new : List ℕ} →
+    Leaves (commandLeft d r text o) a after old new → leftWith a after new ≡ commandLeft d r text o
+command-left d r text o w = left-is (command-long d r text o) w
+
+pub step-left : (d : Desk) (r : Stores) {a : Desk} {after : Stores} {old new : List ℕ} → Leaves (stepLeft d r) a after old new → leftWith a after new ≡ stepLeft d r
+step-left d r w = left-is (step-long d r) w
+
 pub after-command : (d : Desk) (r : Stores) (line text : List ℕ) {a : Desk} {after : Stores} {old new : List ℕ} →
     Leaves (commandLeft d r text (order line)) a after old new → AfterCommand d r line text (leftWith a after new)
 after-command d r line text w =
-    subst (AfterCommand d r line text) (sym (left-is (command-long d r text (order line)) w))
+    subst (AfterCommand d r line text) (sym (command-left d r text (order line) w))
     (record {
       is-call = refl;
       looking = λ on l none. desk-lines .looking d r on text (order line) l none;
@@ -86,5 +96,5 @@ after-command d r line text w =
 pub after-next : (d : Desk) (r : Stores) {a : Desk} {after : Stores} {old new : List ℕ} → Leaves (stepLeft d r) a after old new → AfterNext d r (leftWith a after new)
 unfolding isSheet
 after-next d r w =
-    subst (AfterNext d r) (sym (left-is (step-long d r) w))
+    subst (AfterNext d r) (sym (step-left d r w))
     (record { is-call = refl; does = λ on nine. desk-lines .each-step d r on nine; not-ready = λ z. desk-lines .not-ready d r z [] Show refl .1 })

@@ -4,5 +4,7 @@ pub mod ExportedLaws
 pub mod LibraryLaws
 pub mod ListedLaws
 pub mod RepairingLaws
+pub mod SeveralLaws
 pub mod SurveyedLaws
+pub mod TimedLaws
 pub mod WatchedLaws

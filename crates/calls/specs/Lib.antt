@@ -4,5 +4,7 @@ pub mod Exported
 pub mod Library
 pub mod Listed
 pub mod Repairing
+pub mod Several
 pub mod Surveyed
+pub mod Timed
 pub mod Watched

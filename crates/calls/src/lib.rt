@@ -5,5 +5,8 @@ pub mod hatch_log;
 pub mod library;
 pub mod listed;
 pub mod repairing;
+pub mod several;
+pub mod sliced;
 pub mod surveyed;
+pub mod timed;
 pub mod watched;

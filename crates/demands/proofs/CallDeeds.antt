@@ -50,11 +50,13 @@ use Rattle.desks.specs.declared.state.Desk.{Desk}
 use Rattle.desks.proofs.StateLaws.{fine-is, slots-most, slots-some}
 use Rattle.desks.proofs.RoomLaws.{ready-fine}
 use Rattle.demands.specs.Desk as deeds
-use Rattle.demands.specs.Desk.{Deed, oneStep, goingBack, Begins, deedCame, deedNumber, deskWith, deskAfter}
+use Rattle.demands.specs.HatchLog.{Notes}
+use Rattle.demands.specs.Desk.{Deed, oneStep, goingBack, Begins, notedDeed, deedCame, deedNumber, deskWith, deskAfter}
 use Rattle.demands.specs.DeskLines.{laysDown, deedOf, RoomsWhole, OnDesk, stateOn, groundOn, Standing, Does}
 use Rattle.demands.proofs.DeskLaws.{stands, desk-evening, desk-taken-back}
+use Rattle.demands.proofs.DeskSaved.{one-kept}
 use Rattle.demands.proofs.LineDeeds.{Sized, put-taken, slots-are, rates-are, shape-fine, state-sized, told-on, sized-one, desk-lines, line-is, next-is, lay-is}
-use Rattle.demands.specs.DeskCalls.{Call, aLine, goingOn, called, deedsOf, Tries, AllTry, afterCalls, deedsIn, BeginsOn, BalancedOn, frameOn, startsAs, comesTo, CallsCome, DeskCalls}
+use Rattle.demands.specs.DeskCalls.{Call, aLine, goingOn, called, deedsOf, Tries, AllTry, afterCalls, deedsIn, BeginsOn, BalancedOn, frameOn, startsAs, comesTo, StepMade, AsBefore, CallsCome, DeskCalls}
 
 -- deeds, and more deeds
 pub after-both : (p : Plan) (g : Given) (ds es : List Deed) (x : deeds.Desk) → deskAfter p g (ds ++ es) x ≡ deskAfter p g es (deskAfter p g ds x)
@@ -64,22 +66,22 @@ after-both p g (d ∷ rest) es x = after-both p g rest es (deskWith p g d x)
 
 module _ (p : Plan) (g : Given) where
   -- each hatch has its rate, whatever deeds follow
-  abbrev RatesNine : deeds.Desk → Type 0
+  abbrev pub RatesNine : deeds.Desk → Type 0
   RatesNine x = (ds : List Deed) → length (deskAfter p g ds x .at .log .litres) ≡ mostHatches
 
   nine-now : (x : deeds.Desk) → RatesNine x → length (x .at .log .litres) ≡ mostHatches
   unfolding deskAfter
   nine-now x n = n []
 
-  nine-next : (ds : List Deed) (x : deeds.Desk) → RatesNine x → RatesNine (deskAfter p g ds x)
+  pub nine-next : (ds : List Deed) (x : deeds.Desk) → RatesNine x → RatesNine (deskAfter p g ds x)
   nine-next ds x n es = ap (λ (y : deeds.Desk). length (y .at .log .litres)) (sym (after-both p g ds es x)) ∙ n (ds ++ es)
 
   -- where calls have come to
-  record Reached (d : Desk) (r : Stores) (x : deeds.Desk) : Type 0 where
-    on : OnDesk d r
-    plan-is : planOn d r ≡ p
-    ground-is : groundOn d r ≡ g
-    standing : Standing d r x
+  pub record Reached (d : Desk) (r : Stores) (x : deeds.Desk) : Type 0 where
+    pub on : OnDesk d r
+    pub plan-is : planOn d r ≡ p
+    pub ground-is : groundOn d r ≡ g
+    pub standing : Standing d r x
 
   after-does : {d : Desk} {r : Stores} {x : deeds.Desk} (ds : List Deed) (l : Left) → Reached d r x → Does ds d r l → Reached (l .desk) (l .rooms) (deskAfter p g ds x)
   after-does {d} {r} {x} ds l h m =
@@ -91,7 +93,7 @@ module _ (p : Plan) (g : Given) where
             subst (Standing (l .desk) (l .rooms)) (ap₂ (λ (q : Plan) (i : Given). deskAfter q i ds x) (h .plan-is) (h .ground-is)) (m .does x (h .standing));
       }
 
-  one-call : (c : Call) (d : Desk) (r : Stores) (x : deeds.Desk) → Tries c → RatesNine x → Reached d r x →
+  pub one-call : (c : Call) (d : Desk) (r : Stores) (x : deeds.Desk) → Tries c → RatesNine x → Reached d r x →
       Reached (called c d r .desk) (called c d r .rooms) (deskAfter p g (deedsOf c d) x)
   one-call (aLine line text) d r x t n h = after-does (deedOf (order line)) (commandLeft d r text (order line)) h (desk-lines .each-line d r (h .on) text (order line) t)
   one-call goingOn d r x t n h =
@@ -118,10 +120,10 @@ module _ (d : Desk) (r : Stores) (on : OnDesk d r) (first : BeginsOn d r) where
   abbrev E : Evening
   E = stateOn d r
 
-  nine-first : RatesNine P G (startsAs d r)
+  pub nine-first : RatesNine P G (startsAs d r)
   nine-first ds = stands P G E (d .account) first ds .follows .nine
 
-  reached : (calls : List Call) → AllTry calls → Reached P G (afterCalls calls d r .0) (afterCalls calls d r .1) (comesTo d r calls)
+  pub reached : (calls : List Call) → AllTry calls → Reached P G (afterCalls calls d r .0) (afterCalls calls d r .1) (comesTo d r calls)
   reached calls t =
       all-calls P G calls d r (startsAs d r) t nine-first (record { on = on; plan-is = refl; ground-is = refl; standing = record { at-is = refl; account-is = refl } })
 
@@ -188,11 +190,7 @@ module _ (d : Desk) (r : Stores) (on : OnDesk d r) (first : BeginsOn d r) where
       let before = afterCalls calls d r in
       let tried = afterCalls (calls ++ trial) d r in
       let after = commandLeft (tried .0) (tried .1) text (order line) in
-      length made ≤ tried .0 .log .run .kept →
-      (seenOf (worldOf (stateOn (after .desk) (after .rooms))) ≡ seenOf (worldOf (stateOn (before .0) (before .1)))) ×
-      (after .desk .log .steps ≡ before .0 .log .steps) ×
-      (after .desk .account .start ≡ before .0 .account .start) ×
-      (after .desk .account .given ≡ before .0 .account .given)
+      length made ≤ tried .0 .log .run .kept → AsBefore (before .0) (before .1) (after .desk) (after .rooms)
   unfolding deedOf deskAfter laysDown
   gone calls trial line text made t asked same kept = (
     ap (λ (e : Evening). seenOf (worldOf e)) (sym (last .standing .at-is)) ∙ (back .0 ∙ ap (λ (e : Evening). seenOf (worldOf e)) (b .standing .at-is)),
@@ -241,6 +239,55 @@ module _ (d : Desk) (r : Stores) (on : OnDesk d r) (first : BeginsOn d r) where
           (ap (λ (x : deeds.Desk). x .noted .standing) (sym come-to) ∙ same)
           (subst (λ (k : ℕ). length made ≤ k)
           (ap (λ (e : Evening). e .log .run .kept) (sym (m .standing .at-is)) ∙ ap (λ (x : deeds.Desk). x .at .log .run .kept) come-to) kept))
+
+  all-try : (calls more : List Call) → AllTry calls → AllTry more → AllTry (calls ++ more)
+  all-try [] more t u = u
+  all-try (c ∷ rest) more t u = (t .0, all-try rest more (t .1) u)
+
+  module _ (calls : List Call) (t : AllTry calls) (made : StepMade (afterCalls calls d r .0) (afterCalls calls d r .1)) where
+    abbrev before : Desk × Stores
+    before = afterCalls calls d r
+
+    abbrev X : deeds.Desk
+    X = comesTo d r calls
+
+    h : Reached P G (before .0) (before .1) X
+    h = reached calls t
+
+    none : deedNumber P G oneStep X ≡ 0
+    unfolding deedCame
+    none =
+        (λ j. stepCame (sym (h .plan-is) j) (sym (h .ground-is) j) (h .standing .at-is j) (h .standing .account-is j) .number)
+        ∙ made .not-refused
+
+    comes-next : comesTo d r (calls ++ (goingOn ∷ [])) ≡ deskWith P G oneStep X
+    unfolding deedsIn deskAfter
+    comes-next =
+        ap (λ (ds : List Deed). deskAfter P G ds (startsAs d r)) (deeds-both calls (goingOn ∷ []) d r)
+        ∙ (after-both P G (deedsIn calls d r) (deedsIn (goingOn ∷ []) (before .0) (before .1)) (startsAs d r)
+        ∙ ap (λ (ds : List Deed). deskAfter P G (ds ++ []) X) (made .is-next))
+
+    stands-more : comesTo d r (calls ++ (goingOn ∷ [])) .noted .standing ≡ (X .noted .litres ∷ []) ++ X .noted .standing
+    unfolding deskWith notedDeed
+    stands-more =
+        ap (λ (x : deeds.Desk). x .noted .standing) comes-next
+        ∙ ap (λ (m : Notes). m .standing) (pick-true (notedDeed oneStep (X .noted)) (X .noted) (eq-eqb _ _ none))
+
+    step-gone : (line text : List ℕ) → order line ≡ Entered (Back 1) →
+        AsBefore (before .0) (before .1) (commandLeft (stepLeft (before .0) (before .1) .desk) (stepLeft (before .0) (before .1) .rooms) text (order line) .desk)
+        (commandLeft (stepLeft (before .0) (before .1) .desk) (stepLeft (before .0) (before .1) .rooms) text (order line) .rooms)
+    unfolding afterCalls
+    step-gone line text asked =
+        subst (λ (now : Desk × Stores).
+        AsBefore (before .0) (before .1) (commandLeft (now .0) (now .1) text (order line) .desk) (commandLeft (now .0) (now .1) text (order line) .rooms))
+        (calls-both calls (goingOn ∷ []) d r)
+        (gone calls (goingOn ∷ []) line text (X .noted .litres ∷ []) (all-try calls (goingOn ∷ []) t (tt, tt)) asked stands-more
+        (omega (
+          arith,
+          one-kept P G E (d .account) first X (stands P G E (d .account) first (deedsIn calls d r)) none,
+          ap (λ (x : deeds.Desk). x .at .log .run .kept) comes-next,
+          ap (λ (e : Evening). e .log .run .kept) (reached (calls ++ (goingOn ∷ [])) (all-try calls (goingOn ∷ []) t (tt, tt)) .standing .at-is),
+        )))
 
 -- ---- frames
 
@@ -461,6 +508,7 @@ desk-calls =
       come = λ d r on first calls t. come d r on first calls t;
       refused = λ d r on first calls c deed t u is some. refused d r on first calls c deed t u is some;
       gone = λ d r on first calls trial line text made t asked same kept. gone d r on first calls trial line text made t asked same kept;
+      step-gone = λ d r on first calls line text t asked made. step-gone d r on first calls t made line text asked;
       lay-begins = λ d r on text bytes whole few z. lay-begins d r on text bytes whole few z;
       show-frame = λ d r on text. show-frame d r on text;
       back-frame = λ d r on text count z. back-frame d r on text count z;

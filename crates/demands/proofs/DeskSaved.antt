@@ -120,6 +120,18 @@ module _ (p : Plan) (g : Given) (e : Evening) (a : Account) (b : Begins p g e a)
         worldNext p g (x .at) (x .account) .run .kept ≡ keptAfter (roomSlots p (e .records)) (x .at .log .run .kept)
     kept-step z = step-moved p (stepGiven p g (x .at) (x .account)) (worldOf (x .at)) z .kept-is ∙ ap (λ (k : ℕ). keptAfter k (x .at .log .run .kept)) slots
 
+    -- after a step that is made, it at least is kept
+    pub one-kept : deedNumber p g oneStep x ≡ 0 → 1 ≤ deskWith p g oneStep x .at .log .run .kept
+    unfolding deskWith
+    one-kept none = go (ℕ-discrete (tryNumber p g (x .at) (x .account)) 0) (ℕ-discrete (ownNumber p g (x .at) (x .account)) 0)
+      where
+        go : Dec (tryNumber p g (x .at) (x .account) ≡ 0) → Dec (ownNumber p g (x .at) (x .account) ≡ 0) →
+            1 ≤ deedCame p g oneStep (x .at) (x .account) .evening .log .run .kept
+        go (no d) _ = absurd (d (sym (ap (λ (c : Came). c .number) (step-unfit p g (x .at) (x .account) d)) ∙ none))
+        go (yes z) (no d) = absurd (d (sym (ap (λ (c : Came). c .number) (step-refused p g (x .at) (x .account) z d)) ∙ none))
+        go (yes z) (yes v) =
+            omega (arith, ap (λ (c : Came). c .evening .log .run .kept) (step-made p g (x .at) (x .account) z v), kept-step v, b .some)
+
 -- ---- what a line asks of the log, and not of the run
 
 log-as : (k l : Log) → k .opening ≡ l .opening → k .hatches ≡ l .hatches → k .litres ≡ l .litres →

@@ -61,7 +61,7 @@ use Rattle.demands.proofs.LineDeeds.{Sized, put-taken, told-on, OneOf, 
 use Rattle.demands.proofs.CallDeeds.{desk-calls}
 
 -- two choices by one test are related as their sides are
-pick-two : {A : Type 0} (R : A → A → Type 0) (b : Bool) {a c a′ c′ : A} → R a a′ → R c c′ → R (pick b a c) (pick b a′ c′)
+pub pick-two : {A : Type 0} (R : A → A → Type 0) (b : Bool) {a c a′ c′ : A} → R a a′ → R c c′ → R (pick b a c) (pick b a′ c′)
 unfolding pick
 pick-two R true x y = x
 pick-two R false x y = y

@@ -21,7 +21,7 @@ use Rattle.text.proofs.Determined.{written}
 use Rattle.sheet.specs.Sheet.{Rooms, Reads, roomsAfter}
 use Rattle.sheet.specs.declared.reading.Sheet.{Sheet}
 use Rattle.exports.specs.Steps.{ExportsStep, ExportsRun}
-use Rattle.demands.specs.Determined.{LedgerDetermined, ChecksDetermined, FloodDetermined, SightDetermined, SheetDetermined, ProgramsDetermined, PeaksDetermined, SurveyDetermined, HolesDetermined, DisplayDetermined, DisplayExportsDetermined, LevelsDetermined, ListsDetermined, EveningsDetermined, DesksDetermined, ExportsDetermined, Determined}
+use Rattle.demands.specs.Determined.{LedgerDetermined, ChecksDetermined, FloodDetermined, SightDetermined, SheetDetermined, ProgramsDetermined, SlicesDetermined, HoursDetermined, PeaksDetermined, SurveyDetermined, HolesDetermined, DisplayDetermined, DisplayExportsDetermined, LevelsDetermined, ListsDetermined, EveningsDetermined, DesksDetermined, ExportsDetermined, Determined}
 use Rattle.peaks.specs.Peaks.{RunsPeaking}
 use Rattle.display.proofs.Determined as Display
 use Rattle.display_exports.proofs.Determined.{exports-boards-one}
@@ -124,6 +124,12 @@ sheet-determined = record { read = λ text before. read-one }
 
 programs-determined : ProgramsDetermined
 programs-determined = record { meadow-of = λ text old a b x y. written a b (x .wrote) (y .wrote) }
+
+slices-determined : SlicesDetermined
+slices-determined = record { meadow-told = programs-determined .meadow-of }
+
+hours-determined : HoursDetermined
+hours-determined = record { hours-of = λ text old a b x y. written a b (x .wrote) (y .wrote) }
 
 peaks-determined : PeaksDetermined
 peaks-determined =
@@ -312,6 +318,8 @@ determined =
       sight = sight-determined;
       sheet = sheet-determined;
       programs = programs-determined;
+      slices = slices-determined;
+      hours = hours-determined;
       peaks = peaks-determined;
       survey = survey-determined;
       holes = holes-determined;

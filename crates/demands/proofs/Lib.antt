@@ -5,6 +5,7 @@ pub mod Deeds
 pub mod Demand1
 pub mod Demand2
 pub mod Demand3
+pub mod DeskGoesOn
 pub mod DeskLaws
 pub mod DeskSaved
 pub mod DeskWalls

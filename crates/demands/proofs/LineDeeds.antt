@@ -179,7 +179,7 @@ module _ (h : Heading) (fine : ShapeInRange (h .shape)) (marks : List ℕ) (g : 
   sized-came (goingBack count) e a nine z =
       pick-both (λ (c : Came). Sized h (c .evening)) (eqb (refusal (backRefusals (e .log) count)) 0) (sized-world z (backs-same p count 0 (worldOf e)) refl) z
 
-never : {A : Type 0} → true ≡ false → A
+pub never : {A : Type 0} → true ≡ false → A
 never e = not-both refl e
 
 -- ---- what is told of a line that looks, and of one that is a deed
@@ -249,7 +249,7 @@ state-after p g (d ∷ rest) x y q s =
 
 -- ---- what a call leaves
 
-not-sheet : (o : Order) → laysDown o ≡ false → isSheet o ≡ false
+pub not-sheet : (o : Order) → laysDown o ≡ false → isSheet o ≡ false
 unfolding laysDown isSheet
 not-sheet (Sheet bytes) l = l
 not-sheet (Lay bytes) l = refl
@@ -262,7 +262,7 @@ not-sheet (Most end) l = refl
 not-sheet Stand l = refl
 not-sheet NoOrder l = refl
 
-stands-still : (d : Desk) (r : Stores) → d .series .on ≡ false → stepLeft d r ≡ untouched d r []
+pub stands-still : (d : Desk) (r : Stores) → d .series .on ≡ false → stepLeft d r ≡ untouched d r []
 unfolding stepLeft
 stands-still d r q = pick-false _ _ q
 

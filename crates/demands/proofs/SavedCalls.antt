@@ -1,7 +1,7 @@
 -- Two desks of calls: each call touches its own desk and rooms. And a text that `stand` printed is laid: what stands can be saved, so its text
 -- reads back, into rooms that then hold the same.
 -- Assumes nothing.
-use mathlib.Core.Path.{_≡_, refl, sym, ap, subst, _∙_}
+use mathlib.Core.Path.{_≡_, refl, sym, ap, ap₂, subst, _∙_}
 use mathlib.Core.Bool.{Bool, true, false}
 use mathlib.Core.List.{List, [], _∷_, _++_}
 use Prim.Native.Nat.{ℕ, _≤_, _<_}
@@ -14,7 +14,7 @@ use Rattle.reckon.proofs.ListLaws.{length-filled}
 use Rattle.grid.specs.Squares.{squares}
 use Rattle.grid.specs.Marks.{closed}
 use Rattle.ledger.specs.Runs.{Plan, Seen, seenOf}
-use Rattle.ledger.specs.Account.{held}
+use Rattle.ledger.specs.Account.{water, held}
 use Rattle.ledger.specs.Record.{roomSlots}
 use Rattle.ledger.specs.Checks.{WaterLent}
 use Rattle.checks.specs.Given.{Given}
@@ -35,6 +35,7 @@ use Rattle.stands.proofs.LaidLaws.{laid-savable}
 use Rattle.trying.specs.Given.{accountOpened}
 use Rattle.trying.specs.Lines.{came}
 use Rattle.trying.specs.declared.given.Account.{Account}
+use Rattle.frames.specs.Frame.{frameText}
 use Rattle.desks.specs.State.{deskText, deskSquares, keptSlots}
 use Rattle.desks.specs.Lines.{Told, shown, savedOf, doneText, endingText, stateText, orderTold, standTold, layTold, laidEvening}
 use Rattle.desks.specs.Command.{Left, planOn, isSheet, wantedBy, sheetLeft, commandLeft, toldOn}
@@ -44,7 +45,7 @@ use Rattle.demands.specs.Desk as deeds
 use Rattle.demands.specs.Desk.{Begins, ShownAlike}
 use Rattle.demands.specs.DeskLines.{RoomsWhole, OnDesk, stateOn, groundOn}
 use Rattle.demands.specs.DeskCalls.{Call, called, afterCalls, AllTry, deedsIn, BeginsOn, BalancedOn, frameOn, startsAs, comesTo, CallsCome}
-use Rattle.demands.specs.DeskSavedCalls.{CallTurn, callOne, callOther, callsOfOne, callsOfOther, callsInTurn, TwoDesksCalled, SameSheet, savedText, laidOn, LaidAgain, ReadAgain, StandReadBack}
+use Rattle.demands.specs.DeskSavedCalls.{CallTurn, callOne, callOther, callsOfOne, callsOfOther, callsInTurn, TwoDesksCalled, keeping, frameKeeping, SameSheet, savedText, laidOn, LaidAgain, ReadAgain, StandReadBack}
 use Rattle.demands.proofs.DeskSaved.{desk-saved}
 use Rattle.demands.proofs.LineDeeds.{Sized, put-taken, slots-are, shape-fine, state-sized, line-is, lay-is}
 use Rattle.demands.proofs.CallDeeds.{desk-calls, is-well}
@@ -182,6 +183,26 @@ module _ (d : Desk) (r : Stores) (on : OnDesk d r) where
                 (sym (ap (λ (l : Laid). l .saved .log .run .length) answer)) (sym (ap (λ (l : Laid). l .saved .log .run .outflow) answer))
                 (sym (ap (λ (l : Laid). l .saved .log .run .soaked) answer))
 
+-- what is shown alike has one frame, as long as the same number is said to be kept
+pub frame-alike : (q : Plan) (p : Plan) (g : Given) (x y : deeds.Desk) → ShownAlike p g x y → (k : ℕ) →
+    stateText q (keeping k (x .at .log)) (x .account) (x .at .depths) ≡ stateText q (keeping k (y .at .log)) (y .account) (y .at .depths)
+unfolding stateText
+frame-alike q p g x y s k = λ j.
+    frameText
+    (record {
+      steps = s .steps j;
+      clock = s .seen j .clock;
+      length = s .seen j .length;
+      outflow = s .seen j .outflow;
+      soaked = s .seen j .soaked;
+      kept = k;
+      room = keptSlots (q .shape);
+      ground = water q (s .seen j .depths);
+      start = s .start j;
+      given = s .given j;
+    })
+    (s .litres j) (q .shape) (q .marks) (s .seen j .depths)
+
 -- ---- after calls
 
 savable-as : {p q : Plan} {g h : Given} {e f : Evening} {a b : Account} → p ≡ q → g ≡ h → e ≡ f → a ≡ b →
@@ -275,13 +296,29 @@ module _ (d : Desk) (r : Stores) (on : OnDesk d r) (first : BeginsOn d r) (q : B
         tells : Told
         tells = layTells d′ r′ (same .on) text
 
+    abbrev there : deeds.Desk
+    there = startsAs (l .desk) (l .rooms)
+
+    same-frame : l .text ≡ frameKeeping 0 now rooms ++ endingText 0 0
+    same-frame =
+        frame-there
+        ∙ ap (λ (t : List ℕ). t ++ endingText 0 0)
+        (ap (λ (p : Plan). stateText p (there .at .log) (there .account) (there .at .depths)) (plan-there ∙ sym (came-to .plan-same))
+        ∙ (ap (λ (k : ℕ). stateText (planOn now rooms) (keeping k (there .at .log)) (there .account) (there .at .depths)) (lay-on .1 .fresh .kept-none)
+        ∙ (sym (frame-alike (planOn now rooms) (planOn d r) (groundOn d r) (comesTo d r calls) there shows 0)
+        ∙ ap₂ (λ (e : Evening) (a : Account). stateText (planOn now rooms) (keeping 0 (e .log)) a (e .depths)) (came-to .standing .at-is) (came-to .standing .account-is))))
+
     again : LaidAgain d r calls d′ r′
     again =
         record {
           printed = λ other. stand-text now rooms (came-to .still-on) other;
           on = lay-on .0;
           begins = lay-on .1;
+          plan-same = plan-there;
+          ground-same = ground-there;
+          still = ap (λ (k : Left). k .desk .series) left-is;
           answered = frame-there;
+          same-frame = same-frame;
           shown = shows;
           goes-on = λ further w.
               desk-saved (planOn d r) (groundOn d r) .goes-on (stateOn d r) (d .account) first (deedsIn calls d r) (stateOn (l .desk) (l .rooms)) (l .desk .account)

@@ -11,7 +11,7 @@ use borrow.Author.Tests.{leb-true, ltb-true}
 use Rattle.reckon.specs.Tests.{pick}
 use Rattle.reckon.specs.Lists.{joined}
 use Rattle.reckon.specs.Ranges.{mostDepth, mostLength, mostLitres, mostOutflow, mostSoaked, lastClock, waterFine}
-use Rattle.reckon.proofs.TestLaws.{pick-both, every-each, all-at, or-right}
+use Rattle.reckon.proofs.TestLaws.{every-each, all-at, or-right}
 use Rattle.grid.specs.Squares.{squares}
 use Rattle.ledger.specs.Runs.{Plan, runFine, runValuesFine}
 use Rattle.ledger.specs.Flows.{shut}
@@ -21,7 +21,7 @@ use Rattle.hatches.specs.Log.{mostHatches, standingFine}
 use Rattle.stands.specs.Texts.{startWord, givenWord, totalText, firstText, headText, hatchText, hatchesText, squareText, squaresText, standText}
 use Rattle.stands.specs.Laying.{mostStart, mostGiven, hatchFine, hatchesFine, drawsFine, stateFine}
 use Rattle.stands.specs.inner.Back.{Savable}
-use Rattle.stands.specs.inner.Putting.{mostTotal, mostFirst, mostHatch, mostSquare}
+use Rattle.stands.specs.inner.Putting.{mostHatch, mostSquare}
 use Rattle.stands.specs.declared.saved.Saved.{Saved}
 use Rattle.stands.proofs.LengthLaws.{total-short, first-short, hatch-short, square-short}
 use Rattle.desks.specs.State.{deskText}

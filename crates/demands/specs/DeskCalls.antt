@@ -25,7 +25,7 @@ use Rattle.desks.specs.Command.{Left, planOn, commandLeft, stepLeft}
 use Rattle.desks.specs.declared.orders.Order.the-variants.{Sheet, Entered, Show, Lay}
 use Rattle.desks.specs.declared.state.Desk.{Desk}
 use Rattle.demands.specs.Desk as deeds
-use Rattle.demands.specs.Desk.{Deed, atFirst, deedNumber, deskAfter, Begins, OnlyStanding}
+use Rattle.demands.specs.Desk.{Deed, oneStep, atFirst, deedNumber, deskAfter, Begins, OnlyStanding}
 use Rattle.demands.specs.DeskLines.{laysDown, deedOf, stepDeed, RoomsWhole, OnDesk, stateOn, groundOn, Standing}
 
 -- ---- call after call
@@ -82,6 +82,17 @@ module _ (d : Desk) (r : Stores) where
   abbrev pub comesTo : List Call → deeds.Desk
   comesTo calls = deskAfter (planOn d r) (groundOn d r) (deedsIn calls d r) startsAs
 
+  -- a step is to be made, and it is not refused
+  pub record StepMade : Type 0 where
+    pub is-next : stepDeed d ≡ oneStep ∷ []
+    pub not-refused : stepCame (planOn d r) (groundOn d r) (stateOn d r) (d .account) .number ≡ 0
+
+  -- another desk shows what this one does, and has its steps and its account
+  abbrev pub AsBefore : Desk → Stores → Type 0
+  AsBefore d′ r′ =
+      (seenOf (worldOf (stateOn d′ r′)) ≡ seenOf (worldOf (stateOn d r))) × (d′ .log .steps ≡ d .log .steps) ×
+      (d′ .account .start ≡ d .account .start) × (d′ .account .given ≡ d .account .given)
+
 -- Evening, of the calls themselves
 pub record CallsCome (d : Desk) (r : Stores) (calls : List Call) (d′ : Desk) (r′ : Stores) : Type 0 where
   pub still-on : OnDesk d′ r′
@@ -117,11 +128,13 @@ pub record DeskCalls : Type 0 where
       let before = afterCalls calls d r in
       let tried = afterCalls (calls ++ trial) d r in
       let after = commandLeft (tried .0) (tried .1) text (order line) in
-      length made ≤ tried .0 .log .run .kept →
-      (seenOf (worldOf (stateOn (after .desk) (after .rooms))) ≡ seenOf (worldOf (stateOn (before .0) (before .1)))) ×
-      (after .desk .log .steps ≡ before .0 .log .steps) ×
-      (after .desk .account .start ≡ before .0 .account .start) ×
-      (after .desk .account .given ≡ before .0 .account .given)
+      length made ≤ tried .0 .log .run .kept → AsBefore (before .0) (before .1) (after .desk) (after .rooms)
+  -- so of one step: where the next step of a line `step` is made, the line `back 1` leaves what was seen before it
+  pub step-gone : (d : Desk) (r : Stores) → OnDesk d r → BeginsOn d r → (calls : List Call) (line text : List ℕ) → AllTry calls → order line ≡ Entered (Back 1) →
+      let before = afterCalls calls d r in
+      let tried = stepLeft (before .0) (before .1) in
+      let after = commandLeft (tried .desk) (tried .rooms) text (order line) in
+      StepMade (before .0) (before .1) → AsBefore (before .0) (before .1) (after .desk) (after .rooms)
   -- the frame that is printed is the text of the state left: by `show`, by a `back` that is made,
   pub show-frame : (d : Desk) (r : Stores) → OnDesk d r → (text : List ℕ) → commandLeft d r text Show .text ≡ frameOn d r ++ endingText 0 0
   pub back-frame : (d : Desk) (r : Stores) → OnDesk d r → (text : List ℕ) (count : ℕ) → backCame (planOn d r) (stateOn d r) (d .account) count .number ≡ 0 →

@@ -13,8 +13,9 @@ use Rattle.sheet.specs.declared.reading.Heading.{Heading}
 use Rattle.sheet.specs.declared.reading.Sheet.the-variants.{Read}
 use Rattle.stands.specs.Laying.{standOf}
 use Rattle.stands.specs.Texts.{standText}
-use Rattle.desks.specs.State.{deskText, deskSquares, keptSlots}
-use Rattle.desks.specs.Lines.{savedOf, doneText, endingText}
+use Rattle.desks.specs.State.{deskText, deskSquares, keptSlots, noSeries}
+use Rattle.hatches.specs.declared.log.Log.{Log}
+use Rattle.desks.specs.Lines.{savedOf, doneText, endingText, stateText}
 use Rattle.desks.specs.Command.{Left, planOn, commandLeft}
 use Rattle.desks.specs.declared.orders.Order.the-variants.{Sheet, Stand, Lay}
 use Rattle.desks.specs.declared.state.Desk.{Desk}
@@ -60,6 +61,20 @@ pub record TwoDesksCalled : Type 0 where
 abbrev pub standOn : Desk → Stores → List ℕ
 standOn d r = standText (planOn d r) (stateOn d r .depths) (stateOn d r .lasts) (savedOf (d .log) (d .account))
 
+-- a log with so many steps kept, and the frame of a desk with it
+abbrev pub keeping : ℕ → Log → Log
+keeping k log =
+    record {
+      run = record { clock = log .run .clock; length = log .run .length; outflow = log .run .outflow; kept = k; newest = log .run .newest; soaked = log .run .soaked };
+      steps = log .steps;
+      opening = log .opening;
+      hatches = log .hatches;
+      litres = log .litres;
+    }
+
+abbrev pub frameKeeping : ℕ → Desk → Stores → List ℕ
+frameKeeping k d r = stateText (planOn d r) (keeping k (d .log)) (d .account) (stateOn d r .depths)
+
 -- a desk with the same sheet: closed squares, which no text tells of, hold the same
 pub record SameSheet (d : Desk) (r : Stores) (d′ : Desk) (r′ : Stores) : Type 0 where
   pub on : OnDesk d′ r′
@@ -83,7 +98,13 @@ module _ (d : Desk) (r : Stores) (calls : List Call) (d′ : Desk) (r′ : Store
     -- `lay` does not refuse it, and the desk begins there
     pub on : OnDesk (laidOn .desk) (laidOn .rooms)
     pub begins : BeginsOn (laidOn .desk) (laidOn .rooms)
+    -- over the same sheet, with no steps of a line `step` to make
+    pub plan-same : planOn (laidOn .desk) (laidOn .rooms) ≡ planOn d r
+    pub ground-same : groundOn (laidOn .desk) (laidOn .rooms) ≡ groundOn d r
+    pub still : laidOn .desk .series ≡ noSeries
     pub answered : laidOn .text ≡ frameOn (laidOn .desk) (laidOn .rooms) ++ endingText 0 0
+    -- it answers with the frame of the desk that was saved, but that no step is kept
+    pub same-frame : laidOn .text ≡ frameKeeping 0 (afterCalls calls d r .0) (afterCalls calls d r .1) ++ endingText 0 0
     -- the same is shown, and by the same deeds, of which no `back` goes below that place, it stays so, with the same refusals
     pub shown : ShownAlike (planOn d r) (groundOn d r) (comesTo d r calls) (startsAs (laidOn .desk) (laidOn .rooms))
     pub goes-on : (further : List Deed) → AllWithin (planOn d r) (groundOn d r) further (startsAs (laidOn .desk) (laidOn .rooms)) →

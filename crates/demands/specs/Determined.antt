@@ -28,6 +28,7 @@ use Rattle.exports.specs.Steps.{ExportsFresh, ExportsStep, ExportsRun, ExportsB
 use Rattle.exports.specs.Bounds.{ExportsBounds}
 use Rattle.exports.specs.Sights.{ExportsArrow, ExportsWet}
 use Rattle.exports.specs.Sheets.{ExportsRead, ExportsMeadow}
+use Rattle.hours.specs.Hours.{hoursText}
 use Rattle.peaks.specs.Peaks.{RunsPeaking}
 use Rattle.peaks.specs.Highest.{highestText}
 use Rattle.holes.specs.Repaired.{PrintsRepair}
@@ -86,6 +87,12 @@ pub record SheetDetermined : Type 0 where
 
 pub record ProgramsDetermined : Type 0 where
   pub meadow-of : (text old : List ℕ) → One {Out = ℕ × List ℕ} (λ o. Prints (meadowText text) old (o .1) (o .0))
+
+pub record SlicesDetermined : Type 0 where
+  pub meadow-told : (text old : List ℕ) → One {Out = ℕ × List ℕ} (λ o. Prints (meadowText text) old (o .1) (o .0))
+
+pub record HoursDetermined : Type 0 where
+  pub hours-of : (text old : List ℕ) → One {Out = ℕ × List ℕ} (λ o. Prints (hoursText text) old (o .1) (o .0))
 
 pub record PeaksDetermined : Type 0 where
   pub run-peaks : (p : Plan) (g : Given) (end : ℕ) (w : World) (peaks clocks : List ℕ) →
@@ -179,6 +186,8 @@ pub record Determined : Type 0 where
   pub sight : SightDetermined
   pub sheet : SheetDetermined
   pub programs : ProgramsDetermined
+  pub slices : SlicesDetermined
+  pub hours : HoursDetermined
   pub peaks : PeaksDetermined
   pub survey : SurveyDetermined
   pub holes : HolesDetermined

@@ -6,6 +6,7 @@ pub mod Demand2
 pub mod Demand3
 pub mod Desk
 pub mod DeskCalls
+pub mod DeskGoesOn
 pub mod DeskLines
 pub mod DeskSavedCalls
 pub mod DeskWalls

@@ -1,18 +1,16 @@
 -- Laws of an answer's parts: how it ends, the frame of a state, and texts one after the other.
 -- Assumes nothing.
-use mathlib.Core.Path.{_≡_, refl, sym, ap, subst, _∙_}
-use mathlib.Core.Bool.{true, false}
-use mathlib.Core.List.{List, [], _∷_, _++_}
-use Prim.Native.Nat.{ℕ, _+_, _^_, _≤_, _<_}
+use mathlib.Core.Path.{_≡_, sym, ap, subst, _∙_}
+use mathlib.Core.List.{List}
+use Prim.Native.Nat.{ℕ, _≤_}
 use native.Mathlib.Omega.{arith}
-use lib.Dec.{eqb}
-use lib.ListN.{length, getD}
+use lib.ListN.{length}
 use borrow.Author.Tests.{eq-eqb, ne-eqb}
 use Rattle.reckon.proofs.TestLaws.{pick-true, pick-false}
 use Rattle.ledger.specs.Runs.{Plan}
 use Rattle.ledger.specs.Account.{water}
 use Rattle.text.specs.Writing.{Wrote}
-use Rattle.answer.specs.Printed.{refusedText, mostRefused}
+use Rattle.answer.specs.Printed.{refusedText}
 use Rattle.frames.specs.Frame.{frameText}
 use Rattle.frames.specs.declared.frame.Figures.{Figures}
 use Rattle.hatches.specs.declared.log.Log.{Log}

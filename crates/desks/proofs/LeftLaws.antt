@@ -2,15 +2,14 @@
 -- Assumes nothing.
 use mathlib.Core.Path.{_≡_, refl, sym, ap, ap₂, subst, _∙_}
 use mathlib.Core.Bool.{Bool, true, false}
-use mathlib.Core.List.{List, [], _∷_, _++_}
-use Prim.Native.Nat.{ℕ, _≤_}
+use mathlib.Core.List.{List, []}
+use Prim.Native.Nat.{ℕ}
 use native.Mathlib.Omega.{arith}
 use lib.Dec.{eqb, leb}
-use lib.ListN.{length, take, replicate}
+use lib.ListN.{length}
 use borrow.Author.Tests.{eq-eqb, ne-eqb}
 use Rattle.reckon.specs.Tests.{pick}
 use Rattle.reckon.proofs.TestLaws.{pick-true, pick-false}
-use Rattle.ledger.specs.Runs.{plan}
 use Rattle.grid.specs.Squares.{ShapeInRange}
 use Rattle.sheet.specs.Sheet.{Rooms, roomsAfter, sheetOf, lineOne, shapeOf, headingOf}
 use Rattle.sheet.proofs.SheetLaws.{Well, well, rooms-shape}
@@ -18,7 +17,6 @@ use Rattle.sheet.specs.declared.reading.Heading.{Heading}
 use Rattle.sheet.specs.declared.reading.Sheet.{Sheet}
 use Rattle.sheet.specs.declared.reading.Sheet.the-variants.{Read, Refused}
 use Rattle.programs.specs.Reading.{sheetWithin, ReadsWithin}
-use Rattle.text.specs.Writing.{Wrote}
 use Rattle.text.proofs.ReadingLaws.{by-test}
 use Rattle.text.proofs.WritingLaws.{placed-none}
 use Rattle.evenings.specs.Program.{Stores, stores, givenHeld}

@@ -1,16 +1,15 @@
 -- Laws of the desk's rooms: what of each belongs to the sheet on the desk, and what a call over it leaves in them.
 -- Assumes nothing.
-use mathlib.Core.Path.{_≡_, refl, sym, ap, ap₂, subst, _∙_}
+use mathlib.Core.Path.{_≡_, sym, ap, subst, _∙_}
 use mathlib.Core.Bool.{true}
-use mathlib.Core.List.{List, [], _∷_, _++_}
+use mathlib.Core.List.{List, [], _++_}
 use Prim.Native.Nat.{ℕ, _*_, _/_, _≤_, _<_}
 use native.Mathlib.Nat.{mul-div-cancel}
 use native.Mathlib.Omega.{arith}
 use lib.ListN.{length, take, drop, take-append-drop}
 use lib.Seq.{length-take-le}
-use Rattle.reckon.specs.Tests.{refusal}
 use Rattle.reckon.specs.Lists.{placed}
-use Rattle.reckon.specs.Tables.{rainKind, inflowKind, tableRoom}
+use Rattle.reckon.specs.Tables.{rainKind, inflowKind}
 use Rattle.reckon.proofs.TestLaws.{refusal-passed}
 use Rattle.trials.specs.Ring.{slotsIn}
 use Rattle.grid.specs.Squares.{squares}
@@ -19,13 +18,13 @@ use Rattle.ledger.specs.Record.{recordSize, roomSlots}
 use Rattle.checks.specs.Given.{given, ground}
 use Rattle.sheet.specs.Sheet.{rooms}
 use Rattle.sheet.specs.declared.reading.Heading.{Heading}
-use Rattle.hatches.specs.Log.{Evening, evening, mostHatches}
+use Rattle.hatches.specs.Log.{evening, mostHatches}
 use Rattle.evenings.specs.Program.{Stores, stores, givenHeld}
-use Rattle.desks.specs.State.{deskSquares, keptSlots, recordsOn, ratesOn, headingFine}
+use Rattle.desks.specs.State.{keptSlots, recordsOn, ratesOn, headingFine}
 use Rattle.desks.specs.Lines.{Told, orderTold, nextTold}
 use Rattle.desks.specs.Command.{Leaves, planOn, eveningOn, inflowOn, readyNumber, storesWith, toldOn}
-use Rattle.desks.specs.inner.Lent.{Shows, Lends, Answers}
-use Rattle.desks.specs.inner.Rooms.{RoomsLong, GroundLong}
+use Rattle.desks.specs.inner.Lent.{Lends, Answers}
+use Rattle.desks.specs.inner.Rooms.{RoomsLong}
 use Rattle.desks.specs.inner.Sizes.{SizesAre}
 use Rattle.desks.specs.declared.orders.Order.{Order}
 use Rattle.desks.specs.declared.sizes.Sizes.{Sizes}

@@ -1,12 +1,12 @@
 -- Laws of a sheet that lies in the rooms: what is lent of it, and its frame.
 -- Assumes nothing.
-use mathlib.Core.Path.{_≡_, refl, sym, ap, ap₂, subst, _∙_}
-use mathlib.Core.List.{List, [], _∷_, _++_}
+use mathlib.Core.Path.{_≡_, sym, ap, subst, _∙_}
+use mathlib.Core.List.{List, _++_}
 use Prim.Native.Nat.{ℕ, _+_, _≤_}
 use native.Mathlib.Omega.{arith}
 use lib.ListN.{length, take, replicate, length-append}
 use Rattle.grid.specs.Squares.{squares, ShapeInRange}
-use Rattle.ledger.specs.Runs.{Plan, plan}
+use Rattle.ledger.specs.Runs.{plan}
 use Rattle.ledger.specs.Checks.{WaterLent}
 use Rattle.ledger.specs.Account.{water}
 use Rattle.text.specs.Writing.{Wrote}
@@ -15,7 +15,6 @@ use Rattle.sheet.specs.declared.reading.Heading.{Heading}
 use Rattle.trying.specs.Given.{accountOpened}
 use Rattle.desks.specs.State.{deskSquares, deskOut, freshLog, freshDesk}
 use Rattle.desks.specs.Lines.{endingText, stateText, Puts}
-use Rattle.desks.specs.Command.{startOn, firstText}
 use Rattle.desks.specs.inner.Lent.{Shows, StatePut, EndingPut}
 use Rattle.desks.specs.inner.Rooms.{SheetLaid}
 use Rattle.desks.specs.declared.state.Desk.{Desk}

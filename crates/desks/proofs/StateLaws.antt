@@ -1,21 +1,21 @@
 -- Laws of a desk's value and of the sizes of its rooms.
 -- Assumes nothing.
-use mathlib.Core.Path.{_≡_, refl, sym, ap, ap₂, _∙_}
-use mathlib.Core.Bool.{Bool, true, false}
-use mathlib.Core.List.{List, [], _∷_, _++_}
-use Prim.Native.Nat.{ℕ, zero, suc, _+_, _*_, _/_, _≤_, _<_, min}
+use mathlib.Core.Path.{_≡_, refl, ap, ap₂, _∙_}
+use mathlib.Core.Bool.{Bool, true}
+use mathlib.Core.List.{[]}
+use Prim.Native.Nat.{ℕ, zero, suc, _*_, _/_, _≤_, _<_, min}
 use native.Mathlib.Nat.{mul-le-mul-right, div-add-mod', mod-lt}
 use native.Mathlib.Omega.{arith}
-use lib.ListN.{length, take}
+use lib.ListN.{length}
 use borrow.Author.Tests.{leb-true}
 use Rattle.reckon.specs.Ranges.{mostTableRows}
-use Rattle.reckon.specs.Tables.{rainKind, inflowKind, tableRoom}
+use Rattle.reckon.specs.Tables.{rainKind, inflowKind}
 use Rattle.reckon.proofs.TestLaws.{every-each}
 use Rattle.grid.specs.Squares.{squares, ShapeInRange}
 use Rattle.grid.specs.declared.squares.Shape.{Shape}
 use Rattle.grid.proofs.SquareLaws.{ranges-of-fine}
-use Rattle.ledger.specs.Runs.{Plan, plan}
-use Rattle.ledger.specs.Record.{recordSize, SizeOf, roomSlots}
+use Rattle.ledger.specs.Runs.{plan}
+use Rattle.ledger.specs.Record.{recordSize, SizeOf}
 use Rattle.ledger.specs.declared.runs.Run.{Run}
 use Rattle.checks.specs.Fresh.{freshRun}
 use Rattle.sheet.specs.declared.reading.Heading.{Heading}
@@ -23,15 +23,14 @@ use Rattle.hatches.specs.Log.{mostHatches, opened}
 use Rattle.hatches.specs.declared.log.Log.{Log}
 use Rattle.trying.specs.Given.{mostSlots, accountOpened}
 use Rattle.trying.specs.declared.given.Account.{Account}
-use Rattle.desks.specs.State.{deskSquares, deskRates, deskNumbers, keptSlots, recordsOn, ratesOn, headingFine, noSeries, freshDesk, KeptSlots}
+use Rattle.desks.specs.State.{deskNumbers, keptSlots, recordsOn, headingFine, noSeries, freshDesk, KeptSlots}
 use Rattle.desks.specs.inner.Sizes.{SizesAre}
-use Rattle.desks.specs.declared.sizes.Sizes.{Sizes}
 use Rattle.desks.specs.declared.state.Desk.{Desk}
 use Rattle.desks.specs.declared.state.Series.{Series}
 
 -- ---- a desk made of its parts
 
-pub desk-as : (ready : Bool) (h : Heading) (long : ℕ) {l l′ : Log} {a a′ : Account} {s s′ : Series} → l ≡ l′ → a ≡ a′ → s ≡ s′ →
+desk-as : (ready : Bool) (h : Heading) (long : ℕ) {l l′ : Log} {a a′ : Account} {s s′ : Series} → l ≡ l′ → a ≡ a′ → s ≡ s′ →
     _≡_ {A = Desk} (record { ready = ready; heading = h; log = l; account = a; series = s; length = long })
     (record { ready = ready; heading = h; log = l′; account = a′; series = s′; length = long })
 desk-as ready h long e f g = cc

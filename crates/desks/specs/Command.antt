@@ -12,7 +12,7 @@ use Rattle.reckon.specs.Tables.{inflowKind}
 use Rattle.grid.specs.Squares.{squares}
 use Rattle.ledger.specs.Runs.{Plan, plan}
 use Rattle.ledger.specs.Account.{water}
-use Rattle.sheet.specs.Sheet.{Rooms, rooms, roomsAfter}
+use Rattle.sheet.specs.Sheet.{rooms, roomsAfter}
 use Rattle.sheet.specs.declared.reading.Heading.{Heading}
 use Rattle.sheet.specs.declared.reading.Sheet.{Sheet}
 use Rattle.sheet.specs.declared.reading.Sheet.the-variants.{Read, Refused}

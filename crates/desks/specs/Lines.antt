@@ -1,6 +1,5 @@
 -- What each line of the desk does over the sheet's own part of the rooms, and its answer.
 -- Assumes nothing.
-use mathlib.Core.Path.{_≡_}
 use mathlib.Core.Bool.{Bool, true}
 use mathlib.Core.List.{List, [], _∷_, _++_}
 use Prim.Native.Nat.{ℕ, _-_, _≤_}
@@ -33,10 +32,9 @@ use Rattle.trying.specs.Given.{accountOpened}
 use Rattle.trying.specs.Lines.{Came, came, nameTried, drawTried, stepCame, backCame}
 use Rattle.trying.specs.declared.given.Account.{Account}
 use Rattle.trying.specs.declared.lines.Tried.{Tried}
-use Rattle.desks.specs.State.{deskText, deskOut, keptSlots, noSeries, deskWith}
+use Rattle.desks.specs.State.{deskText, deskOut, keptSlots, noSeries}
 use Rattle.desks.specs.declared.orders.Order.{Order}
 use Rattle.desks.specs.declared.orders.Order.the-variants.{Sheet, Entered, Draw, Step, Show, Arrows, Most, Stand, Lay, NoOrder}
-use Rattle.desks.specs.declared.state.Desk.{Desk}
 use Rattle.desks.specs.declared.state.Series.{Series}
 
 -- ---- texts

@@ -7,7 +7,6 @@ use Prim.Native.Nat.{ℕ, _*_, _/_, min}
 use lib.Dec.{leb}
 use Rattle.reckon.specs.Tests.{every}
 use Rattle.reckon.specs.Ranges.{mostTableRows}
-use Rattle.reckon.specs.Tables.{rainKind, inflowKind}
 use Rattle.grid.specs.Squares.{shapeFine}
 use Rattle.grid.specs.declared.squares.Shape.{Shape}
 use Rattle.ledger.specs.Runs.{plan}

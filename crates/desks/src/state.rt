@@ -1,11 +1,10 @@
 // What a desk is between two lines, beside what is lent.
 use checks::fresh::fresh_run;
+use evenings::program::no_night;
 use grid::squares::Shape;
 use hatches::log::Log;
 use hatches::log::open_log;
 use ledger::record::record_size;
-use ledger::runs::Run;
-use rule::rules::Rules;
 use sheet::reading::Heading;
 use trying::given::Account;
 use trying::given::MOST_SLOTS;
@@ -74,38 +73,13 @@ pub(crate) fn no_series() -> Series
 pub fn empty_desk() -> Desk
     ensures { λ r. ⌜ DeskEmpty r ⌝ }
 {
-    let shape = Shape {
-        rows: 0,
-        columns: 0,
-    };
-    let rules = Rules {
-        square_side: 0,
-        tolerance: 0,
-        shortest: 0,
-        longest: 0,
-        update: 0,
-        edge: 0,
-        edition: 0,
-    };
-    let run = Run {
-        clock: 0,
-        length: 0,
-        outflow: 0,
-        kept: 0,
-        newest: 0,
-        soaked: 0,
-    };
-    let heading = Heading {
-        shape: shape,
-        rules: rules,
-        end: 0,
-        rain_rows: 0,
-        inflow_rows: 0,
-    };
+    let night = no_night(0);
+    let heading = night.heading;
+    let log = night.log;
     Desk {
         ready: false,
         heading: heading,
-        log: open_log(run),
+        log: log,
         account: open_account(0, 0),
         series: no_series(),
         length: 0,

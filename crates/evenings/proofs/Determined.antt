@@ -32,5 +32,6 @@ evenings-determined =
       name-hatch = λ log n row column. exactly;
       further = λ log run steps litres. exactly;
       back-line = back-one;
+      no-night = λ long. exactly;
       clear = λ old. exactly;
     }

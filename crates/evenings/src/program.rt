@@ -123,7 +123,7 @@ fn first_night(heading: Heading, length: usize) -> Night
 }
 
 // A night of a refusal: nothing but the bytes to be printed.
-fn no_night(length: usize) -> Night
+pub fn no_night(length: usize) -> Night
     ensures { λ r. ⌜ r ≡ noNight length ⌝ }
 {
     let shape = Shape {

@@ -35,7 +35,7 @@ use Rattle.settling.proofs.SureLaws.{surely-settled, next-read, stored-settles,
 use Rattle.checks.specs.Given.{Ground, Given}
 use Rattle.adding.specs.inner.Added.{addedFits}
 use Rattle.moves.specs.Moves.{leavesFor, soakedFor, stepLength, stepDuration, stepMoves}
-use Rattle.moves.specs.inner.Fill.{isWorked, workedRows, senderRows, LeftKept}
+use Rattle.moves.specs.inner.Fill.{worksOn, workedRows, senderRows, LeftKept}
 use Rattle.checks.specs.inner.Ready.{Ready}
 use Rattle.ledger.specs.declared.runs.Answer.the-variants.{Done, Refused}
 use Rattle.ledger.proofs.RunLaws.{answered-done, answered-refused}
@@ -227,9 +227,9 @@ module _ (p : Plan) (o : Ground) (w : World) (room : List ℕ) (ms : ℕ) where
   pub room-added : length room ≡ squares (p .shape) → RoomAdded p rec room
   room-added long = record { long = long; added = λ i h c. sym (added-told i h c) }
 
-  module _ (fine : ShapeInRange (p .shape)) (walk : Walk) {worked : List ℕ} (marked : worked ≡ workedRows walk p (w .depths) (w .lasts) room) where
-    works : (i : ℕ) → i < squares (p .shape) → bitOf (p .shape) worked i ≡ isWorked walk p (w .depths) (w .lasts) room i
-    works i h = ap (λ (k : List ℕ). bitOf (p .shape) k i) marked ∙ worked-bit-is walk p (w .depths) (w .lasts) room fine h
+  module _ (fine : ShapeInRange (p .shape)) (walk : Walk) {worked : List ℕ} (marked : worked ≡ workedRows walk (p .shape) (w .depths) (w .lasts) room) where
+    works : (i : ℕ) → i < squares (p .shape) → bitOf (p .shape) worked i ≡ worksOn walk (w .depths) (w .lasts) room i
+    works i h = ap (λ (k : List ℕ). bitOf (p .shape) k i) marked ∙ worked-bit-is walk (p .shape) (w .depths) (w .lasts) room fine h
 
     -- a square that is not worked
     idle-told : (i : ℕ) → i < squares (p .shape) → bitOf (p .shape) worked i ≡ false → shut p i ≡ false → IdleAt rec (w .depths) i

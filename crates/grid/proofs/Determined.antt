@@ -23,5 +23,8 @@ grid-determined =
       next-set = λ mask column. exactly;
       next-within = λ mask column columns. exactly;
       next-after = λ mask column columns. exactly;
+      within-row = λ mask columns. exactly;
+      lowest-set = λ mask. exactly;
+      without-lowest = λ mask. exactly;
       beside-set = λ rows row. exactly;
     }

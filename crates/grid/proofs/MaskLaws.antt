@@ -7,7 +7,6 @@ use mathlib.Core.List.{List}
 use Prim.Native.Nat.{ℕ, zero, suc, _+_, _-_, _*_, _/_, _%_, _^_, _≤_, _<_}
 use native.Mathlib.Nat.{le-refl, le-trans, pow-suc, add-comm, add-suc, add-zero, zero-add, add-assoc, suc-mul, zero-mul, mul-assoc, zero-div, div-one, div-div-eq-div-mul}
 use native.Mathlib.Decide.{decLt}
-use native.Mathlib.Numerals.{add-one}
 use native.Mathlib.Omega.{arith}
 use lib.Dec.{leb, ltb, eqb, lit<}
 use lib.ListN.{length, getD, set}
@@ -92,20 +91,23 @@ module _ (says : ℕ → Bool) where
   pub mask-past : (i : ℕ) {n c : ℕ} → n ≤ c → bitAt (maskFrom says i n) c ≡ false
   mask-past i {n} {c} h = mask-bit i n c ∙ rw (le-ltb c n h)
 
-  -- a row made from its first column up: one column more, and columns that say no
-  last-digit : (i n : ℕ) → maskFrom says i (suc n) ≡ maskFrom says i n + digit (says (i + n)) * 2 ^ n
+  -- the first n columns and the m after them
+  pub mask-parts : (i n m : ℕ) → maskFrom says i (n + m) ≡ maskFrom says i n + maskFrom says (i + n) m * 2 ^ n
   unfolding maskFrom
-  last-digit i zero = rw (add-zero i) (let e : digit (says i) + 0 * 2 ≡ 0 + digit (says i) * 1 = omega arith in e)
-  last-digit i (suc n) =
-      ap (λ (x : ℕ). digit (says i) + x * 2) (last-digit (suc i) n)
-      ∙ (join (digit (says i)) (maskFrom says (suc i) n) (digit (says (suc i + n))) (2 ^ n)
-      ∙ ap₂ (λ (x y : ℕ). digit (says i) + maskFrom says (suc i) n * 2 + digit (says x) * y) (let e : suc i + n ≡ i + suc n = omega arith in e) (sym (pow-suc 2 n)))
+  mask-parts i zero m = ap₂ (maskFrom says) (sym (add-zero i)) (zero-add m) ∙ (let e : maskFrom says (i + 0) m ≡ 0 + maskFrom says (i + 0) m * 1 = omega arith in e)
+  mask-parts i (suc n) m =
+      ap (maskFrom says i) (let e : suc n + m ≡ suc (n + m) = omega arith in e)
+      ∙ (ap (λ (x : ℕ). digit (says i) + x * 2) (mask-parts (suc i) n m)
+      ∙ (join (digit (says i)) (maskFrom says (suc i) n) (maskFrom says (suc i + n) m) (2 ^ n)
+      ∙ ap₂ (λ (x y : ℕ). digit (says i) + maskFrom says (suc i) n * 2 + maskFrom says x m * y) (let e : suc i + n ≡ i + suc n = omega arith in e) (sym (pow-suc 2 n))))
     where
       join : (a b c d : ℕ) → a + (b + c * d) * 2 ≡ a + b * 2 + c * (d * 2)
       join a b c d = omega (arith, mul-assoc c d 2)
 
+  -- a row made from its first column up: one column more, and columns that say no
   pub mask-more : (i n : ℕ) → maskFrom says i (n + 1) ≡ maskFrom says i n + digit (says (i + n)) * 2 ^ n
-  mask-more i n = ap (maskFrom says i) (add-one n) ∙ last-digit i n
+  unfolding maskFrom
+  mask-more i n = mask-parts i n 1 ∙ ap (λ (x : ℕ). maskFrom says i n + x * 2 ^ n) (let e : digit (says (i + n)) + 0 * 2 ≡ digit (says (i + n)) = omega arith in e)
 
   no-digit : (x k : ℕ) → x + digit false * 2 ^ k ≡ x
   unfolding digit pick
@@ -187,6 +189,22 @@ module _ (says : ℕ → Bool) (first columns : ℕ) where
           add-comm (mask * 2) bit
               ∙ (ap₂ (λ (x y : ℕ). x + y * 2) e (p .1 ∙ ap (λ (x : ℕ). maskFrom says x (columns - left)) next)
               ∙ ap (maskFrom says (first + (left - 1))) (sym more)),
+        )
+
+    -- n columns more
+    pub rows-small : (n : ℕ) → n ≤ left → columns ≤ bits → mask < 2 ^ (bits - n)
+    rows-small n h g =
+        rw (p .1)
+        (le-trans (mask-small says (first + left) (columns - left)) (pow-mono {i = columns - left} {j = bits - n} (omega (arith, p .0))))
+
+    pub columns-more : (n : ℕ) {part : ℕ} → n ≤ left → part ≡ maskFrom says (first + (left - n)) n → Built (left - n) (mask * 2 ^ n + part)
+    columns-more n {part} h e =
+        let at : first + (left - n) + n ≡ first + left = omega arith in
+        let all : n + (columns - left) ≡ columns - (left - n) = omega (arith, p .0) in (
+          omega (arith, p .0),
+          add-comm (mask * 2 ^ n) part
+              ∙ (ap₂ (λ (x y : ℕ). x + y * 2 ^ n) e (p .1 ∙ ap (λ (x : ℕ). maskFrom says x (columns - left)) (sym at))
+              ∙ (sym (mask-parts says (first + (left - n)) n (columns - left)) ∙ ap (maskFrom says (first + (left - n))) all)),
         )
 
     pub row-whole : left ≤ 0 → mask ≡ maskFrom says first columns

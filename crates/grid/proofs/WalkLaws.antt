@@ -55,7 +55,7 @@ module _ (mask c : ℕ) where
   zeros-ahead = (λ j. firstFailing bits (λ k. not (bit-shifted mask c k j))) ∙ sym (zeros-first bits (mask / 2 ^ c))
 
   -- it is where the zeros end, held to 64
-  next-by-zeros : c ≤ bits → nextSet mask c ≡ min (c + trailingZeros bits (mask / 2 ^ c)) bits
+  pub next-by-zeros : c ≤ bits → nextSet mask c ≡ min (c + trailingZeros bits (mask / 2 ^ c)) bits
   unfolding nextSet
   next-by-zeros h =
       omega (arith, failing-fewer (bits - c) bits ahead (omega arith), zeros-ahead)

@@ -3,7 +3,7 @@
 use mathlib.Core.Path.{_≡_}
 use mathlib.Core.Bool.{Bool}
 use mathlib.Core.List.{List}
-use Prim.Native.Nat.{ℕ, zero, suc, _+_, _*_, _/_, _%_, _^_, min}
+use Prim.Native.Nat.{ℕ, zero, suc, _+_, _-_, _*_, _/_, _%_, _^_, min}
 use lib.ListN.{getD}
 use lib.Bits.{bitOr}
 use Rattle.grid.specs.declared.squares.Shape.{Shape}
@@ -12,6 +12,18 @@ use Rattle.grid.specs.Masks.{bits, bitAt, nextSet}
 -- the next set column of a row with so many columns, or their number where there is none
 abbrev pub nextWithin : ℕ → ℕ → ℕ → ℕ
 nextWithin mask column columns = min (nextSet mask column) columns
+
+-- the columns of a mask that a row with so many has
+abbrev pub withinRow : ℕ → ℕ → ℕ
+withinRow mask columns = mask % 2 ^ columns
+
+-- the lowest set column
+abbrev pub lowestSet : ℕ → ℕ
+lowestSet mask = nextSet mask 0
+
+-- a mask without the bit of its lowest set column
+abbrev pub withoutLowest : ℕ → ℕ
+withoutLowest mask = mask - 2 ^ lowestSet mask
 
 -- a square's bit in the masks of all rows
 unfoldable pub bitOf : Shape → List ℕ → ℕ → Bool
@@ -31,6 +43,15 @@ besideSet rows row =
 
 abbrev pub NextWithin : ℕ → ℕ → ℕ → ℕ → Type 0
 NextWithin mask column columns r = r ≡ nextWithin mask column columns
+
+abbrev pub WithinRow : ℕ → ℕ → ℕ → Type 0
+WithinRow mask columns r = r ≡ withinRow mask columns
+
+abbrev pub LowestSet : ℕ → ℕ → Type 0
+LowestSet mask r = r ≡ lowestSet mask
+
+abbrev pub WithoutLowest : ℕ → ℕ → Type 0
+WithoutLowest mask r = r ≡ withoutLowest mask
 
 abbrev pub BesideSet : List ℕ → ℕ → ℕ → Type 0
 BesideSet rows row r = r ≡ besideSet rows row

@@ -3,7 +3,7 @@ ghost use mathlib.Core.Path.{_≡_};
 ghost use Prim.Native.Nat.{_+_, _<_, _≤_};
 ghost use lib.ListN.{getD, length};
 ghost use Rattle.grid.specs.Masks.{bits};
-ghost use Rattle.grid.specs.Walks.{BesideSet, NextWithin, rowAbove};
+ghost use Rattle.grid.specs.Walks.{BesideSet, LowestSet, NextWithin, WithinRow, WithoutLowest, rowAbove};
 use crate::masks::next_set;
 
 // Whether a step works the sides of all squares, or goes from one square with water to the next.
@@ -37,6 +37,31 @@ pub fn next_after(mask: u64, column: usize, columns: usize) -> usize
         return columns;
     }
     next
+}
+
+// The columns of a mask that a row with so many has.
+pub fn within_row(mask: u64, columns: usize) -> u64
+    requires { ⌜ (0 < columns) × (columns ≤ bits) ⌝ }
+    ensures { λ r. ⌜ WithinRow mask columns r ⌝ }
+{
+    let beyond = 64 - columns;
+    mask << beyond >> beyond
+}
+
+// The lowest set column of a mask that has one.
+pub fn lowest_set(mask: u64) -> usize
+    requires { ⌜ 0 < mask ⌝ }
+    ensures { λ r. ⌜ LowestSet mask r ⌝ }
+{
+    u64::trailing_zeros(mask) as usize
+}
+
+// A mask without its lowest set column.
+pub fn without_lowest(mask: u64) -> u64
+    requires { ⌜ 0 < mask ⌝ }
+    ensures { λ r. ⌜ WithoutLowest mask r ⌝ }
+{
+    mask & (mask - 1)
 }
 
 // The mask of the row above, 0 for none.

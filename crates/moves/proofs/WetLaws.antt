@@ -15,13 +15,12 @@ use lib.Pow.{pow-mono}
 use borrow.Author.Tests.{leb-false, eqb-true, eq-eqb, not-false}
 use Rattle.reckon.specs.Tests.{pick}
 use Rattle.reckon.specs.Lists.{tabulate}
-use Rattle.reckon.proofs.TestLaws.{not-both, and-left, and-right, and-false, and-true}
+use Rattle.reckon.proofs.TestLaws.{not-both, and-left, and-right}
 use Rattle.reckon.proofs.ListLaws.{getD-tabulate}
 use Rattle.grid.specs.declared.squares.Shape.{Shape}
 use Rattle.grid.specs.declared.walks.Walk.{Walk}
 use Rattle.grid.specs.declared.walks.Walk.the-variants.{All, Wet}
 use Rattle.grid.specs.Squares.{squares, ShapeInRange}
-use Rattle.grid.specs.Marks.{closed}
 use Rattle.grid.specs.Masks.{bits, isWet, digit, maskFrom, rowMask, bitAt}
 use Rattle.grid.specs.Walks.{bitOf}
 use Rattle.grid.specs.inner.Rows.{leastWet}
@@ -34,7 +33,7 @@ use Rattle.ledger.specs.Flows.{shut, gone}
 use Rattle.ledger.specs.inner.Walks.{sends}
 use Rattle.checks.specs.Given.{Ground}
 use Rattle.moves.specs.Moves.{squareCandidates, candidates, leavesFor, soakedFor}
-use Rattle.moves.specs.inner.Fill.{leastBelow, FilledOne, FilledColumns, stirs, worksOn, isWorked, workedRows, UnstirredAt, UnstirredBy, LeftTo, LeftKept, senderRows}
+use Rattle.moves.specs.inner.Fill.{leastBelow, FilledOne, FilledColumns, stirs, worksOn, workedRows, UnstirredAt, UnstirredBy, LeftTo, LeftKept, senderRows}
 use Rattle.moves.proofs.FillLaws.{soaked-dry, dry-gone, dry-silent, filled-more, filled-idle, filled-on, left-here, left-elsewhere}
 use Rattle.moves.proofs.LengthLaws.{least-closed, least-dry, least-begin, least-more, least-all}
 
@@ -68,17 +67,9 @@ bit-by-rows s says {i} fine h =
 or-none : (a b : ℕ) → bitOr a b ≡ 0 → (a ≡ 0) × (b ≡ 0)
 or-none a b e = (omega (arith, or-add-and a b, and-le-r a b), omega (arith, or-add-and a b, and-le-l a b))
 
-module _ (marks depths lasts added : List ℕ) (i : ℕ) where
+module _ (depths lasts added : List ℕ) (i : ℕ) where
   abbrev together : ℕ
   together = bitOr (bitOr (getD depths i 0) (getD lasts i 0)) (getD added i 0)
-
-  -- as the code asks
-  pub stirs-none : together ≡ 0 → false ≡ stirs marks depths lasts added i
-  unfolding stirs
-  stirs-none e =
-      let two = or-none (bitOr (getD depths i 0) (getD lasts i 0)) (getD added i 0) e in
-      let one = or-none (getD depths i 0) (getD lasts i 0) (two .0) in
-      sym (and-false (not (closed marks i)) _ (rw (eq-eqb (getD depths i 0) 0 (one .0), eq-eqb (getD lasts i 0) 0 (one .1), eq-eqb (getD added i 0) 0 (two .1))))
 
   all-none : (eqb (getD depths i 0) 0 && eqb (getD lasts i 0) 0 && eqb (getD added i 0) 0) ≡ true → (getD depths i 0 ≡ 0) × (getD lasts i 0 ≡ 0) × (getD added i 0 ≡ 0)
   all-none e =
@@ -88,63 +79,122 @@ module _ (marks depths lasts added : List ℕ) (i : ℕ) where
         eqb-true _ _ (and-right (eqb (getD depths i 0) 0 && eqb (getD lasts i 0) 0) (eqb (getD added i 0) 0) e),
       )
 
-  pub stirs-some : (together ≡ 0 → ⊥) → not (closed marks i) ≡ stirs marks depths lasts added i
+  -- as the code asks
+  stirs-none : together ≡ 0 → stirs depths lasts added i ≡ false
+  unfolding stirs
+  stirs-none e =
+      let two = or-none (bitOr (getD depths i 0) (getD lasts i 0)) (getD added i 0) e in
+      let one = or-none (getD depths i 0) (getD lasts i 0) (two .0) in
+      rw (eq-eqb (getD depths i 0) 0 (one .0), eq-eqb (getD lasts i 0) 0 (one .1), eq-eqb (getD added i 0) 0 (two .1))
+
+  stirs-some : (together ≡ 0 → ⊥) → stirs depths lasts added i ≡ true
   unfolding stirs
   stirs-some d = go (eqb (getD depths i 0) 0 && eqb (getD lasts i 0) 0 && eqb (getD added i 0) 0) refl
     where
       go :
           (b : Bool) → (eqb (getD depths i 0) 0 && eqb (getD lasts i 0) 0 && eqb (getD added i 0) 0) ≡ b →
-          not (closed marks i) ≡ (not (closed marks i) && not (eqb (getD depths i 0) 0 && eqb (getD lasts i 0) 0 && eqb (getD added i 0) 0))
+          not (eqb (getD depths i 0) 0 && eqb (getD lasts i 0) 0 && eqb (getD added i 0) 0) ≡ true
       go true e = let none = all-none e in absurd (d (ap₂ bitOr (ap₂ bitOr (none .0) (none .1)) (none .2)))
-      go false e = sym (ap (λ (b : Bool). not (closed marks i) && not b) e ∙ and-true (not (closed marks i)))
+      go false e = ap not e
 
-  idle-works :
-      (walk : Walk) → worksOn walk marks depths lasts added i ≡ false → closed marks i ≡ false → (getD depths i 0 ≡ 0) × (getD lasts i 0 ≡ 0) × (getD added i 0 ≡ 0)
+  pub stirring-none : (bit : ℕ) → together ≡ 0 → 0 ≡ digit (stirs depths lasts added i) * bit
+  unfolding digit pick
+  stirring-none bit e = rw (stirs-none e) (omega arith)
+
+  pub stirring-some : (bit : ℕ) → (together ≡ 0 → ⊥) → bit ≡ digit (stirs depths lasts added i) * bit
+  unfolding digit pick
+  stirring-some bit d = rw (stirs-some d) (omega arith)
+
+  idle-works : (walk : Walk) → worksOn walk depths lasts added i ≡ false → (getD depths i 0 ≡ 0) × (getD lasts i 0 ≡ 0) × (getD added i 0 ≡ 0)
   unfolding worksOn stirs
-  idle-works All w c = not-both refl w
-  idle-works Wet w c =
-      let rest : Bool = eqb (getD depths i 0) 0 && eqb (getD lasts i 0) 0 && eqb (getD added i 0) 0 in
-      all-none (not-false _ (sym (ap (λ (b : Bool). not b && not rest) c) ∙ w))
+  idle-works All w = not-both refl w
+  idle-works Wet w = all-none (not-false _ w)
 
-  pub works-all : {walk : Walk} → walk ≡ All → 1 ≡ digit (worksOn walk marks depths lasts added i)
+-- ---- the masks of eight squares, and one square's digit
+
+pub digit-low : (b : Bool) → digit b ≤ 1
+unfolding digit pick
+digit-low true = omega arith
+digit-low false = omega arith
+
+module _ (says : ℕ → Bool) (at : ℕ) where
+  one-bit : maskFrom says at 1 ≡ digit (says at)
+  unfolding maskFrom
+  one-bit = omega arith
+
+  pub eight-bits :
+      {a b c d e f g h : ℕ} → a ≡ digit (says at) * 1 → b ≡ digit (says (at + 1)) * 2 → c ≡ digit (says (at + 2)) * 4 →
+      d ≡ digit (says (at + 3)) * 8 → e ≡ digit (says (at + 4)) * 16 → f ≡ digit (says (at + 5)) * 32 → g ≡ digit (says (at + 6)) * 64 →
+      h ≡ digit (says (at + 7)) * 128 → a + b + c + d + e + f + g + h ≡ maskFrom says at 8
+  eight-bits a b c d e f g h =
+      omega (
+        arith,
+        a,
+        b,
+        c,
+        d,
+        e,
+        f,
+        g,
+        h,
+        one-bit,
+        mask-more says at 1,
+        mask-more says at 2,
+        mask-more says at 3,
+        mask-more says at 4,
+        mask-more says at 5,
+        mask-more says at 6,
+        mask-more says at 7,
+      )
+
+module _ (depths lasts added : List ℕ) (at : ℕ) where
+  pub eight-all : {walk : Walk} → walk ≡ All → 255 ≡ maskFrom (worksOn walk depths lasts added) at 8
+  unfolding worksOn maskFrom digit pick
+  eight-all e = rw e refl
+
+  pub eight-wet : {walk : Walk} {n : ℕ} → walk ≡ Wet → n ≡ maskFrom (stirs depths lasts added) at 8 → n ≡ maskFrom (worksOn walk depths lasts added) at 8
+  unfolding worksOn
+  eight-wet e n = n ∙ rw e refl
+
+  pub works-all : {walk : Walk} → walk ≡ All → 1 ≡ digit (worksOn walk depths lasts added at)
   unfolding worksOn digit pick
   works-all e = rw e refl
 
-  pub works-wet : {walk : Walk} {b : Bool} {n : ℕ} → walk ≡ Wet → b ≡ stirs marks depths lasts added i → n ≡ digit b → n ≡ digit (worksOn walk marks depths lasts added i)
+  pub works-wet : {walk : Walk} {n : ℕ} → walk ≡ Wet → n ≡ digit (stirs depths lasts added at) * 1 → n ≡ digit (worksOn walk depths lasts added at)
   unfolding worksOn
-  works-wet e h n = n ∙ (ap digit h ∙ rw e refl)
+  works-wet e n = rw e (omega (arith, n))
 
-module _ (walk : Walk) (p : Plan) (depths lasts added : List ℕ) where
+module _ (walk : Walk) (s : Shape) (depths lasts added : List ℕ) where
   -- all rows marked
   pub rows-marked :
-      (old : List ℕ) (row : ℕ) {rows : List ℕ} → length old ≡ p .shape .rows → p .shape .rows ≤ row →
-      Rowed (worksOn walk (p .marks) depths lasts added) (p .shape .columns) old rows row → rows ≡ workedRows walk p depths lasts added
+      (old : List ℕ) (row : ℕ) {rows : List ℕ} → length old ≡ s .rows → s .rows ≤ row →
+      Rowed (worksOn walk depths lasts added) (s .columns) old rows row → rows ≡ workedRows walk s depths lasts added
   unfolding workedRows
-  rows-marked old row l h r = rows-whole (p .shape) (worksOn walk (p .marks) depths lasts added) old row l h r
+  rows-marked old row l h r = rows-whole s (worksOn walk depths lasts added) old row l h r
 
   -- a square's bit in them
-  pub worked-bit-is :
-      {i : ℕ} → ShapeInRange (p .shape) → i < squares (p .shape) → bitOf (p .shape) (workedRows walk p depths lasts added) i ≡ isWorked walk p depths lasts added i
+  pub worked-bit-is : {i : ℕ} → ShapeInRange s → i < squares s → bitOf s (workedRows walk s depths lasts added) i ≡ worksOn walk depths lasts added i
   unfolding workedRows
-  worked-bit-is fine h = bit-by-rows (p .shape) (isWorked walk p depths lasts added) fine h
+  worked-bit-is fine h = bit-by-rows s (worksOn walk depths lasts added) fine h
 
-  -- a square that a walk does not work is closed, or has nothing to work or to write
-  pub idle-at : (i : ℕ) → isWorked walk p depths lasts added i ≡ false → UnstirredAt p depths lasts added i
-  idle-at i w c = idle-works (p .marks) depths lasts added i walk w c
+module _ (walk : Walk) (p : Plan) (depths lasts added : List ℕ) where
+  -- a square that a walk does not work has nothing to work or to write
+  pub idle-at : (i : ℕ) → worksOn walk depths lasts added i ≡ false → UnstirredAt p depths lasts added i
+  idle-at i w c = idle-works depths lasts added i walk w
 
-  pub idle-by : {rows : List ℕ} → ShapeInRange (p .shape) → rows ≡ workedRows walk p depths lasts added → UnstirredBy p depths lasts added rows
-  idle-by fine e i h b = idle-at i (sym (worked-bit-is fine h) ∙ (ap (λ (r : List ℕ). bitOf (p .shape) r i) (sym e) ∙ b))
+  pub idle-by : {rows : List ℕ} → ShapeInRange (p .shape) → rows ≡ workedRows walk (p .shape) depths lasts added → UnstirredBy p depths lasts added rows
+  idle-by fine e i h b = idle-at i (sym (worked-bit-is walk (p .shape) depths lasts added fine h) ∙ (ap (λ (r : List ℕ). bitOf (p .shape) r i) (sym e) ∙ b))
 
   pub left-kept :
-      (o : Ground) (ms : ℕ) (left : List ℕ) {rows : List ℕ} → ShapeInRange (p .shape) → rows ≡ workedRows walk p depths lasts added →
+      (o : Ground) (ms : ℕ) (left : List ℕ) {rows : List ℕ} → ShapeInRange (p .shape) → rows ≡ workedRows walk (p .shape) depths lasts added →
       LeftTo p o depths lasts ms rows (squares (p .shape)) left → LeftKept walk p o depths lasts added ms left
-  left-kept o ms left fine e l i h c w = l i h c (ap (λ (r : List ℕ). bitOf (p .shape) r i) e ∙ (worked-bit-is fine h ∙ w))
+  left-kept o ms left fine e l i h c w = l i h c (ap (λ (r : List ℕ). bitOf (p .shape) r i) e ∙ (worked-bit-is walk (p .shape) depths lasts added fine h ∙ w))
 
   -- nothing leaves it, and nothing soaks there
-  pub idle-gone : (o : Ground) (ms i : ℕ) → isWorked walk p depths lasts added i ≡ false → shut p i ≡ false → gone (leavesFor p o depths lasts ms) i ≡ 0
+  pub idle-gone : (o : Ground) (ms i : ℕ) → worksOn walk depths lasts added i ≡ false → shut p i ≡ false → gone (leavesFor p o depths lasts ms) i ≡ 0
   idle-gone o ms i w c = dry-gone p o depths lasts ms i c (idle-at i w c .0)
 
-  pub idle-soaked : (o : Ground) (start ms i : ℕ) → isWorked walk p depths lasts added i ≡ false → shut p i ≡ false → soakedFor p o depths lasts start ms i ≡ 0
+  pub idle-soaked : (o : Ground) (start ms i : ℕ) → worksOn walk depths lasts added i ≡ false → shut p i ≡ false → soakedFor p o depths lasts start ms i ≡ 0
   idle-soaked o start ms i w c = sym (soaked-dry p o depths lasts start ms i c (idle-at i w c .0))
 
 -- ---- a row's columns done

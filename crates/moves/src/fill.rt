@@ -8,8 +8,9 @@ use adding::way::Way;
 use grid::marks::is_closed;
 use grid::squares::Shape;
 use grid::walks::Walk;
-use grid::walks::next_after;
-use grid::walks::next_within;
+use grid::walks::lowest_set;
+use grid::walks::within_row;
+use grid::walks::without_lowest;
 use ledger::record::put_head;
 use ledger::record::put_square;
 use reckon::numbers::lesser;
@@ -18,7 +19,7 @@ use reckon::soaking::soak_due;
 use rule::weighing::weigh;
 ghost use mathlib.Core.Path.{_≡_};
 ghost use mathlib.Core.Bool.{false};
-ghost use Prim.Native.Nat.{_+_, _*_, _^_, _<_, _≤_, min};
+ghost use Prim.Native.Nat.{_+_, _-_, _*_, _^_, _<_, _≤_, min};
 ghost use lib.ListN.{getD, length};
 ghost use Rattle.reckon.specs.Ranges.{mostDepth, mostLength};
 ghost use Rattle.reckon.specs.Soaking.{Soaks, soakDue};
@@ -135,81 +136,117 @@ fn fill_square(
 
 // ---- which squares are worked
 
-// Whether a square has anything to work or to write. One test of the three numbers together, since most squares of a dry meadow have none.
-fn stirs(marks: &[u8], depths: &[u32], lasts: &[u32], added: &[u32], square: usize) -> bool
-    requires { ⌜ HasSquare (now marks) (now depths) (now lasts) (now added) square ⌝ }
-    ensures { λ r. ⌜ r ≡ stirs (now (marks .entry)) (now (depths .entry)) (now (lasts .entry)) (now (added .entry)) square ⌝ }
+// A bit for a square with anything to work or to write, else 0. One test of the three numbers together, and none of the mark: a closed square
+// that holds something is passed over when it is worked.
+fn stirring(depths: &[u32], lasts: &[u32], added: &[u32], square: usize, bit: u32) -> u32
+    requires { ⌜ HasSquare (now depths) (now lasts) (now added) square ⌝ }
+    ensures { λ r. ⌜ r ≡ digit (stirs (now (depths .entry)) (now (lasts .entry)) (now (added .entry)) square) * bit ⌝ }
 {
     if depths[square] | lasts[square] | added[square] == 0 {
-        return false;
+        return 0;
     }
-    !is_closed(marks, square)
+    bit
+}
+
+// The mask of eight squares side by side: eight bits and no branch, so that they are found together.
+fn stirring_eight(depths: &[u32], lasts: &[u32], added: &[u32], at: usize) -> u32
+    requires { ⌜ HasRow (now depths) (now lasts) (now added) at 8 ⌝ }
+    ensures { λ r. ⌜ r ≡ maskFrom (stirs (now (depths .entry)) (now (lasts .entry)) (now (added .entry))) at 8 ⌝ }
+{
+    stirring(depths, lasts, added, at, 1)
+        + stirring(depths, lasts, added, at + 1, 2)
+        + stirring(depths, lasts, added, at + 2, 4)
+        + stirring(depths, lasts, added, at + 3, 8)
+        + stirring(depths, lasts, added, at + 4, 16)
+        + stirring(depths, lasts, added, at + 5, 32)
+        + stirring(depths, lasts, added, at + 6, 64)
+        + stirring(depths, lasts, added, at + 7, 128)
+}
+
+// The mask of eight squares that a walk works.
+fn worked_eight(walk: Walk, depths: &[u32], lasts: &[u32], added: &[u32], at: usize) -> u64
+    requires { ⌜ HasRow (now depths) (now lasts) (now added) at 8 ⌝ }
+    ensures { λ r. ⌜ r ≡ maskFrom (worksOn walk (now (depths .entry)) (now (lasts .entry)) (now (added .entry))) at 8 ⌝ }
+{
+    match walk {
+        Walk::All => 255,
+        Walk::Wet => stirring_eight(depths, lasts, added, at) as u64,
+    }
 }
 
 // 1 for a square that a walk works, else 0.
-fn worked_digit(
-    walk: Walk,
-    marks: &[u8],
-    depths: &[u32],
-    lasts: &[u32],
-    added: &[u32],
-    square: usize,
-) -> u64
-    requires { ⌜ HasSquare (now marks) (now depths) (now lasts) (now added) square ⌝ }
-    ensures { λ r. ⌜ r ≡ digit (worksOn walk (now (marks .entry)) (now (depths .entry)) (now (lasts .entry)) (now (added .entry)) square) ⌝ }
+fn worked_digit(walk: Walk, depths: &[u32], lasts: &[u32], added: &[u32], square: usize) -> u64
+    requires { ⌜ HasSquare (now depths) (now lasts) (now added) square ⌝ }
+    ensures { λ r. ⌜ r ≡ digit (worksOn walk (now (depths .entry)) (now (lasts .entry)) (now (added .entry)) square) ⌝ }
 {
     match walk {
         Walk::All => 1,
-        Walk::Wet => {
-            if stirs(marks, depths, lasts, added, square) {
-                return 1;
-            }
-            0
-        }
+        Walk::Wet => stirring(depths, lasts, added, square, 1) as u64,
     }
 }
 
-// The mask of the squares of a row that a walk works.
+// The mask of the squares of a row that a walk works, of which those from column `beyond` on are found.
+fn worked_below(
+    walk: Walk,
+    depths: &[u32],
+    lasts: &[u32],
+    added: &[u32],
+    row: Row,
+    beyond: usize,
+    columns: usize,
+) -> u64
+    requires { ⌜ (HasRow (now depths) (now lasts) (now added) (row .first) columns) × (beyond ≤ columns) × (row .mask ≡ maskFrom (worksOn walk (now depths) (now lasts) (now added)) (row .first + beyond) (columns - beyond)) ⌝ }
+    ensures { λ r. ⌜ r ≡ maskFrom (worksOn walk (now (depths .entry)) (now (lasts .entry)) (now (added .entry))) (row .first) columns ⌝ }
+{
+    let mut mask = row.mask;
+    let mut ahead = beyond;
+    while 0 < ahead {
+        ahead -= 1;
+        mask = mask * 2 + worked_digit(walk, depths, lasts, added, row.first + ahead);
+    }
+    mask
+}
+
+// The mask of the squares of a row that a walk works: by eights from its end, and what is left one by one.
 fn worked_row(
     walk: Walk,
-    marks: &[u8],
     depths: &[u32],
     lasts: &[u32],
     added: &[u32],
     first: usize,
     columns: usize,
 ) -> u64
-    requires { ⌜ HasRow (now marks) (now depths) (now lasts) (now added) first columns ⌝ }
-    ensures { λ r. ⌜ r ≡ maskFrom (worksOn walk (now (marks .entry)) (now (depths .entry)) (now (lasts .entry)) (now (added .entry))) first columns ⌝ }
+    requires { ⌜ HasRow (now depths) (now lasts) (now added) first columns ⌝ }
+    ensures { λ r. ⌜ r ≡ maskFrom (worksOn walk (now (depths .entry)) (now (lasts .entry)) (now (added .entry))) first columns ⌝ }
 {
     let mut mask: u64 = 0;
     let mut ahead = columns;
-    while 0 < ahead {
-        ahead -= 1;
-        mask = mask * 2 + worked_digit(walk, marks, depths, lasts, added, first + ahead);
+    while 8 <= ahead {
+        ahead -= 8;
+        mask = mask * 256 + worked_eight(walk, depths, lasts, added, first + ahead);
     }
-    mask
+    let row = Row { first, mask };
+    worked_below(walk, depths, lasts, added, row, ahead, columns)
 }
 
 // Marks the squares that a walk works, row by row. A pass of its own: beside the work on a square the loop would not stay in registers.
 fn mark_worked(
     walk: Walk,
     shape: Shape,
-    marks: &[u8],
     depths: &[u32],
     lasts: &[u32],
     added: &[u32],
     worked: &mut [u64],
 )
-    requires { ⌜ HasRows (plan shape (now marks)) (now depths) (now lasts) (now added) (now worked) ⌝ }
-    ensures { λ _. ⌜ now (worked .exit) ≡ workedRows walk (plan shape (now (marks .entry))) (now (depths .entry)) (now (lasts .entry)) (now (added .entry)) ⌝ }
+    requires { ⌜ HasRows shape (now depths) (now lasts) (now added) (now worked) ⌝ }
+    ensures { λ _. ⌜ now (worked .exit) ≡ workedRows walk shape (now (depths .entry)) (now (lasts .entry)) (now (added .entry)) ⌝ }
 {
     let rows = shape.rows;
     let columns = shape.columns;
     let mut row = 0;
     let mut first = 0;
     while row < rows {
-        worked[row] = worked_row(walk, marks, depths, lasts, added, first, columns);
+        worked[row] = worked_row(walk, depths, lasts, added, first, columns);
         row += 1;
         first += columns;
     }
@@ -249,8 +286,9 @@ fn fill_row(
 {
     let columns = way.shape.columns;
     let mut senders: u64 = 0;
-    let mut column = next_within(row.mask, 0, columns);
-    while column < columns {
+    let mut rest = within_row(row.mask, columns);
+    while rest != 0 {
+        let column = lowest_set(rest);
         let square = row.first + column;
         let at = Place { square, column };
         let sent = fill_square(
@@ -268,7 +306,7 @@ fn fill_row(
             left,
         );
         senders += sender_bit(sent, column);
-        column = next_after(row.mask, column, columns);
+        rest = without_lowest(rest);
     }
     senders
 }
@@ -352,12 +390,12 @@ pub fn fill(
 )
     requires { ⌜ Fills (plan (way .shape) (now marks)) (ground (way .rules) (now beds) (now roughness) (now rates)) (now depths) (now lasts) (now added) (span .start) (span .duration) (now rec) ⌝ }
     requires { ⌜ (span .held ≤ mostLength) × (length (now left) ≡ squares (way .shape)) × (length (now worked) ≡ way .shape .rows) × (length (now senders) ≡ way .shape .rows) ⌝ }
-    ensures { λ _. ⌜ (RecordFilled (plan (way .shape) (now (marks .entry))) (ground (way .rules) (now (beds .entry)) (now (roughness .entry)) (now (rates .entry))) (now (depths .entry)) (now (lasts .entry)) (now (added .entry)) (span .held) (span .start) (span .duration) (now (rec .exit))) × (now (worked .exit) ≡ workedRows (way .walk) (plan (way .shape) (now (marks .entry))) (now (depths .entry)) (now (lasts .entry)) (now (added .entry))) × (now (senders .exit) ≡ senderRows (plan (way .shape) (now (marks .entry))) (ground (way .rules) (now (beds .entry)) (now (roughness .entry)) (now (rates .entry))) (now (depths .entry)) (now (lasts .entry)) (span .duration)) × (LeftKept (way .walk) (plan (way .shape) (now (marks .entry))) (ground (way .rules) (now (beds .entry)) (now (roughness .entry)) (now (rates .entry))) (now (depths .entry)) (now (lasts .entry)) (now (added .entry)) (span .duration) (now (left .exit))) ⌝ }
+    ensures { λ _. ⌜ (RecordFilled (plan (way .shape) (now (marks .entry))) (ground (way .rules) (now (beds .entry)) (now (roughness .entry)) (now (rates .entry))) (now (depths .entry)) (now (lasts .entry)) (now (added .entry)) (span .held) (span .start) (span .duration) (now (rec .exit))) × (now (worked .exit) ≡ workedRows (way .walk) (way .shape) (now (depths .entry)) (now (lasts .entry)) (now (added .entry))) × (now (senders .exit) ≡ senderRows (plan (way .shape) (now (marks .entry))) (ground (way .rules) (now (beds .entry)) (now (roughness .entry)) (now (rates .entry))) (now (depths .entry)) (now (lasts .entry)) (span .duration)) × (LeftKept (way .walk) (plan (way .shape) (now (marks .entry))) (ground (way .rules) (now (beds .entry)) (now (roughness .entry)) (now (rates .entry))) (now (depths .entry)) (now (lasts .entry)) (now (added .entry)) (span .duration) (now (left .exit))) ⌝ }
 {
     clear(rec);
     put_head(rec, span.held, span.duration);
     let walk = way.walk;
-    mark_worked(walk, way.shape, marks, depths, lasts, added, worked);
+    mark_worked(walk, way.shape, depths, lasts, added, worked);
     fill_rows(
         way,
         span,

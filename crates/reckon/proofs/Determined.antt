@@ -1,6 +1,6 @@
 -- Every contract leaves one outcome: each is an equation for all that a call gives.
 -- Assumes nothing.
-use Rattle.reckon.proofs.RootLaws.{root-unique, begun-unique}
+use Rattle.reckon.proofs.RootLaws.{root-unique}
 use Rattle.reckon.proofs.OutcomeLaws.{exactly}
 use Rattle.reckon.specs.inner.Determined.{ReckonDetermined}
 
@@ -17,8 +17,6 @@ reckon-determined =
       rate-fine = λ rate. exactly;
       square-root = λ n a b. root-unique;
       cube-root = λ n a b. root-unique;
-      begun-cube-root = λ n a b. begun-unique;
-      ended-cube-root = λ n a b. root-unique;
       soak-due = λ rate start end. exactly;
       row-on = λ rows j r c. exactly;
       rain-by = λ rows t. exactly;

@@ -2,12 +2,12 @@
 -- Assumes nothing.
 use mathlib.Core.Path.{_≡_, refl, sym, _∙_, ap, subst}
 use Prim.Native.Nat.{ℕ, zero, suc, _+_, _*_, _/_, _^_, _≤_, _<_}
-use native.Mathlib.Nat.{le-trans, lt-of-le-of-lt, lt-of-lt-of-le, lt-of-not-le, not-le-of-lt, lt-irrefl, pow-le-pow-left, pow-le-pow-right, pow-suc, pow-zero, one-le-pow, mul-suc, suc-mul, mul-zero, mul-div-cancel, div-le-self, zero-add}
+use native.Mathlib.Nat.{le-trans, lt-of-le-of-lt, lt-of-lt-of-le, lt-of-not-le, not-le-of-lt, lt-irrefl, pow-le-pow-left, pow-le-pow-right, pow-suc, pow-zero, one-le-pow, mul-suc, mul-zero, mul-div-cancel, div-le-self, zero-add}
 use native.Mathlib.Decide.{ℕ-discrete}
 use native.Mathlib.Omega.{arith}
 use lib.Pow.{pow-add}
 use Rattle.reckon.specs.Roots.{Root}
-use Rattle.reckon.specs.inner.RootSearch.{SmallPower, Asked, PowerOfTen, Place, Above, Raised, RaisedBy}
+use Rattle.reckon.specs.inner.RootSearch.{SmallPower, Asked, PowerOfTen, Place, Above, Raised}
 use Rattle.reckon.proofs.RootLaws.{pow-cancel, zero-pow}
 
 -- what holds of squares and of cubes holds of every small power
@@ -110,13 +110,6 @@ none-raised {p} {n} a h = record { fits = zero-pow n (a .power); full = rw zero-
 -- at a place above the root's places there is no digit to raise
 pub no-digit : {p n place above root : ℕ} → Above p n above → above ≤ place → root ^ p ≤ n → Raised p n place root
 no-digit {p} a h fits = record { fits = fits; full = lt-of-lt-of-le (a .beyond) (pow-le-pow-left (omega arith) p) }
-
--- nothing raised yet, and one place more
-pub raised-none : (place from : ℕ) → RaisedBy place from from
-raised-none place from = (0, omega arith)
-
-pub raised-once : (place from : ℕ) {root : ℕ} → RaisedBy place from root → RaisedBy place from (root + place)
-raised-once place from t = (suc (t .0), omega (arith, t .1, suc-mul (t .0) place))
 
 -- with the digit of the ones raised, the root is found
 pub all-raised : {p n place root : ℕ} → Place p place → place ≤ 1 → Raised p n place root → Root p n root

@@ -4,12 +4,12 @@
 use mathlib.Core.Path.{_≡_, refl, sym, _∙_, ap, subst}
 use mathlib.Core.Bool.{Bool, true, false}
 use Prim.Native.Nat.{ℕ, zero, suc, _+_, _*_, _^_, _≤_, _<_}
-use native.Mathlib.Nat.{le-trans, lt-of-le-of-lt, lt-of-lt-of-le, lt-of-not-le, not-le-of-lt, le-refl, pow-le-pow-left, pow-le-pow-right, pow-suc, pow-zero, one-mul, mul-zero, one-le-pow, mul-le-mul, mul-le-mul-right, suc-mul, zero-lt-suc, add-assoc, two-pow-succ}
+use native.Mathlib.Nat.{le-trans, lt-of-le-of-lt, lt-of-lt-of-le, lt-of-not-le, not-le-of-lt, le-refl, pow-le-pow-left, pow-le-pow-right, pow-suc, pow-zero, one-mul, mul-zero, one-le-pow, mul-le-mul, zero-lt-suc, add-assoc, two-pow-succ}
 use native.Mathlib.Omega.{arith}
 use lib.Dec.{leb}
 use borrow.Author.Tests.{leb-true, leb-false}
 use Rattle.reckon.specs.Tests.{pick}
-use Rattle.reckon.specs.Roots.{Root, Begun, rootFrom, rootOf}
+use Rattle.reckon.specs.Roots.{Root, rootFrom, rootOf}
 use Rattle.reckon.specs.inner.RootSearch.{SmallPower}
 
 -- ---- powers
@@ -32,9 +32,6 @@ le-of-pow {p} x s h = le-trans (le-pow x p (omega (arith, s .two))) h
 
 pub pow-cancel : (p : ℕ) {x y : ℕ} → x ^ p < y ^ p → x < y
 pow-cancel p h = lt-of-not-le (λ g. not-le-of-lt h (pow-le-pow-left g p))
-
-mul-cancel : (k : ℕ) {x y : ℕ} → x * k < y * k → x < y
-mul-cancel k h = lt-of-not-le (λ g. not-le-of-lt h (mul-le-mul-right k g))
 
 pub zero-pow : {p : ℕ} (n : ℕ) → SmallPower p → 0 ^ p ≤ n
 zero-pow {p = zero} n s = omega (arith, s .two)
@@ -83,22 +80,6 @@ pub root-most : {p n r : ℕ} (b : ℕ) → Root p n r → n < b ^ p → r ≤ b
 root-most {p} b a h =
     let x = pow-cancel p (lt-of-le-of-lt (a .low) h) in
     omega arith
-
--- what is begun of a root is one number too
-pub begun-unique : {p n place r s : ℕ} → Begun p n place r → Begun p n place s → r ≡ s
-begun-unique {p} {place = place} {r} {s} a b =
-    let x : r < s + place = pow-cancel p (lt-of-le-of-lt (a .low) (b .high)) in
-    let y : s < r + place = pow-cancel p (lt-of-le-of-lt (b .low) (a .high)) in
-    let j : ℕ = a .round .0 in
-    let k : ℕ = b .round .0 in
-    let up : j < suc k = mul-cancel place (omega (arith, x, a .round .1, b .round .1, suc-mul k place)) in
-    let down : k < suc j = mul-cancel place (omega (arith, y, a .round .1, b .round .1, suc-mul j place)) in
-    let same : j ≡ k = omega (arith, up, down) in
-    a .round .1 ∙ (ap (λ (z : ℕ). z * place) same ∙ sym (b .round .1))
-
--- .. and at most the root
-pub begun-below : {p n place r h : ℕ} → Begun p n place r → Root p n h → r ≤ h
-begun-below {r = r} b a = root-least r a (b .low)
 
 -- a greater number has no lesser root
 pub root-mono : {p n m r s : ℕ} → Root p n r → Root p m s → n ≤ m → r ≤ s

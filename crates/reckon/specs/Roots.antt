@@ -1,7 +1,6 @@
 -- Document 01, "The step": "the largest whole number with h³ ≤ d²", and the two square roots beside it.
 -- Assumes nothing.
-use mathlib.Core.Path.{_≡_}
-use Prim.Native.Nat.{ℕ, zero, suc, _+_, _*_, _^_, _≤_, _<_}
+use Prim.Native.Nat.{ℕ, zero, suc, _+_, _^_, _≤_, _<_}
 use lib.Dec.{leb}
 use Rattle.reckon.specs.Tests.{pick}
 
@@ -9,12 +8,6 @@ use Rattle.reckon.specs.Tests.{pick}
 pub record Root (p n r : ℕ) : Type 0 where
   pub low : r ^ p ≤ n
   pub high : n < (r + 1) ^ p
-
--- r is that root as far as a place, with no digit below it yet: so many whole places, and one more is too much
-pub record Begun (p n place r : ℕ) : Type 0 where
-  pub round : (k : ℕ) × (r ≡ k * place)
-  pub low : r ^ p ≤ n
-  pub high : n < (r + place) ^ p
 
 -- The same as a number that computes: from r, each of the lower k binary digits is set where the power stays at most n.
 unfoldable pub rootFrom : ℕ → ℕ → ℕ → ℕ → ℕ

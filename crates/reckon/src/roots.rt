@@ -2,8 +2,8 @@
 // place by place from the top, each digit raised while its power still fits (docs/ROOTS.md).
 ghost use mathlib.Core.Path.{_≡_};
 ghost use Prim.Native.Nat.{_+_, _*_, _^_, _≤_, _<_};
-ghost use Rattle.reckon.specs.Roots.{Root, Begun};
-ghost use Rattle.reckon.specs.inner.RootSearch.{SmallPower, Asked, PowerOfTen, Place, Above, Raised, RaisedBy};
+ghost use Rattle.reckon.specs.Roots.{Root};
+ghost use Rattle.reckon.specs.inner.RootSearch.{SmallPower, Asked, PowerOfTen, Place, Above, Raised};
 
 // x to the power p.
 fn raised(p: u64, x: u64) -> u64
@@ -77,7 +77,7 @@ fn above_cube_root(n: u64) -> u64
 // The root so far with the digit of one place: raised while its power still fits.
 fn raise_digit(p: u64, n: u64, place: u64, from: u64) -> u64
     requires { ⌜ (Asked p n) × (Place p place) × (from ^ p ≤ n) ⌝ }
-    ensures { λ r. ⌜ (Raised p n place r) × (RaisedBy place from r) ⌝ }
+    ensures { λ r. ⌜ Raised p n place r ⌝ }
 {
     let mut root = from;
     while raised(p, root + place) <= n {
@@ -89,7 +89,7 @@ fn raise_digit(p: u64, n: u64, place: u64, from: u64) -> u64
 // The root so far with the digit of one place, where that is a place of the root.
 fn with_digit(p: u64, n: u64, above: u64, place: u64, from: u64) -> u64
     requires { ⌜ (Asked p n) × (Above p n above) × (PowerOfTen place) × (from ^ p ≤ n) ⌝ }
-    ensures { λ r. ⌜ (Raised p n place r) × (RaisedBy place from r) ⌝ }
+    ensures { λ r. ⌜ Raised p n place r ⌝ }
 {
     if above <= place {
         return from;
@@ -114,30 +114,16 @@ pub fn square_root(n: u64) -> u64
     with_digit(2, n, above, 1, tens)
 }
 
-// A cube root with its digits down to the hundreds. Where these already decide, the last two need not be found.
-pub fn begun_cube_root(n: u64) -> u64
+pub fn cube_root(n: u64) -> u64
     requires { ⌜ n < 10 ^ 18 ⌝ }
-    ensures { λ r. ⌜ Begun 3 n 100 r ⌝ }
+    ensures { λ r. ⌜ Root 3 n r ⌝ }
 {
     let above = above_cube_root(n);
     let hundred_thousands = with_digit(3, n, above, 100_000, 0);
     let ten_thousands = with_digit(3, n, above, 10_000, hundred_thousands);
     let thousands = with_digit(3, n, above, 1_000, ten_thousands);
-    with_digit(3, n, above, 100, thousands)
-}
-
-// The root that was begun, with its tens and its ones.
-pub fn ended_cube_root(n: u64, begun: u64) -> u64
-    requires { ⌜ (n < 10 ^ 18) × (Begun 3 n 100 begun) ⌝ }
-    ensures { λ r. ⌜ Root 3 n r ⌝ }
-{
-    let tens = raise_digit(3, n, 10, begun);
+    let hundreds = with_digit(3, n, above, 100, thousands);
+    // not asked whether these are places of the root: where one is not, no trial fits
+    let tens = raise_digit(3, n, 10, hundreds);
     raise_digit(3, n, 1, tens)
-}
-
-pub fn cube_root(n: u64) -> u64
-    requires { ⌜ n < 10 ^ 18 ⌝ }
-    ensures { λ r. ⌜ Root 3 n r ⌝ }
-{
-    ended_cube_root(n, begun_cube_root(n))
 }

@@ -1,11 +1,11 @@
--- Laws of the weighing: how large each part can be, that m may be held to d first, that a greater height lets no less through, and what
+-- Laws of the weighing: how large each part can be, that m may be held to d first, that a greater height or slope lets no less through, and what
 -- every use above rests on, whatever the edition: the four sum to at most the depth, and a side without a drop sends nothing.
 -- Assumes nothing.
 use mathlib.Core.Path.{_≡_, refl, sym, _∙_, ap}
 use mathlib.Core.Bool.{Bool, true, false, _||_}
 use mathlib.Core.List.{List, [], _∷_}
 use Prim.Native.Nat.{ℕ, zero, suc, _+_, _*_, _/_, _^_, _≤_, _<_, min}
-use native.Mathlib.Nat.{le-trans, mul-le-mul, mul-le-mul-left, mul-le-mul-right, div-le-self, div-mul-le-self, mul-add, add-mul, mul-zero, zero-mul, mul-comm, mul-assoc, mul-left-comm, mul-div-cancel, mul-div-mul-right, le-of-mul-le-mul-right, min-eq-left, min-eq-right, zero-div}
+use native.Mathlib.Nat.{le-trans, mul-le-mul, mul-le-mul-left, mul-le-mul-right, div-le-self, div-mul-le-self, mul-add, add-mul, mul-zero, zero-mul, mul-comm, mul-assoc, mul-left-comm, mul-div-cancel, mul-div-mul-right, le-of-mul-le-mul-right, min-eq-left, min-eq-right, le-div-iff-mul-le, zero-div}
 use native.Mathlib.Decide.{decLe, ℕ-discrete}
 use native.Mathlib.Omega.{arith}
 use lib.Dec.{eqb, leb}
@@ -13,10 +13,10 @@ use lib.ListN.{getD}
 use borrow.Author.Tests.{eq-eqb, ne-eqb, leb-true, leb-false, le-leb, lt-leb}
 use Rattle.reckon.specs.Tests.{pick}
 use Rattle.reckon.specs.Numbers.{heldPart}
-use Rattle.reckon.specs.Roots.{Root, Begun}
+use Rattle.reckon.specs.Roots.{Root}
 use Rattle.reckon.proofs.TestLaws.{pick-true, pick-false, pick-both, pick-ap}
 use Rattle.reckon.proofs.QuotientLaws.{div-mono, le-scaled}
-use Rattle.reckon.proofs.RootLaws.{square, root-is, root-right, root-le, root-over, root-least, root-most, begun-below}
+use Rattle.reckon.proofs.RootLaws.{square, root-is, root-right, root-le, root-over, root-least, root-most}
 use Rattle.reckon.specs.Ranges.{mostDepth}
 use Rattle.rule.specs.Weighing.{lesserPositive, leastDrop, greatestDrop, dropSum, heightOf, slopeOf, criticalSpeed, manningSpeed, speedOf, mostThrough, totalOf, throughSides, nothingUnless, directedEdition, unlimitedEdition, weightedSides, directedAmount, directedAmounts, fourOf, scaledTo, directedSides, unlimitedTotal, unlimitedSides, weighed}
 use Rattle.rule.specs.inner.Totals.{speedBy, mostBy, limitOf, totalWith, totalBy, halfOf}
@@ -33,10 +33,10 @@ pub height-le : {d : ℕ} → d ≤ mostDepth → heightOf d ≤ 215443
 unfolding heightOf
 height-le {d} h = root-le 215443 (root-right 3 (d * d) (omega arith) (omega (arith, mul-le-mul h h))) (omega (arith, mul-le-mul h h))
 
--- what is begun of it is at most the whole
-pub height-begun : {d r : ℕ} → d ≤ mostDepth → Begun 3 (d * d) 100 r → r ≤ heightOf d
+-- a number whose cube is at most the depth's square is at most the height
+pub height-low : {d : ℕ} (b : ℕ) → d ≤ mostDepth → b ^ 3 ≤ d * d → b ≤ heightOf d
 unfolding heightOf
-height-begun {d} h b = begun-below b (root-right 3 (d * d) (omega arith) (omega (arith, mul-le-mul h h)))
+height-low {d} b h low = root-least b (root-right 3 (d * d) (omega arith) (omega (arith, mul-le-mul h h))) low
 
 -- water has a height
 pub height-pos : {d : ℕ} → d ≤ mostDepth → 0 < d → 0 < heightOf d
@@ -54,6 +54,9 @@ slope-root r {drop} h = root-right 2 _ (omega arith) (omega (arith, div-le-self 
 pub slope-le : (r : Rules) {drop : ℕ} → drop ≤ mostDrop → slopeOf r drop ≤ mostSlope
 slope-le r {drop} h = root-le mostSlope (slope-root r h) (omega (arith, div-le-self (100 * drop) (r .«square_side»)))
 
+pub slope-low : (r : Rules) {drop : ℕ} (b : ℕ) → drop ≤ mostDrop → b ^ 2 ≤ 100 * drop / r .«square_side» → b ≤ slopeOf r drop
+slope-low r b h low = root-least b (slope-root r h) low
+
 pub critical-is : {d s : ℕ} → d ≤ mostDepth → Root 2 (9810000 * d) s → s ≡ criticalSpeed d
 unfolding criticalSpeed
 critical-is h a = root-is (omega arith) (omega arith) a
@@ -65,7 +68,7 @@ critical-root h = root-right 2 _ (omega arith) (omega arith)
 critical-le : {d : ℕ} → d ≤ mostDepth → criticalSpeed d ≤ 31320919
 critical-le h = root-le 31320919 (critical-root h) (omega arith)
 
--- ---- the speed by a height and a slope, and that a greater height has no lesser one
+-- ---- the speed by a height and a slope, and that greater ones have no lesser speed
 
 pub speed-le : {d : ℕ} (h s k : ℕ) → d ≤ mostDepth → speedBy d h s k ≤ 31320919
 unfolding speedBy
@@ -87,9 +90,9 @@ module _ (d h s k : ℕ) {b : Bool} (deep : d ≤ mostDepth) (told : b ≡ leb (
       let high : criticalSpeed d ≤ v = root-most v (critical-root deep) (rw (square v) (leb-false _ _ (sym told ∙ e))) in
       omega (arith, high, ec)
 
-speed-mono : (d s k : ℕ) {h g : ℕ} → h ≤ g → speedBy d h s k ≤ speedBy d g s k
+speed-mono : (d k : ℕ) {h g s t : ℕ} → h ≤ g → s ≤ t → speedBy d h s k ≤ speedBy d g t k
 unfolding speedBy
-speed-mono d s k le = omega (arith, div-mono k (mul-le-mul-right s (mul-le-mul-left 100 le)))
+speed-mono d k high steep = omega (arith, div-mono k (mul-le-mul (mul-le-mul-left 100 high) steep))
 
 module _ (r : Rules) (d k ms : ℕ) where
   pub most-le : (h s : ℕ) → mostBy r d h s k ms ≤ d
@@ -100,14 +103,20 @@ module _ (r : Rules) (d k ms : ℕ) where
   unfolding mostBy heldPart
   most-made h s ev ex = ex ∙ rw ev
 
-  most-mono : (s : ℕ) {h g : ℕ} → h ≤ g → mostBy r d h s k ms ≤ mostBy r d g s k ms
+  most-mono : {h g s t : ℕ} → h ≤ g → s ≤ t → mostBy r d h s k ms ≤ mostBy r d g t k ms
   unfolding mostBy
-  most-mono s le = omega (arith, div-mono (r .«square_side» * 10 ^ 9) (mul-le-mul-right d (mul-le-mul-right ms (speed-mono d s k le))))
+  most-mono high steep =
+      omega (arith, div-mono (r .«square_side» * 10 ^ 9) (mul-le-mul-right d (mul-le-mul-right ms (speed-mono d k high steep))))
 
-  -- by the whole height it is the document's m, held to d
+  -- by the height and the slope themselves it is the document's m, held to d
   pub most-whole : (drop : ℕ) {h s x : ℕ} → h ≡ heightOf d → s ≡ slopeOf r drop → x ≡ mostBy r d h s k ms → x ≡ min d (mostThrough r d k ms drop)
   unfolding mostBy speedBy mostThrough speedOf manningSpeed
   most-whole drop eh es ex = ex ∙ rw (eh, es)
+
+  -- .. and by lesser ones no more
+  pub most-low :
+      (drop : ℕ) {h s x : ℕ} → h ≤ heightOf d → s ≤ slopeOf r drop → x ≡ mostBy r d h s k ms → x ≤ min d (mostThrough r d k ms drop)
+  most-low drop high steep ex = omega (arith, ex, most-mono high steep, most-whole drop refl refl refl)
 
 -- ---- m may be held to d first
 
@@ -179,28 +188,29 @@ module _ (r : Rules) (d p least : ℕ) where
   unfolding limitOf
   limit-other other e = e ∙ sym (pick-false _ _ (ne-eqb _ _ other))
 
+  pub limit-le : limitOf r d p least ≤ d
+  unfolding limitOf
+  limit-le = pick-both (λ (x : ℕ). x ≤ d) (eqb (r .edition) unlimitedEdition) (omega arith) (omega arith)
+
   limit-both : (x : ℕ) → min (limitOf r d p least) x ≡ pick (eqb (r .edition) unlimitedEdition) (min d x) (min d (min x (least + p)))
   unfolding limitOf
   limit-both x =
       pick-ap (λ (t : ℕ). min t x) (eqb (r .edition) unlimitedEdition) d (min d (least + p))
       ∙ ap (λ (t : ℕ). pick (eqb (r .edition) unlimitedEdition) (min d x) t) (omega arith)
 
--- the total's cases as the code has them: the limit, where what is begun of the height reaches it, and else by the whole height
-module _ (r : Rules) (d p k ms steepest least sum : ℕ) {limit s : ℕ} (el : limit ≡ limitOf r d p least) (es : s ≡ slopeOf r steepest) where
+-- the total's cases as the code has them: the limit, where a bound of the most from below reaches it, and else by the most itself
+module _ (r : Rules) (d p k ms steepest least sum : ℕ) {limit : ℕ} (el : limit ≡ limitOf r d p least) where
   pub total-early :
-      {h m x : ℕ} → h ≤ heightOf d → m ≡ mostBy r d h s k ms → x ≡ m * sum / steepest → limit ≤ x →
+      {m : ℕ} → 0 < steepest → m ≤ min d (mostThrough r d k ms steepest) → limit * steepest ≤ m * sum →
       limit ≡ totalWith r d p k ms steepest least sum
   unfolding totalWith
-  total-early {h} {m} {x} low em ex reached =
-      let whole : ℕ = min d (mostThrough r d k ms steepest) in
-      let more : m ≤ whole = omega (arith, em, most-mono r d k ms s low, most-whole r d k ms steepest refl es refl) in
-      omega (arith, el, ex, reached, div-mono steepest (mul-le-mul-right sum more))
+  total-early pos low reached = omega (arith, el, le-div-iff-mul-le pos .1 (le-trans reached (mul-le-mul-right sum low)))
 
   pub total-late :
-      {h m x all : ℕ} → h ≡ heightOf d → m ≡ mostBy r d h s k ms → x ≡ m * sum / steepest → all ≡ min limit x →
+      {h s m x all : ℕ} → h ≡ heightOf d → s ≡ slopeOf r steepest → m ≡ mostBy r d h s k ms → x ≡ m * sum / steepest → all ≡ min limit x →
       all ≡ totalWith r d p k ms steepest least sum
   unfolding totalWith
-  total-late eh em ex ea = ea ∙ rw (el, ex, most-whole r d k ms steepest eh es em)
+  total-late eh es em ex ea = ea ∙ rw (el, ex, most-whole r d k ms steepest eh es em)
 
 -- the document's total, by the parts as the code names them
 module _ (r : Rules) (d p k ms : ℕ) (v : List ℕ) where

@@ -1,11 +1,11 @@
 // The weighing: what leaves one square through its four sides.
+use crate::low_roots::low_cube_root;
+use crate::low_roots::low_square_root;
 use crate::rules::Rules;
 use reckon::numbers::greater;
 use reckon::numbers::lesser;
 use reckon::numbers::part;
-use reckon::roots::begun_cube_root;
 use reckon::roots::cube_root;
-use reckon::roots::ended_cube_root;
 use reckon::roots::square_root;
 ghost use mathlib.Core.Path.{_≡_};
 ghost use Prim.Native.Nat.{_*_, _/_, _<_, _≤_, min};
@@ -96,7 +96,7 @@ fn is_subcritical(depth: u64, speed: u64) -> bool
     speed * speed <= GRAVITY * depth
 }
 
-// The smaller of critical and Manning speed, µm/s, by a height that may be only begun and by a slope. In most squares it is Manning's, and
+// The smaller of critical and Manning speed, µm/s, by a height and a slope, or by bounds of them. In most squares it is Manning's, and
 // the critical root is not found.
 fn speed(depth: u64, high: u64, steep: u64, roughness: u64) -> u64
     requires { ⌜ (depth ≤ mostDepth) × (high ≤ heightOf depth) × (steep ≤ mostSlope) × (1 ≤ roughness) ⌝ }
@@ -148,8 +148,17 @@ fn by_speed(most: u64, sum: u64, steepest: u64) -> u64
     most * sum / steepest
 }
 
-// All that leaves. A greater height lets no less through: where the height that is begun already reaches the limit, its last two digits
-// are not found.
+// A bound from below on the most through a side, by a height and a slope that are surely no greater: no root is found.
+fn most_at_least(rules: Rules, depth: u64, roughness: u64, lasts: u64, drop: u64) -> u64
+    requires { ⌜ (SquareInRange rules depth roughness) × (drop ≤ mostDrop) × (lasts ≤ mostLength) ⌝ }
+    ensures { λ r. ⌜ r ≤ min depth (mostThrough rules depth roughness lasts drop) ⌝ }
+{
+    let high = low_cube_root(depth * depth);
+    let steep = low_square_root(100 * drop / rules.square_side);
+    most_by(rules, depth, high, steep, roughness, lasts)
+}
+
+// All that leaves. Where the bound already reaches the limit, no root is found.
 fn total(
     rules: Rules,
     depth: u64,
@@ -164,15 +173,12 @@ fn total(
     ensures { λ r. ⌜ r ≡ totalWith rules depth last roughness lasts steepest least sum ⌝ }
 {
     let limit = limit(rules, depth, last, least);
-    let steep = slope(rules, steepest);
-    let square = depth * depth;
-    let begun = begun_cube_root(square);
-    let at_least = most_by(rules, depth, begun, steep, roughness, lasts);
-    if limit <= by_speed(at_least, sum, steepest) {
+    let at_least = most_at_least(rules, depth, roughness, lasts, steepest);
+    if limit * steepest <= at_least * sum {
         return limit;
     }
-    let high = ended_cube_root(square, begun);
-    let most = most_by(rules, depth, high, steep, roughness, lasts);
+    let steep = slope(rules, steepest);
+    let most = most_by(rules, depth, height(depth), steep, roughness, lasts);
     lesser(limit, by_speed(most, sum, steepest))
 }
 

@@ -8,7 +8,7 @@ use native.Mathlib.Decide.{decLe, ℕ-discrete}
 use native.Mathlib.Omega.{arith}
 use lib.Dec.{leb}
 use lib.ListN.{length, getD, set, length-set}
-use lib.Seq.{getD-set-same, getD-set-other}
+use lib.Seq.{getD-set-same, getD-set-other, set-getD}
 use borrow.Author.Tests.{le-leb, lt-leb, leb-true, leb-false, eqb-true, not-false, not-true}
 use Rattle.reckon.specs.Tests.{pick, allBelow}
 use Rattle.reckon.specs.Lists.{filled}
@@ -29,7 +29,7 @@ use Rattle.ledger.specs.Flows.{shut, gone, sent, came}
 use Rattle.ledger.specs.Record.{leavesIn}
 use Rattle.ledger.specs.After.{remains, newDepth, depthsFit}
 use Rattle.ledger.specs.inner.Walks.{sends}
-use Rattle.settling.specs.inner.Settle.{movesIn, depthBy, depthsBy, SentBy, WalkTells, RoomDepths, reachedRow, reachedAt, NoneBeyond, fitsAt, Written, skipsIn, skipsBy, workedRow}
+use Rattle.settling.specs.inner.Settle.{movesIn, depthBy, depthsBy, SentBy, WalkTells, RoomDepths, reachedRow, reachedAt, NoneBeyond, SameBeyond, fitsAt, Written, skipsIn, skipsBy}
 use Rattle.ledger.proofs.FlowLaws.{four-sides}
 use Rattle.settling.proofs.SpreadLaws.{side-part}
 
@@ -89,7 +89,7 @@ module _ {p : Plan} {rec depths lasts left worked senders : List ℕ} (t : WalkT
     dry-before : getD depths i 0 ≡ 0
     dry-before = t .idle i h idle-there o .dry
 
-    pub dry-after : depthBy p rec depths i ≡ 0
+    dry-after : depthBy p rec depths i ≡ 0
     unfolding newDepth remains
     dry-after =
         let idle = t .idle i h idle-there o in
@@ -97,6 +97,9 @@ module _ {p : Plan} {rec depths lasts left worked senders : List ℕ} (t : WalkT
 
   pub room-beyond : {room : List ℕ} → RoomDepths p rec depths room → NoneBeyond p worked senders room
   room-beyond r i h c o = r .are i h o ∙ dry-after h c o
+
+  pub same-beyond : {room : List ℕ} → RoomDepths p rec depths room → SameBeyond p worked senders depths room
+  same-beyond r i h c o = dry-before h c o ∙ sym (room-beyond r i h c o)
 
 -- ---- whether all fit
 
@@ -135,6 +138,15 @@ fits-are {p} {rec} {depths} {room} r = all-ext (squares (p .shape)) _ _ (λ i h.
 
 -- ---- written from one square up to another
 
+-- a store of the number that stands there, or of another
+pub store-chosen :
+    (l : List ℕ) (i v : ℕ) {b c : Bool} {x : ℕ} → x ≡ pick b (getD l i 0) v → b ≡ c → set l i x ≡ pick c l (set l i v)
+store-chosen l i v {b} {c} {x} e q = go c refl
+  where
+    go : (d : Bool) → c ≡ d → set l i x ≡ pick c l (set l i v)
+    go true z = ap (set l i) (e ∙ pick-true _ _ (q ∙ z)) ∙ (set-getD l i 0 ∙ sym (pick-true _ _ z))
+    go false z = ap (set l i) (e ∙ pick-false _ _ (q ∙ z)) ∙ sym (pick-false _ _ z)
+
 module _ {skips : ℕ → Bool} {amount : ℕ → ℕ} where
   -- one square: the amount is stored, unless it is skipped
   pub one-written :
@@ -164,10 +176,14 @@ module _ {skips : ℕ → Bool} {amount : ℕ → ℕ} where
           other stored k f (yes z) = not-both (subst (λ (j : ℕ). skips j ≡ true) z (f (omega arith) (omega arith))) c
           other stored k f (no z) = ap (λ (l : List ℕ). getD l k 0) stored ∙ getD-set-other old i k v 0 z
 
-  -- none, where all are skipped
+  -- none, where those that are not skipped have their amounts, or all are skipped
+  pub right-written :
+      {from to : ℕ} {old : List ℕ} → ((i : ℕ) → from ≤ i → i < to → skips i ≡ false → getD old i 0 ≡ amount i) → Written skips amount from to old old
+  right-written f = record { long = refl; written = f; kept = λ i g. refl }
+
   pub skip-written :
       {from to : ℕ} {old : List ℕ} → ((i : ℕ) → from ≤ i → i < to → skips i ≡ true) → Written skips amount from to old old
-  skip-written f = record { long = refl; written = λ i x y o. not-both (f i x y) o; kept = λ i g. refl }
+  skip-written f = right-written (λ i x y o. not-both (f i x y) o)
 
   -- between the same squares, said otherwise
   pub same-written :
@@ -245,16 +261,16 @@ module _ (marks : List ℕ) (first mask column : ℕ) where
 
 -- by its own mask a row's squares are skipped as by those of all rows
 pub skips-row :
-    (p : Plan) (row : ℕ) {first : ℕ} → first ≡ row * p .shape .columns → (masks : ℕ → ℕ) {mask : ℕ} → mask ≡ masks row →
-    (i : ℕ) → first ≤ i → i < first + p .shape .columns → skipsIn (p .marks) first mask i ≡ skipsBy p masks i
-unfolding skipsIn skipsBy
-skips-row p row {first} e masks q i a b =
+    (p : Plan) (row : ℕ) {first : ℕ} → first ≡ row * p .shape .columns → (rows : List ℕ) {mask : ℕ} → mask ≡ getD rows row 0 →
+    (i : ℕ) → first ≤ i → i < first + p .shape .columns → skipsIn (p .marks) first mask i ≡ skipsBy p rows i
+unfolding skipsIn skipsBy bitOf
+skips-row p row {first} e rows q i a b =
     let s = p .shape in
     let at : first + (i - first) ≡ i = omega arith in
     ap (λ (c : Bool). shut p i || not c)
     (ap (λ (x : ℕ). bitAt x (i - first)) q
-    ∙ (sym (bit-in-row s row e masks (let l : i - first < s .columns = omega arith in l))
-    ∙ ap (λ (k : ℕ). bitAt (masks (k / s .columns)) (k % s .columns)) at))
+    ∙ (sym (bit-in-row s row e (λ r. getD rows r 0) (let l : i - first < s .columns = omega arith in l))
+    ∙ ap (λ (k : ℕ). bitAt (getD rows (k / s .columns) 0) (k % s .columns)) at))
 
 -- ---- the water after a step
 
@@ -263,9 +279,9 @@ or-left a b e = rw e
 
 module _ {p : Plan} {rec depths lasts left worked senders : List ℕ} (t : WalkTells p rec depths lasts left worked senders) where
   pub lasts-written :
-      {new : List ℕ} → Written (skipsBy p (workedRow worked)) (λ i. getD left i 0) 0 (squares (p .shape)) lasts new →
+      {new : List ℕ} → Written (skipsBy p worked) (λ i. getD left i 0) 0 (squares (p .shape)) lasts new →
       new ≡ filled (squares (p .shape)) (shut p) (gone (leavesIn rec)) lasts
-  unfolding skipsBy bitOf
+  unfolding skipsBy
   lasts-written w =
       all-written w (λ i h z. or-left (shut p i) (not (bitOf (p .shape) worked i)) z)
       (λ i h o z. t .left-is i h (not-false _ (rw o at z)) o)
@@ -273,13 +289,7 @@ module _ {p : Plan} {rec depths lasts left worked senders : List ℕ} (t : WalkT
       let clear : bitOf (p .shape) worked i ≡ false = not-true _ (rw o at z) in
       t .still i h clear o ∙ sym (t .idle i h clear o .quiet))
 
-  module _ (f : ShapeInRange (p .shape)) (l : length (p .marks) ≡ squares (p .shape)) where
-    pub depths-written :
-        {room new : List ℕ} → RoomDepths p rec depths room →
-        Written (skipsBy p (reachedRow worked senders)) (λ i. getD room i 0) 0 (squares (p .shape)) depths new → new ≡ depthsBy p rec depths
-    unfolding skipsBy reachedAt
-    depths-written r w =
-        all-written w (λ i h z. or-left (shut p i) (not (reachedAt (p .shape) worked senders i)) z) (λ i h o z. r .are i h o)
-        (λ i h o z.
-        let clear : reachedAt (p .shape) worked senders i ≡ false = not-true _ (rw o at z) in
-        dry-before t f l h clear o ∙ sym (dry-after t f l h clear o))
+pub depths-written :
+    {p : Plan} {rec depths room new : List ℕ} → RoomDepths p rec depths room →
+    Written (shut p) (λ i. getD room i 0) 0 (squares (p .shape)) depths new → new ≡ depthsBy p rec depths
+depths-written r w = all-written w (λ i h z. z) (λ i h o z. r .are i h o) (λ i h o z. not-both z o)

@@ -3,7 +3,7 @@
 use mathlib.Core.Path.{_≡_, refl, sym, ap, _∙_, subst}
 use mathlib.Core.Bool.{Bool, true, false}
 use mathlib.Core.List.{List}
-use Prim.Native.Nat.{ℕ, zero, suc, _+_, _-_, _*_, _≤_, _<_}
+use Prim.Native.Nat.{ℕ, zero, suc, _+_, _-_, _*_, _%_, _^_, _≤_, _<_}
 use native.Mathlib.Decide.{decLt, ℕ-discrete}
 use native.Mathlib.Omega.{arith}
 use lib.Dec.{eqb, ltb}
@@ -253,30 +253,30 @@ module _ {p : Plan} {rec depths : List ℕ} (g : Spreads p rec depths) where
 -- ---- sent to a neighbour
 
 module _ (p : Plan) (rec : List ℕ) (n side : ℕ) where
-  -- one that is on the grid
+  -- one that is on the grid, where a square not closed has space for it
   pub brought :
       {at amount : ℕ} {old new : List ℕ} → at ≡ beside (p .shape) n side → at < length old → amount ≡ leavesIn rec n side →
-      new ≡ pick (shut p at) old (set old at (getD old at 0 + amount)) → Grown p (brings p rec n side) old new
+      (shut p at ≡ false → getD old at 0 + amount < 2 ^ 32) → new ≡ set old at ((getD old at 0 + amount) % 2 ^ 32) → Grown p (brings p rec n side) old new
   unfolding brings
-  brought {at} {amount} {old} {new} e h q w =
-      record { long = ap length w ∙ pick-both (λ (l : List ℕ). length l ≡ length old) (shut p at) refl (length-set old at _); grown = λ i k o. go i k o (ℕ-discrete i at) }
+  brought {at} {amount} {old} {new} e h q fits w =
+      record { long = ap length w ∙ length-set old at _; grown = λ i k o. go i k o (ℕ-discrete i at) }
     where
       v : ℕ
-      v = getD old at 0 + amount
+      v = (getD old at 0 + amount) % 2 ^ 32
 
       go :
           (i : ℕ) → i < squares (p .shape) → shut p i ≡ false → Dec (i ≡ at) →
           getD new i 0 ≡ getD old i 0 + pick (eqb (beside (p .shape) n side) i) (leavesIn rec n side) 0
       go i k o (yes z) =
           let here : getD new i 0 ≡ v =
-          ap (λ (l : List ℕ). getD l i 0) (w ∙ pick-false _ _ (subst (λ (j : ℕ). shut p j ≡ false) z o))
-          ∙ subst (λ (j : ℕ). getD (set old at v) j 0 ≡ v) (sym z) (getD-set-same old at v 0 h) in
+          ap (λ (l : List ℕ). getD l i 0) w ∙ subst (λ (j : ℕ). getD (set old at v) j 0 ≡ v) (sym z) (getD-set-same old at v 0 h) in
+          let whole : v ≡ getD old at 0 + amount = omega (arith, fits (subst (λ (j : ℕ). shut p j ≡ false) z o)) in
           here
+          ∙ (whole
           ∙ (ap (λ (j : ℕ). getD old j 0 + amount) (sym z)
-          ∙ ap (λ (k : ℕ). getD old i 0 + k) (q ∙ sym (pick-true _ _ (eq-eqb (beside (p .shape) n side) i (sym e ∙ sym z)))))
+          ∙ ap (λ (k : ℕ). getD old i 0 + k) (q ∙ sym (pick-true _ _ (eq-eqb (beside (p .shape) n side) i (sym e ∙ sym z))))))
       go i k o (no z) =
-          let other : getD new i 0 ≡ getD old i 0 =
-          ap (λ (l : List ℕ). getD l i 0) w ∙ pick-both (λ (l : List ℕ). getD l i 0 ≡ getD old i 0) (shut p at) refl (getD-set-other old at i v 0 z) in
+          let other : getD new i 0 ≡ getD old i 0 = ap (λ (l : List ℕ). getD l i 0) w ∙ getD-set-other old at i v 0 z in
           omega (arith, other, pick-false (leavesIn rec n side) 0 (ne-eqb (beside (p .shape) n side) i (λ y. z (sym y ∙ sym e))))
 
   -- one that is not: nothing is brought

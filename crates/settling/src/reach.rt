@@ -9,12 +9,14 @@ ghost use Rattle.grid.specs.Squares.{ShapeInRange, squares};
 ghost use Rattle.grid.specs.Marks.{closed};
 ghost use Rattle.grid.specs.inner.Rows.{InRow};
 ghost use Rattle.ledger.specs.Runs.{plan};
-ghost use Rattle.settling.specs.inner.Settle.{NoneBeyond, WhereClear, Written, fitsAt, reachedRow, skipsBy, skipsIn, workedRow};
+ghost use Rattle.ledger.specs.Flows.{shut};
+ghost use Rattle.settling.specs.inner.Settle.{NoneBeyond, SameBeyond, WhereClear, Written, fitsAt, reachedRow, skipsBy, skipsIn};
 use grid::marks::is_closed;
 use grid::squares::Shape;
 use grid::walks::beside_set;
-use grid::walks::next_after;
-use grid::walks::next_within;
+use grid::walks::lowest_set;
+use grid::walks::within_row;
+use grid::walks::without_lowest;
 use reckon::ranges::MOST_DEPTH;
 
 // The columns of a row that are reached.
@@ -45,12 +47,13 @@ fn row_fits(shape: Shape, marks: &[u8], first: usize, reached: u64, room: &[u32]
     ensures { λ r. ⌜ r ≡ allBelow (first + shape .columns) (fitsAt (now (marks .entry)) (now (room .entry))) ⌝ }
 {
     let columns = shape.columns;
-    let mut column = next_within(reached, 0, columns);
-    while column < columns {
+    let mut rest = within_row(reached, columns);
+    while rest != 0 {
+        let column = lowest_set(rest);
         if !fits(marks, room, first + column) {
             return false;
         }
-        column = next_after(reached, column, columns);
+        rest = without_lowest(rest);
     }
     true
 }
@@ -101,14 +104,52 @@ fn write_row(shape: Shape, marks: &[u8], from: &[u32], first: usize, mask: u64, 
     ensures { λ _. ⌜ Written (skipsIn (now (marks .entry)) first mask) (λ i. getD (now (from .entry)) i 0) first (first + shape .columns) (now (list .entry)) (now (list .exit)) ⌝ }
 {
     let columns = shape.columns;
-    let mut column = next_within(mask, 0, columns);
-    while column < columns {
+    let mut rest = within_row(mask, columns);
+    while rest != 0 {
+        let column = lowest_set(rest);
         write_one(marks, from, first + column, list);
-        column = next_after(mask, column, columns);
+        rest = without_lowest(rest);
     }
 }
 
-// Writes what left the squares that were worked as their last leaving, and the new depths of the squares that are reached, row by row.
+// The old number where a square is closed, else the new one.
+fn chosen(closed: bool, old: u32, new: u32) -> u32
+    ensures { λ r. ⌜ r ≡ pick closed old new ⌝ }
+{
+    if closed {
+        return old;
+    }
+    new
+}
+
+// The same as `write_one` with a store at a closed square too, of what stands there: so a row is written many squares at a time.
+fn cover_one(marks: &[u8], from: &[u32], square: usize, list: &mut [u32])
+    requires { ⌜ (square < length (now marks)) × (square < length (now from)) × (square < length (now list)) ⌝ }
+    ensures { λ _. ⌜ now (list .exit) ≡ pick (closed (now (marks .entry)) square) (now (list .entry)) (set (now (list .entry)) square (getD (now (from .entry)) square 0)) ⌝ }
+{
+    let old = list[square];
+    let new = from[square];
+    list[square] = chosen(is_closed(marks, square), old, new);
+}
+
+// Covers all columns of a row, if any is reached: the others have their numbers already.
+fn cover_row(shape: Shape, marks: &[u8], from: &[u32], first: usize, reached: u64, list: &mut [u32])
+    requires { ⌜ (ShapeInRange shape) × (InRow shape first) × (length (now marks) ≡ squares shape) × (length (now from) ≡ squares shape) × (length (now list) ≡ squares shape) ⌝ }
+    requires { ⌜ WhereClear shape first reached (λ i. closed (now marks) i ≡ false → getD (now list) i 0 ≡ getD (now from) i 0) ⌝ }
+    ensures { λ _. ⌜ Written (closed (now (marks .entry))) (λ i. getD (now (from .entry)) i 0) first (first + shape .columns) (now (list .entry)) (now (list .exit)) ⌝ }
+{
+    if reached == 0 {
+        return;
+    }
+    let columns = shape.columns;
+    let mut column = 0;
+    while column < columns {
+        cover_one(marks, from, first + column, list);
+        column += 1;
+    }
+}
+
+// Writes what left the squares that were worked as their last leaving, and the new depths of the rows that are reached, row by row.
 pub(crate) fn write_water(
     shape: Shape,
     marks: &[u8],
@@ -120,8 +161,8 @@ pub(crate) fn write_water(
     depths: &mut [u32],
 )
     requires { ⌜ (ShapeInRange shape) × (length (now marks) ≡ squares shape) × (length (now left) ≡ squares shape) × (length (now room) ≡ squares shape) × (length (now lasts) ≡ squares shape) × (length (now depths) ≡ squares shape) ⌝ }
-    requires { ⌜ (length (now worked) ≡ shape .rows) × (length (now senders) ≡ shape .rows) ⌝ }
-    ensures { λ _. ⌜ (Written (skipsBy (plan shape (now (marks .entry))) (workedRow (now (worked .entry)))) (λ i. getD (now (left .entry)) i 0) 0 (squares shape) (now (lasts .entry)) (now (lasts .exit))) × (Written (skipsBy (plan shape (now (marks .entry))) (reachedRow (now (worked .entry)) (now (senders .entry)))) (λ i. getD (now (room .entry)) i 0) 0 (squares shape) (now (depths .entry)) (now (depths .exit))) ⌝ }
+    requires { ⌜ (length (now worked) ≡ shape .rows) × (length (now senders) ≡ shape .rows) × (SameBeyond (plan shape (now marks)) (now worked) (now senders) (now depths) (now room)) ⌝ }
+    ensures { λ _. ⌜ (Written (skipsBy (plan shape (now (marks .entry))) (now (worked .entry))) (λ i. getD (now (left .entry)) i 0) 0 (squares shape) (now (lasts .entry)) (now (lasts .exit))) × (Written (shut (plan shape (now (marks .entry)))) (λ i. getD (now (room .entry)) i 0) 0 (squares shape) (now (depths .entry)) (now (depths .exit))) ⌝ }
 {
     let rows = shape.rows;
     let columns = shape.columns;
@@ -131,7 +172,7 @@ pub(crate) fn write_water(
         let columns_worked = worked[row];
         write_row(shape, marks, left, first, columns_worked, lasts);
         let columns_reached = reached(worked, senders, row);
-        write_row(shape, marks, room, first, columns_reached, depths);
+        cover_row(shape, marks, room, first, columns_reached, depths);
         row += 1;
         first += columns;
     }

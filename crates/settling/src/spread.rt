@@ -2,9 +2,8 @@
 // soaks is summed on the way. Only squares that the step has worked are looked at; each sends its amounts to its neighbours.
 ghost use mathlib.Core.Path.{_≡_};
 ghost use mathlib.Core.Bool.{false};
-ghost use Prim.Native.Nat.{_+_, _*_, _<_, _^_};
+ghost use Prim.Native.Nat.{_+_, _*_, _%_, _<_, _^_};
 ghost use lib.ListN.{getD, length, set};
-ghost use Rattle.reckon.specs.Tests.{pick};
 ghost use Rattle.reckon.specs.Ranges.{mostDepth};
 ghost use Rattle.grid.specs.Squares.{OnSquare, onRim, sides};
 ghost use Rattle.grid.specs.Marks.{closed};
@@ -22,11 +21,13 @@ use grid::squares::WEST;
 use grid::squares::beside_on;
 use grid::squares::on_rim;
 use grid::squares::squares_of;
-use grid::walks::next_after;
-use grid::walks::next_within;
+use grid::walks::lowest_set;
+use grid::walks::within_row;
+use grid::walks::without_lowest;
 use ledger::record::leaving;
 use ledger::record::soaked_by;
 use reckon::numbers::number;
+use std::num::wrapping_add_u32;
 
 // What leaves the grid, and what soaks.
 pub(crate) struct Lost {
@@ -34,15 +35,12 @@ pub(crate) struct Lost {
     pub(crate) soaked: u64,
 }
 
-// Adds an amount at a square, unless it is closed.
-fn send_to(marks: &[u8], square: usize, amount: u64, room: &mut [u32])
-    requires { ⌜ (square < length (now marks)) × (square < length (now room)) × (closed (now marks) square ≡ false → getD (now room) square 0 + amount < 2 ^ 32) ⌝ }
-    ensures { λ _. ⌜ now (room .exit) ≡ pick (closed (now (marks .entry)) square) (now (room .entry)) (set (now (room .entry)) square (getD (now (room .entry)) square 0 + amount)) ⌝ }
+// Adds an amount at a square of the room. No mark is looked at: what stands at a closed square decides nothing, and so it may wrap.
+fn send_to(square: usize, amount: u64, room: &mut [u32])
+    requires { ⌜ (square < length (now room)) × (amount < 2 ^ 32) ⌝ }
+    ensures { λ _. ⌜ now (room .exit) ≡ set (now (room .entry)) square ((getD (now (room .entry)) square 0 + amount) % 2 ^ 32) ⌝ }
 {
-    if is_closed(marks, square) {
-        return;
-    }
-    room[square] = (number(room, square) + amount) as u32;
+    room[square] = wrapping_add_u32(room[square], amount as u32);
 }
 
 // Sends what leaves a square through a side to the neighbour there; the answer is what leaves the grid.
@@ -64,7 +62,7 @@ fn send_side(
     if squares_of(shape) <= at {
         return amount;
     }
-    send_to(marks, at, amount, room);
+    send_to(at, amount, room);
     0
 }
 
@@ -102,10 +100,10 @@ fn send_within(
     ensures { λ _. ⌜ Grown (plan shape (now (marks .entry))) (bringsAll (plan shape (now (marks .entry))) (now (rec .entry)) square) (now (room .entry)) (now (room .exit)) ⌝ }
 {
     let columns = shape.columns;
-    send_to(marks, square - columns, leaving(rec, square, NORTH), room);
-    send_to(marks, square + 1, leaving(rec, square, EAST), room);
-    send_to(marks, square + columns, leaving(rec, square, SOUTH), room);
-    send_to(marks, square - 1, leaving(rec, square, WEST), room);
+    send_to(square - columns, leaving(rec, square, NORTH), room);
+    send_to(square + 1, leaving(rec, square, EAST), room);
+    send_to(square + columns, leaving(rec, square, SOUTH), room);
+    send_to(square - 1, leaving(rec, square, WEST), room);
 }
 
 // Sends what leaves a square that is not closed; the answer is what leaves the grid.
@@ -175,8 +173,9 @@ fn spread_row(
 {
     let columns = shape.columns;
     let mut lost = earlier;
-    let mut column = next_within(worked, 0, columns);
-    while column < columns {
+    let mut rest = within_row(worked, columns);
+    while rest != 0 {
+        let column = lowest_set(rest);
         lost = spread_one(
             shape,
             marks,
@@ -188,7 +187,7 @@ fn spread_row(
             lost,
             room,
         );
-        column = next_after(worked, column, columns);
+        rest = without_lowest(rest);
     }
     lost
 }

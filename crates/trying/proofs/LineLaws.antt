@@ -1,41 +1,37 @@
 -- Laws of a trial's lines: what a step that was made says of its table and of the ring, and what each line comes to.
 -- Assumes nothing.
-use mathlib.Core.Path.{_≡_, refl, sym, ap, ap₂, subst, _∙_}
+use mathlib.Core.Path.{_≡_, refl, sym, ap, subst, _∙_}
 use mathlib.Core.Bool.{Bool, true, false}
-use mathlib.Core.List.{List, [], _∷_}
-use Prim.Native.Nat.{ℕ, zero, suc, _+_, _-_, _*_, _/_, _%_, _≤_, _<_}
+use mathlib.Core.List.{List}
+use Prim.Native.Nat.{ℕ, zero, suc, _+_, _-_, _*_, _≤_, _<_}
 use native.Mathlib.Omega.{arith}
 use lib.Dec.{eqb, leb}
-use lib.ListN.{length, set, take, replicate, length-append, length-replicate}
+use lib.ListN.{length, take, replicate, length-append, length-replicate}
 use lib.Seq.{length-take-le}
 use borrow.Author.Tests.{eq-eqb, ne-eqb, le-leb, leb-true, lt-leb}
 use Rattle.reckon.specs.Tests.{pick, refusal, Row}
 use Rattle.reckon.specs.Ranges.{lastClock}
-use Rattle.reckon.specs.Lists.{sumBelow}
-use Rattle.reckon.specs.Tables.{inflowKind, tableRoom, rainAdded, inflowAdded}
+use Rattle.reckon.specs.Tables.{inflowKind, tableRoom}
 use Rattle.reckon.proofs.TestLaws.{pick-true, pick-false, every-each, refusal-passed}
 use Rattle.reckon.proofs.ListLaws.{sum-le}
 use Rattle.trials.specs.Ring.{slotAfter, slotAgo}
 use Rattle.trials.proofs.RingLaws.{fine-ring}
 use Rattle.grid.specs.Squares.{squares}
-use Rattle.rule.specs.declared.rules.Rules.{Rules}
-use Rattle.ledger.specs.Runs.{Plan, World, plan, world, seenOf, answered}
+use Rattle.ledger.specs.Runs.{Plan, World, seenOf}
 use Rattle.ledger.specs.Record.{roomSlots, ringOf}
 use Rattle.ledger.specs.Flows.{shut}
 use Rattle.ledger.specs.Account.{overOpen}
 use Rattle.ledger.specs.declared.runs.Run.{Run}
 use Rattle.ledger.specs.declared.runs.Answer.{Answer}
 use Rattle.ledger.specs.declared.runs.Answer.the-variants.{Done, Refused}
-use Rattle.checks.specs.Given.{Given, given, ground}
+use Rattle.checks.specs.Given.{Given, given}
 use Rattle.checks.specs.inner.Ready.{Ready}
 use Rattle.checks.proofs.CheckLaws.{ring-is, ready}
 use Rattle.adding.specs.Added.{addedFor}
 use Rattle.adding.specs.Account.{tablesGive}
 use Rattle.adding.specs.inner.Added.{Between, tables}
-use Rattle.account.specs.inner.Given.{GivenTo}
 use Rattle.account.proofs.GivenLaws.{given-open}
 use Rattle.flood.specs.Step.{stepNumber, stepped, Steps}
-use Rattle.flood.specs.Run.{Ended}
 use Rattle.flood.proofs.RunToLaws.{checks-passed, still-valid, clock-on}
 use Rattle.hatches.specs.Log.{Evening, evening, mostHatches, isNamed, hatchRows, tableWith, logWith, ratesKept, keptFine}
 use Rattle.text.specs.Writing.{Wrote}

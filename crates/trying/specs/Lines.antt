@@ -1,7 +1,6 @@
 -- A trial at the desk, line by line: what each line changes, and when it is refused. `hatch` and `back` are the hatch log's.
 -- Assumes nothing.
 use mathlib.Core.Path.{_≡_}
-use mathlib.Core.Bool.{Bool}
 use mathlib.Core.List.{List, [], _∷_}
 use Prim.Native.Nat.{ℕ, zero, suc, _+_, _-_, _≤_}
 use lib.Dec.{eqb, leb}
@@ -18,7 +17,7 @@ use Rattle.checks.specs.Given.{Given, given, ground}
 use Rattle.adding.specs.Account.{tablesGive}
 use Rattle.flood.specs.Step.{stepNumber, stepped}
 use Rattle.flood.specs.Run.{Ended}
-use Rattle.hatches.specs.Log.{Evening, mostHatches, isNamed, tableWith, lineFine, drawFine, standingFine, keptFine, hatchNamed, logWith, ratesKept}
+use Rattle.hatches.specs.Log.{Evening, mostHatches, isNamed, tableWith, lineFine, drawFine, standingFine, keptFine, hatchNamed, ratesKept}
 use Rattle.evenings.specs.Taking.{drawn, worldOf, further, lineBack, afterBack}
 use Rattle.hatches.specs.declared.lines.Entry.the-variants.{Hatch, Back}
 use Rattle.hatches.specs.declared.log.Log.{Log}

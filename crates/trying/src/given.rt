@@ -1,6 +1,6 @@
 // The water account of a trial: what the tables gave its standing steps, so that a take-back gives back what its steps were given.
 ghost use mathlib.Core.Path.{_≡_};
-ghost use Prim.Native.Nat.{_+_, _<_, _≤_};
+ghost use Prim.Native.Nat.{_+_, _<_};
 ghost use Rattle.trying.specs.Given.{AccountOpened, accountBack, accountWith, mostSlots};
 
 // As many steps are kept at most.

@@ -4,7 +4,7 @@
 
 const MOST_BOARDS = 16;
 const DASHES = ['', '7 3', '2 3', '9 3 2 3', '4 2', '1 3'];
-const NO_BOARDS = 'no boards yet: a click on a square puts one up';
+const NO_BOARDS = 'no boards yet: click a square, or Enter on the map';
 const PLOT = { left: 40, right: 20, top: 6, foot: 17 };
 const boardsKey = () => 'boards of ' + desk.ground.sheet;
 

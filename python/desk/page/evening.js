@@ -142,10 +142,11 @@ function takeChange(trial, part, from, marks) {
   if (part.again) {
     trial.frames.length = from + 1;
     const words = 'The standing steps were worked once more; the state is the same, bit for bit.';
-    trouble('The engine had ended and was started again.', words, { calm: true, lasting: 7000 });
+    trouble('The engine did not answer and was started again.', words, { calm: true, lasting: 7000 });
   }
   if (part.refused) {
-    trouble(`Refused, number ${part.refused}:`, `${refusalText(part.refused)}. What stood before that step stands.`, { lasting: 9000 });
+    const { number, words } = part.refused;
+    trouble(`Refused, number ${number}:`, `${words}. What stood before stands.`, { lasting: 12000 });
   }
   take(trial, part, marks);
   if (!part.now) return;

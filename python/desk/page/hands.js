@@ -131,6 +131,17 @@ function handle(id) {
 
 /* ---- what buttons and keys do */
 
+function hideTrouble() {
+  if (!desk.offline) $('trouble').hidden = true;
+}
+
+/* out of a field, away with a message, and back from looking back */
+function leave({ target }) {
+  target.blur();
+  hideTrouble();
+  if (here()) look(madeOf(here()));
+}
+
 const fortySteps = () => desk.playing ? look(desk.view) : makeSteps(40);
 const addMark = () => here() && change('mark', { name: `mark ${here().marks.length + 1}` });
 const allBack = () => here() && takeBack(madeOf(here()));
@@ -179,6 +190,17 @@ function showLayer(name) {
   draw();
 }
 
+/* what stands beside this trial */
+function showBeside(key) {
+  return inTurn(async () => {
+    desk.beside = key;
+    if (key) await fetchTrial(key);
+    draw();
+  });
+}
+
+const nextBeside = () => here() && showBeside(after(['', ...desk.order.filter(key => key !== desk.current)], desk.beside));
+
 const after = (list, one) => list[(list.indexOf(one) + 1) % list.length];
 const nextLayer = () => here() && showLayer(after(LAYER_NAMES, desk.layer));
 
@@ -210,10 +232,11 @@ function askForTrial() {
   });
 }
 
-const rename = () => askForName('Another name', here().name, false, name => change('name', { name }));
+const rename = () => here() && askForName('Another name', here().name, false, name => change('name', { name }));
 
 function askToDrop() {
   const key = desk.current;
+  if (!here()) return;
   $('sure').onclose = () => {
     if ($('sure').returnValue !== 'yes') return;
     inTurn(async () => {
@@ -241,9 +264,10 @@ const CLICKS = {
 };
 const KEYS = {
   ' ': fortySteps, ArrowRight: () => makeSteps(1), ArrowLeft: event => takeBack(event.shiftKey ? 40 : 1), Home: allBack, u: goToNext,
-  m: addMark, b: backToMark, ',': () => look(desk.view - 1), '.': () => look(desk.view + 1), Escape: () => here() && look(madeOf(here())),
+  m: addMark, b: backToMark, ',': () => look(desk.view - 1), '.': () => look(desk.view + 1), Escape: leave,
   l: nextLayer, a: toggleArrows, f: toggleFigures, g: toggleGrey,
-  t: () => showPanel(after(PANELS, desk.panel)), n: askForTrial, s: saveLog, p: () => print(), '?': () => $('keys').showModal(),
+  t: () => showPanel(after(PANELS, desk.panel)), n: askForTrial, r: rename, d: askToDrop, v: nextBeside,
+  s: saveLog, p: () => print(), '?': () => $('keys').showModal(),
 };
 const OF_A_SLIDER = ['ArrowLeft', 'ArrowRight', 'ArrowUp', 'ArrowDown', 'Home', 'End', 'PageUp', 'PageDown'];
 const IN_A_TRIAL = [' ', 'u', 'm', 'b', ',', '.', 'a'];
@@ -300,13 +324,9 @@ async function begin() {
 for (const [id, does] of Object.entries(CLICKS)) $(id).onclick = does;
 for (const id of ['left', 'right']) handle(id);
 $('layer').onchange = event => showLayer(event.target.value);
-$('beside').onchange = event => inTurn(async () => {
-  desk.beside = event.target.value;
-  if (desk.beside) await fetchTrial(desk.beside);
-  draw();
-});
+$('beside').onchange = event => showBeside(event.target.value);
 $('scrub').oninput = event => look(+event.target.value);
-$('trouble').onclick = () => { if (!desk.offline) $('trouble').hidden = true; };
+$('trouble').onclick = hideTrouble;
 document.onkeydown = onKey;
 addEventListener('resize', draw);
 setInterval(() => { if (!desk.inLine && !desk.playing && !document.hidden) inTurn(() => lookAround().catch(() => {})); }, 2000);

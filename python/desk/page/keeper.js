@@ -4,13 +4,17 @@
 function showKeeper(trial) {
   const box = $('keeper'), { season } = desk.told;
   box.hidden = !!trial;
-  if (!trial) refill(box, JSON.stringify(season), ...(season.run ? runParts(season) : noRunParts()));
+  if (!trial) refill(box, JSON.stringify(season), ...(season.run ? runParts(season) : noRunParts(season)));
 }
 
 const runCommand = () => make('code', { textContent: `bin/season ${desk.ground.name}` });
 
-function noRunParts() {
-  return [make('h2', { textContent: 'The keeper’s run' }), make('p', {}, 'It has not begun: ', runCommand(), ' starts it.')];
+function noRunParts({ begun }) {
+  const said = begun
+    ? ['The file ', make('code', { textContent: 'stand' }), ' in the season’s folder is damaged, or of another sheet. A trial begins at the sheet’s own start. ',
+      'Tell the keeper.']
+    : ['It has not begun: ', runCommand(), ' starts it.'];
+  return [make('h2', { textContent: 'The keeper’s run' }), make('p', {}, ...said)];
 }
 
 function runParts({ run, files, same, opened }) {
@@ -21,8 +25,8 @@ function runParts({ run, files, same, opened }) {
   const untouched = `✓ All are as they were when the desk was opened at ${opened}.`;
   const moved = `They changed since ${opened}: the keeper’s own run writes here.`;
   return [
-    make('h2', {}, 'The keeper’s run ', make('small', { textContent: run.how })), progressBar(run),
-    line('clock ', bold(clockText(run.clock)), ` of ${clockText(run.end)} · step `, bold(group(run.steps)), pace),
+    make('h2', {}, 'The keeper’s run ', make('small', { textContent: run.how })), progressBar(run), ...(run.why ? [line(bold(run.why))] : []),
+    line('clock ', bold(clockText(run.clock)), ` of ${longClock(run.end)} · step `, bold(group(run.steps)), pace),
     line(...(run.most === null ? ['How many steps the whole run needs cannot be told before.'] : bounds)),
     make('table', {}, ...Object.entries(files).map(fileRow)),
     line(`${same ? untouched : moved} Saved ${run.saved}.`),

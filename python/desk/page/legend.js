@@ -45,7 +45,7 @@ function showLegend(picture) {
     entry(SIGNS.contour, `contour, ${desk.ground.gap / 10000} cm`),
     desk.figuresOn ? entry('<span>25</span>', desk.layer === 'wet' ? 'minutes' : 'cm; .5 is 5 mm') : '',
     desk.arrows ? entry(SIGNS.flow, 'flow') : '',
-    desk.cautions && desk.cautions.standing.length ? entry(SIGNS.stands, 'stands') : '',
+    desk.cautions && desk.cautions.standing.length ? entry(SIGNS.stands, 'held by the rule') : '',
     picture.slips && desk.ground.odd.length ? entry(SIGNS.slip, 'likely a slip') : '',
   ];
   $('legend').innerHTML = `<h3>${layer.title}</h3><div class="classes">${shades.join('')}</div>`
@@ -62,9 +62,9 @@ function nowWords(frame) {
 }
 
 function standingWords(standing) {
-  if (!standing.length) return 'no square stands';
+  if (!standing.length) return 'no water is held by the rule alone';
   const steep = standing.filter(([, , isSteep]) => isSteep).length;
-  return `<b>${plural(standing.length, 'square')}</b> stand, ${steep} steep (filled): held by the rule, not the ground`;
+  return `in <b>${plural(standing.length, 'square')}</b> the rule holds the water, not the ground; ${steep} steep (filled)`;
 }
 
 /* too little flows on where steps are held at the shortest, and what is shown misleads */
@@ -73,8 +73,8 @@ function showHeld(trial) {
   box.hidden = !held;
   if (!held) return;
   const wanted = desk.cautions && desk.cautions.wanted;
-  box.textContent = `⚠ held at the shortest, ${desk.ground.run.shortest} ms, in ${group(held)} of ${plural(desk.view, 'step')}`
-    + `${wanted ? `; the water asks for ${wanted}` : ''}: too little flows`;
+  box.textContent = `⚠ misleads: too little flows, ${group(held)} of ${plural(desk.view, 'step')} held at the shortest, ${group(desk.ground.run.shortest)} ms`
+    + `${wanted ? `; the water asks for ${wanted} ms` : ''}`;
   box.title = 'Too little water flows on, and what is shown misleads: the sheet wants a shorter shortest step';
 }
 

@@ -2,6 +2,8 @@
 /* The panels: tabs, banner, hatches, the table of trials and likely slips. */
 
 const titleOf = key => `${key} · ${desk.trials[key].name}`;
+/* so that the banner's sentence is never cut */
+const shortName = name => name.length > 24 ? name.slice(0, 23) + '…' : name;
 const bold = text => make('b', { textContent: text });
 
 function showTabs() {
@@ -31,9 +33,9 @@ function showBanner(trial) {
 function showTrialBanner(box, trial) {
   const made = madeOf(trial), frame = frameInView(trial), isPast = desk.view < made && !desk.playing;
   box.className = isPast ? 'past' : '';
-  const name = make('span', { id: 'trial-name', textContent: `“${trial.name}”` });
-  const past = [bold('Looking back'), ` at step ${desk.view}, clock ${clockText(frame.clock)}. The trial still stands at step ${made}.`];
-  const steps = [bold(`${desk.playing ? desk.view : made}`), ' steps, clock ', bold(clockText(frame.clock))];
+  const name = make('span', { id: 'trial-name', textContent: `“${shortName(trial.name)}”`, title: trial.name });
+  const past = [bold('Looking back'), ` at step ${desk.view}, clock ${longClock(frame.clock)}. The trial still stands at step ${made}.`];
+  const steps = [bold(plural(desk.playing ? desk.view : made, 'step')), ', clock ', bold(longClock(frame.clock))];
   const present = [bold(`Trial ${desk.current}`), ', ', name, ': ', ...steps, '. Nothing here is in the season.'];
   const words = desk.said ? [bold(desk.said)] : isPast ? past : present;
   const water = make('code', { id: 'water', textContent: desk.view === made && trial.water ? 'water ' + trial.water.slice(0, 12) : '' });
@@ -41,26 +43,25 @@ function showTrialBanner(box, trial) {
   const ways = isPast ? [
     make('button', { id: 'take-here', textContent: 'Take back to here', onclick: () => takeBack(made - desk.view) }),
     make('button', { id: 'return', textContent: 'Return', onclick: () => look(made) }),
-  ] : [make('button', { id: 'rename', textContent: 'Name', title: 'Give this trial another name', onclick: rename })];
+  ] : [make('button', { id: 'rename', textContent: 'Rename', title: 'Give this trial another name, key R', onclick: rename })];
   const said = make('span', {}, ...words);
   refill(box, `${desk.current} ${said.textContent} ${water.textContent} ${made}`, said, make('span', { className: 'grow' }), water, ...ways);
 }
 
 function showSeasonBanner(box) {
   box.className = 'season';
-  const when = desk.season ? [', clock ', bold(clockText(desk.season.clock)), `, step ${group(desk.season.steps)}`] : [];
+  const when = desk.season ? [', clock ', bold(longClock(desk.season.clock)), `, step ${group(desk.season.steps)}`] : [];
   const begin = make('button', { id: 'begin', className: 'main', textContent: 'Begin a trial from here', onclick: askForTrial });
   const said = make('span', {}, bold('The season'), ...when, '. Read only: nothing on this desk writes here.');
   refill(box, said.textContent, said, make('span', { className: 'grow' }), begin);
 }
 
 function showSeason() {
-  const { same, run, opened } = desk.told.season, isRunning = run && run.how === 'running', box = $('season');
+  const { same, run, opened, begun } = desk.told.season, isRunning = run && run.how === 'running', box = $('season');
   box.className = same || isRunning ? '' : 'moved';
   const moved = isRunning ? `the keeper’s run, seen ${run.saved.slice(11)}` : 'moved on by the keeper';
   const since = same ? [bold('✓ untouched'), ` since ${opened}`] : [moved];
-  const name = run && make('code', { id: 'season-name', textContent: run.state.slice(0, 12) });
-  const where = run ? ['Season at ', bold(clockText(run.clock)), ' · ', name, ' · '] : ['The season’s run has not begun · '];
+  const where = run ? ['Season at ', bold(longClock(run.clock)), ' · '] : [begun ? '⚠ The season’s saved state cannot be used · ' : 'The season’s run has not begun · '];
   const said = make('span', {}, ...where, ...since);
   refill(box, said.textContent, said);
 }
@@ -100,10 +101,18 @@ function hatchRow(number) {
     }),
     make('input', {
       type: 'number', id: 'rate' + number, min: 0, max: 100000, ariaLabel: `${name}, exact litres a second`,
-      onfocus: event => event.target.select(), onchange: event => send(event.target.value),
+      onfocus: event => event.target.select(), onchange: event => send(event.target.value), onkeydown: event => leaveRate(event, number),
     }),
     make('span', { className: 'was', id: 'was' + number }),
   ];
+}
+
+/* Enter sends a typed rate and Escape forgets it; both go on to the slider, where Space makes steps */
+function leaveRate(event, number) {
+  if (event.key === 'Escape') event.target.value = here().rates[number - 1];
+  if (event.key !== 'Enter' && event.key !== 'Escape') return;
+  event.stopPropagation();
+  $('slide' + number).focus();
 }
 
 function showRate(number, rate, before, isShut) {

@@ -18,7 +18,7 @@ function ratesText(rates) {
 function paperTitle(trial, frame) {
   const { name } = desk.ground;
   const title = trial ? `Trial ${desk.current}, “${trial.name}”, of “${name}”` : `The season “${name}”`;
-  return `${title}: ${clockText(frame.clock)}, ${trial ? `${plural(desk.view, 'step')} past the season` : `step ${group(frame.steps)}`}`;
+  return `${title}: clock ${longClock(frame.clock)}, ${trial ? `${plural(desk.view, 'step')} past the season` : `step ${group(frame.steps)}`}`;
 }
 
 function showPaperHead(trial, frame) {

@@ -64,7 +64,7 @@ function* flags(x, trial, width) {
 
 function showStands(trial, made, kept) {
   const room = trial.frames[0].room, left = room - kept, box = $('stands');
-  const counts = `<b>${group(made)}</b> steps stand, <b>${group(kept)}</b> can go back at once`;
+  const counts = `<b>${plural(made, 'step')}</b> ${made === 1 ? 'stands' : 'stand'}, <b>${group(kept)}</b> can go back at once`;
   const older = made > kept ? `; ⚠ the ${group(made - kept)} hatched ones were forgotten and are worked again` : '';
   const when = left ? plural(left, 'more step') : 'the next step';
   const soon = made <= kept && left < 40 ? `; ⚠ after ${when} the oldest is forgotten, and can only be worked again` : '';

@@ -77,7 +77,7 @@ async function* partsOf(answer) {
       const [serial, made, kept, water, same, reworked] = fields.slice(1);
       yield { now: { serial: +serial, made: +made, kept: +kept, water, same, reworked: +reworked } };
     } else if (word === 'mark') yield { mark: [+fields[1], fields.slice(2).join(' ')] };
-    else if (word === 'refused') yield { refused: +fields[1] };
+    else if (word === 'refused') yield { refused: { number: +fields[1], words: fields[2] } };
     else if (word === 'again') yield { again: true };
   }
 }
@@ -116,6 +116,5 @@ function fault(why) {
   if (why && why.status === 409) {
     trouble('This trial has moved on in another window.', 'It is shown as it stands now; nothing was done twice.', { calm: true, lasting: 6000 });
     openTrial(desk.current);
-  } else if (why && why.number) trouble(`Refused, number ${why.number}:`, refusalText(why.number) + '.', { lasting: 9000 });
-  else trouble('Not done.', String((why && why.fault) || why), { lasting: 9000 });
+  } else trouble('Not done.', String((why && why.fault) || why), { lasting: desk.current ? 12000 : 0 });
 }

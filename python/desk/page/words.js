@@ -37,6 +37,8 @@ function clockText(ms) {
 
 /* to the second, as under a plot */
 const shortClock = ms => clockText(ms).replace(/\..*/, '');
+/* with its units, so that nobody takes it for the time of day */
+const longClock = ms => `${clockText(ms)} ${ms < 3600000 ? 'min:s' : 'h:min:s'}`;
 
 function depthText(depth) {
   if (depth < 0) return 'closed';
@@ -63,19 +65,3 @@ const placeText = square => `row ${rowOf(square)}, column ${columnOf(square)}`;
 const letterOf = at => String.fromCharCode(97 + at);
 const hatchName = number => desk.ground.hatches[number].name;
 const hatchText = number => `hatch ${number}` + (hatchName(number) ? `, ${hatchName(number)}` : '');
-
-const REFUSALS = {
-  1: 'the shape of the meadow or the side of a square is out of range',
-  2: 'an exit is not on the rim, or a bed, roughness or soak rate is out of range',
-  3: 'a depth is out of range',
-  4: 'this inflow is out of range, or its square is closed',
-  5: 'the run line is out of range, or the end is after a week',
-  6: 'a saved state is out of range',
-  7: 'the step would pass a week',
-  8: 'a square would be more than 100 m deep',
-  9: 'more has left by the exits than can be counted',
-  10: 'no step is left to take back',
-  12: 'the engine could not read the line',
-  15: 'more has soaked than can be counted',
-};
-const refusalText = number => REFUSALS[number] || `number ${number}, for which this page has no words`;

@@ -1,12 +1,12 @@
 """What a map warns of: squares that were wet and are dry now, beds and marks that are likely slips, water inside a walled outline, steps held at the
 shortest, and whatever in the sheet is likely a slip. Words and places are those that the other tools tell."""
-from ..peaks.courses import WET
+from ..peaks.hours import WET
 from ..words.cautions import held_words
 from ..words.doubts import doubts, odd_places
 from ..words.drownings import about
 from ..words.enclosed import walled_in
 from ..words.sense import ever_wet, highest_words, wet_words
-from ..words.units import area, depth, graduation, squares, time
+from ..words.units import area, depth, graduation, squares
 from .signs import doubt_sign, wave
 
 # the most slips that a legend has room for
@@ -32,8 +32,8 @@ def run_told(place, whole):
     if peak.depth == 0:
         return "; dry all the time"
     when = f"after {about(peak.clock)}" if peak.clock else "at the start"
-    wet = whole.wet.get(place)
-    return f"; highest {depth(peak.depth)} {when}" + (f"; {graduation(WET)} deep or deeper for {time(wet)}" if wet else "")
+    wet = whole.hours.times[place]
+    return f"; highest {depth(peak.depth)} {when}" + (f"; {graduation(WET)} deep or deeper for {about(wet)}" if wet else "")
 
 
 def say_caution_signs(column, pair, whole):
@@ -62,8 +62,7 @@ def say_whole(column, pair, whole):
         column.say(f"{squares(len(inside))} inside walls on all sides have water: close them if they are a house", WARNED)
     if whole is None:
         return
-    looks = f" (looked at every {time(whole.course.every())})" if whole.wet else ""
-    for words in filter(None, (highest_words(whole), wet_words(whole) + looks)):
+    for words in filter(None, (highest_words(whole), wet_words(whole))):
         column.say(words, ' class="highest"')
     if words := held_words(whole):
         column.say(words, WARNED)

@@ -1,8 +1,8 @@
-"""The course of a run, looked at from time to time: how long each square was wet, and how long the steps were held at the shortest.
+"""The course of a run, looked at from time to time: how long the steps were held at the shortest.
 
 Nothing is computed that a program computes. `hatchlog` is given the sheet and a log that names a hatch and never draws it, with a line at each
 clock that is looked at, and prints the water and the steps there. A run to a clock is the beginning of a run to a later one, so that the last
-answer is that of `meadow`. Between two looks nothing is known: a square counts as wet for the time up to a look at which it is.
+answer is that of `meadow`.
 """
 from typing import NamedTuple
 
@@ -14,9 +14,8 @@ from ..rule.step_length import wanted_length
 from ..sheets.lines import Sheet, Unreadable
 from ..sheets.reading import meadow_of, with_answer
 
-# the most looks at a run, the most of them from which a wanted step length is worked, and the depth from which a square is wet, in µm
+# the most looks at a run, and the most of them from which a wanted step length is worked
 MOST_LOOKS, MOST_WORKED = 120, 8
-WET = 10_000
 NAMED_HATCH = 1
 
 
@@ -53,19 +52,6 @@ class Course:
             raise Unreadable("hatchlog does not print the course of this sheet")
         self.sheet, self.answers = sheet, answers
         self.lengths = [clock - before for clock, before in zip(clocks, [0, *clocks])]
-
-    def every(self):
-        """How much time lies between two looks."""
-        return self.lengths[0]
-
-    def wet(self):
-        """The time for which each square that ever was at a look was wet, by its place."""
-        times = {}
-        for answer, length in zip(self.answers, self.lengths):
-            for place, depth in answer.depths.items():
-                if depth >= WET:
-                    times[place] = times.get(place, 0) + length
-        return times
 
     def held_looks(self):
         """The looks before which every step was as short as may be, by their place in the order."""

@@ -1,5 +1,5 @@
-"""A sheet's run seen whole: the water at its end by `meadow`, how high it ever stood by `highest`, and its course by `hatchlog`. The three run side
-by side, and are held to one another."""
+"""A sheet's run seen whole: the water at its end by `meadow`, how high it ever stood by `highest`, for how long squares were wet by `hours_wet`, and
+its course by `hatchlog`. The four run side by side, and are held to one another."""
 import tempfile
 from contextlib import contextmanager
 from pathlib import Path
@@ -12,18 +12,19 @@ from ..sheets.pairs import Pair, balanced, bytes_as_text, hold_same, pair_of, sh
 from ..sheets.reading import read
 from .courses import Course, log_of
 from .heights import Heights, heights_of
+from .hours import WET, Hours, hours_of
 
-END, HIGHEST, COURSE = "meadow", "highest", "hatchlog"
+END, HIGHEST, WET_TIMES, COURSE = "meadow", "highest", "hours_wet", "hatchlog"
 
 
 class Whole(NamedTuple):
-    """A sheet with its answer; how high the water stood; the course of the run, None where no log can be laid over the sheet; and for how long
-    each square was wet, by its place."""
+    """A sheet with its answer; how high the water stood; for how long each square was wet; and the course of the run, None where no log can be
+    laid over the sheet."""
 
     pair: Pair
     heights: Heights
+    hours: Hours
     course: Course
-    wet: dict
 
 
 def log_text(text):
@@ -38,28 +39,30 @@ def log_text(text):
 def runs_of(text):
     """The programs under way on a sheet's text, by name."""
     log = log_text(text)
-    names = (END, HIGHEST, COURSE) if log else (END, HIGHEST)
+    names = (END, HIGHEST, WET_TIMES, *([COURSE] if log else []))
     built(*names)
     with tempfile.TemporaryDirectory() as folder:
         files = Path(folder) / "sheet", Path(folder) / "log"
         for path, of in zip(files, (text, log)):
             path.write_bytes(of.encode("latin-1"))
-        given = {END: text.encode("latin-1"), HIGHEST: text.encode("latin-1"), COURSE: "".join(f"{path}\n" for path in files).encode()}
-        with side_by_side({name: given[name] for name in names}) as runs:
+        named = "".join(f"{path}\n" for path in files).encode()
+        with side_by_side({name: named if name == COURSE else text.encode("latin-1") for name in names}) as runs:
             yield runs
 
 
 def whole_of(text, told):
     """A run seen whole, by what each program printed of a sheet's text."""
     pair = balanced(pair_of(*read(text), Answer(told[END])))
-    heights = heights_of(text, told[HIGHEST])
+    heights, hours = heights_of(text, told[HIGHEST]), hours_of(text, told[WET_TIMES])
     answer = pair.answer
     if tuple(heights.totals.values()) != tuple(answer.totals.values()) or any(deep > heights.depths[place] for place, deep in answer.depths.items()):
         raise Unreadable("meadow and highest have not made one run")
+    if hours.totals != answer.totals or any(heights.depths[place] < WET for place in hours.wet()):
+        raise Unreadable("meadow and hours_wet have not made one run")
     course = Course(pair.sheet, pair.end, told[COURSE]) if COURSE in told else None
     if course and course.answers[-1].text != answer.text:
         raise Unreadable("meadow and hatchlog have not made one run")
-    return Whole(pair, heights, course, course.wet() if course else {})
+    return Whole(pair, heights, hours, course)
 
 
 def whole_in(sheet_file, answer_file=None):

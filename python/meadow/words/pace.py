@@ -4,7 +4,7 @@ from ..sheets.lines import SECOND
 from ..sheets.reading import meadow_of, read
 from .units import squares, steps, time
 
-# so many squares are worked in a second, all of them wet, with three programs on two cores of an x86-64 machine
+# so many squares are worked in a second, all of them wet, with four programs on two cores of an x86-64 machine
 SQUARES_A_SECOND = 4_000_000
 
 
@@ -21,11 +21,11 @@ def before_words(sheet, end):
     return f"run to {time(end)}: at most {steps(most)} on {squares(len(sheet.ground()))}, {long}"
 
 
-def life_words(text, come_to, lasted):
+def life_words(text, reached, lasted):
     """How far a run has come in so many seconds, and how long is left, as far as it is known."""
-    if come_to is None:
+    if reached is None:
         return f"{seconds(lasted)} so far"
-    made, clock = come_to
+    made, clock = reached
     _, end = read(text)
     left = f"some {seconds(lasted * (end - clock) / clock)} left" if clock < end else "nearly done"
     return f"at {time(clock)} of {time(end)}, {steps(made)}; {seconds(lasted)} so far, {left}"

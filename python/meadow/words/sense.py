@@ -1,6 +1,6 @@
 """One line of sense about an answer: how much water is where, the deepest place, the clock and the steps; of a run that is seen whole also how
 high the water ever stood, and how long squares were wet."""
-from ..peaks.courses import WET
+from ..peaks.hours import WET
 from .drownings import about
 from .units import depth, graduation, square, squares, steps, time, volume
 
@@ -53,7 +53,8 @@ def wet_words(whole):
     ever, now = ever_wet(whole)
     if not ever:
         return ""
-    long = f", the longest for {time(max(whole.wet.values()))}" if whole.wet else ""
+    times = whole.hours.wet().values()
+    long = f", the longest for {about(max(times))}" if times else ""
     return f"{graduation(WET)} deep or deeper: {squares(len(ever))} at some time, {len(now) or 'none'} at the end{long}"
 
 
@@ -71,6 +72,16 @@ def sense(pair):
     said = [f"{volume(amount)} {name}" for name, amount in told.items() if name != "soaked" or amount > 0]
     back = f" stand{'s' if pair.answer.steps == 1 else ''}, {pair.taken_back:,} taken back" if pair.taken_back else ""
     return f"{', '.join([*said, deepest_words(pair.answer)])}, after {time(pair.end)}; {steps(pair.answer.steps)}{back}"
+
+
+def hours_sense(hours):
+    """The line about what `hours_wet` printed: how many squares were wet, and the first of those that were for longest."""
+    wet = hours.wet()
+    run = f"of a run of {time(hours.totals['clock'])}; {steps(hours.totals['steps'])}"
+    if not wet:
+        return f"{graduation(WET)} deep or deeper: {'no square' if hours.times else 'every square closed'}, {run}"
+    place = max(sorted(wet), key=lambda place: wet[place])
+    return f"{graduation(WET)} deep or deeper: {squares(len(wet))}, the longest for {about(wet[place])} at {square(place)}, {run}"
 
 
 def night_sense(night):

@@ -3,11 +3,8 @@
 use mathlib.Core.Path.{_≡_}
 use mathlib.Core.List.{List}
 use Prim.Native.Nat.{ℕ}
-use lib.ListN.{length, take, replicate}
+use lib.ListN.{length, replicate}
 use Rattle.reckon.specs.Tables.{rainKind, inflowKind, tableRoom}
-use Rattle.grid.specs.Squares.{squares}
-use Rattle.ledger.specs.Runs.{plan}
-use Rattle.ledger.specs.Account.{water}
 use Rattle.sheet.specs.Sheet.{Rooms}
 use Rattle.sheet.specs.declared.reading.Heading.{Heading}
 use Rattle.desks.specs.State.{deskSquares, deskRates, deskNumbers, deskOut, freshDesk}

@@ -8,7 +8,7 @@ use Rattle.ledger.specs.Runs.{Plan}
 use Rattle.ledger.specs.declared.runs.Run.{Run}
 use Rattle.hatches.specs.Log.{Evening, evening, hatchNamed, logWith}
 use Rattle.hatches.specs.declared.log.Log.{Log}
-use Rattle.evenings.specs.Program.{Cleared}
+use Rattle.evenings.specs.Program.{Cleared, noNight}
 use Rattle.evenings.specs.inner.Backs.{BackTaken}
 use Rattle.evenings.specs.declared.taking.EntryTaken.{EntryTaken}
 
@@ -18,4 +18,5 @@ pub record EveningsDetermined : Type 0 where
   pub back-line : (p : Plan) (e : Evening) (count : ℕ) →
       One {Out = EntryTaken × (List ℕ × List ℕ)}
       (λ o. BackTaken p e count (o .0 .number) (evening (o .1 .0) (o .1 .1) (e .records) (e .began) (o .0 .log)))
+  pub no-night : (long : ℕ) → One (λ r. r ≡ noNight long)
   pub clear : (old : List ℕ) → One (Cleared old)

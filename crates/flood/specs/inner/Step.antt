@@ -40,7 +40,7 @@ nextStored p w rec = storedIn (recordSize p) (w .records) (slotAfter (roomSlots 
 -- it stands in the slot after the newest, all else of the room is as it was, and the walk tells what it worked
 pub record SlotFilled (walk : Walk) (p : Plan) (o : Ground) (w : World) (added : List ℕ) (ms : ℕ) (records left worked senders : List ℕ) : Type 0 where
   pub stored : records ≡ nextStored p w (filledRecord p o w added ms)
-  pub worked-are : worked ≡ workedRows walk p (w .depths) (w .lasts) added
+  pub worked-are : worked ≡ workedRows walk (p .shape) (w .depths) (w .lasts) added
   pub senders-are : senders ≡ senderRows p o (w .depths) (w .lasts) ms
   pub left-kept : LeftKept walk p o (w .depths) (w .lasts) added ms left
 

@@ -6,7 +6,7 @@ use Rattle.reckon.specs.Outcomes.{One}
 use Rattle.grid.specs.Squares.{ShapeJudged, SquaresOf, SquareFound, NextColumn, BesideOn, OppositeOf, RimJudged}
 use Rattle.grid.specs.Marks.{ClosedJudged, ExitJudged, MarksJudged, InflowSquaresJudged}
 use Rattle.grid.specs.Masks.{RowMasked, OnesOf, NextFound, Masked}
-use Rattle.grid.specs.Walks.{NextWithin, BesideSet}
+use Rattle.grid.specs.Walks.{NextWithin, WithinRow, LowestSet, WithoutLowest, BesideSet}
 use Rattle.grid.specs.declared.squares.Shape.{Shape}
 
 pub record GridDetermined : Type 0 where
@@ -27,4 +27,7 @@ pub record GridDetermined : Type 0 where
   pub next-set : (mask column : ℕ) → One (NextFound mask column)
   pub next-within : (mask column columns : ℕ) → One (NextWithin mask column columns)
   pub next-after : (mask column columns : ℕ) → One (NextWithin mask (column + 1) columns)
+  pub within-row : (mask columns : ℕ) → One (WithinRow mask columns)
+  pub lowest-set : (mask : ℕ) → One (LowestSet mask)
+  pub without-lowest : (mask : ℕ) → One (WithoutLowest mask)
   pub beside-set : (rows : List ℕ) (row : ℕ) → One (BesideSet rows row)

@@ -11,13 +11,13 @@ use Rattle.grid.specs.declared.walks.Walk.{Walk}
 use Rattle.ledger.specs.Runs.{Plan}
 use Rattle.ledger.specs.Flows.{shut}
 use Rattle.checks.specs.Given.{Ground}
-use Rattle.moves.specs.inner.Fill.{LengthWorked, RecordFilled, LeftKept, isWorked, workedRows, senderRows}
+use Rattle.moves.specs.inner.Fill.{LengthWorked, RecordFilled, LeftKept, worksOn, workedRows, senderRows}
 
 -- what `fill` gives: the record, what left each square that is worked, and the rows of the squares that are worked and of those that send
 abbrev pub FillGives : Walk → Plan → Ground → List ℕ → List ℕ → List ℕ → ℕ → ℕ → ℕ → List ℕ × (List ℕ × (List ℕ × List ℕ)) → Type 0
 FillGives walk p o depths lasts added held start ms out =
     (RecordFilled p o depths lasts added held start ms (out .0))
-    × (out .1 .1 .0 ≡ workedRows walk p depths lasts added)
+    × (out .1 .1 .0 ≡ workedRows walk (p .shape) depths lasts added)
     × (out .1 .1 .1 ≡ senderRows p o depths lasts ms)
     × (LeftKept walk p o depths lasts added ms (out .1 .0))
 
@@ -27,6 +27,6 @@ pub record MovesDetermined : Type 0 where
   pub fill : (walk : Walk) (p : Plan) (o : Ground) (depths lasts added : List ℕ) (held start ms : ℕ) (a b : List ℕ × (List ℕ × (List ℕ × List ℕ))) →
       FillGives walk p o depths lasts added held start ms a → FillGives walk p o depths lasts added held start ms b →
       (a .0 ≡ b .0)
-      × ((i : ℕ) → i < squares (p .shape) → shut p i ≡ false → isWorked walk p depths lasts added i ≡ true → getD (a .1 .0) i 0 ≡ getD (b .1 .0) i 0)
+      × ((i : ℕ) → i < squares (p .shape) → shut p i ≡ false → worksOn walk depths lasts added i ≡ true → getD (a .1 .0) i 0 ≡ getD (b .1 .0) i 0)
       × (a .1 .1 .0 ≡ b .1 .1 .0)
       × (a .1 .1 .1 ≡ b .1 .1 .1)

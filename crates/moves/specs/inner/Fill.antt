@@ -9,10 +9,10 @@ use lib.ListN.{length, getD, set}
 use Rattle.reckon.specs.Tests.{pick}
 use Rattle.reckon.specs.Lists.{joined, tabulate}
 use Rattle.reckon.specs.Ranges.{mostLength, lastClock}
+use Rattle.grid.specs.declared.squares.Shape.{Shape}
 use Rattle.grid.specs.declared.walks.Walk.{Walk}
 use Rattle.grid.specs.declared.walks.Walk.the-variants.{All, Wet}
 use Rattle.grid.specs.Squares.{north, squares, ShapeInRange}
-use Rattle.grid.specs.Marks.{closed}
 use Rattle.grid.specs.Masks.{bits, bitAt, maskFrom, rowMask}
 use Rattle.grid.specs.Walks.{bitOf}
 use Rattle.rule.specs.Weighing.{weighed}
@@ -83,46 +83,39 @@ RecordFilled p o depths lasts added held start ms rec =
 
 -- ---- which squares a walk works
 
-module _ (marks depths lasts added : List ℕ) where
-  -- a square that a step has something to work or to write of
+module _ (depths lasts added : List ℕ) where
+  -- a square that a step has something to work or to write of, if it is not closed
   unfoldable pub stirs : ℕ → Bool
-  stirs i = not (closed marks i) && not (eqb (getD depths i 0) 0 && eqb (getD lasts i 0) 0 && eqb (getD added i 0) 0)
+  stirs i = not (eqb (getD depths i 0) 0 && eqb (getD lasts i 0) 0 && eqb (getD added i 0) 0)
 
-  -- the four lists have a square, or a row of at most 64 squares
+  -- the three lists have a square, or a row of at most 64 squares
   pub record HasSquare (i : ℕ) : Type 0 where
-    pub marks-long : i < length marks
     pub depths-long : i < length depths
     pub lasts-long : i < length lasts
     pub added-long : i < length added
 
   pub record HasRow (first columns : ℕ) : Type 0 where
     pub columns-high : columns ≤ bits
-    pub marks-long : first + columns ≤ length marks
     pub depths-long : first + columns ≤ length depths
     pub lasts-long : first + columns ≤ length lasts
     pub added-long : first + columns ≤ length added
 
 -- one walk works all squares, the other those that stir
-unfoldable pub worksOn : Walk → List ℕ → List ℕ → List ℕ → List ℕ → ℕ → Bool
-worksOn All marks depths lasts added i = true
-worksOn Wet marks depths lasts added i = stirs marks depths lasts added i
+unfoldable pub worksOn : Walk → List ℕ → List ℕ → List ℕ → ℕ → Bool
+worksOn All depths lasts added i = true
+worksOn Wet depths lasts added i = stirs depths lasts added i
 
--- the four lists have the whole grid, and a slice has a number a row
-pub record HasRows (p : Plan) (depths lasts added rows : List ℕ) : Type 0 where
-  pub fine : ShapeInRange (p .shape)
-  pub marks-long : length (p .marks) ≡ squares (p .shape)
-  pub depths-long : length depths ≡ squares (p .shape)
-  pub lasts-long : length lasts ≡ squares (p .shape)
-  pub added-long : length added ≡ squares (p .shape)
-  pub rows-long : length rows ≡ p .shape .rows
+-- the three lists have the whole grid, and a slice has a number a row
+pub record HasRows (s : Shape) (depths lasts added rows : List ℕ) : Type 0 where
+  pub fine : ShapeInRange s
+  pub depths-long : length depths ≡ squares s
+  pub lasts-long : length lasts ≡ squares s
+  pub added-long : length added ≡ squares s
+  pub rows-long : length rows ≡ s .rows
 
-module _ (walk : Walk) (p : Plan) (depths lasts added : List ℕ) where
-  abbrev pub isWorked : ℕ → Bool
-  isWorked i = worksOn walk (p .marks) depths lasts added i
-
-  -- the rows of the squares that are worked
-  unfoldable pub workedRows : List ℕ
-  workedRows = tabulate (p .shape .rows) (rowMask (p .shape) isWorked)
+-- the rows of the squares that are worked
+unfoldable pub workedRows : Walk → Shape → List ℕ → List ℕ → List ℕ → List ℕ
+workedRows walk s depths lasts added = tabulate (s .rows) (rowMask s (worksOn walk depths lasts added))
 
 -- nothing to work or to write of a square, if it is not closed; and so where a mask of a row, or those of all rows, have no bit
 module _ (p : Plan) (depths lasts added : List ℕ) where
@@ -159,4 +152,4 @@ LeftTo p o depths lasts ms rows n left =
 -- and each that a walk works
 abbrev pub LeftKept : Walk → Plan → Ground → List ℕ → List ℕ → List ℕ → ℕ → List ℕ → Type 0
 LeftKept walk p o depths lasts added ms left =
-    (i : ℕ) → i < squares (p .shape) → shut p i ≡ false → isWorked walk p depths lasts added i ≡ true → getD left i 0 ≡ gone (leavesFor p o depths lasts ms) i
+    (i : ℕ) → i < squares (p .shape) → shut p i ≡ false → worksOn walk depths lasts added i ≡ true → getD left i 0 ≡ gone (leavesFor p o depths lasts ms) i

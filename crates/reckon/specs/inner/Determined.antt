@@ -7,7 +7,7 @@ use Rattle.reckon.specs.Outcomes.{One}
 use Rattle.reckon.specs.Numbers.{Lesser, Greater, PartOf}
 use Rattle.reckon.specs.Numbers as Numbers
 use Rattle.reckon.specs.Ranges.{WaterJudged, SideJudged, RateJudged}
-use Rattle.reckon.specs.Roots.{Root, Begun}
+use Rattle.reckon.specs.Roots.{Root}
 use Rattle.reckon.specs.Soaking.{SoakDue}
 use Rattle.reckon.specs.Tables.{RowOn, RainBy, InflowBy, RainAdded, InflowAdded, RainJudged, InflowJudged}
 
@@ -22,8 +22,6 @@ pub record ReckonDetermined : Type 0 where
   pub rate-fine : (rate : ℕ) → One (RateJudged rate)
   pub square-root : (n : ℕ) → One (Root 2 n)
   pub cube-root : (n : ℕ) → One (Root 3 n)
-  pub begun-cube-root : (n : ℕ) → One (Begun 3 n 100)
-  pub ended-cube-root : (n : ℕ) → One (Root 3 n)
   pub soak-due : (rate start end : ℕ) → One (SoakDue rate start end)
   pub row-on : (rows : List ℕ) (j r c : ℕ) → One (RowOn rows j r c)
   pub rain-by : (rows : List ℕ) (t : ℕ) → One (RainBy rows t)

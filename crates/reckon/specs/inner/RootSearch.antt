@@ -1,7 +1,7 @@
 -- What the search for a root asks of its inner functions. No public promise names these.
 -- Assumes nothing.
 use mathlib.Core.Path.{_≡_}
-use Prim.Native.Nat.{ℕ, _+_, _*_, _^_, _≤_, _<_}
+use Prim.Native.Nat.{ℕ, _+_, _^_, _≤_, _<_}
 
 -- a power that roots are taken of here
 pub record SmallPower (p : ℕ) : Type 0 where
@@ -30,7 +30,3 @@ pub record Above (p n above : ℕ) : Type 0 where
 pub record Raised (p n place r : ℕ) : Type 0 where
   pub fits : r ^ p ≤ n
   pub full : n < (r + place) ^ p
-
--- r is `from` and so many whole places more
-abbrev pub RaisedBy : ℕ → ℕ → ℕ → Type 0
-RaisedBy place from r = (k : ℕ) × (r ≡ from + k * place)

@@ -1,5 +1,5 @@
--- What the weighing's inner functions give and ask: the total of the editions that weigh by one, speeds by a height that may be only
--- begun, and amounts that are each at most d.
+-- What the weighing's inner functions give and ask: the total of the editions that weigh by one, speeds by a height and
+-- a slope that may be bounds of them from below, and amounts that are each at most d.
 -- No definition and no answer of the document names these.
 -- Assumes nothing.
 use mathlib.Core.List.{List}
@@ -15,7 +15,7 @@ use Rattle.rule.specs.declared.rules.Rules.{Rules}
 unfoldable pub totalBy : Rules → ℕ → ℕ → ℕ → ℕ → List ℕ → ℕ
 totalBy r d p k ms v = pick (eqb (r .edition) unlimitedEdition) (unlimitedTotal r d k ms v) (totalOf r d p k ms v)
 
--- the smaller speed by a height h, be it only begun, and a slope s
+-- the smaller speed by a height h and a slope s, or by bounds of them
 unfoldable pub speedBy : ℕ → ℕ → ℕ → ℕ → ℕ
 speedBy d h s k = min (criticalSpeed d) (100 * h * s / k)
 

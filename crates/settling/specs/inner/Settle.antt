@@ -235,6 +235,11 @@ abbrev pub NoneBeyond : Plan → List ℕ → List ℕ → List ℕ → Type 0
 NoneBeyond p worked senders list =
     (i : ℕ) → i < squares (p .shape) → reachedAt (p .shape) worked senders i ≡ false → shut p i ≡ false → getD list i 0 ≡ 0
 
+-- the depths of the squares not closed that are not reached are the room's already
+abbrev pub SameBeyond : Plan → List ℕ → List ℕ → List ℕ → List ℕ → Type 0
+SameBeyond p worked senders depths room =
+    (i : ℕ) → i < squares (p .shape) → reachedAt (p .shape) worked senders i ≡ false → shut p i ≡ false → getD depths i 0 ≡ getD room i 0
+
 -- whether the room's new depth of a square is in range
 unfoldable pub fitsAt : List ℕ → List ℕ → ℕ → Bool
 fitsAt marks room i = closed marks i || leb (getD room i 0) mostDepth
@@ -251,10 +256,6 @@ pub record Written (skips : ℕ → Bool) (amount : ℕ → ℕ) (from to : ℕ)
 unfoldable pub skipsIn : List ℕ → ℕ → ℕ → ℕ → Bool
 skipsIn marks first mask i = closed marks i || not (bitAt mask (i - first))
 
--- the squares that writing all rows skips, by a mask for each row
-unfoldable pub skipsBy : Plan → (ℕ → ℕ) → ℕ → Bool
-skipsBy p masks i = shut p i || not (bitAt (masks (i / p .shape .columns)) (i % p .shape .columns))
-
--- the masks of the squares that were worked
-abbrev pub workedRow : List ℕ → ℕ → ℕ
-workedRow worked row = getD worked row 0
+-- the squares that writing all rows skips, by the masks of the rows
+unfoldable pub skipsBy : Plan → List ℕ → ℕ → Bool
+skipsBy p rows i = shut p i || not (bitOf (p .shape) rows i)

@@ -1,4 +1,3 @@
-use mathlib.Core.Path.{refl}
 use native.Mathlib.Omega.{arith}
 use Rattle.answer.proofs.PrintLaws.{refused-short}
 use Rattle.desks.proofs.AnswerParts.{ending-refused, ending-done}

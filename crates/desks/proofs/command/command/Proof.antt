@@ -1,4 +1,3 @@
-use native.Mathlib.Omega.{arith}
 use borrow.Author.Needs.{needs}
 use Rattle.sheet.specs.Sheet.{rooms}
 use Rattle.evenings.specs.Program.{stores}

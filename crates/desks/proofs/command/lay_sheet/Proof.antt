@@ -1,4 +1,3 @@
-use mathlib.Core.Path.{_≡_, sym, ap, _∙_}
 use native.Mathlib.Omega.{arith}
 use Rattle.desks.proofs.RoomLaws.{part-long}
 use Rattle.desks.proofs.SheetLaid.{laid-shows, laid-water, laid-whole}

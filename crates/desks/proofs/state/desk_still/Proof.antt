@@ -1,4 +1,4 @@
-use mathlib.Core.Path.{_≡_, ap, _∙_}
+use mathlib.Core.Path.{ap, _∙_}
 use Rattle.desks.specs.State.{deskWith}
 use Rattle.desks.specs.declared.state.Series.{Series}
 use borrow.Author.Needs.{needs}

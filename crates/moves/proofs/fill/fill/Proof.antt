@@ -66,7 +66,7 @@ fill-rows-requires c κs =
       fills-still (head .put-head .kept .0 ∙ cleared head .clear .kept .0) (s .pre .0),
       (
         idle-by (s .args .way .walk) (p s) (s .args .depths .now) (s .args .lasts .now) (s .args .added .now) (s .pre .0 .flows .lies .sited .fine) (at .mark-worked .ensures),
-        at .mark-worked .kept .1 .1 .1 .1 .1 .1 .0 ∙ s .pre .1 .2,
+        at .mark-worked .kept .1 .1 .1 .1 .1 .0 ∙ s .pre .1 .2,
         s .pre .1 .1,
         s .pre .1 .3,
       ),

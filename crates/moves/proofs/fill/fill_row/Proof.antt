@@ -3,14 +3,14 @@
 -- Assumes nothing.
 use mathlib.Core.Path.{_≡_, refl, _∙_}
 use mathlib.Core.List.{List}
-use Prim.Native.Nat.{ℕ, _+_, _-_, _≤_}
+use Prim.Native.Nat.{ℕ, _+_, _≤_, _<_}
 use native.Mathlib.Omega.{arith}
 use lib.ListN.{length}
 use Rattle.grid.specs.Squares.{squares}
 use Rattle.grid.specs.Masks.{bits}
-use Rattle.grid.specs.inner.Visits.{Passes, Visits}
+use Rattle.grid.specs.inner.Visits.{Passes, Visits, Rests}
 use Rattle.grid.proofs.SquareLaws.{row-column}
-use Rattle.grid.proofs.WalkLaws.{walk-visits, walk-ends, walk-nearer}
+use Rattle.grid.proofs.RestLaws.{walk-begins, walk-within, walk-turn, walk-on, walk-less, walk-over}
 use Rattle.ledger.specs.Runs.{Plan, plan}
 use Rattle.checks.specs.Given.{Ground, ground}
 use Rattle.moves.specs.inner.Fill.{FilledColumns}
@@ -20,16 +20,16 @@ use Rattle.moves.proofs.fill.fill_row.Statement.{statement}
 use Rattle.moves.proofs.fill.fill_row.Tie as tie
 
 abbrev Inv-loop : tie.InvT-loop
-Inv-loop way span this marks beds roughness rates depths lasts added rec₀ left₀ columns senders₀ column₀ rec left senders column =
+Inv-loop way span this marks beds roughness rates depths lasts added rec₀ left₀ columns senders₀ rest₀ rec left senders rest =
     (length rec ≡ length rec₀)
     × (length left ≡ length left₀)
-    × Visits (this .mask) columns
+    × Rests (this .mask) columns
     (λ k. FilledColumns (plan (way .shape) marks) (ground (way .rules) beds roughness rates) depths lasts added (span .start) (span .duration) (this .first) (this .mask) k
-    rec₀ rec left₀ left senders) column
+    rec₀ rec left₀ left senders) rest
 
 abbrev μ-loop : tie.MeasureT-loop
-μ-loop way span this marks beds roughness rates depths lasts added rec₀ left₀ columns senders₀ column₀ rec left senders column =
-    columns - column
+μ-loop way span this marks beds roughness rates depths lasts added rec₀ left₀ columns senders₀ rest₀ rec left senders rest =
+    rest
 
 -- ---- the places, each by the one before it
 
@@ -39,7 +39,7 @@ begin c = c .before .before .before .before .before .before .before .before .bef
 abbrev start : tie.At-loop Inv-loop μ-loop → tie.Start Inv-loop μ-loop
 start c = begin (c .before .before)
 
-abbrev turn : tie.After-fill-square-arg2 Inv-loop μ-loop → tie.In-loop Inv-loop μ-loop
+abbrev turn : tie.After-fill-square-arg2 Inv-loop μ-loop → tie.After-lowest-set Inv-loop μ-loop
 turn c = c .before .before .before
 
 abbrev filled : tie.After-slice-known4 Inv-loop μ-loop → tie.After-fill-square Inv-loop μ-loop
@@ -70,20 +70,31 @@ passes s rec left senders k h b f = columns-idle f (s .pre .1 .0 .fits) h b (s .
 high : (s : tie.Start Inv-loop μ-loop) → s .args .way .shape .columns ≤ bits
 high s = s .pre .0 .flows .lies .sited .fine .columns-high
 
--- in a turn
-module _ (c : tie.In-loop Inv-loop μ-loop) where
+-- in a turn: the column is one of the row
+module _ (c : tie.After-lowest-set Inv-loop μ-loop) where
+  abbrev at-loop : tie.At-loop Inv-loop μ-loop
+  at-loop = c .before .before
+
   abbrev s : tie.Start Inv-loop μ-loop
-  s = start (c .before)
+  s = start at-loop
 
   abbrev column : ℕ
-  column = c .before .loop .column
+  column = c .lowest-set .result
 
-  room-long : length (c .before .loop .left) ≡ squares (s .args .way .shape)
-  room-long = c .before .loop .inv .1 ∙ s .pre .1 .2
+  within : column < s .args .way .shape .columns
+  within = walk-within (at-loop .loop .inv .2) (high s) (c .before .loop-test .taken) (c .lowest-set .ensures)
+
+  visits :
+      Visits (s .args .row .mask) (s .args .way .shape .columns)
+      (λ k. Done s k (at-loop .loop .rec) (at-loop .loop .left) (at-loop .loop .senders)) column
+  visits = walk-turn (at-loop .loop .inv .2) (high s) (c .before .loop-test .taken) (c .lowest-set .ensures) (passes s _ _ _)
+
+  room-long : length (at-loop .loop .left) ≡ squares (s .args .way .shape)
+  room-long = at-loop .loop .inv .1 ∙ s .pre .1 .2
 
 -- one column more, where the square is worked and its bit is told
 module _ (c : tie.After-sender-bit Inv-loop μ-loop) where
-  abbrev here : tie.In-loop Inv-loop μ-loop
+  abbrev here : tie.After-lowest-set Inv-loop μ-loop
   here = turn (told c .before)
 
   abbrev z : tie.Start Inv-loop μ-loop
@@ -91,59 +102,56 @@ module _ (c : tie.After-sender-bit Inv-loop μ-loop) where
 
   one-more :
       Done z (column here + 1) (told c .fill-square .last .1 .1 .1 .1 .1 .1 .1 .1 .1 .1 .0) (told c .fill-square .last .1 .1 .1 .1 .1 .1 .1 .1 .1 .1 .1 .0)
-      (here .before .loop .senders + c .sender-bit .result)
+      (at-loop here .loop .senders + c .sender-bit .result)
   one-more =
-      columns-more (here .before .loop .inv .2 .held) (z .pre .1 .0 .fits) (here .loop-test .taken) (room-long here) (told c .fill-square .ensures)
+      columns-more (visits here .held) (z .pre .1 .0 .fits) (within here) (room-long here) (told c .fill-square .ensures)
       (c .sender-bit .ensures)
 
 -- ---- the answers
 
-next-within-requires : tie.Need-next-within-requires Inv-loop μ-loop
-next-within-requires c κs = (omega arith, begin c .pre .0 .flows .lies .sited .fine .columns-high)
+within-row-requires : tie.Need-within-row-requires Inv-loop μ-loop
+within-row-requires c κs = (begin c .pre .0 .flows .lies .sited .fine .columns-low, high (begin c))
 
 loop-holds : tie.Need-loop-holds Inv-loop μ-loop
-loop-holds c =
-    let y = begin (c .before) in (
-      refl,
-      refl,
-      walk-visits (passes y _ _ _) (high y) 0 (omega arith) (c .next-within .ensures) columns-none,
-    )
+loop-holds c = (refl, refl, walk-begins (high (begin (c .before))) (c .within-row .ensures) columns-none)
+
+lowest-set-requires : tie.Need-lowest-set-requires Inv-loop μ-loop
+lowest-set-requires c κs = omega (arith, c .loop-test .taken)
 
 add-square : tie.Need-add-square Inv-loop μ-loop
-add-square c = let y = s (c .before) in omega (arith, y .pre .1 .0 .fits, y .pre .0 .flows .lies .sited .fine .few, c .before .loop-test .taken)
+add-square c = let y = s (c .before) in omega (arith, y .pre .1 .0 .fits, y .pre .0 .flows .lies .sited .fine .few, within (c .before))
 
 fill-square-requires : tie.Need-fill-square-requires Inv-loop μ-loop
 fill-square-requires c κs =
     let at = turn c in
     let y = s at in (
-      fills-still (at .before .loop .inv .0) (y .pre .0),
-      (row-column (y .args .way .shape) (y .pre .0 .flows .lies .sited .fine) (y .pre .1 .0) (at .loop-test .taken), room-long at),
+      fills-still (at-loop at .loop .inv .0) (y .pre .0),
+      (row-column (y .args .way .shape) (y .pre .0 .flows .lies .sited .fine) (y .pre .1 .0) (within at), room-long at),
     )
 
 sender-bit-requires : tie.Need-sender-bit-requires Inv-loop μ-loop
 sender-bit-requires c κs =
     let at = turn (filled c .before) in
-    omega (arith, at .loop-test .taken, s at .pre .0 .flows .lies .sited .fine .columns-high)
+    omega (arith, within at, high (s at))
 
 add-senders : tie.Need-add-senders Inv-loop μ-loop
 add-senders c =
     let y = z c in
-    record { fits = senders-fit (one-more c) (y .pre .1 .0 .fits) (omega (arith, here c .loop-test .taken, high y)) }
+    record { fits = senders-fit (one-more c) (y .pre .1 .0 .fits) (omega (arith, within (here c), high y)) }
 
-next-after-requires : tie.Need-next-after-requires Inv-loop μ-loop
-next-after-requires c κs = (here c .loop-test .taken, z c .pre .0 .flows .lies .sited .fine .columns-high)
+without-lowest-requires : tie.Need-without-lowest-requires Inv-loop μ-loop
+without-lowest-requires c κs = omega (arith, here c .before .loop-test .taken)
 
 loop-less : tie.Need-loop-less Inv-loop μ-loop
-loop-less c = walk-nearer (z (c .before) .args .row .mask) (here (c .before) .loop-test .taken) (c .next-after .ensures)
+loop-less c = walk-less (here (c .before) .before .loop-test .taken) (c .without-lowest .ensures)
 
 loop-again : tie.Need-loop-again Inv-loop μ-loop
 loop-again c =
     let turned = c .before in
-    let at = here turned in
-    let y = s at in (
-      told turned .fill-square .kept .1 .1 .1 .1 .1 .1 .1 .1 .1 .1 .0 ∙ at .before .loop .inv .0,
-      told turned .fill-square .kept .1 .1 .1 .1 .1 .1 .1 .1 .1 .1 .1 .0 ∙ at .before .loop .inv .1,
-      walk-visits (passes y _ _ _) (high y) (column at + 1) (omega (arith, at .loop-test .taken)) (c .next-after .ensures) (one-more turned),
+    let at = here turned in (
+      told turned .fill-square .kept .1 .1 .1 .1 .1 .1 .1 .1 .1 .1 .0 ∙ at-loop at .loop .inv .0,
+      told turned .fill-square .kept .1 .1 .1 .1 .1 .1 .1 .1 .1 .1 .1 .0 ∙ at-loop at .loop .inv .1,
+      walk-on (at-loop at .loop .inv .2) (high (s at)) (at .before .loop-test .taken) (at .lowest-set .ensures) (c .without-lowest .ensures) (one-more turned),
     )
 
 same-length : tie.Need-same-length Inv-loop μ-loop
@@ -153,7 +161,9 @@ same-length-2 : tie.Need-same-length-2 Inv-loop μ-loop
 same-length-2 c = c .before .loop .inv .1
 
 returns : tie.Need-returns Inv-loop μ-loop
-returns c = walk-ends (c .before .loop .inv .2) (c .loop-test .left)
+returns c =
+    let y = start (c .before) in
+    walk-over (c .before .loop .inv .2) (high y) (c .loop-test .left) (passes y _ _ _)
 
 pub fill-row-spec : {M : Type 1} → statement M
 fill-row-spec =
@@ -161,13 +171,14 @@ fill-row-spec =
     (tie.spec
     Inv-loop
     μ-loop
-    next-within-requires
+    within-row-requires
     loop-holds
+    lowest-set-requires
     add-square
     fill-square-requires
     sender-bit-requires
     add-senders
-    next-after-requires
+    without-lowest-requires
     loop-less
     loop-again
     same-length

@@ -5,23 +5,22 @@ use native.Mathlib.Omega.{arith}
 use Rattle.grid.specs.inner.Rows.{AtRow}
 use Rattle.grid.proofs.MaskLaws.{Rowed, rowed-none, rowed-long, rowed-more}
 use Rattle.grid.proofs.SquareLaws.{row-fits, rows-begin, row-next}
-use Rattle.ledger.specs.Runs.{plan}
 use Rattle.moves.specs.inner.Fill.{worksOn}
 use Rattle.moves.proofs.WetLaws.{rows-marked}
 use Rattle.moves.proofs.fill.mark_worked.Statement.{statement}
 use Rattle.moves.proofs.fill.mark_worked.Tie as tie
 
 abbrev Inv-loop : tie.InvT-loop
-Inv-loop walk marks depths lasts added worked₀ rows columns row₀ first₀ worked row first =
-    AtRow rows columns row first × Rowed (worksOn walk marks depths lasts added) columns worked₀ worked row
+Inv-loop walk depths lasts added worked₀ rows columns row₀ first₀ worked row first =
+    AtRow rows columns row first × Rowed (worksOn walk depths lasts added) columns worked₀ worked row
 
 abbrev μ-loop : tie.MeasureT-loop
-μ-loop walk marks depths lasts added worked₀ rows columns row₀ first₀ worked row first = rows - row
+μ-loop walk depths lasts added worked₀ rows columns row₀ first₀ worked row first = rows - row
 
 -- ---- the places, each by the one before it
 
 abbrev start : tie.At-loop Inv-loop μ-loop → tie.Start Inv-loop μ-loop
-start c = c .before .before .before .before .before .before
+start c = c .before .before .before .before .before
 
 -- ---- the answers
 
@@ -35,7 +34,6 @@ worked-row-requires c κs =
     let first-is = c .before .loop .inv .0 .begins in
     record {
       columns-high = s .pre .fine .columns-high;
-      marks-long = omega (arith, fits, s .pre .marks-long, first-is);
       depths-long = omega (arith, fits, s .pre .depths-long, first-is);
       lasts-long = omega (arith, fits, s .pre .lasts-long, first-is);
       added-long = omega (arith, fits, s .pre .added-long, first-is);
@@ -75,7 +73,7 @@ returns : tie.Need-returns Inv-loop μ-loop
 returns c =
     let at-loop = c .before in
     let s = start at-loop in
-    rows-marked (s .args .walk) (plan (s .args .shape) (s .args .marks .now)) (s .args .depths .now) (s .args .lasts .now) (s .args .added .now) (s .args .worked .now)
+    rows-marked (s .args .walk) (s .args .shape) (s .args .depths .now) (s .args .lasts .now) (s .args .added .now) (s .args .worked .now)
     (at-loop .loop .row) (s .pre .rows-long) (c .loop-test .left) (at-loop .loop .inv .1)
 
 pub mark-worked-spec : {M : Type 1} → statement M

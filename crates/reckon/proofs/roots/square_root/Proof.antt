@@ -18,42 +18,42 @@ with-digit-requires c κs =
 with-digit-requires-2 : tie.Need-with-digit-requires-2
 with-digit-requires-2 c κs =
     let at-above = c .before in
-    (record { power = squares; small = at-above .before .pre }, at-above .above-square-root .ensures, (7, refl), c .with-digit .ensures .0 .fits)
+    (record { power = squares; small = at-above .before .pre }, at-above .above-square-root .ensures, (7, refl), c .with-digit .ensures .fits)
 
 with-digit-requires-3 : tie.Need-with-digit-requires-3
 with-digit-requires-3 c κs =
     let at-above = c .before .before in
-    (record { power = squares; small = at-above .before .pre }, at-above .above-square-root .ensures, (6, refl), c .with-digit2 .ensures .0 .fits)
+    (record { power = squares; small = at-above .before .pre }, at-above .above-square-root .ensures, (6, refl), c .with-digit2 .ensures .fits)
 
 with-digit-requires-4 : tie.Need-with-digit-requires-4
 with-digit-requires-4 c κs =
     let at-above = c .before .before .before in
-    (record { power = squares; small = at-above .before .pre }, at-above .above-square-root .ensures, (5, refl), c .with-digit3 .ensures .0 .fits)
+    (record { power = squares; small = at-above .before .pre }, at-above .above-square-root .ensures, (5, refl), c .with-digit3 .ensures .fits)
 
 with-digit-requires-5 : tie.Need-with-digit-requires-5
 with-digit-requires-5 c κs =
     let at-above = c .before .before .before .before in
-    (record { power = squares; small = at-above .before .pre }, at-above .above-square-root .ensures, (4, refl), c .with-digit4 .ensures .0 .fits)
+    (record { power = squares; small = at-above .before .pre }, at-above .above-square-root .ensures, (4, refl), c .with-digit4 .ensures .fits)
 
 with-digit-requires-6 : tie.Need-with-digit-requires-6
 with-digit-requires-6 c κs =
     let at-above = c .before .before .before .before .before in
-    (record { power = squares; small = at-above .before .pre }, at-above .above-square-root .ensures, (3, refl), c .with-digit5 .ensures .0 .fits)
+    (record { power = squares; small = at-above .before .pre }, at-above .above-square-root .ensures, (3, refl), c .with-digit5 .ensures .fits)
 
 with-digit-requires-7 : tie.Need-with-digit-requires-7
 with-digit-requires-7 c κs =
     let at-above = c .before .before .before .before .before .before in
-    (record { power = squares; small = at-above .before .pre }, at-above .above-square-root .ensures, (2, refl), c .with-digit6 .ensures .0 .fits)
+    (record { power = squares; small = at-above .before .pre }, at-above .above-square-root .ensures, (2, refl), c .with-digit6 .ensures .fits)
 
 with-digit-requires-8 : tie.Need-with-digit-requires-8
 with-digit-requires-8 c κs =
     let at-above = c .before .before .before .before .before .before .before in
-    (record { power = squares; small = at-above .before .pre }, at-above .above-square-root .ensures, (1, refl), c .with-digit7 .ensures .0 .fits)
+    (record { power = squares; small = at-above .before .pre }, at-above .above-square-root .ensures, (1, refl), c .with-digit7 .ensures .fits)
 
 with-digit-requires-9 : tie.Need-with-digit-requires-9
 with-digit-requires-9 c κs =
     let at-above = c .before .before .before .before .before .before .before .before in
-    (record { power = squares; small = at-above .before .pre }, at-above .above-square-root .ensures, (0, refl), c .with-digit8 .ensures .0 .fits)
+    (record { power = squares; small = at-above .before .pre }, at-above .above-square-root .ensures, (0, refl), c .with-digit8 .ensures .fits)
 
 returns : tie.Need-returns
 returns c = search needs

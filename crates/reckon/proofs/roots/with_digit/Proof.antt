@@ -2,12 +2,12 @@
 -- Assumes nothing.
 use native.Mathlib.Omega.{arith}
 use borrow.Author.Needs.{needs}
-use Rattle.reckon.proofs.PlaceLaws.{place-below, no-digit, raised-none}
+use Rattle.reckon.proofs.PlaceLaws.{place-below, no-digit}
 use Rattle.reckon.proofs.roots.with_digit.Statement.{statement}
 use Rattle.reckon.proofs.roots.with_digit.Tie as tie
 
 returns : tie.Need-returns
-returns c = (no-digit (c .before .pre .1) (omega arith) (c .before .pre .3), raised-none _ _)
+returns c = no-digit (c .before .pre .1) (omega arith) (c .before .pre .3)
 
 raise-digit-requires : tie.Need-raise-digit-requires
 raise-digit-requires c κs =

@@ -2,34 +2,34 @@
 -- Assumes nothing.
 use mathlib.Core.Path.{_≡_, sym, _∙_}
 use mathlib.Core.Bool.{Bool, true}
-use Prim.Native.Nat.{ℕ, _-_, _+_, _<_}
+use Prim.Native.Nat.{ℕ, _+_, _<_}
 use native.Mathlib.Omega.{arith}
 use borrow.Author.Tests.{not-true, not-false}
 use Rattle.reckon.specs.Tests.{allBelow}
 use Rattle.reckon.proofs.TestLaws.{all-more, all-fails, all-whole}
 use Rattle.grid.specs.Squares.{squares}
-use Rattle.grid.specs.inner.Visits.{Passes, Visits}
-use Rattle.grid.proofs.WalkLaws.{walk-visits, walk-ends, walk-nearer}
+use Rattle.grid.specs.inner.Visits.{Passes, Visits, Rests}
+use Rattle.grid.proofs.RestLaws.{walk-begins, walk-within, walk-turn, walk-on, walk-less, walk-over}
 use Rattle.settling.specs.inner.Settle.{fitsAt}
 use Rattle.settling.proofs.ReachLaws.{fits-none}
 use Rattle.settling.proofs.reach.row_fits.Statement.{statement}
 use Rattle.settling.proofs.reach.row_fits.Tie as tie
 
 abbrev Inv-loop : tie.InvT-loop
-Inv-loop marks first reached room columns column₀ column = Visits reached columns (λ k. allBelow (first + k) (fitsAt marks room) ≡ true) column
+Inv-loop marks first reached room columns rest₀ rest = Rests reached columns (λ k. allBelow (first + k) (fitsAt marks room) ≡ true) rest
 
 abbrev μ-loop : tie.MeasureT-loop
-μ-loop marks first reached room columns column₀ column = columns - column
+μ-loop marks first reached room columns rest₀ rest = rest
 
 -- ---- the places, each from the one after it
 
 abbrev start : tie.At-loop Inv-loop μ-loop → tie.Start Inv-loop μ-loop
 start c = c .before .before .before .before
 
-abbrev turn : tie.In-loop Inv-loop μ-loop → tie.At-loop Inv-loop μ-loop
-turn c = c .before
+abbrev turn : tie.After-lowest-set Inv-loop μ-loop → tie.At-loop Inv-loop μ-loop
+turn c = c .before .before
 
-abbrev asked : tie.After-fits2 Inv-loop μ-loop → tie.In-loop Inv-loop μ-loop
+abbrev asked : tie.After-fits2 Inv-loop μ-loop → tie.After-lowest-set Inv-loop μ-loop
 asked c = c .before
 
 -- ---- what is known there
@@ -49,19 +49,35 @@ module _ (s : tie.Start Inv-loop μ-loop) where
   passes : Passes (s .args .reached) (s .args .shape .columns) Fit
   passes k h b t = fit-more k t (fits-none (s .args .marks .now) (s .args .room .now) (s .args .first + k) (s .pre .1 .0 k h b))
 
--- in a turn: the column's square is on the grid
-on-grid : (c : tie.In-loop Inv-loop μ-loop) → let z = turn c in start z .args .first + z .loop .column < squares (start z .args .shape)
-on-grid c = omega (arith, c .loop-test .taken, start (turn c) .pre .0 .1 .fits)
+-- in a turn: the column is one of the row, and its square on the grid
+module _ (c : tie.After-lowest-set Inv-loop μ-loop) where
+  abbrev z : tie.At-loop Inv-loop μ-loop
+  z = turn c
+
+  abbrev column : ℕ
+  column = c .lowest-set .result
+
+  within : column < start z .args .shape .columns
+  within = walk-within (z .loop .inv) (start z .pre .0 .0 .columns-high) (c .before .loop-test .taken) (c .lowest-set .ensures)
+
+  here : Visits (start z .args .reached) (start z .args .shape .columns) (Fit (start z)) column
+  here = walk-turn (z .loop .inv) (start z .pre .0 .0 .columns-high) (c .before .loop-test .taken) (c .lowest-set .ensures) (passes (start z))
+
+  on-grid : start z .args .first + column < squares (start z .args .shape)
+  on-grid = omega (arith, within, start z .pre .0 .1 .fits)
 
 -- ---- the needs
 
-next-within-requires : tie.Need-next-within-requires Inv-loop μ-loop
-next-within-requires c κs = (omega arith, c .before .before .pre .0 .0 .columns-high)
+within-row-requires : tie.Need-within-row-requires Inv-loop μ-loop
+within-row-requires c κs = let s = c .before .before in (s .pre .0 .0 .columns-low, s .pre .0 .0 .columns-high)
 
 loop-holds : tie.Need-loop-holds Inv-loop μ-loop
 loop-holds c =
     let s = c .before .before .before in
-    walk-visits (passes s) (s .pre .0 .0 .columns-high) 0 (omega arith) (c .next-within .ensures) (all-whole (fit s) (s .pre .1 .1) (omega arith))
+    walk-begins (s .pre .0 .0 .columns-high) (c .within-row .ensures) (all-whole (fit s) (s .pre .1 .1) (omega arith))
+
+lowest-set-requires : tie.Need-lowest-set-requires Inv-loop μ-loop
+lowest-set-requires c κs = omega (arith, c .loop-test .taken)
 
 add-fits : tie.Need-add-fits Inv-loop μ-loop
 add-fits c = omega (arith, on-grid c, start (turn c) .pre .0 .0 .few)
@@ -73,34 +89,32 @@ fits-requires c κs =
 
 returns : tie.Need-returns Inv-loop μ-loop
 returns c =
-    let here = c .before in
-    let z = turn (asked here) in
-    let s = start z in
+    let fitted = c .before in
+    let at = asked fitted in
+    let s = start (turn at) in
     sym
-    (all-fails (s .args .first + s .args .shape .columns) (fit s) (s .args .first + z .loop .column) (omega (arith, asked here .loop-test .taken))
-    (sym (here .fits2 .ensures) ∙ not-true _ (c .if1 .taken)))
+    (all-fails (s .args .first + s .args .shape .columns) (fit s) (s .args .first + column at) (omega (arith, within at))
+    (sym (fitted .fits2 .ensures) ∙ not-true _ (c .if1 .taken)))
 
-next-after-requires : tie.Need-next-after-requires Inv-loop μ-loop
-next-after-requires c κs =
-    let here = asked (c .before) in
-    (here .loop-test .taken, start (turn here) .pre .0 .0 .columns-high)
+without-lowest-requires : tie.Need-without-lowest-requires Inv-loop μ-loop
+without-lowest-requires c κs = omega (arith, asked (c .before) .before .loop-test .taken)
 
 loop-less : tie.Need-loop-less Inv-loop μ-loop
-loop-less c =
-    let here = asked (c .before .before) in
-    walk-nearer (start (turn here) .args .reached) (here .loop-test .taken) (c .next-after .ensures)
+loop-less c = walk-less (asked (c .before .before) .before .loop-test .taken) (c .without-lowest .ensures)
 
 loop-again : tie.Need-loop-again Inv-loop μ-loop
 loop-again c =
     let fitted = c .before .before in
-    let z = turn (asked fitted) in
-    let s = start z in
-    let own : fit s (s .args .first + z .loop .column) ≡ true = sym (fitted .fits2 .ensures) ∙ not-false _ (c .before .if1 .left) in
-    walk-visits (passes s) (s .pre .0 .0 .columns-high) (z .loop .column + 1) (omega (arith, asked fitted .loop-test .taken)) (c .next-after .ensures)
-    (fit-more s (z .loop .column) (z .loop .inv .held) own)
+    let at = asked fitted in
+    let s = start (turn at) in
+    let own : fit s (s .args .first + column at) ≡ true = sym (fitted .fits2 .ensures) ∙ not-false _ (c .before .if1 .left) in
+    walk-on (turn at .loop .inv) (s .pre .0 .0 .columns-high) (at .before .loop-test .taken) (at .lowest-set .ensures) (c .without-lowest .ensures)
+    (fit-more s (column at) (here at .held) own)
 
 returns-2 : tie.Need-returns-2 Inv-loop μ-loop
-returns-2 c = sym (walk-ends (c .before .loop .inv) (c .loop-test .left))
+returns-2 c =
+    let s = start (c .before) in
+    sym (walk-over (c .before .loop .inv) (s .pre .0 .0 .columns-high) (c .loop-test .left) (passes s))
 
 pub row-fits-spec : {M : Type 1} → statement M
 row-fits-spec =
@@ -108,12 +122,13 @@ row-fits-spec =
     (tie.spec
     Inv-loop
     μ-loop
-    next-within-requires
+    within-row-requires
     loop-holds
+    lowest-set-requires
     add-fits
     fits-requires
     returns
-    next-after-requires
+    without-lowest-requires
     loop-less
     loop-again
     returns-2)

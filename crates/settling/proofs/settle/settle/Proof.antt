@@ -12,7 +12,7 @@ use Rattle.ledger.specs.Runs.{Plan, World, plan, world}
 use Rattle.ledger.specs.Record.{roomSlots}
 use Rattle.settling.specs.inner.Settle.{Settles, WalkTells, RoomAdded, nextRecord, settleNumber}
 use Rattle.ledger.proofs.RecordLaws.{slots-of}
-use Rattle.settling.proofs.ReachLaws.{fits-are, room-beyond, lasts-written, depths-written}
+use Rattle.settling.proofs.ReachLaws.{fits-are, room-beyond, same-beyond, lasts-written, depths-written}
 use Rattle.settling.proofs.SettleLaws.{settles-spreads, late-is, settles-refused, settles-made, outflow-by, soaked-by, written-is, next-fits}
 use Rattle.settling.proofs.SureLaws.{off-lost, soaked-lost, next-is, next-stored, settles-by}
 use borrow.Author.Needs.{needs}
@@ -190,11 +190,11 @@ returns c =
 write-water-requires : tie.Need-write-water-requires
 write-water-requires c κs =
     let spread = spread-at (off-at (totals-at (number-at (c .before .before .before)))) in
-    let s = start (sized (place-at spread)) in
-    let told = s .pre .1 .0 in
-    let ask = s .pre .0 in (
+    let at = place-at spread in
+    let told = tells at in
+    let ask = asks at in (
       (ask .fine, ask .marks-long, told .left-long, spread .spread .ensures .room-is .long, ask .lasts-long, ask .depths-long),
-      (told .worked-long, told .senders-long),
+      (told .worked-long, told .senders-long, same-beyond told (ask .fine) (ask .marks-long) (spread .spread .ensures .room-is)),
     )
 
 lasted-requires : tie.Need-lasted-requires
@@ -234,7 +234,7 @@ returns-2 c =
     settles-by (rec-is at)
     (settles-made (p at) (rec at) (s at .args .held) (w at) (number-is number) (passed .if1 .left)
     (written-is (p at) (rec at) (s at .args .held) (w at) (slots-are (slots-at slot)) (slot .slot-after .ensures)
-    (depths-written told (ask .fine) (ask .marks-long) (spread .spread .ensures .room-is) (water .write-water .ensures .1))
+    (depths-written (spread .spread .ensures .room-is) (water .write-water .ensures .1))
     (lasts-written told (water .write-water .ensures .0))
     (at .slot-start .ensures ∙ ap (λ (k : ℕ). slotStart k (slot .slot-after .result)) (size .record-size .ensures))
     (next-stored (p at) (w at) (size .record-size .ensures) (slots-at slot .slots-in .ensures) (slot .slot-after .ensures) (at .slot-start .ensures) (slot-fits slot))

@@ -50,9 +50,8 @@ send-to-requires c κs =
     let s = start q in
     let few = s .pre .0 .0 in
     let inside : at q < squares (p q .shape) = omega (arith, q .squares-of .ensures, c .before .if1 .left) in (
-      omega (arith, inside, few .recorded .marks-long),
       omega (arith, inside, few .recorded .marks-long, s .pre .1 .1),
-      (λ o. omega (arith, s .pre .1 .0 (at q) inside o, q .before .before .leaving .ensures, few .few (s .args .side) (s .pre .0 .1))),
+      omega (arith, q .before .before .leaving .ensures, few .few (s .args .side) (s .pre .0 .1)),
     )
 
 same-length : tie.Need-same-length
@@ -66,7 +65,9 @@ returns-2 c =
     let inside : at q < squares (p q .shape) = omega (arith, q .squares-of .ensures, sent .before .before .if1 .left) in (
       off-inside (p q) (leavesIn (s .args .rec .now)) (s .args .square) (s .args .side) (q .before .beside-on .ensures) inside,
       brought (p q) (s .args .rec .now) (s .args .square) (s .args .side) (q .before .beside-on .ensures)
-          (omega (arith, inside, s .pre .0 .0 .recorded .marks-long, s .pre .1 .1)) (q .before .before .leaving .ensures) (sent .send-to .ensures),
+          (omega (arith, inside, s .pre .0 .0 .recorded .marks-long, s .pre .1 .1)) (q .before .before .leaving .ensures)
+          (λ o. omega (arith, s .pre .1 .0 (at q) inside o, q .before .before .leaving .ensures, s .pre .0 .0 .few (s .args .side) (s .pre .0 .1)))
+          (sent .send-to .ensures),
     )
 
 pub send-side-spec : {M : Type 1} → statement M

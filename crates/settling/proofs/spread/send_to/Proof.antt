@@ -1,45 +1,23 @@
--- `settling::spread::send_to` meets its contract: nothing is stored where the square is closed.
+-- `settling::spread::send_to` meets its contract: the sum, as it stands in 32 bits.
 -- Assumes nothing.
-use mathlib.Core.Path.{_≡_, sym, ap, _∙_}
-use mathlib.Core.Bool.{false}
-use Prim.Native.Nat.{ℕ, _+_, _<_}
-use native.Mathlib.Omega.{arith}
-use lib.ListN.{getD, set}
-use Rattle.grid.specs.Marks.{closed}
-use Rattle.reckon.proofs.TestLaws.{pick-true, pick-false}
+use mathlib.Core.Path.{ap}
+use Prim.Native.Nat.{ℕ}
+use lib.ListN.{set}
 use borrow.Author.Needs.{needs}
 use Rattle.settling.proofs.spread.send_to.Statement.{statement}
 use Rattle.settling.proofs.spread.send_to.Tie as tie
 
--- ---- what is known where the square is not closed
+mul-wrapping-add-u32 : tie.Need-mul-wrapping-add-u32
+mul-wrapping-add-u32 c = search needs
 
-module _ (c : tie.After-number) where
-  abbrev start : tie.Start
-  start = c .before .before .before .before .before .before
+slice-read-wrapping-add-u32 : tie.Need-slice-read-wrapping-add-u32
+slice-read-wrapping-add-u32 c = search needs
 
-  open-here : closed (start .args .marks .now) (start .args .square) ≡ false
-  open-here = sym (c .before .before .before .is-closed .ensures) ∙ c .before .before .if1 .left
+cast-wrapping-add-u32 : tie.Need-cast-wrapping-add-u32
+cast-wrapping-add-u32 c = search needs
 
-  fits-there : getD (start .args .room .now) (start .args .square) 0 + start .args .amount < 4294967296
-  fits-there = start .pre .2 open-here
-
--- ---- the needs
-
-is-closed-requires : tie.Need-is-closed-requires
-is-closed-requires c κs = search needs
-
-returns : tie.Need-returns
-returns c = sym (pick-true _ _ (sym (c .before .is-closed .ensures) ∙ c .if1 .taken))
-
-number-requires : tie.Need-number-requires
-number-requires c κs = search needs
-
-add-room : tie.Need-add-room
-add-room c =
-    record { fits = omega (arith, c .number .ensures, fits-there c) }
-
-cast-room : tie.Need-cast-room
-cast-room c = record { fits = omega (arith, c .number .ensures, fits-there c) }
+wrapping-add-u32-requires : tie.Need-wrapping-add-u32-requires
+wrapping-add-u32-requires c κs = search needs
 
 mul-room : tie.Need-mul-room
 mul-room c = search needs
@@ -50,21 +28,20 @@ slice-write-room c = search needs
 same-length : tie.Need-same-length
 same-length c = search needs
 
-returns-2 : tie.Need-returns-2
-returns-2 c =
-    let s = start c in
-    ap (λ (k : ℕ). set (s .args .room .now) (s .args .square) (k + s .args .amount)) (c .number .ensures) ∙ sym (pick-false _ _ (open-here c))
+returns : tie.Need-returns
+returns c =
+    let a = c .before .before .before .args in
+    ap (λ (k : ℕ). set (a .room .now) (a .square) k) (c .wrapping-add-u32 .ensures)
 
 pub send-to-spec : {M : Type 1} → statement M
 send-to-spec =
     tie.close
     (tie.spec
-    is-closed-requires
-    returns
-    number-requires
-    add-room
-    cast-room
+    mul-wrapping-add-u32
+    slice-read-wrapping-add-u32
+    cast-wrapping-add-u32
+    wrapping-add-u32-requires
     mul-room
     slice-write-room
     same-length
-    returns-2)
+    returns)

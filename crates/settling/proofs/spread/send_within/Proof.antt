@@ -60,41 +60,52 @@ second c = c .before .before .before .before .before
 abbrev third : tie.After-send-to4 → tie.After-send-to3
 third c = c .before .before .before .before .before
 
-grown1 : (c : tie.After-send-to) → let s = start1 c in Grown (p s) (brings (p s) (rec s) (i s) north) (s .args .room .now) (c .send-to .last .1 .1 .1 .0)
+grown1 : (c : tie.After-send-to) → let s = start1 c in Grown (p s) (brings (p s) (rec s) (i s) north) (s .args .room .now) (c .send-to .last .1 .1 .0)
 grown1 c =
     let s = start1 c in
     brought (p s) (rec s) (i s) north (north-is (s .args .shape) (i s) (s .pre .0 .1)) (omega (arith, long s, inside s)) (c .before .before .leaving .ensures)
+    (λ o.
+    omega (
+      arith,
+      s .pre .1 .0 (i s - s .args .shape .columns) (omega (arith, inside s)) o,
+      c .before .before .leaving .ensures,
+      s .pre .0 .0 .few north (omega arith),
+    ))
     (c .send-to .ensures)
 
-grown2 :
-    (c : tie.After-send-to2) → let s = start1 (first c) in
-    Grown (p s) (brings (p s) (rec s) (i s) east) (first c .send-to .last .1 .1 .1 .0) (c .send-to2 .last .1 .1 .1 .0)
-grown2 c =
-    let s = start1 (first c) in
-    brought (p s) (rec s) (i s) east (east-is (s .args .shape) (i s) (s .pre .0 .1)) (omega (arith, long s, grown1 (first c) .long, to-east s))
-    (c .before .before .leaving2 .ensures) (c .send-to2 .ensures)
-
-grown3 :
-    (c : tie.After-send-to3) → let s = start1 (first (second c)) in
-    Grown (p s) (brings (p s) (rec s) (i s) south) (second c .send-to2 .last .1 .1 .1 .0) (c .send-to3 .last .1 .1 .1 .0)
-grown3 c =
-    let q = second c in
-    let s = start1 (first q) in
-    brought (p s) (rec s) (i s) south (south-is (s .args .shape) (i s) (s .pre .0 .1))
-    (omega (arith, long s, grown1 (first q) .long, grown2 q .long, to-south s)) (c .before .before .leaving3 .ensures) (c .send-to3 .ensures)
-
--- the space that the room has
-space1 : (c : tie.After-send-to) → SpaceLeft (p (start1 c)) (3 * mostDepth) (c .send-to .last .1 .1 .1 .0)
+-- and the space that it has
+space1 : (c : tie.After-send-to) → SpaceLeft (p (start1 c)) (3 * mostDepth) (c .send-to .last .1 .1 .0)
 space1 c =
     let s = start1 c in
     space-after (p s) (rec s) (i s) north (3 * mostDepth) (s .pre .1 .0) (grown1 c) (s .pre .0 .0 .few north (omega arith))
 
-space2 : (c : tie.After-send-to2) → SpaceLeft (p (start1 (first c))) (2 * mostDepth) (c .send-to2 .last .1 .1 .1 .0)
+grown2 :
+    (c : tie.After-send-to2) → let s = start1 (first c) in
+    Grown (p s) (brings (p s) (rec s) (i s) east) (first c .send-to .last .1 .1 .0) (c .send-to2 .last .1 .1 .0)
+grown2 c =
+    let s = start1 (first c) in
+    brought (p s) (rec s) (i s) east (east-is (s .args .shape) (i s) (s .pre .0 .1)) (omega (arith, long s, grown1 (first c) .long, to-east s))
+    (c .before .before .leaving2 .ensures)
+    (λ o. omega (arith, space1 (first c) (i s + 1) (to-east s) o, c .before .before .leaving2 .ensures, s .pre .0 .0 .few east (omega arith)))
+    (c .send-to2 .ensures)
+
+space2 : (c : tie.After-send-to2) → SpaceLeft (p (start1 (first c))) (2 * mostDepth) (c .send-to2 .last .1 .1 .0)
 space2 c =
     let s = start1 (first c) in
     space-after (p s) (rec s) (i s) east (2 * mostDepth) (space1 (first c)) (grown2 c) (s .pre .0 .0 .few east (omega arith))
 
-space3 : (c : tie.After-send-to3) → SpaceLeft (p (start1 (first (second c)))) mostDepth (c .send-to3 .last .1 .1 .1 .0)
+grown3 :
+    (c : tie.After-send-to3) → let s = start1 (first (second c)) in
+    Grown (p s) (brings (p s) (rec s) (i s) south) (second c .send-to2 .last .1 .1 .0) (c .send-to3 .last .1 .1 .0)
+grown3 c =
+    let q = second c in
+    let s = start1 (first q) in
+    brought (p s) (rec s) (i s) south (south-is (s .args .shape) (i s) (s .pre .0 .1))
+    (omega (arith, long s, grown1 (first q) .long, grown2 q .long, to-south s)) (c .before .before .leaving3 .ensures)
+    (λ o. omega (arith, space2 q (i s + s .args .shape .columns) (to-south s) o, c .before .before .leaving3 .ensures, s .pre .0 .0 .few south (omega arith)))
+    (c .send-to3 .ensures)
+
+space3 : (c : tie.After-send-to3) → SpaceLeft (p (start1 (first (second c)))) mostDepth (c .send-to3 .last .1 .1 .0)
 space3 c =
     let s = start1 (first (second c)) in
     space-after (p s) (rec s) (i s) south mostDepth (space2 (second c)) (grown3 c) (s .pre .0 .0 .few south (omega arith))
@@ -111,15 +122,8 @@ leaving-requires c κs =
 send-to-requires : tie.Need-send-to-requires
 send-to-requires c κs =
     let s = c .before .before .before .before .before in (
-      omega (arith, inside s, s .pre .0 .0 .recorded .marks-long),
       omega (arith, inside s, long s),
-      (λ o.
-          omega (
-            arith,
-            s .pre .1 .0 (i s - s .args .shape .columns) (omega (arith, inside s)) o,
-            c .before .leaving .ensures,
-            s .pre .0 .0 .few north (omega arith),
-          )),
+      omega (arith, c .before .leaving .ensures, s .pre .0 .0 .few north (omega arith)),
     )
 
 add-send-to : tie.Need-add-send-to
@@ -133,9 +137,8 @@ send-to-requires-2 : tie.Need-send-to-requires-2
 send-to-requires-2 c κs =
     let f = c .before .before .before .before in
     let s = start1 f in (
-      omega (arith, to-east s, s .pre .0 .0 .recorded .marks-long),
       omega (arith, to-east s, long s, grown1 f .long),
-      (λ o. omega (arith, space1 f (i s + 1) (to-east s) o, c .before .leaving2 .ensures, s .pre .0 .0 .few east (omega arith))),
+      omega (arith, c .before .leaving2 .ensures, s .pre .0 .0 .few east (omega arith)),
     )
 
 add-send-to-2 : tie.Need-add-send-to-2
@@ -151,9 +154,8 @@ send-to-requires-3 c κs =
     let q = c .before .before .before .before in
     let f = first q in
     let s = start1 f in (
-      omega (arith, to-south s, s .pre .0 .0 .recorded .marks-long),
       omega (arith, to-south s, long s, grown1 f .long, grown2 q .long),
-      (λ o. omega (arith, space2 q (i s + s .args .shape .columns) (to-south s) o, c .before .leaving3 .ensures, s .pre .0 .0 .few south (omega arith))),
+      omega (arith, c .before .leaving3 .ensures, s .pre .0 .0 .few south (omega arith)),
     )
 
 sub-send-to-2 : tie.Need-sub-send-to-2
@@ -169,9 +171,8 @@ send-to-requires-4 c κs =
     let q = second t in
     let f = first q in
     let s = start1 f in (
-      omega (arith, inside s, s .pre .0 .0 .recorded .marks-long),
       omega (arith, inside s, long s, grown1 f .long, grown2 q .long, grown3 t .long),
-      (λ o. omega (arith, space3 t (i s - 1) (omega (arith, inside s)) o, c .before .leaving4 .ensures, s .pre .0 .0 .few west (omega arith))),
+      omega (arith, c .before .leaving4 .ensures, s .pre .0 .0 .few west (omega arith)),
     )
 
 same-length : tie.Need-same-length
@@ -186,7 +187,9 @@ returns c =
     let s = start1 f in
     brought-all (p s) (rec s) (i s) (grown1 f) (grown2 q) (grown3 t)
     (brought (p s) (rec s) (i s) west (west-is (s .args .shape) (i s) (s .pre .0 .1))
-    (omega (arith, inside s, long s, grown1 f .long, grown2 q .long, grown3 t .long)) (d .before .before .leaving4 .ensures) (d .send-to4 .ensures))
+    (omega (arith, inside s, long s, grown1 f .long, grown2 q .long, grown3 t .long)) (d .before .before .leaving4 .ensures)
+    (λ o. omega (arith, space3 t (i s - 1) (omega (arith, inside s)) o, d .before .before .leaving4 .ensures, s .pre .0 .0 .few west (omega arith)))
+    (d .send-to4 .ensures))
 
 pub send-within-spec : {M : Type 1} → statement M
 send-within-spec =

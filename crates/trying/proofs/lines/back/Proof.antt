@@ -1,4 +1,4 @@
-use mathlib.Core.Path.{_≡_, refl, sym, ap, _∙_}
+use mathlib.Core.Path.{refl, _∙_}
 use native.Mathlib.Omega.{arith}
 use Rattle.reckon.proofs.TestLaws.{refusal-here, refusal-later, passed-refusal}
 use Rattle.ledger.specs.Runs.{plan}
@@ -6,7 +6,7 @@ use Rattle.checks.proofs.CheckLaws.{fails-by, holds-by}
 use Rattle.hatches.specs.Log.{evening}
 use Rattle.hatches.proofs.RefusalLaws.{standing-is, slots-are}
 use Rattle.evenings.specs.Taking.{worldOf}
-use Rattle.evenings.proofs.BackLaws.{backs-few, backs-newest}
+use Rattle.evenings.proofs.BackLaws.{backs-newest}
 use Rattle.trying.specs.Lines.{backRefusals, backs, nothingGiven}
 use Rattle.trying.proofs.LineLaws.{back-unfit, back-count, back-taken, kept-enough, kept-short, back-difference}
 use borrow.Author.Needs.{needs}

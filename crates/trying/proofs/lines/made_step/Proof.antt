@@ -1,9 +1,7 @@
-use mathlib.Core.Path.{_≡_, ap, _∙_}
+use mathlib.Core.Path.{ap, _∙_}
 use Prim.Native.Nat.{ℕ, _+_}
 use native.Mathlib.Omega.{arith}
-use Rattle.ledger.specs.Runs.{plan}
 use Rattle.trials.specs.Ring.{slotAfter}
-use Rattle.adding.specs.inner.Added.{tables}
 use Rattle.hatches.specs.Log.{logWith}
 use Rattle.trying.specs.Given.{accountWith}
 use Rattle.trying.specs.Lines.{tried}

@@ -1,4 +1,4 @@
-use mathlib.Core.Path.{_≡_, sym, _∙_}
+use mathlib.Core.Path.{_∙_}
 use native.Mathlib.Omega.{arith}
 use Rattle.reckon.proofs.TestLaws.{refusal-here, refusal-later, passed-refusal}
 use Rattle.checks.proofs.CheckLaws.{fails-by, holds-by}

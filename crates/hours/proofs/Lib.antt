@@ -1,0 +1,4 @@
+pub mod AddedLaws
+pub mod Determined
+pub mod HoursLaws
+pub mod WetLaws
