@@ -125,23 +125,29 @@ def totals_in(text):
     return [line for line in text.splitlines() if not line.startswith(DEPTH)]
 
 
-def hold_damaged(checks):
-    """Of each damaged sheet what `meadow` prints, but for the squares of those that are whole."""
+def hold_damaged(checks, told_of, answered):
+    """Of each damaged sheet what `meadow` prints, but for the squares of those that are whole: by a program and by the rule in Python."""
     for name, base, words, edits, answer in damaged.CASES:
         sheet, wanted = sheet_of(base, edits), answer_of(answer)
         program = told_of(sheet)
-        checks.hold(totals_in(program) == totals_in(wanted), f"{name}, {words}: highest prints {shortened(program)}")
-        checks.hold(program == answered(sheet.encode("latin-1")), f"{name}, {words}: by document 02 it is something else")
+        checks.hold(totals_in(program) == totals_in(wanted), f"{name}, {words}: it prints {shortened(program)}")
+        checks.hold(program == answered(sheet.encode("latin-1")), f"{name}, {words}: by the rule in Python it is something else")
 
 
-def hold_samples(checks):
-    """Of each sample the totals of its answer, and no square lower than it ends."""
+def samples_told(checks, told_of, answered):
+    """Of each sample the totals of its answer, by a program and by the rule in Python; then its path, what the program prints, and the answer."""
     sheets = sorted((TOP / "samples").glob("*.sheet"))
     checks.hold(sheets != [], "samples/ has no sheet")
     for path in sheets:
         program, answer = told_of(path.read_text(encoding="ascii")), path.with_suffix(".out").read_text(encoding="ascii")
-        checks.hold(program == answered(path.read_bytes()), f"{path.name}: by document 02 it is something else")
+        checks.hold(program == answered(path.read_bytes()), f"{path.name}: by the rule in Python it is something else")
         checks.hold(totals_in(program) == totals_in(answer), f"{path.name}: the totals are not meadow's")
+        yield path, program, answer
+
+
+def hold_samples(checks):
+    """No square of a sample was ever lower than it ends."""
+    for path, program, answer in samples_told(checks, told_of, answered):
         heights = [int(line.split("\t")[3]) for line in program.splitlines() if line.startswith(DEPTH)]
         ends = [depth for _, depth in sorted(Answer(answer).depths.items())]
         checks.hold(len(heights) == len(ends) and all(map(int.__ge__, heights, ends)), f"{path.name}: a square ends higher than it ever was")
@@ -195,7 +201,7 @@ def main():
         return
     checks = Checks("highest")
     hold_table(checks)
-    hold_damaged(checks)
+    hold_damaged(checks, told_of, answered)
     hold_samples(checks)
     hold_random(checks, seed, RANDOM_SHEETS)
     hold_stored(checks, "highest", stored_text())

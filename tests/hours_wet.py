@@ -7,10 +7,9 @@ sheet with its answer there, random ones too, for other tests to read.
 """
 import random
 
-import damaged
-from damaged import BASES, answer_of, sheet_of
+from damaged import BASES
 from drowned import EAST, FAST_SOIL, SHEETS, WEST, drawn, pools, random_plan, random_sheet
-from highest import totals_in
+from highest import hold_damaged, samples_told
 from meadow.counted import Checks
 from meadow.peaks.hours import WET, answered, hours_of
 from meadow.programs import TOP, printed
@@ -86,23 +85,9 @@ def hold_table(checks):
         hold_both(checks, f"{name}, {words}", told_of(sheet), answered(sheet.encode("latin-1")), answer)
 
 
-def hold_damaged(checks):
-    """Of each damaged sheet what `meadow` prints, but for the squares of those that are whole."""
-    for name, base, words, edits, answer in damaged.CASES:
-        sheet, wanted = sheet_of(base, edits), answer_of(answer)
-        program = told_of(sheet)
-        checks.hold(totals_in(program) == totals_in(wanted), f"{name}, {words}: hours_wet prints {shortened(program)}")
-        checks.hold(program == answered(sheet.encode("latin-1")), f"{name}, {words}: by the rule in Python it is something else")
-
-
 def hold_samples(checks):
-    """Of each sample the totals of its answer; each square that is wet at its end has been for some time."""
-    sheets = sorted((TOP / "samples").glob("*.sheet"))
-    checks.hold(sheets != [], "samples/ has no sheet")
-    for path in sheets:
-        program, answer = told_of(path.read_text(encoding="ascii")), path.with_suffix(".out").read_text(encoding="ascii")
-        checks.hold(program == answered(path.read_bytes()), f"{path.name}: by the rule in Python it is something else")
-        checks.hold(totals_in(program) == totals_in(answer), f"{path.name}: the totals are not meadow's")
+    """Each square of a sample that is wet at its end has been for some time."""
+    for path, program, answer in samples_told(checks, told_of, answered):
         times = hours_of(path.read_text(encoding="ascii"), program).times
         wet = [place for place, deep in Answer(answer).depths.items() if deep >= WET]
         checks.hold(all(times[place] > 0 for place in wet), f"{path.name}: a square that ends wet never was")
@@ -183,7 +168,7 @@ def main():
         return
     checks = Checks("hours_wet")
     hold_table(checks)
-    hold_damaged(checks)
+    hold_damaged(checks, told_of, answered)
     hold_samples(checks)
     hold_another(checks)
     hold_random(checks, seed, RANDOM_SHEETS)
