@@ -56,8 +56,8 @@ module _ (c : Call) (d : Desk) (r : Stores) (d′ : Desk) (r′ : Stores) {l m :
         walls = λ e S ask. same-as (subst (λ (x : Desk). SameLeft (called c d r) (called c x r′)) e (walls-called c d r r′ S ask));
         goes-on = λ b s on first calls t e f again still further at there u z w.
             let alike =
-                last-alike further c (afterCalls calls b s .0) (afterCalls calls b s .1) (laidOn b s calls e f .desk) (laidOn b s calls e f .rooms)
-                (desk-goes-on .goes-on b s on first calls t e f again still (further ++ (c ∷ [])) u z w) in
+            last-alike further c (afterCalls calls b s .0) (afterCalls calls b s .1) (laidOn b s calls e f .desk) (laidOn b s calls e f .rooms)
+            (desk-goes-on .goes-on b s on first calls t e f again still (further ++ (c ∷ [])) u z w) in
             subst (λ (x : List ℕ). AnswersAlike x (m .text)) (sym (ap (λ (x : Left). x .text) one))
             (subst (λ (x : List ℕ). AnswersAlike (called c d r .text) x) (sym (ap (λ (x : Left). x .text) other))
             (subst (λ (x : Desk × Stores). AnswersAlike (called c d r .text) (text-at x)) there
