@@ -21,7 +21,7 @@ use Rattle.text.proofs.ReadingLaws.{by-test}
 use Rattle.hatches.specs.Log.{Evening}
 use Rattle.evenings.specs.Taking.{worldOf}
 use Rattle.evenings.specs.Program.{Stores, givenHeld}
-use Rattle.trying.specs.Lines.{Came, came, stepGiven, eveningNext, accountNext, stepCame}
+use Rattle.trying.specs.Lines.{Came, came, stepGiven, eveningNext, stepCame}
 use Rattle.trying.proofs.LineLaws.{step-came}
 use Rattle.desks.specs.State.{recordsOn}
 use Rattle.desks.specs.Lines.{Told, stepsLeft, lastTold, madeTold, nextTold}

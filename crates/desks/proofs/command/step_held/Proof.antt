@@ -1,6 +1,6 @@
 -- `desks::command::step_held` meets its contract: each room is lent as far as it belongs to the sheet, and put back.
 -- Assumes nothing.
-use mathlib.Core.Path.{_≡_, sym, _∙_}
+use mathlib.Core.Path.{sym, _∙_}
 use Prim.Native.Nat.{_≤_}
 use native.Mathlib.Omega.{arith}
 use lib.ListN.{length}
