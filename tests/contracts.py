@@ -1,13 +1,13 @@
 """Every public function of a library says what it gives: it has a contract, which speaks of its answer, of each slice that it was lent to
 write as it is afterwards, and of every other slice; and one determinacy record has a field for it, over the very relation that its contract
 names: that of its own crate for a layer function, that of the demands for an entry point. Every record is proved. Every entry point is called by
-a function of the crate `calls`, which promises of it what the demands say. Changed functions, of which each has a fault that the test must find,
+a function of the crates above the demands, `calls` and `desk_calls`, which promises of it what the demands say. Changed functions, of which each has a fault that the test must find,
 show that it looks."""
 import re
 
 from meadow.counted import Checks
 from meadow.programs import TOP
-from rattle import DEMANDS, imported
+from rattle import DEMANDS, imported, statements
 from rattle.functions import library_functions
 from rattle.specs import Specs
 
@@ -120,19 +120,19 @@ def hold_field(hold, specs, records, function):
 
 
 def hold_tied(hold, functions, calls):
-    """Each entry point has its function in `calls`, whose whole body is that call; every other function there makes several of these calls."""
+    """Each entry point has its function above the demands, whose whole body is that call; every other function there makes several of these calls."""
     wanted = {f"after_{function.name}": function for function in functions if function.is_entry}
     for name, function in wanted.items():
-        hold(re.fullmatch(rf"{function.name}\((?:[\w\s,]|\.len\(\))*\)", calls.get(name, "")), f"no function of `calls` makes the call {function.crate}::{function.path}")
+        hold(re.fullmatch(rf"{function.name}\((?:[\w\s,]|\.len\(\))*\)", calls.get(name, "")), f"no function above the demands makes the call {function.crate}::{function.path}")
     entries = {function.name for function in wanted.values()}
     for name in sorted(set(calls) - set(wanted)):
         made = [word for word in re.findall(r"(\w+)\(", calls[name]) if word in entries]
-        hold(len(made) > 1, f"{name} of `calls` makes fewer than two calls of entry points")
+        hold(len(made) > 1, f"{name}, above the demands, makes fewer than two calls of entry points")
 
 
 def bodies(top):
-    """{public function: its body} of the crate `calls`, with the bodies of the other functions that it calls after it."""
-    texts = [path.read_text(encoding="utf-8") for path in sorted((top / "crates" / "calls" / "src").glob("*.rt"))]
+    """{public function: its body} of the crates above the demands, with the bodies of the other functions that it calls after it."""
+    texts = [path.read_text(encoding="utf-8") for crate in statements(top) for path in sorted((top / "crates" / crate / "src").glob("*.rt"))]
     found = [each for text in texts for each in re.findall(r"^(pub )?fn (\w+)\(.*?^\{\n(.*?)^\}", text, re.M | re.S)]
     own = {name: body for public, name, body in found if not public}
     return {name: "".join([body, *(own[word] for word in re.findall(r"(\w+)\(", body) if word in own)]).strip() for public, name, body in found if public}

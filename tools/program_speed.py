@@ -99,7 +99,7 @@ PROGRAMS = {"meadow": Room.sheet_file, "highest": Room.sheet_file, "drowned": Ro
 def ran(words, given):
     """The processor's seconds of a program with a file at its standard input; what it refuses is an error."""
     with open(given, "rb") as its_input, tempfile.TemporaryFile() as its_output:
-        process = subprocess.Popen(words, stdin=its_input, stdout=its_output)
+        process = subprocess.Popen(words, stdin=its_input, stdout=its_output, stderr=subprocess.DEVNULL)
         _, status, used = os.wait4(process.pid, 0)
         process.returncode = os.waitstatus_to_exitcode(status)
         its_output.seek(0)

@@ -26,15 +26,16 @@ ghost use Rattle.adding.specs.inner.Added.{Between, rowsApart, tables};
 ghost use Rattle.account.specs.Account.{TablesGive, WaterOn};
 ghost use Rattle.account.specs.inner.Given.{GivenTo};
 
-// A square's water, 0 where it is closed.
+// A square's water, 0 where it is closed. It is read before the mark is tested, so that a sum of many goes without a branch.
 fn water_in(marks: &[u8], depths: &[u32], square: usize) -> u64
     requires { ⌜ (square < length (now marks)) × (square < length (now depths)) ⌝ }
     ensures { λ r. ⌜ r ≡ pick (closed (now (marks .entry)) square) 0 (getD (now (depths .entry)) square 0) ⌝ }
 {
+    let depth = number(depths, square);
     if is_closed(marks, square) {
         return 0;
     }
-    number(depths, square)
+    depth
 }
 
 // The water on all squares not closed, in µm over one square.

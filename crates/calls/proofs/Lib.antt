@@ -1,10 +1,8 @@
-pub mod DeskedLaws
 pub mod EveningLaws
 pub mod ExportedLaws
 pub mod LibraryLaws
 pub mod ListedLaws
 pub mod RepairingLaws
-pub mod SeveralLaws
 pub mod SurveyedLaws
 pub mod TimedLaws
 pub mod WatchedLaws

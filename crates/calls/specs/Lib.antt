@@ -1,10 +1,8 @@
-pub mod Desked
 pub mod Evenings
 pub mod Exported
 pub mod Library
 pub mod Listed
 pub mod Repairing
-pub mod Several
 pub mod Surveyed
 pub mod Timed
 pub mod Watched

@@ -1,5 +1,6 @@
 // The warden's desk: reads lines from standard input, answers each, and makes the steps of a line `step` one by one.
 use desks::command::command;
+use desks::command::make_further;
 use desks::command::make_next;
 use desks::command::wanted;
 use desks::state::DESK_NUMBERS;
@@ -14,6 +15,9 @@ use reckon::tables::RAIN_ROOM;
 ghost use mathlib.Core.Path.{_≡_};
 ghost use Prim.Native.Nat.{_≤_};
 ghost use lib.ListN.{length};
+ghost use Rattle.sheet.specs.Sheet.{rooms};
+ghost use Rattle.evenings.specs.Program.{stores};
+ghost use Rattle.desks.specs.inner.Further.{FurtherSteps};
 
 // A line has at most so many bytes, its newline counted.
 const MOST_LINE: usize = 127;
@@ -109,8 +113,8 @@ fn tell(out: &[u8], bytes: usize) {
     }
 }
 
-// The steps of a line `step`, each with its frame.
-fn make_steps(
+// The steps of a line `step` after its first, each with its frame.
+fn further_steps(
     begun: Desk,
     marks: &[u8; DESK_SQUARES],
     beds: &[u32; DESK_SQUARES],
@@ -123,15 +127,17 @@ fn make_steps(
     records: &mut [u32; DESK_NUMBERS],
     began: &mut [u32; DESK_RATES],
     out: &mut [u8; DESK_OUT],
-) -> Desk {
+) -> Desk
+    requires { ⌜ FurtherSteps begun (stores (rooms (now marks) (now beds) (now roughness) (now rates) (now depths) (now rain) (now inflow)) (now lasts) (now records) (now began)) ⌝ }
+{
     let mut desk = begun;
-    let mut calls: u32 = 0;
+    let mut calls: u32 = 1;
     while calls < MOST_CALLS {
         let series = desk.series;
         if !series.on {
             return desk;
         }
-        desk = make_next(
+        desk = make_further(
             desk,
             marks,
             beds,
@@ -149,6 +155,56 @@ fn make_steps(
         calls += 1;
     }
     desk
+}
+
+// The steps of a line `step`: the first is checked, and each that was made leaves what the next may go by.
+fn make_steps(
+    begun: Desk,
+    marks: &[u8; DESK_SQUARES],
+    beds: &[u32; DESK_SQUARES],
+    roughness: &[u32; DESK_SQUARES],
+    rates: &[u32; DESK_SQUARES],
+    rain: &[u32; RAIN_ROOM],
+    inflow: &[u32; INFLOW_ROOM],
+    depths: &mut [u32; DESK_SQUARES],
+    lasts: &mut [u32; DESK_SQUARES],
+    records: &mut [u32; DESK_NUMBERS],
+    began: &mut [u32; DESK_RATES],
+    out: &mut [u8; DESK_OUT],
+) -> Desk {
+    let series = begun.series;
+    if !series.on {
+        return begun;
+    }
+    let first = make_next(
+        begun,
+        marks,
+        beds,
+        roughness,
+        rates,
+        rain,
+        inflow,
+        depths,
+        lasts,
+        records,
+        began,
+        out,
+    );
+    tell(out, first.length);
+    further_steps(
+        first,
+        marks,
+        beds,
+        roughness,
+        rates,
+        rain,
+        inflow,
+        depths,
+        lasts,
+        records,
+        began,
+        out,
+    )
 }
 
 // What a line does, with so many bytes of it and of the text after it.

@@ -1,6 +1,7 @@
 pub mod AnswerLaws
 pub mod AnswerParts
 pub mod Determined
+pub mod FurtherLaws
 pub mod LeftLaws
 pub mod OrderLaws
 pub mod OtherLaws

@@ -20,9 +20,11 @@ use Rattle.sheet.specs.Sheet.{rooms}
 use Rattle.sheet.specs.declared.reading.Heading.{Heading}
 use Rattle.hatches.specs.Log.{evening, mostHatches}
 use Rattle.evenings.specs.Program.{Stores, stores, givenHeld}
+use Rattle.trying.specs.inner.Passing.{StepPasses}
 use Rattle.desks.specs.State.{keptSlots, recordsOn, ratesOn, headingFine}
 use Rattle.desks.specs.Lines.{Told, orderTold, nextTold}
 use Rattle.desks.specs.Command.{Leaves, planOn, eveningOn, inflowOn, readyNumber, storesWith, toldOn}
+use Rattle.desks.specs.inner.Further.{StepPassesOn}
 use Rattle.desks.specs.inner.Lent.{Lends, Answers}
 use Rattle.desks.specs.inner.Rooms.{RoomsLong}
 use Rattle.desks.specs.inner.Sizes.{SizesAre}
@@ -129,6 +131,20 @@ module _ (d : Desk) {z : Sizes} (sz : SizesAre (d .heading) z) (marks beds rough
       d a (evening x y (take (z .records) records) (take (z .began) began) (a .log)) old new)
       (sizes-same (d .heading) sz) w)
       (stores-as (placed-first x depths lx) (placed-first y lasts ly) (placed-same (z .records) records lr) (placed-same (z .began) began lb))
+
+  -- the checks that pass for a step over the sheet, said of the parts that are lent
+  pub held-passes :
+      StepPassesOn d R →
+      StepPasses (plan (d .heading .shape) (take (z .squares) marks))
+      (given (ground (d .heading .rules) (take (z .squares) beds) (take (z .squares) roughness) (take (z .squares) rates)) (take (z .rain) rain) (take (z .inflow) inflow))
+      (evening (take (z .squares) depths) (take (z .squares) lasts) (take (z .records) records) (take (z .began) began) (d .log)) (d .account)
+  held-passes =
+      subst
+      (λ (q : Sizes).
+      StepPasses (plan (d .heading .shape) (take (q .squares) marks))
+      (given (ground (d .heading .rules) (take (q .squares) beds) (take (q .squares) roughness) (take (q .squares) rates)) (take (q .rain) rain) (take (q .inflow) inflow))
+      (evening (take (q .squares) depths) (take (q .squares) lasts) (take (q .records) records) (take (q .began) began) (d .log)) (d .account))
+      (sym (sizes-same (d .heading) sz))
 
   -- the next step of a line `step`
   pub held-step :

@@ -48,7 +48,7 @@ abbrev pub heading : Heading
 heading =
     record {
       shape = record { rows = 1; columns = 3 };
-      rules = record { «square_side» = 2; tolerance = 99; shortest = 300; longest = 700; update = 1_000; edge = 10_000; edition = 1 };
+      rules = record { «square_side» = 2; tolerance = 99; shortest = 300; longest = 700; update = 600; edge = 10_000; edition = 1 };
       end = 9_000;
       «rain_rows» = 1;
       «inflow_rows» = 0;
@@ -58,7 +58,7 @@ heading =
 abbrev pub room : List ℕ → List ℕ → List ℕ → List ℕ → Stores
 room depths lasts newest rates =
     stores
-    (rooms (2 ∷ 1 ∷ 0 ∷ []) (50 ∷ 10 ∷ 97 ∷ []) (60 ∷ 70 ∷ 96 ∷ []) (3_600 ∷ 7_200 ∷ 95 ∷ []) depths (0 ∷ 9_000 ∷ 36_000 ∷ []) []) lasts
+    (rooms (2 ∷ 1 ∷ 0 ∷ []) (50 ∷ 10 ∷ 97 ∷ []) (60 ∷ 70 ∷ 96 ∷ []) (3_600 ∷ 14_400 ∷ 95 ∷ []) depths (0 ∷ 9_000 ∷ 36_000 ∷ []) []) lasts
     (newest ++ replicate 23 0) (rates ++ replicate 9 0)
 
 -- hatch 2 runs at 3 litres, and hatch 7 at so many
@@ -80,12 +80,12 @@ twoHatches =
 abbrev pub logged : Run → ℕ → Bool → Hatches → ℕ → Log
 logged run steps opening hatches litres = record { run = run; steps = steps; opening = opening; hatches = hatches; litres = drawnAt litres }
 
--- the fifth step stands, and the sixth
+-- the fifth step stands, and the sixth: its length is worked afresh, but it lasts only to the next multiple of U
 abbrev pub fifth : Run
-fifth = record { clock = 2_000; length = 500; outflow = 61; kept = 0; newest = 1; soaked = 40 }
+fifth = record { clock = 1_800; length = 500; outflow = 61; kept = 0; newest = 1; soaked = 40 }
 
 abbrev pub sixth : Run
-sixth = record { clock = 2_700; length = 700; outflow = 91; kept = 1; newest = 0; soaked = 41 }
+sixth = record { clock = 2_400; length = 700; outflow = 85; kept = 1; newest = 0; soaked = 43 }
 
 abbrev pub roomFifth : Stores
 roomFifth = room (940 ∷ 400 ∷ 99 ∷ []) (17 ∷ 18 ∷ 98 ∷ []) (replicate 23 0) (replicate 9 0)
@@ -94,17 +94,17 @@ roomFifth = room (940 ∷ 400 ∷ 99 ∷ []) (17 ∷ 18 ∷ 98 ∷ []) (replicat
 -- was added and what soaked
 abbrev pub recordSixth : List ℕ
 recordSixth =
-    500 ∷ 700 ∷ 10 ∷ 6 ∷ 10 ∷ 10 ∷ 17 ∷ 532 ∷ 0 ∷ 0 ∷ 0 ∷ 0 ∷ 0 ∷ 18 ∷ 6_132 ∷ 1 ∷ 0 ∷ 0 ∷ 0 ∷ 0 ∷ 0 ∷ 0 ∷ 0 ∷ []
+    500 ∷ 600 ∷ 8 ∷ 5 ∷ 8 ∷ 8 ∷ 17 ∷ 456 ∷ 1 ∷ 0 ∷ 0 ∷ 0 ∷ 0 ∷ 18 ∷ 5_256 ∷ 2 ∷ 0 ∷ 0 ∷ 0 ∷ 0 ∷ 0 ∷ 0 ∷ 0 ∷ []
 
 abbrev pub roomSixth : Stores
-roomSixth = room (1_436 ∷ 6_537 ∷ 99 ∷ []) (36 ∷ 0 ∷ 98 ∷ []) recordSixth (drawnAt 35)
+roomSixth = room (1_366 ∷ 5_659 ∷ 99 ∷ []) (29 ∷ 0 ∷ 98 ∷ []) recordSixth (drawnAt 35)
 
 -- 51 had been given before the sixth step, which is what its slot keeps
 abbrev pub accountFifth : ℕ → Account
 accountFifth kept = record { start = 1_390; given = 51; before = kept ∷ replicate 255 0 }
 
 abbrev pub accountSixth : Account
-accountSixth = record { start = 1_390; given = 6_715; before = 51 ∷ replicate 255 0 }
+accountSixth = record { start = 1_390; given = 5_763; before = 51 ∷ replicate 255 0 }
 
 abbrev pub deskOf : Log → Account → Series → ℕ → Desk
 deskOf log a s long = record { ready = true; heading = heading; log = log; account = a; series = s; length = long }
@@ -138,7 +138,7 @@ abbrev pub toMake : ℕ → Series
 toMake left = record { on = true; left = left; end = 9_000; every = true }
 
 abbrev pub frameSixth : String
-frameSixth = "frame\t6\t2700\t700\t91\t41\t1\t256\t7973\t1390\t6715\nrates\t0\t3\t0\t0\t0\t0\t35\t0\t0\nrow\t1436\t6537\tx\n"
+frameSixth = "frame\t6\t2400\t700\t85\t43\t1\t256\t7025\t1390\t5763\nrates\t0\t3\t0\t0\t0\t0\t35\t0\t0\nrow\t1366\t5659\tx\n"
 
 pub record LineCases : Type 0 where
   -- hatch 7 is named; named twice and on a closed square it is refused, and all is left as it was
@@ -163,10 +163,10 @@ pub record BackCases : Type 0 where
   -- what is seen is what was before the step, but that no hatch can be named any more
   pub back : answered (fourth noSeries 5) roomSixth "back\t1\n"
       ≡ left (last 86) roomLast
-      (bytesOf "frame\t5\t2000\t500\t61\t40\t0\t256\t1340\t1390\t51\nrates\t0\t3\t0\t0\t0\t0\t35\t0\t0\nrow\t940\t400\tx\ndone\n")
+      (bytesOf "frame\t5\t1800\t500\t61\t40\t0\t256\t1340\t1390\t51\nrates\t0\t3\t0\t0\t0\t0\t35\t0\t0\nrow\t940\t400\tx\ndone\n")
 
 -- a look leaves all as it was
 pub record ShowCases : Type 0 where
   pub show : answered (fourth noSeries 5) roomSixth "show\n"
       ≡ left (fourth noSeries 90) roomSixth
-      (bytesOf "frame\t6\t2700\t700\t91\t41\t1\t256\t7973\t1390\t6715\nrates\t0\t3\t0\t0\t0\t0\t35\t0\t0\nrow\t1436\t6537\tx\ndone\n")
+      (bytesOf "frame\t6\t2400\t700\t85\t43\t1\t256\t7025\t1390\t5763\nrates\t0\t3\t0\t0\t0\t0\t35\t0\t0\nrow\t1366\t5659\tx\ndone\n")

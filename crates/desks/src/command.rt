@@ -25,6 +25,7 @@ use reckon::tables::RAIN_ROOM;
 use sheet::reading::Heading;
 use sheet::reading::Sheet;
 ghost use mathlib.Core.Path.{_≡_};
+ghost use mathlib.Core.Bool.{true};
 ghost use mathlib.Core.List.{List};
 ghost use Prim.Native.Nat.{ℕ};
 ghost use lib.Dec.{eqb};
@@ -38,6 +39,7 @@ ghost use Rattle.desks.specs.Orders.{order};
 ghost use Rattle.desks.specs.State.{deskSquares, deskOut, deskText};
 ghost use Rattle.desks.specs.Lines.{endingText, nextTold, orderTold};
 ghost use Rattle.desks.specs.Command.{Leaves, Wanted, commandLeft, eveningOn, inflowOn, isSheet, otherLeft, planOn, readyNumber, sheetLeft, stepLeft, toldOn, untouched, wantedBy};
+ghost use Rattle.desks.specs.inner.Further.{FurtherSteps, StepPassesOn};
 ghost use Rattle.desks.specs.inner.Rooms.{GroundLong, RoomsLong, SheetLaid, SheetRooms};
 
 // How many bytes of text come after a line.
@@ -285,6 +287,7 @@ pub fn command(
 
 // A step over the sheet on the desk.
 fn step_held(
+    checked: bool,
     desk: Desk,
     marks: &[u8],
     beds: &[u32],
@@ -298,7 +301,7 @@ fn step_held(
     began: &mut [u32],
     out: &mut [u8],
 ) -> Desk
-    requires { ⌜ (readyNumber desk ≡ 0) × (RoomsLong (now marks) (now inflow) (now depths) (now lasts) (now records) (now began) (now out)) × (GroundLong (now beds) (now roughness) (now rates) (now rain)) ⌝ }
+    requires { ⌜ (readyNumber desk ≡ 0) × (RoomsLong (now marks) (now inflow) (now depths) (now lasts) (now records) (now began) (now out)) × (GroundLong (now beds) (now roughness) (now rates) (now rain)) × (checked ≡ true → StepPassesOn desk (stores (rooms (now marks) (now beds) (now roughness) (now rates) (now depths) (now rain) (now inflow)) (now lasts) (now records) (now began))) ⌝ }
     ensures { λ r. ⌜ Leaves (toldOn desk (stores (rooms (now (marks .entry)) (now (beds .entry)) (now (roughness .entry)) (now (rates .entry)) (now (depths .entry)) (now (rain .entry)) (now (inflow .entry))) (now (lasts .entry)) (now (records .entry)) (now (began .entry))) (nextTold (planOn desk (stores (rooms (now (marks .entry)) (now (beds .entry)) (now (roughness .entry)) (now (rates .entry)) (now (depths .entry)) (now (rain .entry)) (now (inflow .entry))) (now (lasts .entry)) (now (records .entry)) (now (began .entry)))) (givenHeld (desk .heading) (stores (rooms (now (marks .entry)) (now (beds .entry)) (now (roughness .entry)) (now (rates .entry)) (now (depths .entry)) (now (rain .entry)) (now (inflow .entry))) (now (lasts .entry)) (now (records .entry)) (now (began .entry)))) (eveningOn (desk .heading) (stores (rooms (now (marks .entry)) (now (beds .entry)) (now (roughness .entry)) (now (rates .entry)) (now (depths .entry)) (now (rain .entry)) (now (inflow .entry))) (now (lasts .entry)) (now (records .entry)) (now (began .entry))) (desk .log)) (desk .account) (desk .series))) r (stores (rooms (now (marks .entry)) (now (beds .entry)) (now (roughness .entry)) (now (rates .entry)) (now (depths .exit)) (now (rain .entry)) (now (inflow .entry))) (now (lasts .exit)) (now (records .exit)) (now (began .exit))) (now (out .entry)) (now (out .exit)) ⌝ }
 {
     let sizes = sizes_of(desk.heading);
@@ -308,6 +311,7 @@ fn step_held(
     let records_end = sizes.records;
     let began_end = sizes.began;
     next_step(
+        checked,
         desk,
         &marks[..squares],
         &beds[..squares],
@@ -319,6 +323,50 @@ fn step_held(
         &mut lasts[..squares],
         &mut records[..records_end],
         &mut began[..began_end],
+        out,
+    )
+}
+
+// The next step of a line `step`, or its end, where it may be known that the step passes the checks 1 to 6.
+fn make_step(
+    checked: bool,
+    desk: Desk,
+    marks: &[u8; DESK_SQUARES],
+    beds: &[u32; DESK_SQUARES],
+    roughness: &[u32; DESK_SQUARES],
+    rates: &[u32; DESK_SQUARES],
+    rain: &[u32; RAIN_ROOM],
+    inflow: &[u32; INFLOW_ROOM],
+    depths: &mut [u32; DESK_SQUARES],
+    lasts: &mut [u32; DESK_SQUARES],
+    records: &mut [u32; DESK_NUMBERS],
+    began: &mut [u32; DESK_RATES],
+    out: &mut [u8; DESK_OUT],
+) -> Desk
+    requires { ⌜ (checked ≡ true → FurtherSteps desk (stores (rooms (now marks) (now beds) (now roughness) (now rates) (now depths) (now rain) (now inflow)) (now lasts) (now records) (now began))) ⌝ }
+    ensures { λ r. ⌜ Leaves (stepLeft desk (stores (rooms (now (marks .entry)) (now (beds .entry)) (now (roughness .entry)) (now (rates .entry)) (now (depths .entry)) (now (rain .entry)) (now (inflow .entry))) (now (lasts .entry)) (now (records .entry)) (now (began .entry)))) r (stores (rooms (now (marks .entry)) (now (beds .entry)) (now (roughness .entry)) (now (rates .entry)) (now (depths .exit)) (now (rain .entry)) (now (inflow .entry))) (now (lasts .exit)) (now (records .exit)) (now (began .exit))) (now (out .entry)) (now (out .exit)) ⌝ }
+{
+    let series = desk.series;
+    if !series.on {
+        return desk_still(desk, 0);
+    }
+    let number = refused_at_once(desk);
+    if number != 0 {
+        return refuse_line(desk, number, 0, out);
+    }
+    step_held(
+        checked,
+        desk,
+        marks,
+        beds,
+        roughness,
+        rates,
+        rain,
+        inflow,
+        depths,
+        lasts,
+        records,
+        began,
         out,
     )
 }
@@ -340,15 +388,43 @@ pub fn make_next(
 ) -> Desk
     ensures { λ r. ⌜ Leaves (stepLeft desk (stores (rooms (now (marks .entry)) (now (beds .entry)) (now (roughness .entry)) (now (rates .entry)) (now (depths .entry)) (now (rain .entry)) (now (inflow .entry))) (now (lasts .entry)) (now (records .entry)) (now (began .entry)))) r (stores (rooms (now (marks .entry)) (now (beds .entry)) (now (roughness .entry)) (now (rates .entry)) (now (depths .exit)) (now (rain .entry)) (now (inflow .entry))) (now (lasts .exit)) (now (records .exit)) (now (began .exit))) (now (out .entry)) (now (out .exit)) ⌝ }
 {
-    let series = desk.series;
-    if !series.on {
-        return desk_still(desk, 0);
-    }
-    let number = refused_at_once(desk);
-    if number != 0 {
-        return refuse_line(desk, number, 0, out);
-    }
-    step_held(
+    make_step(
+        false,
+        desk,
+        marks,
+        beds,
+        roughness,
+        rates,
+        rain,
+        inflow,
+        depths,
+        lasts,
+        records,
+        began,
+        out,
+    )
+}
+
+// The same after a step that was made: what passes the checks 1 to 6 still does, and they are not made again.
+pub fn make_further(
+    desk: Desk,
+    marks: &[u8; DESK_SQUARES],
+    beds: &[u32; DESK_SQUARES],
+    roughness: &[u32; DESK_SQUARES],
+    rates: &[u32; DESK_SQUARES],
+    rain: &[u32; RAIN_ROOM],
+    inflow: &[u32; INFLOW_ROOM],
+    depths: &mut [u32; DESK_SQUARES],
+    lasts: &mut [u32; DESK_SQUARES],
+    records: &mut [u32; DESK_NUMBERS],
+    began: &mut [u32; DESK_RATES],
+    out: &mut [u8; DESK_OUT],
+) -> Desk
+    requires { ⌜ FurtherSteps desk (stores (rooms (now marks) (now beds) (now roughness) (now rates) (now depths) (now rain) (now inflow)) (now lasts) (now records) (now began)) ⌝ }
+    ensures { λ r. ⌜ Leaves (stepLeft desk (stores (rooms (now (marks .entry)) (now (beds .entry)) (now (roughness .entry)) (now (rates .entry)) (now (depths .entry)) (now (rain .entry)) (now (inflow .entry))) (now (lasts .entry)) (now (records .entry)) (now (began .entry)))) r (stores (rooms (now (marks .entry)) (now (beds .entry)) (now (roughness .entry)) (now (rates .entry)) (now (depths .exit)) (now (rain .entry)) (now (inflow .entry))) (now (lasts .exit)) (now (records .exit)) (now (began .exit))) (now (out .entry)) (now (out .exit)) ⌝ }
+{
+    make_step(
+        true,
         desk,
         marks,
         beds,

@@ -27,6 +27,7 @@ use trying::lines::draw;
 use trying::lines::name;
 use trying::lines::step_once;
 ghost use mathlib.Core.Path.{_≡_};
+ghost use mathlib.Core.Bool.{true};
 ghost use mathlib.Core.List.{List, _++_};
 ghost use Prim.Native.Nat.{ℕ, _≤_};
 ghost use lib.ListN.{length};
@@ -36,6 +37,7 @@ ghost use Rattle.checks.specs.Given.{given, ground};
 ghost use Rattle.hatches.specs.Log.{evening};
 ghost use Rattle.trying.specs.Given.{accountOpened};
 ghost use Rattle.trying.specs.Lines.{came, drawTried, nameTried};
+ghost use Rattle.trying.specs.inner.Passing.{StepPasses};
 ghost use Rattle.desks.specs.State.{deskSquares, deskOut, noSeries};
 ghost use Rattle.desks.specs.Lines.{arrowsTold, backTold, cameOf, endingText, entryTold, lastTold, layTold, madeTold, mostTold, nextTold, oneLess, orderTold, plainly, standTold, stateText, stepTold, stepsLeft};
 ghost use Rattle.desks.specs.inner.Lent.{DeskTold, Lends, Shows, mostEnding, refusedIn, Answers};
@@ -218,8 +220,9 @@ fn steps_left(series: Series, clock: u64) -> bool
     clock < series.end
 }
 
-// The next step of a line `step`, or its end.
+// The next step of a line `step`, or its end. Where the step before it was made, the checks 1 to 6 are known to pass.
 pub(crate) fn next_step(
+    checked: bool,
     desk: Desk,
     marks: &[u8],
     beds: &[u32],
@@ -233,7 +236,7 @@ pub(crate) fn next_step(
     began: &mut [u32],
     out: &mut [u8],
 ) -> Desk
-    requires { ⌜ Lends (plan (desk .heading .shape) (now marks)) (now depths) (now lasts) (now records) (now began) (now out) ⌝ }
+    requires { ⌜ (Lends (plan (desk .heading .shape) (now marks)) (now depths) (now lasts) (now records) (now began) (now out)) × (checked ≡ true → StepPasses (plan (desk .heading .shape) (now marks)) (given (ground (desk .heading .rules) (now beds) (now roughness) (now rates)) (now rain) (now inflow)) (evening (now depths) (now lasts) (now records) (now began) (desk .log)) (desk .account)) ⌝ }
     ensures { λ r. ⌜ Answers (nextTold (plan (desk .heading .shape) (now (marks .entry))) (given (ground (desk .heading .rules) (now (beds .entry)) (now (roughness .entry)) (now (rates .entry))) (now (rain .entry)) (now (inflow .entry))) (evening (now (depths .entry)) (now (lasts .entry)) (now (records .entry)) (now (began .entry)) (desk .log)) (desk .account) (desk .series)) desk r (evening (now (depths .exit)) (now (lasts .exit)) (now (records .exit)) (now (began .exit)) (r .log)) (now (out .entry)) (now (out .exit)) ⌝ }
 {
     let heading = desk.heading;
@@ -250,6 +253,7 @@ pub(crate) fn next_step(
         return last_line(desk, stands, series.every, marks, depths, out);
     }
     let tried = step_once(
+        checked,
         log,
         account,
         heading.shape,

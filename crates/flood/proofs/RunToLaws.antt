@@ -7,12 +7,13 @@ use Prim.Native.Nat.{ℕ, zero, suc, _+_, _-_, _≤_, _<_}
 use native.Mathlib.Numerals.{add-one}
 use native.Mathlib.Decide.{decLt}
 use native.Mathlib.Omega.{arith}
+use lib.ListN.{length}
 use borrow.Author.Tests.{eq-eqb, ne-eqb, lt-ltb, le-ltb}
 use Rattle.reckon.specs.Tests.{refusal}
 use Rattle.reckon.proofs.TestLaws.{pick-true, pick-false, refusal-both}
-use Rattle.trials.specs.Ring.{slotAfter}
+use Rattle.trials.specs.Ring.{slotsIn, slotAfter}
 use Rattle.trials.proofs.RingLaws.{Ring, fine-ring, ring-fine, ring-after}
-use Rattle.trials.proofs.RoomLaws.{slots-stored}
+use Rattle.trials.proofs.RoomLaws.{length-stored}
 use Rattle.ledger.specs.Runs.{Plan, World, seenOf}
 use Rattle.ledger.specs.Record.{recordSize, roomSlots, ringOf}
 use Rattle.ledger.specs.After.{lateRefusals, stepRecord, worldAfter}
@@ -24,7 +25,7 @@ use Rattle.checks.specs.Refusals.{stepChecks, runChecks}
 use Rattle.flood.specs.Step.{stepNumber, stepped}
 use Rattle.flood.specs.inner.Rule.{floodRule}
 use Rattle.flood.specs.Run.{Ended, ended, goOn, runFrom, runTo}
-use Rattle.flood.specs.Step.{MakesStep}
+use Rattle.flood.specs.Step.{MakesStep, Passes}
 use Rattle.checks.proofs.CheckLaws.{ready, ring-is, checks-named, checks-after}
 use Rattle.moves.proofs.MoveLaws.{step-lasts-from}
 use Rattle.flood.proofs.RuleLaws.{flood-owed}
@@ -59,11 +60,15 @@ module _ (p : Plan) (g : Given) (w : World) where
     old-ring : Ring (roomSlots p (w .records)) (w .run .kept) (w .run .newest)
     old-ring = fine-ring _ _ _ (ring-is p g (ringOf p w) (seenOf w) ok)
 
-    slots-same : roomSlots p (after .records) ≡ roomSlots p (w .records)
+    room-same : length (after .records) ≡ length (w .records)
     unfolding worldAfter roomSlots
-    slots-same =
-        slots-stored (recordSize p) (omega arith) (w .records) (slotAfter (roomSlots p (w .records)) (w .run .newest))
+    room-same =
+        length-stored (recordSize p) (omega arith) (w .records) (slotAfter (roomSlots p (w .records)) (w .run .newest))
         (stepRecord p (stepMoves p g (seenOf w)) w) (step-long p (stepMoves p g (seenOf w)) w) (ring-after old-ring .newest-below)
+
+    slots-same : roomSlots p (after .records) ≡ roomSlots p (w .records)
+    unfolding roomSlots
+    slots-same = ap (slotsIn (recordSize p)) room-same
 
     new-ring : ringOf p after ≡ true
     unfolding worldAfter
@@ -87,6 +92,10 @@ module _ (p : Plan) (g : Given) (w : World) where
           soaked-to = seen .soaked-to;
         }))
 
+    -- the record room stays as long as it was
+    pub room-kept : length (stepped p g w .records) ≡ length (w .records)
+    room-kept = ap (λ (x : World). length (x .records)) (made-is made) ∙ room-same
+
     -- the clock goes on
     pub clock-after : stepped p g w .run .clock ≡ w .run .clock + stepDuration p g (seenOf w)
     unfolding worldAfter
@@ -99,6 +108,10 @@ module _ (p : Plan) (g : Given) (w : World) where
 
     pub clock-on : w .run .clock < stepped p g w .run .clock
     clock-on = omega (arith, clock-after, step-lasts-from p g (seenOf w) (ready p g (ringOf p w) (seenOf w) ok))
+
+  -- the checks pass after each step that is made
+  pub passes-after : stepNumber p g w ≡ 0 → Passes p g (stepped p g w)
+  passes-after made = record { checked = still-valid (checks-passed made) made }
 
 -- ---- the run
 

@@ -39,7 +39,7 @@ use Rattle.moves.specs.inner.Fill.{worksOn, workedRows, senderRows, LeftKept}
 use Rattle.checks.specs.inner.Ready.{Ready}
 use Rattle.ledger.specs.declared.runs.Answer.the-variants.{Done, Refused}
 use Rattle.ledger.proofs.RunLaws.{answered-done, answered-refused}
-use Rattle.checks.specs.Refusals.{stepChecks}
+use Rattle.checks.specs.Refusals.{stepChecks, ChecksStep}
 use Rattle.flood.specs.Step.{stepNumber, stepped, Steps, MakesStep, Passes}
 use Rattle.flood.specs.inner.Step.{RoomsLent, SlotSettled, filledRecord, nextStored}
 use Rattle.checks.proofs.CheckLaws.{ready, ring-is, checks-named}
@@ -378,6 +378,11 @@ module _ (p : Plan) (g : Given) (w : World) where
 
       refused-stays : (stepNumber p g w ≡ 0 → ⊥) → stepped p g w ≡ w
       refused-stays z = pick-false _ _ (ne-eqb _ _ z)
+
+  -- they are known to pass: so they do with whatever record room of so many numbers
+  pub known-checks : Passes p g w → ChecksStep p g (w .depths) (w .lasts) (length (w .records)) (w .run) 0
+  unfolding roomSlots
+  known-checks h records long = rw long (sym (h .checked))
 
   -- they pass: what the inner step gives
   pub passes-checks : {n : ℕ} → n ≡ refusal (stepChecks p g (ringOf p w) (seenOf w)) → n ≡ 0 → Passes p g w

@@ -24,6 +24,7 @@ use settling::settle::Settled;
 use settling::settle::settle;
 use settling::settle::surely_settles;
 ghost use mathlib.Core.Path.{_≡_};
+ghost use mathlib.Core.Bool.{true};
 ghost use mathlib.Core.List.{[]};
 ghost use Prim.Native.Nat.{_<_, _≤_};
 ghost use Rattle.reckon.specs.Ranges.{mostLength};
@@ -33,6 +34,7 @@ ghost use Rattle.ledger.specs.Runs.{plan, world};
 ghost use Rattle.ledger.specs.Record.{recordSize, roomSlots};
 ghost use Rattle.settling.specs.inner.Settle.{SettlesTo, nextRecord};
 ghost use Rattle.checks.specs.Given.{given, ground};
+ghost use Rattle.checks.specs.Refusals.{ChecksStep};
 ghost use Rattle.adding.specs.inner.Added.{rowsApart};
 ghost use Rattle.moves.specs.inner.Fill.{Fills};
 ghost use Rattle.flood.specs.Step.{MakesStep, Passes, Steps};
@@ -286,8 +288,48 @@ pub fn step_on(
     )
 }
 
-// One step by either walk, or a refusal with everything as it was.
-pub fn step(
+// The first number of 1 to 6 that applies to a step, 0 for none; where they are known to pass, nothing is looked at.
+fn first_number(
+    checked: bool,
+    shape: Shape,
+    rules: Rules,
+    run: Run,
+    marks: &[u8],
+    beds: &[u32],
+    roughness: &[u32],
+    rates: &[u32],
+    rain: &[u32],
+    inflow: &[u32],
+    depths: &[u32],
+    lasts: &[u32],
+    numbers: usize,
+) -> u32
+    requires { ⌜ (checked ≡ true → ChecksStep (plan shape (now marks)) (given (ground rules (now beds) (now roughness) (now rates)) (now rain) (now inflow)) (now depths) (now lasts) numbers run 0) ⌝ }
+    ensures { λ r. ⌜ ChecksStep (plan shape (now (marks .entry))) (given (ground rules (now (beds .entry)) (now (roughness .entry)) (now (rates .entry))) (now (rain .entry)) (now (inflow .entry))) (now (depths .entry)) (now (lasts .entry)) numbers run r ⌝ }
+{
+    if checked {
+        return 0;
+    }
+    check_step(
+        shape,
+        rules,
+        run,
+        marks,
+        beds,
+        roughness,
+        rates,
+        rain,
+        inflow,
+        depths,
+        lasts,
+        numbers,
+    )
+}
+
+// One step by either walk, or a refusal with everything as it was. A caller who knows that the checks 1 to 6 pass says so, and they are not
+// made again.
+pub fn step_checked(
+    checked: bool,
     walk: Walk,
     shape: Shape,
     rules: Rules,
@@ -302,9 +344,11 @@ pub fn step(
     lasts: &mut [u32],
     records: &mut [u32],
 ) -> Answer
+    requires { ⌜ (checked ≡ true → Passes (plan shape (now marks)) (given (ground rules (now beds) (now roughness) (now rates)) (now rain) (now inflow)) (world (now depths) (now lasts) (now records) run)) ⌝ }
     ensures { λ r. ⌜ Steps (plan shape (now (marks .entry))) (given (ground rules (now (beds .entry)) (now (roughness .entry)) (now (rates .entry))) (now (rain .entry)) (now (inflow .entry))) (world (now (depths .entry)) (now (lasts .entry)) (now (records .entry)) run) r (now (depths .exit)) (now (lasts .exit)) (now (records .exit)) ⌝ }
 {
-    let number = check_step(
+    let number = first_number(
+        checked,
         shape,
         rules,
         run,
@@ -356,4 +400,40 @@ pub fn step(
         return Answer::Refused(refused);
     }
     Answer::Done(after)
+}
+
+// One step by either walk, or a refusal with everything as it was.
+pub fn step(
+    walk: Walk,
+    shape: Shape,
+    rules: Rules,
+    run: Run,
+    marks: &[u8],
+    beds: &[u32],
+    roughness: &[u32],
+    rates: &[u32],
+    rain: &[u32],
+    inflow: &[u32],
+    depths: &mut [u32],
+    lasts: &mut [u32],
+    records: &mut [u32],
+) -> Answer
+    ensures { λ r. ⌜ Steps (plan shape (now (marks .entry))) (given (ground rules (now (beds .entry)) (now (roughness .entry)) (now (rates .entry))) (now (rain .entry)) (now (inflow .entry))) (world (now (depths .entry)) (now (lasts .entry)) (now (records .entry)) run) r (now (depths .exit)) (now (lasts .exit)) (now (records .exit)) ⌝ }
+{
+    step_checked(
+        false,
+        walk,
+        shape,
+        rules,
+        run,
+        marks,
+        beds,
+        roughness,
+        rates,
+        rain,
+        inflow,
+        depths,
+        lasts,
+        records,
+    )
 }

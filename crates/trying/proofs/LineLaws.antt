@@ -8,7 +8,7 @@ use native.Mathlib.Omega.{arith}
 use lib.Dec.{eqb, leb}
 use lib.ListN.{length, take, replicate, length-append, length-replicate}
 use lib.Seq.{length-take-le}
-use borrow.Author.Tests.{eq-eqb, ne-eqb, le-leb, leb-true, lt-leb}
+use borrow.Author.Tests.{eqb-true, eqb-false, eq-eqb, ne-eqb, le-leb, leb-true, lt-leb}
 use Rattle.reckon.specs.Tests.{pick, refusal, Row}
 use Rattle.reckon.specs.Ranges.{lastClock}
 use Rattle.reckon.specs.Tables.{inflowKind, tableRoom}
@@ -31,10 +31,11 @@ use Rattle.adding.specs.Added.{addedFor}
 use Rattle.adding.specs.Account.{tablesGive}
 use Rattle.adding.specs.inner.Added.{Between, tables}
 use Rattle.account.proofs.GivenLaws.{given-open}
-use Rattle.flood.specs.Step.{stepNumber, stepped, Steps}
+use Rattle.flood.specs.Step.{stepNumber, stepped, Steps, Passes}
 use Rattle.flood.proofs.RunToLaws.{checks-passed, still-valid, clock-on}
 use Rattle.hatches.specs.Log.{Evening, evening, mostHatches, isNamed, hatchRows, tableWith, logWith, ratesKept, keptFine}
 use Rattle.text.specs.Writing.{Wrote}
+use Rattle.text.proofs.ReadingLaws.{by-test}
 use Rattle.hatches.proofs.RowLaws.{table-is, table-next, table-room}
 use Rattle.hatches.proofs.RefusalLaws.{standing-is, table-judged-as}
 use Rattle.evenings.specs.Taking.{worldOf, afterBack}
@@ -44,7 +45,8 @@ use Rattle.hatches.specs.declared.log.Hatches.{Hatches}
 use Rattle.hatches.specs.declared.log.Log.{Log}
 use Rattle.stands.specs.Laying.{mostGiven}
 use Rattle.trying.specs.Given.{accountWith, accountBack}
-use Rattle.trying.specs.Lines.{Came, came, tried, unlessRefused, tryRefusals, backRefusals, givenBack, nothingGiven, backs, stepGiven, stepCame, backCame, MakesOne, GoesBack}
+use Rattle.trying.specs.Lines.{Came, came, tried, unlessRefused, tryRefusals, backRefusals, givenBack, nothingGiven, backs, stepGiven, eveningNext, accountNext, stepCame, backCame, MakesOne, GoesBack}
+use Rattle.trying.specs.inner.Passing.{StepPasses}
 use Rattle.trying.specs.declared.given.Account.{Account}
 use Rattle.trying.specs.declared.lines.Tried.{Tried}
 use Rattle.account.specs.inner.Given as Most
@@ -147,6 +149,23 @@ module _ (inflow : List ℕ) (log : Log) (a : Account) (z : refusal (tryRefusals
 
 -- ---- what a step comes to
 
+-- a step with no number was made
+module _ (t n : ℕ) (e after : Evening) (a account : Account) where
+  abbrev comes : Came
+  comes = pick (eqb t 0) (pick (eqb n 0) (came 0 after account) (came n e a)) (came t e a)
+
+  comes-made : comes .number ≡ 0 → (n ≡ 0) × (comes ≡ came 0 after account)
+  comes-made h = by-test (eqb t 0) (λ q. by-test (eqb n 0) (λ r. made q r) (λ r. late q r)) early
+    where
+      made : eqb t 0 ≡ true → eqb n 0 ≡ true → (n ≡ 0) × (comes ≡ came 0 after account)
+      made q r = (eqb-true n 0 r, pick-true _ _ q ∙ pick-true _ _ r)
+
+      late : eqb t 0 ≡ true → eqb n 0 ≡ false → (n ≡ 0) × (comes ≡ came 0 after account)
+      late q r = absurd (eqb-false n 0 r (sym (ap (λ (c : Came). c .number) (pick-true _ _ q ∙ pick-false _ _ r)) ∙ h))
+
+      early : eqb t 0 ≡ false → (n ≡ 0) × (comes ≡ came 0 after account)
+      early q = absurd (eqb-false t 0 q (sym (ap (λ (c : Came). c .number) (pick-false _ _ q)) ∙ h))
+
 -- the evening with another log
 abbrev with-log : Evening → Log → Evening
 with-log e log = evening (e .depths) (e .lasts) (e .records) (e .began) log
@@ -154,6 +173,13 @@ with-log e log = evening (e .depths) (e .lasts) (e .records) (e .began) log
 module _ (p : Plan) (g : Given) (e : Evening) (a : Account) where
   as-refused : {t : Tried} {n : ℕ} → t ≡ tried n (e .log) a → came (t .number) (with-log e (t .log)) (t .account) ≡ came n e a
   as-refused h = ap (λ (u : Tried). came (u .number) (with-log e (u .log)) (u .account)) h
+
+  -- the evening and the account are those after the step
+  pub step-came :
+      stepCame p g e a .number ≡ 0 → (stepNumber p (stepGiven p g e a) (worldOf e) ≡ 0) × (stepCame p g e a ≡ came 0 (eveningNext p g e a) (accountNext p g e a))
+  unfolding stepCame
+  step-came h =
+      comes-made (refusal (tryRefusals (g .inflow) (e .log) a)) (stepNumber p (stepGiven p g e a) (worldOf e)) e (eveningNext p g e a) a (accountNext p g e a) h
 
   pub step-unfit : {t : Tried} {n : ℕ} → t ≡ tried n (e .log) a → n ≡ refusal (tryRefusals (g .inflow) (e .log) a) → (n ≡ 0 → ⊥) →
       MakesOne p g e a (t .number) (with-log e (t .log)) (t .account)
@@ -278,6 +304,10 @@ module _ (p : Plan) (g : Given) (e : Evening) (a : Account) {n : ℕ} (h : n ≡
 
   used-is : take r new ≡ tableWith (g .inflow) (e .log .hatches) (e .log .litres)
   used-is = table-is (g .inflow) (e .log .hatches) (e .log .litres) w
+
+  -- where the checks pass, they pass for that table
+  pub used-passes : StepPasses p g e a → Passes p (given (g .lie) (g .rain) (take r new)) (worldOf e)
+  used-passes passes = subst (λ (t : List ℕ). Passes p (given (g .lie) (g .rain) t) (worldOf e)) (sym used-is) passes
 
   module _ {answer : Answer} {depths lasts records : List ℕ} (s : Steps p (given (g .lie) (g .rain) (take r new)) (worldOf e) answer depths lasts records) where
     by-table : Steps p (stepGiven p g e a) (worldOf e) answer depths lasts records

@@ -6,7 +6,7 @@ use account::tables_give;
 use evenings::taking::back_line;
 use evenings::taking::further;
 use evenings::taking::name_hatch;
-use flood::step::step;
+use flood::step::step_checked;
 use grid::squares::Shape;
 use grid::walks::Walk;
 use hatches::log::Log;
@@ -26,6 +26,7 @@ use reckon::tables::INFLOW_ROOM;
 use rule::rules::Rules;
 use stands::saved::MOST_GIVEN;
 ghost use mathlib.Core.Path.{_≡_};
+ghost use mathlib.Core.Bool.{true};
 ghost use mathlib.Core.List.{List};
 ghost use Prim.Native.Nat.{ℕ, _+_, _-_, _<_, _≤_};
 ghost use lib.ListN.{length, set};
@@ -40,6 +41,7 @@ ghost use Rattle.hatches.specs.Log.{evening, logWith, mostHatches, ratesKept};
 ghost use Rattle.stands.specs.Laying.{mostGiven};
 ghost use Rattle.trying.specs.Given.{accountWith, mostSlots};
 ghost use Rattle.trying.specs.Lines.{Draws, GoesBack, MakesOne, Names, TrialLent, givenBack, logAt, tried, tryRefusals};
+ghost use Rattle.trying.specs.inner.Passing.{StepPasses};
 
 // What came of a line: the number that it is refused with, 0 for none, the log and the account after it.
 pub struct Tried {
@@ -195,8 +197,9 @@ fn made_step(
     keep_step(log, account, run, slots, more, began)
 }
 
-// One step at the rates that the hatches run at.
+// One step at the rates that the hatches run at. A caller who knows that the checks 1 to 6 pass says so.
 pub fn step_once(
+    checked: bool,
     log: Log,
     account: Account,
     shape: Shape,
@@ -213,6 +216,7 @@ pub fn step_once(
     began: &mut [u32],
 ) -> Tried
     requires { ⌜ TrialLent (plan shape (now marks)) (now records) (now began) ⌝ }
+    requires { ⌜ (checked ≡ true → StepPasses (plan shape (now marks)) (given (ground rules (now beds) (now roughness) (now rates)) (now rain) (now inflow)) (evening (now depths) (now lasts) (now records) (now began) log) account) ⌝ }
     ensures { λ r. ⌜ MakesOne (plan shape (now (marks .entry))) (given (ground rules (now (beds .entry)) (now (roughness .entry)) (now (rates .entry))) (now (rain .entry)) (now (inflow .entry))) (evening (now (depths .entry)) (now (lasts .entry)) (now (records .entry)) (now (began .entry)) log) account (r .number) (evening (now (depths .exit)) (now (lasts .exit)) (now (records .exit)) (now (began .exit)) (r .log)) (r .account) ⌝ }
 {
     let number = try_number(log, account, inflow.len());
@@ -224,7 +228,8 @@ pub fn step_once(
     let length = fill_table(inflow, log.hatches, litres, &mut table);
     let slots = trials::slots_in(record_size(shape), records.len());
     let before = log.run;
-    let answer = step(
+    let answer = step_checked(
+        checked,
         Walk::Wet,
         shape,
         rules,

@@ -6,17 +6,17 @@ use borrow.Author.Needs.{needs}
 use Rattle.account.proofs.water_in.Statement.{statement}
 use Rattle.account.proofs.water_in.Tie as tie
 
+number-requires : tie.Need-number-requires
+number-requires c κs = search needs
+
 is-closed-requires : tie.Need-is-closed-requires
 is-closed-requires c κs = search needs
 
 returns : tie.Need-returns
 returns c = sym (pick-true _ _ (sym (c .before .is-closed .ensures) ∙ c .if1 .taken))
 
-number-requires : tie.Need-number-requires
-number-requires c κs = search needs
-
 returns-2 : tie.Need-returns-2
-returns-2 c = c .number .ensures ∙ sym (pick-false _ _ (sym (c .before .before .is-closed .ensures) ∙ c .before .if1 .left))
+returns-2 c = let tested = c .before in tested .before .number .ensures ∙ sym (pick-false _ _ (sym (tested .is-closed .ensures) ∙ c .if1 .left))
 
 pub water-in-spec : {M : Type 1} → statement M
-water-in-spec = tie.close (tie.spec is-closed-requires returns number-requires returns-2)
+water-in-spec = tie.close (tie.spec number-requires is-closed-requires returns returns-2)

@@ -20,7 +20,9 @@ same-length c = search needs
 -- src/answers.rt:69:9
 returns : tie.Need-returns
 returns c =
-    ending-refused (c .before .before .before .before .before .before .args .number) (c .before .before .before .before .before .before .args .line) (c .before .before .before .before .if1 .taken) (refused-short _ _ (omega (arith, c .before .before .before .before .before .before .good)) (omega (arith, c .before .before .before .before .before .before .good))) (c .before .before .put-refused .ensures)
+    let start = c .before .before .before .before .before .before in
+    ending-refused (start .args .number) (start .args .line) (c .before .before .before .before .if1 .taken)
+    (refused-short _ _ (omega (arith, start .good)) (omega (arith, start .good))) (c .before .before .put-refused .ensures)
 
 -- src/answers.rt:71:23
 slice-aggregate-put-word : tie.Need-slice-aggregate-put-word
@@ -37,7 +39,9 @@ same-length-2 c = search needs
 -- src/answers.rt:64:1
 returns-2 : tie.Need-returns-2
 returns-2 c =
-    ending-done (c .before .before .before .before .before .before .before .args .number) (c .before .before .before .before .before .before .before .args .line) (c .before .before .before .before .before .if1 .left) (c .before .before .put-word .ensures)
+    let start = c .before .before .before .before .before .before .before in
+    let at-if1 = c .before .before .before .before .before .if1 in
+    ending-done (start .args .number) (start .args .line) (at-if1 .left) (c .before .before .put-word .ensures)
 
 pub put-ending-spec : {M : Type 1} → statement M
 put-ending-spec =

@@ -13,22 +13,26 @@ use Rattle.frames.proofs.frame.put_frame.Reads as put-frame-reads
 -- src/answers.rt:50:5
 put-frame-requires : tie.Need-put-frame-requires
 put-frame-requires c κs =
-    let w : FrameWords (c .before .before .before .before .args .figures) (c .before .before .before .before .args .litres) (c .before .before .before .before .args .depths .now) =
+    let start = c .before .before .before .before in
+    let a = start .args in
+    let w : FrameWords (a .figures) (a .litres) (a .depths .now) =
     record {
-      steps-are = omega (arith, c .before .before .before .before .good);
-      clock-is = omega (arith, c .before .before .before .before .good);
-      length-is = omega (arith, c .before .before .before .before .good);
-      outflow-is = omega (arith, c .before .before .before .before .good);
-      soaked-is = omega (arith, c .before .before .before .before .good);
-      kept-are = omega (arith, c .before .before .before .before .good);
-      room-is = omega (arith, c .before .before .before .before .good);
-      ground-is = omega (arith, c .before .before .before .before .good);
-      start-is = omega (arith, c .before .before .before .before .good);
-      given-is = omega (arith, c .before .before .before .before .good);
-      litres-are = λ i. let f : Fits w32 (getD (c .before .before .before .before .args .litres) i 0) = search needs in omega (arith, f);
+      steps-are = omega (arith, start .good);
+      clock-is = omega (arith, start .good);
+      length-is = omega (arith, start .good);
+      outflow-is = omega (arith, start .good);
+      soaked-is = omega (arith, start .good);
+      kept-are = omega (arith, start .good);
+      room-is = omega (arith, start .good);
+      ground-is = omega (arith, start .good);
+      start-is = omega (arith, start .good);
+      given-is = omega (arith, start .good);
+      litres-are = λ i. let f : Fits w32 (getD (a .litres) i 0) = search needs in omega (arith, f);
       depths-are = λ i. omega (arith, c .before .shared-slice-known2 .given i);
-    } in
-    ((c .before .before .before .before .pre .fine, omega (arith, c .before .before .before .before .pre .marks-long), omega (arith, c .before .before .before .before .pre .depths-long)), omega (arith, frame-short (c .before .before .before .before .args .figures) (c .before .before .before .before .args .litres) (c .before .before .before .before .args .shape) (c .before .before .before .before .args .marks .now) (c .before .before .before .before .args .depths .now) (c .before .before .before .before .pre .fine) w, c .before .before .before .before .pre .out-long))
+    } in (
+      (start .pre .fine, omega (arith, start .pre .marks-long), omega (arith, start .pre .depths-long)),
+      omega (arith, frame-short (a .figures) (a .litres) (a .shape) (a .marks .now) (a .depths .now) (start .pre .fine) w, start .pre .out-long),
+    )
 
 -- src/answers.rt:39:1
 same-length : tie.Need-same-length
@@ -37,22 +41,24 @@ same-length c = search needs
 -- src/answers.rt:39:1
 returns : tie.Need-returns
 returns c =
-    let w : FrameWords (c .before .before .before .before .before .before .before .args .figures) (c .before .before .before .before .before .before .before .args .litres) (c .before .before .before .before .before .before .before .args .depths .now) =
+    let start = c .before .before .before .before .before .before .before in
+    let a = start .args in
+    let w : FrameWords (a .figures) (a .litres) (a .depths .now) =
     record {
-      steps-are = omega (arith, c .before .before .before .before .before .before .before .good);
-      clock-is = omega (arith, c .before .before .before .before .before .before .before .good);
-      length-is = omega (arith, c .before .before .before .before .before .before .before .good);
-      outflow-is = omega (arith, c .before .before .before .before .before .before .before .good);
-      soaked-is = omega (arith, c .before .before .before .before .before .before .before .good);
-      kept-are = omega (arith, c .before .before .before .before .before .before .before .good);
-      room-is = omega (arith, c .before .before .before .before .before .before .before .good);
-      ground-is = omega (arith, c .before .before .before .before .before .before .before .good);
-      start-is = omega (arith, c .before .before .before .before .before .before .before .good);
-      given-is = omega (arith, c .before .before .before .before .before .before .before .good);
-      litres-are = λ i. let f : Fits w32 (getD (c .before .before .before .before .before .before .before .args .litres) i 0) = search needs in omega (arith, f);
+      steps-are = omega (arith, start .good);
+      clock-is = omega (arith, start .good);
+      length-is = omega (arith, start .good);
+      outflow-is = omega (arith, start .good);
+      soaked-is = omega (arith, start .good);
+      kept-are = omega (arith, start .good);
+      room-is = omega (arith, start .good);
+      ground-is = omega (arith, start .good);
+      start-is = omega (arith, start .good);
+      given-is = omega (arith, start .good);
+      litres-are = λ i. let f : Fits w32 (getD (a .litres) i 0) = search needs in omega (arith, f);
       depths-are = λ i. omega (arith, c .before .before .before .before .shared-slice-known2 .given i);
     } in
-    record { wrote = c .before .before .put-frame .ensures; short = frame-short (c .before .before .before .before .before .before .before .args .figures) (c .before .before .before .before .before .before .before .args .litres) (c .before .before .before .before .before .before .before .args .shape) (c .before .before .before .before .before .before .before .args .marks .now) (c .before .before .before .before .before .before .before .args .depths .now) (c .before .before .before .before .before .before .before .pre .fine) w }
+    record { wrote = c .before .before .put-frame .ensures; short = frame-short (a .figures) (a .litres) (a .shape) (a .marks .now) (a .depths .now) (start .pre .fine) w }
 
 pub put-first-spec : {M : Type 1} → statement M
 put-first-spec = tie.close (tie.spec put-frame-requires same-length returns)

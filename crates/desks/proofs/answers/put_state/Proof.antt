@@ -33,7 +33,14 @@ same-length c = search needs
 -- src/answers.rt:54:1
 returns : tie.Need-returns
 returns c =
-    state-put (plan (c .before .before .before .before .before .before .before .before .before .before .before .args .shape) (c .before .before .before .before .before .before .before .before .before .before .before .args .marks .now)) (c .before .before .before .before .before .before .before .before .before .before .before .args .log) (c .before .before .before .before .before .before .before .before .before .before .before .args .account) (c .before .before .before .before .before .before .before .before .before .before .before .args .depths .now) (figures-as (plan (c .before .before .before .before .before .before .before .before .before .before .before .args .shape) (c .before .before .before .before .before .before .before .before .before .before .before .args .marks .now)) (c .before .before .before .before .before .before .before .before .before .before .before .args .log) (c .before .before .before .before .before .before .before .before .before .before .before .args .account) (c .before .before .before .before .before .before .before .before .before .before .before .args .depths .now) (c .before .before .before .before .before .figures-of .ensures) (c .before .before .before .before .before .before .kept-slots .ensures) (c .before .before .before .before .before .before .before .water-on .ensures)) (c .before .before .put-first .ensures)
+    let start = c .before .before .before .before .before .before .before .before .before .before .before in
+    let a = start .args in
+    let at-water-on = c .before .before .before .before .before .before .before .water-on in
+    let at-kept-slots = c .before .before .before .before .before .before .kept-slots in
+    let at-figures-of = c .before .before .before .before .before .figures-of in
+    state-put (plan (a .shape) (a .marks .now)) (a .log) (a .account) (a .depths .now)
+    (figures-as (plan (a .shape) (a .marks .now)) (a .log) (a .account) (a .depths .now) (at-figures-of .ensures) (at-kept-slots .ensures)
+    (at-water-on .ensures)) (c .before .before .put-first .ensures)
 
 pub put-state-spec : {M : Type 1} → statement M
 put-state-spec =

@@ -33,7 +33,16 @@ sheet-line-requires c κs = search needs
 -- src/command.rt:257:9
 returns : tie.Need-returns
 returns c =
-    command-sheet (c .before .before .before .before .before .before .before .before .before .before .before .before .before .before .before .before .args .desk) (stores (rooms (c .before .before .before .before .before .before .before .before .before .before .before .before .before .before .before .before .args .marks .now) (c .before .before .before .before .before .before .before .before .before .before .before .before .before .before .before .before .args .beds .now) (c .before .before .before .before .before .before .before .before .before .before .before .before .before .before .before .before .args .roughness .now) (c .before .before .before .before .before .before .before .before .before .before .before .before .before .before .before .before .args .rates .now) (c .before .before .before .before .before .before .before .before .before .before .before .before .before .before .before .before .args .depths .now) (c .before .before .before .before .before .before .before .before .before .before .before .before .before .before .before .before .args .rain .now) (c .before .before .before .before .before .before .before .before .before .before .before .before .before .before .before .before .args .inflow .now)) (c .before .before .before .before .before .before .before .before .before .before .before .before .before .before .before .before .args .lasts .now) (c .before .before .before .before .before .before .before .before .before .before .before .before .before .before .before .before .args .records .now) (c .before .before .before .before .before .before .before .before .before .before .before .before .before .before .before .before .args .began .now)) (c .before .before .before .before .before .before .before .before .before .before .before .before .before .before .before .before .args .text .now) _ (c .before .before .before .before .before .before .before .before .before .before .before .before .is-sheet .ensures ∙ ap isSheet (c .before .before .before .before .before .before .before .before .before .before .before .before .before .order-of .ensures)) (c .before .before .before .before .before .before .before .before .before .before .before .if1 .taken) (c .before .before .before .before .before .before .before .before .before .before .wanted-by .ensures ∙ ap wantedBy (c .before .before .before .before .before .before .before .before .before .before .before .before .before .order-of .ensures)) (c .sheet-line .ensures (c .before .before .before .before .before .before .before .before .before .before .before .before .before .before .before .before .args .records .now) (c .before .before .before .before .before .before .before .before .before .before .before .before .before .before .before .before .args .began .now))
+    let start = c .before .before .before .before .before .before .before .before .before .before .before .before .before .before .before .before in
+    let a = start .args in
+    let at-order-of = c .before .before .before .before .before .before .before .before .before .before .before .before .before .order-of in
+    let at-is-sheet = c .before .before .before .before .before .before .before .before .before .before .before .before .is-sheet in
+    let at-if1 = c .before .before .before .before .before .before .before .before .before .before .before .if1 in
+    let at-wanted-by = c .before .before .before .before .before .before .before .before .before .before .wanted-by in
+    command-sheet (a .desk)
+    (stores (rooms (a .marks .now) (a .beds .now) (a .roughness .now) (a .rates .now) (a .depths .now) (a .rain .now) (a .inflow .now))
+    (a .lasts .now) (a .records .now) (a .began .now)) (a .text .now) _ (at-is-sheet .ensures ∙ ap isSheet (at-order-of .ensures))
+    (at-if1 .taken) (at-wanted-by .ensures ∙ ap wantedBy (at-order-of .ensures)) (c .sheet-line .ensures (a .records .now) (a .began .now))
 
 -- src/command.rt:272:5
 other-line-requires : tie.Need-other-line-requires
@@ -42,7 +51,17 @@ other-line-requires c κs = search needs
 -- src/command.rt:237:1
 returns-2 : tie.Need-returns-2
 returns-2 c =
-    command-other (c .before .before .before .before .before .before .before .before .before .before .before .before .before .before .before .before .before .args .desk) (stores (rooms (c .before .before .before .before .before .before .before .before .before .before .before .before .before .before .before .before .before .args .marks .now) (c .before .before .before .before .before .before .before .before .before .before .before .before .before .before .before .before .before .args .beds .now) (c .before .before .before .before .before .before .before .before .before .before .before .before .before .before .before .before .before .args .roughness .now) (c .before .before .before .before .before .before .before .before .before .before .before .before .before .before .before .before .before .args .rates .now) (c .before .before .before .before .before .before .before .before .before .before .before .before .before .before .before .before .before .args .depths .now) (c .before .before .before .before .before .before .before .before .before .before .before .before .before .before .before .before .before .args .rain .now) (c .before .before .before .before .before .before .before .before .before .before .before .before .before .before .before .before .before .args .inflow .now)) (c .before .before .before .before .before .before .before .before .before .before .before .before .before .before .before .before .before .args .lasts .now) (c .before .before .before .before .before .before .before .before .before .before .before .before .before .before .before .before .before .args .records .now) (c .before .before .before .before .before .before .before .before .before .before .before .before .before .before .before .before .before .args .began .now)) (c .before .before .before .before .before .before .before .before .before .before .before .before .before .before .before .before .before .args .text .now) _ (c .before .before .before .before .before .before .before .before .before .before .before .before .before .is-sheet .ensures ∙ ap isSheet (c .before .before .before .before .before .before .before .before .before .before .before .before .before .before .order-of .ensures)) (c .before .before .before .before .before .before .before .before .before .before .before .before .if1 .left) (c .before .before .before .before .before .before .before .before .before .before .before .before .before .before .order-of .ensures) (c .other-line .ensures (c .before .before .before .before .before .before .before .before .before .before .before .before .before .before .before .before .before .args .beds .now) (c .before .before .before .before .before .before .before .before .before .before .before .before .before .before .before .before .before .args .roughness .now) (c .before .before .before .before .before .before .before .before .before .before .before .before .before .before .before .before .before .args .rates .now) (c .before .before .before .before .before .before .before .before .before .before .before .before .before .before .before .before .before .args .rain .now))
+    let start =
+    c .before .before .before .before .before .before .before .before .before .before .before .before .before .before .before .before
+    .before in
+    let a = start .args in
+    let at-order-of = c .before .before .before .before .before .before .before .before .before .before .before .before .before .before .order-of in
+    let at-is-sheet = c .before .before .before .before .before .before .before .before .before .before .before .before .before .is-sheet in
+    let at-if1 = c .before .before .before .before .before .before .before .before .before .before .before .before .if1 in
+    command-other (a .desk)
+    (stores (rooms (a .marks .now) (a .beds .now) (a .roughness .now) (a .rates .now) (a .depths .now) (a .rain .now) (a .inflow .now))
+    (a .lasts .now) (a .records .now) (a .began .now)) (a .text .now) _ (at-is-sheet .ensures ∙ ap isSheet (at-order-of .ensures)) (at-if1 .left)
+    (at-order-of .ensures) (c .other-line .ensures (a .beds .now) (a .roughness .now) (a .rates .now) (a .rain .now))
 
 pub command-spec : {M : Type 1} → statement M
 command-spec =

@@ -24,17 +24,21 @@ squares-of-requires c κs = search needs
 -- src/command.rt:68:33
 slice-aggregate-water-on : tie.Need-slice-aggregate-water-on
 slice-aggregate-water-on c =
-    part-long _ (c .before .before .before .before .before .before .before .before .before .before .before .args .marks .now) (omega (arith, c .before .before .before .before .before .before .before .before .before .before .before .pre .1, c .before .squares-of .ensures, c .before .before .before .before .before .before .before .before .before .before .before .pre .0 .few))
+    let start = c .before .before .before .before .before .before .before .before .before .before .before in
+    part-long _ (start .args .marks .now) (omega (arith, start .pre .1, c .before .squares-of .ensures, start .pre .0 .few))
 
 -- src/command.rt:68:52
 slice-aggregate-water-on-2 : tie.Need-slice-aggregate-water-on-2
 slice-aggregate-water-on-2 c =
-    part-long _ (c .before .before .before .before .before .before .before .before .before .before .before .before .args .depths .now) (omega (arith, c .before .before .before .before .before .before .before .before .before .before .before .before .pre .2, c .before .before .squares-of .ensures, c .before .before .before .before .before .before .before .before .before .before .before .before .pre .0 .few))
+    let start = c .before .before .before .before .before .before .before .before .before .before .before .before in
+    part-long _ (start .args .depths .now) (omega (arith, start .pre .2, c .before .before .squares-of .ensures, start .pre .0 .few))
 
 -- src/command.rt:68:9
 water-on-requires : tie.Need-water-on-requires
 water-on-requires c κs =
-    laid-water (c .before .before .before .before .before .before .before .before .before .before .before .before .args .heading) (c .before .before .squares-of .ensures) (c .before .before .before .before .before .before .before .before .before .before .before .before .pre .0) (c .before .before .before .before .before .before .before .before .before .before .before .before .args .marks .now) (c .before .before .before .before .before .before .before .before .before .before .before .before .args .depths .now) (c .before .before .before .before .before .before .before .before .before .before .before .before .pre .1) (c .before .before .before .before .before .before .before .before .before .before .before .before .pre .2)
+    let start = c .before .before .before .before .before .before .before .before .before .before .before .before in
+    let a = start .args in
+    laid-water (a .heading) (c .before .before .squares-of .ensures) (start .pre .0) (a .marks .now) (a .depths .now) (start .pre .1) (start .pre .2)
 
 -- src/command.rt:69:9
 fresh-desk-requires : tie.Need-fresh-desk-requires
@@ -43,22 +47,44 @@ fresh-desk-requires c κs = search needs
 -- src/command.rt:77:9
 slice-aggregate-put-state : tie.Need-slice-aggregate-put-state
 slice-aggregate-put-state c =
-    part-long _ (c .before .before .before .before .before .before .before .before .before .before .before .before .before .before .before .before .before .before .args .marks .now) (omega (arith, c .before .before .before .before .before .before .before .before .before .before .before .before .before .before .before .before .before .before .pre .1, c .before .before .before .before .before .before .before .before .squares-of .ensures, c .before .before .before .before .before .before .before .before .before .before .before .before .before .before .before .before .before .before .pre .0 .few))
+    let start =
+    c .before .before .before .before .before .before .before .before .before .before .before .before .before .before .before .before
+    .before .before in
+    let at-squares-of = c .before .before .before .before .before .before .before .before .squares-of in
+    part-long _ (start .args .marks .now) (omega (arith, start .pre .1, at-squares-of .ensures, start .pre .0 .few))
 
 -- src/command.rt:78:9
 slice-aggregate-put-state-2 : tie.Need-slice-aggregate-put-state-2
 slice-aggregate-put-state-2 c =
-    part-long _ (c .before .before .before .before .before .before .before .before .before .before .before .before .before .before .before .before .before .before .before .args .depths .now) (omega (arith, c .before .before .before .before .before .before .before .before .before .before .before .before .before .before .before .before .before .before .before .pre .2, c .before .before .before .before .before .before .before .before .before .squares-of .ensures, c .before .before .before .before .before .before .before .before .before .before .before .before .before .before .before .before .before .before .before .pre .0 .few))
+    let start =
+    c .before .before .before .before .before .before .before .before .before .before .before .before .before .before .before .before
+    .before .before .before in
+    let at-squares-of = c .before .before .before .before .before .before .before .before .before .squares-of in
+    part-long _ (start .args .depths .now) (omega (arith, start .pre .2, at-squares-of .ensures, start .pre .0 .few))
 
 -- src/command.rt:72:9
 put-state-requires : tie.Need-put-state-requires
 put-state-requires c κs =
-    laid-shows (c .before .before .before .before .before .before .before .before .before .before .before .before .before .before .before .before .before .before .before .args .heading) (c .before .before .before .before .before .before .before .before .before .squares-of .ensures) (c .before .before .before .before .before .before .before .before .before .before .before .before .before .before .before .before .before .before .before .pre .0) (c .before .before .before .before .before .before .before .before .before .before .before .before .before .before .before .before .before .before .before .args .marks .now) (c .before .before .before .before .before .before .before .before .before .before .before .before .before .before .before .before .before .before .before .args .depths .now) (c .before .before .before .before .before .before .before .before .before .before .before .before .before .before .before .before .before .before .before .pre .1) (c .before .before .before .before .before .before .before .before .before .before .before .before .before .before .before .before .before .before .before .pre .2) (c .before .before .before .before .before .before .before .before .before .before .before .before .before .before .before .before .before .before .before .pre .3)
+    let start =
+    c .before .before .before .before .before .before .before .before .before .before .before .before .before .before .before .before
+    .before .before .before in
+    let a = start .args in
+    let at-squares-of = c .before .before .before .before .before .before .before .before .before .squares-of in
+    laid-shows (a .heading) (at-squares-of .ensures) (start .pre .0) (a .marks .now) (a .depths .now) (start .pre .1) (start .pre .2) (start .pre .3)
 
 -- src/command.rt:80:9
 put-ending-requires : tie.Need-put-ending-requires
 put-ending-requires c κs =
-    omega (arith, c .before .before .before .put-state .ensures .short, c .before .before .before .put-state .ensures .wrote .next, c .before .before .before .put-state .kept .0, c .before .before .before .before .before .before .before .before .before .before .before .before .before .before .before .before .before .before .before .before .before .before .before .pre .3)
+    let start =
+    c .before .before .before .before .before .before .before .before .before .before .before .before .before .before .before .before
+    .before .before .before .before .before .before .before in
+    omega (
+      arith,
+      c .before .before .before .put-state .ensures .short,
+      c .before .before .before .put-state .ensures .wrote .next,
+      c .before .before .before .put-state .kept .0,
+      start .pre .3,
+    )
 
 -- src/command.rt:81:5
 fresh-desk-requires-2 : tie.Need-fresh-desk-requires-2
@@ -77,7 +103,21 @@ same-length-2 c = search needs
 -- src/command.rt:55:1
 returns : tie.Need-returns
 returns c =
-    laid-whole (c .before .before .before .before .before .before .before .before .before .before .before .before .before .before .before .before .before .before .before .before .before .before .before .before .before .before .before .args .heading) (c .before .before .before .before .before .before .before .before .before .before .before .before .before .before .before .before .before .before .before .before .before .before .before .before .before .before .before .args .marks .now) (c .before .before .before .before .before .before .before .before .before .before .before .before .before .before .before .before .before .before .before .before .before .before .before .before .before .before .before .args .depths .now) (c .before .before .before .before .before .before .before .before .before .before .before .before .before .before .before .before .before .squares-of .ensures) (c .before .before .before .before .before .before .before .before .before .before .before .before .before .before .water-on .ensures) (c .before .before .before .before .before .before .before .before .before .before .before .before .before .fresh-desk .ensures) (c .before .before .before .before .before .before .before .before .before .before .before .before .before .before .before .before .before .before .before .before .before .before .before .before .before .before .before .pre .3) (c .before .before .before .before .before .before .before .put-state .ensures) (c .before .before .before .put-ending .ensures) (c .fresh-desk2 .ensures) (c .before .before .before .before .before .before .before .before .before .before .before .before .before .before .before .before .before .before .before .before .before .clear .ensures)
+    let start =
+    c .before .before .before .before .before .before .before .before .before .before .before .before .before .before .before .before
+    .before .before .before .before .before .before .before .before .before .before .before in
+    let a = start .args in
+    let at-clear =
+    c .before .before .before .before .before .before .before .before .before .before .before .before .before .before .before .before
+    .before .before .before .before .before .clear in
+    let at-squares-of =
+    c .before .before .before .before .before .before .before .before .before .before .before .before .before .before .before .before
+    .before .squares-of in
+    let at-water-on = c .before .before .before .before .before .before .before .before .before .before .before .before .before .before .water-on in
+    let at-fresh-desk = c .before .before .before .before .before .before .before .before .before .before .before .before .before .fresh-desk in
+    let at-put-state = c .before .before .before .before .before .before .before .put-state in
+    laid-whole (a .heading) (a .marks .now) (a .depths .now) (at-squares-of .ensures) (at-water-on .ensures) (at-fresh-desk .ensures)
+    (start .pre .3) (at-put-state .ensures) (c .before .before .before .put-ending .ensures) (c .fresh-desk2 .ensures) (at-clear .ensures)
 
 pub lay-sheet-spec : {M : Type 1} → statement M
 lay-sheet-spec =

@@ -17,12 +17,14 @@ sizes-of-requires c κs =
 -- src/command.rt:147:9
 slice-aggregate-order-line : tie.Need-slice-aggregate-order-line
 slice-aggregate-order-line c =
-    part-long _ (c .before .before .before .before .before .before .before .before .before .before .args .marks .now) (omega (arith, c .before .before .before .before .before .before .before .before .before .before .pre .1 .marks-long, c .before .sizes-of .ensures .squares-fit))
+    let start = c .before .before .before .before .before .before .before .before .before .before in
+    part-long _ (start .args .marks .now) (omega (arith, start .pre .1 .marks-long, c .before .sizes-of .ensures .squares-fit))
 
 -- src/command.rt:148:9
 slice-aggregate-order-line-2 : tie.Need-slice-aggregate-order-line-2
 slice-aggregate-order-line-2 c =
-    part-long _ (c .before .before .before .before .before .before .before .before .before .before .before .args .inflow .now) (omega (arith, c .before .before .before .before .before .before .before .before .before .before .before .pre .1 .inflow-long, c .before .before .sizes-of .ensures .inflow-fits))
+    let start = c .before .before .before .before .before .before .before .before .before .before .before in
+    part-long _ (start .args .inflow .now) (omega (arith, start .pre .1 .inflow-long, c .before .before .sizes-of .ensures .inflow-fits))
 
 -- src/command.rt:149:9
 slice-relend-prefix-order-line : tie.Need-slice-relend-prefix-order-line
@@ -32,7 +34,8 @@ slice-relend-prefix-order-line c =
 -- src/command.rt:149:9
 slice-aggregate-order-line-3 : tie.Need-slice-aggregate-order-line-3
 slice-aggregate-order-line-3 c =
-    part-long _ (c .before .before .before .before .before .before .before .before .before .before .before .before .args .depths .now) (omega (arith, c .before .before .before .before .before .before .before .before .before .before .before .before .pre .1 .depths-long, c .before .before .before .sizes-of .ensures .squares-fit))
+    let start = c .before .before .before .before .before .before .before .before .before .before .before .before in
+    part-long _ (start .args .depths .now) (omega (arith, start .pre .1 .depths-long, c .before .before .before .sizes-of .ensures .squares-fit))
 
 -- src/command.rt:150:9
 slice-relend-prefix-order-line-2 : tie.Need-slice-relend-prefix-order-line-2
@@ -42,22 +45,30 @@ slice-relend-prefix-order-line-2 c =
 -- src/command.rt:150:9
 slice-aggregate-order-line-4 : tie.Need-slice-aggregate-order-line-4
 slice-aggregate-order-line-4 c =
-    part-long _ (c .before .before .before .before .before .before .before .before .before .before .before .before .before .args .lasts .now) (omega (arith, c .before .before .before .before .before .before .before .before .before .before .before .before .before .pre .1 .lasts-long, c .before .before .before .before .sizes-of .ensures .squares-fit))
+    let start = c .before .before .before .before .before .before .before .before .before .before .before .before .before in
+    part-long _ (start .args .lasts .now)
+    (omega (arith, start .pre .1 .lasts-long, c .before .before .before .before .sizes-of .ensures .squares-fit))
 
 -- src/command.rt:151:9
 slice-aggregate-order-line-5 : tie.Need-slice-aggregate-order-line-5
 slice-aggregate-order-line-5 c =
-    part-long _ (c .before .before .before .before .before .before .before .before .before .before .before .before .before .before .args .records .now) (omega (arith, c .before .before .before .before .before .before .before .before .before .before .before .before .before .before .pre .1 .records-long, c .before .before .before .before .before .sizes-of .ensures .records-fit))
+    let start = c .before .before .before .before .before .before .before .before .before .before .before .before .before .before in
+    let at-sizes-of = c .before .before .before .before .before .sizes-of in
+    part-long _ (start .args .records .now) (omega (arith, start .pre .1 .records-long, at-sizes-of .ensures .records-fit))
 
 -- src/command.rt:152:9
 slice-aggregate-order-line-6 : tie.Need-slice-aggregate-order-line-6
 slice-aggregate-order-line-6 c =
-    part-long _ (c .before .before .before .before .before .before .before .before .before .before .before .before .before .before .before .args .began .now) (omega (arith, c .before .before .before .before .before .before .before .before .before .before .before .before .before .before .before .pre .1 .began-long, c .before .before .before .before .before .before .sizes-of .ensures .began-fits))
+    let start = c .before .before .before .before .before .before .before .before .before .before .before .before .before .before .before in
+    let at-sizes-of = c .before .before .before .before .before .before .sizes-of in
+    part-long _ (start .args .began .now) (omega (arith, start .pre .1 .began-long, at-sizes-of .ensures .began-fits))
 
 -- src/command.rt:143:5
 order-line-requires : tie.Need-order-line-requires
 order-line-requires c κs =
-    lends (c .before .before .before .before .before .before .before .before .before .before .before .before .before .before .before .before .args .desk .heading) (c .before .before .before .before .before .before .before .sizes-of .ensures) (c .before .before .before .before .before .before .before .before .before .before .before .before .before .before .before .before .pre .1)
+    let start = c .before .before .before .before .before .before .before .before .before .before .before .before .before .before .before .before in
+    let at-sizes-of = c .before .before .before .before .before .before .before .sizes-of in
+    lends (start .args .desk .heading) (at-sizes-of .ensures) (start .pre .1)
 
 -- src/command.rt:123:1
 same-length : tie.Need-same-length
@@ -74,8 +85,21 @@ same-length-3 c = search needs
 -- src/command.rt:123:1
 returns : tie.Need-returns
 returns c =
+    let start =
+    c .before .before .before .before .before .before .before .before .before .before .before .before .before .before .before .before
+    .before .before .before .before .before .before .before in
+    let a = start .args in
+    let at-sizes-of = c .before .before .before .before .before .before .before .before .before .before .before .before .before .before .sizes-of in
+    let at-order-line = c .before .before .before .before .before .before .order-line in
     λ beds roughness rates rain.
-    held-line (c .before .before .before .before .before .before .before .before .before .before .before .before .before .before .before .before .before .before .before .before .before .before .before .args .desk) (c .before .before .before .before .before .before .before .before .before .before .before .before .before .before .sizes-of .ensures) (c .before .before .before .before .before .before .before .before .before .before .before .before .before .before .before .before .before .before .before .before .before .before .before .args .marks .now) beds roughness rates (c .before .before .before .before .before .before .before .before .before .before .before .before .before .before .before .before .before .before .before .before .before .before .before .args .depths .now) rain (c .before .before .before .before .before .before .before .before .before .before .before .before .before .before .before .before .before .before .before .before .before .before .before .args .inflow .now) (c .before .before .before .before .before .before .before .before .before .before .before .before .before .before .before .before .before .before .before .before .before .before .before .args .lasts .now) (c .before .before .before .before .before .before .before .before .before .before .before .before .before .before .before .before .before .before .before .before .before .before .before .args .records .now) (c .before .before .before .before .before .before .before .before .before .before .before .before .before .before .before .before .before .before .before .before .before .before .before .args .began .now) (c .before .before .before .before .before .before .before .before .before .before .before .before .before .before .before .before .before .before .before .before .before .before .before .args .text .now) (c .before .before .before .before .before .before .before .before .before .before .before .before .before .before .before .before .before .before .before .before .before .before .before .args .order) (c .before .before .before .before .before .before .order-line .kept .1 .1 .1 .1 .1 .0 ∙ sym (part-long _ (c .before .before .before .before .before .before .before .before .before .before .before .before .before .before .before .before .before .before .before .before .before .before .before .args .depths .now) (omega (arith, c .before .before .before .before .before .before .before .before .before .before .before .before .before .before .before .before .before .before .before .before .before .before .before .pre .1 .depths-long, c .before .before .before .before .before .before .before .before .before .before .before .before .before .before .sizes-of .ensures .squares-fit)))) (c .before .before .before .before .before .before .order-line .kept .1 .1 .1 .1 .1 .1 .0 ∙ sym (part-long _ (c .before .before .before .before .before .before .before .before .before .before .before .before .before .before .before .before .before .before .before .before .before .before .before .args .lasts .now) (omega (arith, c .before .before .before .before .before .before .before .before .before .before .before .before .before .before .before .before .before .before .before .before .before .before .before .pre .1 .lasts-long, c .before .before .before .before .before .before .before .before .before .before .before .before .before .before .sizes-of .ensures .squares-fit)))) (omega (arith, c .before .before .before .before .before .before .before .before .before .before .before .before .before .before .before .before .before .before .before .before .before .before .before .pre .1 .records-long, c .before .before .before .before .before .before .before .before .before .before .before .before .before .before .sizes-of .ensures .records-fit)) (omega (arith, c .before .before .before .before .before .before .before .before .before .before .before .before .before .before .before .before .before .before .before .before .before .before .before .pre .1 .began-long, c .before .before .before .before .before .before .before .before .before .before .before .before .before .before .sizes-of .ensures .began-fits)) (c .before .before .before .before .before .before .order-line .ensures)
+    held-line (a .desk) (at-sizes-of .ensures) (a .marks .now) beds roughness rates (a .depths .now) rain (a .inflow .now) (a .lasts .now)
+    (a .records .now) (a .began .now) (a .text .now) (a .order)
+    (at-order-line .kept .1 .1 .1 .1 .1 .0
+    ∙ sym (part-long _ (a .depths .now) (omega (arith, start .pre .1 .depths-long, at-sizes-of .ensures .squares-fit))))
+    (at-order-line .kept .1 .1 .1 .1 .1 .1 .0
+    ∙ sym (part-long _ (a .lasts .now) (omega (arith, start .pre .1 .lasts-long, at-sizes-of .ensures .squares-fit))))
+    (omega (arith, start .pre .1 .records-long, at-sizes-of .ensures .records-fit))
+    (omega (arith, start .pre .1 .began-long, at-sizes-of .ensures .began-fits)) (at-order-line .ensures)
 
 pub line-held-spec : {M : Type 1} → statement M
 line-held-spec =

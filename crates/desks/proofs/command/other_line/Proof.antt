@@ -25,7 +25,13 @@ same-length c = search needs
 -- src/command.rt:188:9
 returns : tie.Need-returns
 returns c =
-    λ beds roughness rates rain. other-refused (c .before .before .before .before .before .before .before .before .before .before .before .before .before .before .args .desk) (stores (rooms (c .before .before .before .before .before .before .before .before .before .before .before .before .before .before .args .marks .now) beds roughness rates (c .before .before .before .before .before .before .before .before .before .before .before .before .before .before .args .depths .now) rain (c .before .before .before .before .before .before .before .before .before .before .before .before .before .before .args .inflow .now)) (c .before .before .before .before .before .before .before .before .before .before .before .before .before .before .args .lasts .now) (c .before .before .before .before .before .before .before .before .before .before .before .before .before .before .args .records .now) (c .before .before .before .before .before .before .before .before .before .before .before .before .before .before .args .began .now)) (c .before .before .before .before .before .before .before .before .before .before .before .before .before .before .args .text .now) (c .before .before .before .before .before .before .before .before .before .before .before .before .before .before .args .order) (c .before .before .before .before .before .refused-at-once .ensures) (c .before .before .before .before .if1 .taken) (c .before .before .refuse-line .ensures)
+    let start = c .before .before .before .before .before .before .before .before .before .before .before .before .before .before in
+    let a = start .args in
+    let at-refused-at-once = c .before .before .before .before .before .refused-at-once in
+    λ beds roughness rates rain. other-refused (a .desk)
+    (stores (rooms (a .marks .now) beds roughness rates (a .depths .now) rain (a .inflow .now)) (a .lasts .now) (a .records .now) (a .began .now))
+    (a .text .now) (a .order) (at-refused-at-once .ensures) (c .before .before .before .before .if1 .taken)
+    (c .before .before .refuse-line .ensures)
 
 -- src/command.rt:190:5
 line-held-requires : tie.Need-line-held-requires
@@ -46,7 +52,16 @@ same-length-4 c = search needs
 -- src/command.rt:171:1
 returns-2 : tie.Need-returns-2
 returns-2 c =
-    λ beds roughness rates rain. other-told (c .before .before .before .before .before .before .before .before .before .before .before .before .before .before .before .before .before .before .before .before .args .desk) (stores (rooms (c .before .before .before .before .before .before .before .before .before .before .before .before .before .before .before .before .before .before .before .before .args .marks .now) beds roughness rates (c .before .before .before .before .before .before .before .before .before .before .before .before .before .before .before .before .before .before .before .before .args .depths .now) rain (c .before .before .before .before .before .before .before .before .before .before .before .before .before .before .before .before .before .before .before .before .args .inflow .now)) (c .before .before .before .before .before .before .before .before .before .before .before .before .before .before .before .before .before .before .before .before .args .lasts .now) (c .before .before .before .before .before .before .before .before .before .before .before .before .before .before .before .before .before .before .before .before .args .records .now) (c .before .before .before .before .before .before .before .before .before .before .before .before .before .before .before .before .before .before .before .before .args .began .now)) (c .before .before .before .before .before .before .before .before .before .before .before .before .before .before .before .before .before .before .before .before .args .text .now) (c .before .before .before .before .before .before .before .before .before .before .before .before .before .before .before .before .before .before .before .before .args .order) (c .before .before .before .before .before .before .before .before .before .before .before .refused-at-once .ensures) (c .before .before .before .before .before .before .before .before .before .before .if1 .left) (c .before .before .before .before .before .before .line-held .ensures beds roughness rates rain)
+    let start =
+    c .before .before .before .before .before .before .before .before .before .before .before .before .before .before .before .before
+    .before .before .before .before in
+    let a = start .args in
+    let at-refused-at-once = c .before .before .before .before .before .before .before .before .before .before .before .refused-at-once in
+    let at-if1 = c .before .before .before .before .before .before .before .before .before .before .if1 in
+    let at-line-held = c .before .before .before .before .before .before .line-held in
+    λ beds roughness rates rain. other-told (a .desk)
+    (stores (rooms (a .marks .now) beds roughness rates (a .depths .now) rain (a .inflow .now)) (a .lasts .now) (a .records .now) (a .began .now))
+    (a .text .now) (a .order) (at-refused-at-once .ensures) (at-if1 .left) (at-line-held .ensures beds roughness rates rain)
 
 pub other-line-spec : {M : Type 1} → statement M
 other-line-spec =

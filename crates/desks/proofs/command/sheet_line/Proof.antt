@@ -22,7 +22,12 @@ same-length c = search needs
 -- src/command.rt:135:9
 returns : tie.Need-returns
 returns c =
-    λ records began. sheet-short (c .before .before .before .before .before .before .before .before .before .before .before .before .before .before .before .args .desk) (stores (rooms (c .before .before .before .before .before .before .before .before .before .before .before .before .before .before .before .args .marks .now) (c .before .before .before .before .before .before .before .before .before .before .before .before .before .before .before .args .beds .now) (c .before .before .before .before .before .before .before .before .before .before .before .before .before .before .before .args .roughness .now) (c .before .before .before .before .before .before .before .before .before .before .before .before .before .before .before .args .rates .now) (c .before .before .before .before .before .before .before .before .before .before .before .before .before .before .before .args .depths .now) (c .before .before .before .before .before .before .before .before .before .before .before .before .before .before .before .args .rain .now) (c .before .before .before .before .before .before .before .before .before .before .before .before .before .before .before .args .inflow .now)) (c .before .before .before .before .before .before .before .before .before .before .before .before .before .before .before .args .lasts .now) records began) (c .before .before .before .before .before .before .before .before .before .before .before .before .before .before .before .args .text .now) (c .before .before .before .before .before .before .before .before .before .before .before .before .before .before .before .args .bytes) (c .before .before .before .before .if1 .taken) (c .before .before .refuse-line .ensures)
+    let start = c .before .before .before .before .before .before .before .before .before .before .before .before .before .before .before in
+    let a = start .args in
+    λ records began. sheet-short (a .desk)
+    (stores (rooms (a .marks .now) (a .beds .now) (a .roughness .now) (a .rates .now) (a .depths .now) (a .rain .now) (a .inflow .now))
+    (a .lasts .now) records began) (a .text .now) (a .bytes) (c .before .before .before .before .if1 .taken)
+    (c .before .before .refuse-line .ensures)
 
 -- src/command.rt:137:9
 read-within-requires : tie.Need-read-within-requires
@@ -43,7 +48,19 @@ enum-known-sheet-2 c = search needs
 -- src/command.rt:150:33
 lay-sheet-requires : tie.Need-lay-sheet-requires
 lay-sheet-requires c κs =
-    (read-shape (c .before .before .before .before .before .before .before .before .before .before .before .before .before .before .before .before .before .before .before .before .before .read-within .ensures) (c .before .before .before .before .before .sheet2 .given .1), omega (arith, c .before .before .before .before .before .before .before .before .before .before .before .before .before .before .before .before .before .before .before .before .before .before .before .before .before .before .before .before .before .before .before .before .before .before .before .before .before .before .before .before .pre .marks-long, c .before .before .before .before .before .before .before .before .before .before .before .before .before .before .before .before .before .before .before .before .before .read-within .kept .1 .1 .0), omega (arith, c .before .before .before .before .before .before .before .before .before .before .before .before .before .before .before .before .before .before .before .before .before .before .before .before .before .before .before .before .before .before .before .before .before .before .before .before .before .before .before .before .pre .depths-long, c .before .before .before .before .before .before .before .before .before .before .before .before .before .before .before .before .before .before .before .before .before .read-within .kept .1 .1 .1 .1 .1 .1 .0), omega (arith, c .before .before .before .before .before .before .before .before .before .before .before .before .before .before .before .before .before .before .before .before .before .before .before .before .before .before .before .before .before .before .before .before .before .before .before .before .before .before .before .before .pre .out-long))
+    let start =
+    c .before .before .before .before .before .before .before .before .before .before .before .before .before .before .before .before
+    .before .before .before .before .before .before .before .before .before .before .before .before .before .before .before .before
+    .before .before .before .before .before .before .before .before in
+    let at-read-within =
+    c .before .before .before .before .before .before .before .before .before .before .before .before .before .before .before .before
+    .before .before .before .before .before .read-within in
+    let at-sheet2 = c .before .before .before .before .before .sheet2 in (
+      read-shape (at-read-within .ensures) (at-sheet2 .given .1),
+      omega (arith, start .pre .marks-long, at-read-within .kept .1 .1 .0),
+      omega (arith, start .pre .depths-long, at-read-within .kept .1 .1 .1 .1 .1 .1 .0),
+      omega (arith, start .pre .out-long),
+    )
 
 -- src/command.rt:117:1
 same-length-2 : tie.Need-same-length-2
@@ -84,7 +101,22 @@ same-length-9 c = search needs
 -- src/command.rt:117:1
 returns-2 : tie.Need-returns-2
 returns-2 c =
-    λ records began. sheet-refused (c .before .before .before .before .before .before .before .before .before .before .before .before .before .before .before .before .before .before .before .before .before .before .before .before .before .before .before .before .before .before .before .before .before .before .before .before .before .before .before .before .args .desk) (stores (rooms (c .before .before .before .before .before .before .before .before .before .before .before .before .before .before .before .before .before .before .before .before .before .before .before .before .before .before .before .before .before .before .before .before .before .before .before .before .before .before .before .before .args .marks .now) (c .before .before .before .before .before .before .before .before .before .before .before .before .before .before .before .before .before .before .before .before .before .before .before .before .before .before .before .before .before .before .before .before .before .before .before .before .before .before .before .before .args .beds .now) (c .before .before .before .before .before .before .before .before .before .before .before .before .before .before .before .before .before .before .before .before .before .before .before .before .before .before .before .before .before .before .before .before .before .before .before .before .before .before .before .before .args .roughness .now) (c .before .before .before .before .before .before .before .before .before .before .before .before .before .before .before .before .before .before .before .before .before .before .before .before .before .before .before .before .before .before .before .before .before .before .before .before .before .before .before .before .args .rates .now) (c .before .before .before .before .before .before .before .before .before .before .before .before .before .before .before .before .before .before .before .before .before .before .before .before .before .before .before .before .before .before .before .before .before .before .before .before .before .before .before .before .args .depths .now) (c .before .before .before .before .before .before .before .before .before .before .before .before .before .before .before .before .before .before .before .before .before .before .before .before .before .before .before .before .before .before .before .before .before .before .before .before .before .before .before .before .args .rain .now) (c .before .before .before .before .before .before .before .before .before .before .before .before .before .before .before .before .before .before .before .before .before .before .before .before .before .before .before .before .before .before .before .before .before .before .before .before .before .before .before .before .args .inflow .now)) (c .before .before .before .before .before .before .before .before .before .before .before .before .before .before .before .before .before .before .before .before .before .before .before .before .before .before .before .before .before .before .before .before .before .before .before .before .before .before .before .before .args .lasts .now) records began) (c .before .before .before .before .before .before .before .before .before .before .before .before .before .before .before .before .before .before .before .before .before .before .before .before .before .before .before .before .before .before .before .before .before .before .before .before .before .before .before .before .args .text .now) (c .before .before .before .before .before .before .before .before .before .before .before .before .before .before .before .before .before .before .before .before .before .before .before .before .before .before .before .before .before .before .before .before .before .before .before .before .before .before .before .before .args .bytes) (c .before .before .before .before .before .before .before .before .before .before .before .before .before .before .before .before .before .before .before .before .before .before .before .before .before .before .before .before .before .if1 .left) (c .before .before .before .before .before .before .before .before .before .before .before .before .before .before .before .before .before .before .before .before .before .read-within .ensures) (c .before .before .before .before .before .sheet .given .1) (c .before .before .refuse-line2 .ensures)
+    let start =
+    c .before .before .before .before .before .before .before .before .before .before .before .before .before .before .before .before
+    .before .before .before .before .before .before .before .before .before .before .before .before .before .before .before .before
+    .before .before .before .before .before .before .before .before in
+    let a = start .args in
+    let at-if1 =
+    c .before .before .before .before .before .before .before .before .before .before .before .before .before .before .before .before
+    .before .before .before .before .before .before .before .before .before .before .before .before .before .if1 in
+    let at-read-within =
+    c .before .before .before .before .before .before .before .before .before .before .before .before .before .before .before .before
+    .before .before .before .before .before .read-within in
+    let at-sheet = c .before .before .before .before .before .sheet in
+    λ records began. sheet-refused (a .desk)
+    (stores (rooms (a .marks .now) (a .beds .now) (a .roughness .now) (a .rates .now) (a .depths .now) (a .rain .now) (a .inflow .now))
+    (a .lasts .now) records began) (a .text .now) (a .bytes) (at-if1 .left) (at-read-within .ensures) (at-sheet .given .1)
+    (c .before .before .refuse-line2 .ensures)
 
 -- src/command.rt:117:1
 same-length-10 : tie.Need-same-length-10
@@ -109,7 +141,10 @@ same-length-13 c =
 -- src/command.rt:117:1
 same-length-14 : tie.Need-same-length-14
 same-length-14 c =
-    c .before .before .before .before .before .before .before .before .before .before .before .before .before .before .before .before .before .before .before .before .before .before .before .before .before .before .read-within .kept .1 .1 .1 .1 .1 .1 .1 .0
+    let at-read-within =
+    c .before .before .before .before .before .before .before .before .before .before .before .before .before .before .before .before
+    .before .before .before .before .before .before .before .before .before .before .read-within in
+    at-read-within .kept .1 .1 .1 .1 .1 .1 .1 .0
 
 -- src/command.rt:117:1
 same-length-15 : tie.Need-same-length-15
@@ -118,7 +153,10 @@ same-length-15 c = search needs
 -- src/command.rt:117:1
 same-length-16 : tie.Need-same-length-16
 same-length-16 c =
-    c .before .before .before .before .before .before .before .before .before .before .before .before .before .before .before .before .before .before .before .before .before .before .before .before .before .before .read-within .kept .1 .1 .1 .1 .1 .1 .0
+    let at-read-within =
+    c .before .before .before .before .before .before .before .before .before .before .before .before .before .before .before .before
+    .before .before .before .before .before .before .before .before .before .before .read-within in
+    at-read-within .kept .1 .1 .1 .1 .1 .1 .0
 
 -- src/command.rt:117:1
 same-length-17 : tie.Need-same-length-17
@@ -131,7 +169,23 @@ same-length-18 c = search needs
 -- src/command.rt:117:1
 returns-3 : tie.Need-returns-3
 returns-3 c =
-    λ records began. sheet-read (c .before .before .before .before .before .before .before .before .before .before .before .before .before .before .before .before .before .before .before .before .before .before .before .before .before .before .before .before .before .before .before .before .before .before .before .before .before .before .before .before .before .before .before .before .before .args .desk) (stores (rooms (c .before .before .before .before .before .before .before .before .before .before .before .before .before .before .before .before .before .before .before .before .before .before .before .before .before .before .before .before .before .before .before .before .before .before .before .before .before .before .before .before .before .before .before .before .before .args .marks .now) (c .before .before .before .before .before .before .before .before .before .before .before .before .before .before .before .before .before .before .before .before .before .before .before .before .before .before .before .before .before .before .before .before .before .before .before .before .before .before .before .before .before .before .before .before .before .args .beds .now) (c .before .before .before .before .before .before .before .before .before .before .before .before .before .before .before .before .before .before .before .before .before .before .before .before .before .before .before .before .before .before .before .before .before .before .before .before .before .before .before .before .before .before .before .before .before .args .roughness .now) (c .before .before .before .before .before .before .before .before .before .before .before .before .before .before .before .before .before .before .before .before .before .before .before .before .before .before .before .before .before .before .before .before .before .before .before .before .before .before .before .before .before .before .before .before .before .args .rates .now) (c .before .before .before .before .before .before .before .before .before .before .before .before .before .before .before .before .before .before .before .before .before .before .before .before .before .before .before .before .before .before .before .before .before .before .before .before .before .before .before .before .before .before .before .before .before .args .depths .now) (c .before .before .before .before .before .before .before .before .before .before .before .before .before .before .before .before .before .before .before .before .before .before .before .before .before .before .before .before .before .before .before .before .before .before .before .before .before .before .before .before .before .before .before .before .before .args .rain .now) (c .before .before .before .before .before .before .before .before .before .before .before .before .before .before .before .before .before .before .before .before .before .before .before .before .before .before .before .before .before .before .before .before .before .before .before .before .before .before .before .before .before .before .before .before .before .args .inflow .now)) (c .before .before .before .before .before .before .before .before .before .before .before .before .before .before .before .before .before .before .before .before .before .before .before .before .before .before .before .before .before .before .before .before .before .before .before .before .before .before .before .before .before .before .before .before .before .args .lasts .now) records began) (c .before .before .before .before .before .before .before .before .before .before .before .before .before .before .before .before .before .before .before .before .before .before .before .before .before .before .before .before .before .before .before .before .before .before .before .before .before .before .before .before .before .before .before .before .before .args .text .now) (c .before .before .before .before .before .before .before .before .before .before .before .before .before .before .before .before .before .before .before .before .before .before .before .before .before .before .before .before .before .before .before .before .before .before .before .before .before .before .before .before .before .before .before .before .before .args .bytes) (c .before .before .before .before .before .before .before .before .before .before .before .before .before .before .before .before .before .before .before .before .before .before .before .before .before .before .before .before .before .before .before .before .before .before .if1 .left) (c .before .before .before .before .before .before .before .before .before .before .before .before .before .before .before .before .before .before .before .before .before .before .before .before .before .before .read-within .ensures) (c .before .before .before .before .before .before .before .before .before .before .sheet2 .given .1) (c .before .before .before .before .lay-sheet .ensures)
+    let start =
+    c .before .before .before .before .before .before .before .before .before .before .before .before .before .before .before .before
+    .before .before .before .before .before .before .before .before .before .before .before .before .before .before .before .before
+    .before .before .before .before .before .before .before .before .before .before .before .before .before in
+    let a = start .args in
+    let at-if1 =
+    c .before .before .before .before .before .before .before .before .before .before .before .before .before .before .before .before
+    .before .before .before .before .before .before .before .before .before .before .before .before .before .before .before .before
+    .before .before .if1 in
+    let at-read-within =
+    c .before .before .before .before .before .before .before .before .before .before .before .before .before .before .before .before
+    .before .before .before .before .before .before .before .before .before .before .read-within in
+    let at-sheet2 = c .before .before .before .before .before .before .before .before .before .before .sheet2 in
+    λ records began. sheet-read (a .desk)
+    (stores (rooms (a .marks .now) (a .beds .now) (a .roughness .now) (a .rates .now) (a .depths .now) (a .rain .now) (a .inflow .now))
+    (a .lasts .now) records began) (a .text .now) (a .bytes) (at-if1 .left) (at-read-within .ensures) (at-sheet2 .given .1)
+    (c .before .before .before .before .lay-sheet .ensures)
 
 pub sheet-line-spec : {M : Type 1} → statement M
 sheet-line-spec =

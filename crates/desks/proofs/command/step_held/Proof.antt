@@ -1,118 +1,144 @@
+-- `desks::command::step_held` meets its contract: each room is lent as far as it belongs to the sheet, and put back.
+-- Assumes nothing.
 use mathlib.Core.Path.{sym, _∙_}
+use Prim.Native.Nat.{_≤_}
 use native.Mathlib.Omega.{arith}
-use Rattle.desks.proofs.RoomLaws.{part-long, ready-fine, lends, held-step}
+use lib.ListN.{length}
+use Rattle.desks.proofs.RoomLaws.{part-long, ready-fine, lends, held-passes, held-step}
 use borrow.Author.Needs.{needs}
 use Rattle.desks.proofs.command.step_held.Statement.{statement}
 use Rattle.desks.proofs.command.step_held.Tie as tie
-use Rattle.desks.proofs.command.step_held.Reads as reads
-use Rattle.desks.proofs.command.step_held.Lts as lts
-use Rattle.desks.proofs.lines.next_step.Reads as next-step-reads
-use Rattle.desks.proofs.sizes.sizes_of.Reads as sizes-of-reads
 
--- src/command.rt:272:9
+-- ---- the places, each by one after it
+
+abbrev start : tie.After-sizes-of → tie.Start
+start c = c .before .before .before .before .before .before .before .before .before .before .before .before
+
+abbrev to-sixth : tie.After-next-step-arg6 → tie.After-sizes-of
+to-sixth c = c .before .before .before .before .before .before
+
+abbrev to-last : tie.After-next-step-arg11 → tie.After-sizes-of
+to-last c = to-sixth (c .before .before .before .before .before)
+
+abbrev stepped : tie.After-slice-known10 → tie.After-next-step
+stepped c = c .before .before .before .before .before .before .before .before .before .before
+
+-- ---- each room is long enough
+
+marks-fit : (c : tie.After-sizes-of) → c .sizes-of .result .squares ≤ length (start c .args .marks .now)
+marks-fit c = omega (arith, start c .pre .1 .marks-long, c .sizes-of .ensures .squares-fit)
+
+beds-fit : (c : tie.After-sizes-of) → c .sizes-of .result .squares ≤ length (start c .args .beds .now)
+beds-fit c = omega (arith, start c .pre .2 .beds-long, c .sizes-of .ensures .squares-fit)
+
+roughness-fit : (c : tie.After-sizes-of) → c .sizes-of .result .squares ≤ length (start c .args .roughness .now)
+roughness-fit c = omega (arith, start c .pre .2 .roughness-long, c .sizes-of .ensures .squares-fit)
+
+rates-fit : (c : tie.After-sizes-of) → c .sizes-of .result .squares ≤ length (start c .args .rates .now)
+rates-fit c = omega (arith, start c .pre .2 .rates-long, c .sizes-of .ensures .squares-fit)
+
+rain-fit : (c : tie.After-sizes-of) → c .sizes-of .result .rain ≤ length (start c .args .rain .now)
+rain-fit c = omega (arith, start c .pre .2 .rain-long, c .sizes-of .ensures .rain-fits)
+
+inflow-fit : (c : tie.After-sizes-of) → c .sizes-of .result .inflow ≤ length (start c .args .inflow .now)
+inflow-fit c = omega (arith, start c .pre .1 .inflow-long, c .sizes-of .ensures .inflow-fits)
+
+depths-fit : (c : tie.After-sizes-of) → c .sizes-of .result .squares ≤ length (start c .args .depths .now)
+depths-fit c = omega (arith, start c .pre .1 .depths-long, c .sizes-of .ensures .squares-fit)
+
+lasts-fit : (c : tie.After-sizes-of) → c .sizes-of .result .squares ≤ length (start c .args .lasts .now)
+lasts-fit c = omega (arith, start c .pre .1 .lasts-long, c .sizes-of .ensures .squares-fit)
+
+records-fit : (c : tie.After-sizes-of) → c .sizes-of .result .records ≤ length (start c .args .records .now)
+records-fit c = omega (arith, start c .pre .1 .records-long, c .sizes-of .ensures .records-fit)
+
+began-fit : (c : tie.After-sizes-of) → c .sizes-of .result .began ≤ length (start c .args .began .now)
+began-fit c = omega (arith, start c .pre .1 .began-long, c .sizes-of .ensures .began-fits)
+
+-- ---- the answers
+
 sizes-of-requires : tie.Need-sizes-of-requires
 sizes-of-requires c κs =
-    ready-fine (c .before .before .before .before .before .before .before .before .before .before .before .args .desk) (c .before .before .before .before .before .before .before .before .before .before .before .pre .0)
+    let s = c .before .before .before .before .before .before .before .before .before .before .before in
+    ready-fine (s .args .desk) (s .pre .0)
 
--- src/command.rt:280:9
 slice-aggregate-next-step : tie.Need-slice-aggregate-next-step
-slice-aggregate-next-step c =
-    part-long _ (c .before .before .before .before .before .before .before .before .before .before .before .before .before .args .marks .now) (omega (arith, c .before .before .before .before .before .before .before .before .before .before .before .before .before .pre .1 .marks-long, c .before .sizes-of .ensures .squares-fit))
+slice-aggregate-next-step c = part-long _ _ (marks-fit (c .before))
 
--- src/command.rt:281:9
 slice-aggregate-next-step-2 : tie.Need-slice-aggregate-next-step-2
-slice-aggregate-next-step-2 c =
-    part-long _ (c .before .before .before .before .before .before .before .before .before .before .before .before .before .before .args .beds .now) (omega (arith, c .before .before .before .before .before .before .before .before .before .before .before .before .before .before .pre .2 .beds-long, c .before .before .sizes-of .ensures .squares-fit))
+slice-aggregate-next-step-2 c = part-long _ _ (beds-fit (c .before .before))
 
--- src/command.rt:282:9
 slice-aggregate-next-step-3 : tie.Need-slice-aggregate-next-step-3
-slice-aggregate-next-step-3 c =
-    part-long _ (c .before .before .before .before .before .before .before .before .before .before .before .before .before .before .before .args .roughness .now) (omega (arith, c .before .before .before .before .before .before .before .before .before .before .before .before .before .before .before .pre .2 .roughness-long, c .before .before .before .sizes-of .ensures .squares-fit))
+slice-aggregate-next-step-3 c = part-long _ _ (roughness-fit (c .before .before .before))
 
--- src/command.rt:283:9
 slice-aggregate-next-step-4 : tie.Need-slice-aggregate-next-step-4
-slice-aggregate-next-step-4 c =
-    part-long _ (c .before .before .before .before .before .before .before .before .before .before .before .before .before .before .before .before .args .rates .now) (omega (arith, c .before .before .before .before .before .before .before .before .before .before .before .before .before .before .before .before .pre .2 .rates-long, c .before .before .before .before .sizes-of .ensures .squares-fit))
+slice-aggregate-next-step-4 c = part-long _ _ (rates-fit (c .before .before .before .before))
 
--- src/command.rt:284:9
 slice-aggregate-next-step-5 : tie.Need-slice-aggregate-next-step-5
-slice-aggregate-next-step-5 c =
-    part-long _ (c .before .before .before .before .before .before .before .before .before .before .before .before .before .before .before .before .before .args .rain .now) (omega (arith, c .before .before .before .before .before .before .before .before .before .before .before .before .before .before .before .before .before .pre .2 .rain-long, c .before .before .before .before .before .sizes-of .ensures .rain-fits))
+slice-aggregate-next-step-5 c = part-long _ _ (rain-fit (c .before .before .before .before .before))
 
--- src/command.rt:285:9
 slice-aggregate-next-step-6 : tie.Need-slice-aggregate-next-step-6
-slice-aggregate-next-step-6 c =
-    part-long _ (c .before .before .before .before .before .before .before .before .before .before .before .before .before .before .before .before .before .before .args .inflow .now) (omega (arith, c .before .before .before .before .before .before .before .before .before .before .before .before .before .before .before .before .before .before .pre .1 .inflow-long, c .before .before .before .before .before .before .sizes-of .ensures .inflow-fits))
+slice-aggregate-next-step-6 c = part-long _ _ (inflow-fit (to-sixth c))
 
--- src/command.rt:286:9
 slice-relend-prefix-next-step : tie.Need-slice-relend-prefix-next-step
-slice-relend-prefix-next-step c =
-    omega (arith, c .before .before .before .before .before .before .before .before .before .before .before .before .before .before .before .before .before .before .pre .1 .depths-long, c .before .before .before .before .before .before .sizes-of .ensures .squares-fit)
+slice-relend-prefix-next-step c = depths-fit (to-sixth c)
 
--- src/command.rt:286:9
 slice-aggregate-next-step-7 : tie.Need-slice-aggregate-next-step-7
-slice-aggregate-next-step-7 c =
-    part-long _ (c .before .before .before .before .before .before .before .before .before .before .before .before .before .before .before .before .before .before .before .args .depths .now) (omega (arith, c .before .before .before .before .before .before .before .before .before .before .before .before .before .before .before .before .before .before .before .pre .1 .depths-long, c .before .before .before .before .before .before .before .sizes-of .ensures .squares-fit))
+slice-aggregate-next-step-7 c = part-long _ _ (depths-fit (to-sixth (c .before)))
 
--- src/command.rt:287:9
 slice-relend-prefix-next-step-2 : tie.Need-slice-relend-prefix-next-step-2
-slice-relend-prefix-next-step-2 c =
-    omega (arith, c .before .before .before .before .before .before .before .before .before .before .before .before .before .before .before .before .before .before .before .pre .1 .lasts-long, c .before .before .before .before .before .before .before .sizes-of .ensures .squares-fit)
+slice-relend-prefix-next-step-2 c = lasts-fit (to-sixth (c .before))
 
--- src/command.rt:287:9
 slice-aggregate-next-step-8 : tie.Need-slice-aggregate-next-step-8
-slice-aggregate-next-step-8 c =
-    part-long _ (c .before .before .before .before .before .before .before .before .before .before .before .before .before .before .before .before .before .before .before .before .args .lasts .now) (omega (arith, c .before .before .before .before .before .before .before .before .before .before .before .before .before .before .before .before .before .before .before .before .pre .1 .lasts-long, c .before .before .before .before .before .before .before .before .sizes-of .ensures .squares-fit))
+slice-aggregate-next-step-8 c = part-long _ _ (lasts-fit (to-sixth (c .before .before)))
 
--- src/command.rt:288:9
 slice-relend-prefix-next-step-3 : tie.Need-slice-relend-prefix-next-step-3
-slice-relend-prefix-next-step-3 c =
-    omega (arith, c .before .before .before .before .before .before .before .before .before .before .before .before .before .before .before .before .before .before .before .before .pre .1 .records-long, c .before .before .before .before .before .before .before .before .sizes-of .ensures .records-fit)
+slice-relend-prefix-next-step-3 c = records-fit (to-sixth (c .before .before))
 
--- src/command.rt:288:9
 slice-aggregate-next-step-9 : tie.Need-slice-aggregate-next-step-9
-slice-aggregate-next-step-9 c =
-    part-long _ (c .before .before .before .before .before .before .before .before .before .before .before .before .before .before .before .before .before .before .before .before .before .args .records .now) (omega (arith, c .before .before .before .before .before .before .before .before .before .before .before .before .before .before .before .before .before .before .before .before .before .pre .1 .records-long, c .before .before .before .before .before .before .before .before .before .sizes-of .ensures .records-fit))
+slice-aggregate-next-step-9 c = part-long _ _ (records-fit (to-sixth (c .before .before .before)))
 
--- src/command.rt:289:9
 slice-relend-prefix-next-step-4 : tie.Need-slice-relend-prefix-next-step-4
-slice-relend-prefix-next-step-4 c =
-    omega (arith, c .before .before .before .before .before .before .before .before .before .before .before .before .before .before .before .before .before .before .before .before .before .pre .1 .began-long, c .before .before .before .before .before .before .before .before .before .sizes-of .ensures .began-fits)
+slice-relend-prefix-next-step-4 c = began-fit (to-sixth (c .before .before .before))
 
--- src/command.rt:289:9
 slice-aggregate-next-step-10 : tie.Need-slice-aggregate-next-step-10
-slice-aggregate-next-step-10 c =
-    part-long _ (c .before .before .before .before .before .before .before .before .before .before .before .before .before .before .before .before .before .before .before .before .before .before .args .began .now) (omega (arith, c .before .before .before .before .before .before .before .before .before .before .before .before .before .before .before .before .before .before .before .before .before .before .pre .1 .began-long, c .before .before .before .before .before .before .before .before .before .before .sizes-of .ensures .began-fits))
+slice-aggregate-next-step-10 c = part-long _ _ (began-fit (to-sixth (c .before .before .before .before)))
 
--- src/command.rt:278:5
 next-step-requires : tie.Need-next-step-requires
 next-step-requires c κs =
-    lends (c .before .before .before .before .before .before .before .before .before .before .before .before .before .before .before .before .before .before .before .before .before .before .before .args .desk .heading) (c .before .before .before .before .before .before .before .before .before .before .before .sizes-of .ensures) (c .before .before .before .before .before .before .before .before .before .before .before .before .before .before .before .before .before .before .before .before .before .before .before .pre .1)
+    let z = to-last c in
+    let s = start z in (
+      lends (s .args .desk .heading) (z .sizes-of .ensures) (s .pre .1),
+      λ y.
+          held-passes (s .args .desk) (z .sizes-of .ensures) (s .args .marks .now) (s .args .beds .now) (s .args .roughness .now) (s .args .rates .now)
+          (s .args .depths .now) (s .args .rain .now) (s .args .inflow .now) (s .args .lasts .now) (s .args .records .now) (s .args .began .now) (s .pre .3 y),
+    )
 
--- src/command.rt:255:1
 same-length : tie.Need-same-length
 same-length c = search needs
 
--- src/command.rt:255:1
 same-length-2 : tie.Need-same-length-2
 same-length-2 c = search needs
 
--- src/command.rt:255:1
 same-length-3 : tie.Need-same-length-3
 same-length-3 c = search needs
 
--- src/command.rt:255:1
 same-length-4 : tie.Need-same-length-4
 same-length-4 c = search needs
 
--- src/command.rt:255:1
 same-length-5 : tie.Need-same-length-5
 same-length-5 c = search needs
 
--- src/command.rt:255:1
 returns : tie.Need-returns
 returns c =
-    held-step (c .before .before .before .before .before .before .before .before .before .before .before .before .before .before .before .before .before .before .before .before .before .before .before .before .before .before .before .before .before .before .before .before .before .before .args .desk) (c .before .before .before .before .before .before .before .before .before .before .before .before .before .before .before .before .before .before .before .before .before .before .sizes-of .ensures) (c .before .before .before .before .before .before .before .before .before .before .before .before .before .before .before .before .before .before .before .before .before .before .before .before .before .before .before .before .before .before .before .before .before .before .args .marks .now) (c .before .before .before .before .before .before .before .before .before .before .before .before .before .before .before .before .before .before .before .before .before .before .before .before .before .before .before .before .before .before .before .before .before .before .args .beds .now) (c .before .before .before .before .before .before .before .before .before .before .before .before .before .before .before .before .before .before .before .before .before .before .before .before .before .before .before .before .before .before .before .before .before .before .args .roughness .now) (c .before .before .before .before .before .before .before .before .before .before .before .before .before .before .before .before .before .before .before .before .before .before .before .before .before .before .before .before .before .before .before .before .before .before .args .rates .now) (c .before .before .before .before .before .before .before .before .before .before .before .before .before .before .before .before .before .before .before .before .before .before .before .before .before .before .before .before .before .before .before .before .before .before .args .depths .now) (c .before .before .before .before .before .before .before .before .before .before .before .before .before .before .before .before .before .before .before .before .before .before .before .before .before .before .before .before .before .before .before .before .before .before .args .rain .now) (c .before .before .before .before .before .before .before .before .before .before .before .before .before .before .before .before .before .before .before .before .before .before .before .before .before .before .before .before .before .before .before .before .before .before .args .inflow .now) (c .before .before .before .before .before .before .before .before .before .before .before .before .before .before .before .before .before .before .before .before .before .before .before .before .before .before .before .before .before .before .before .before .before .before .args .lasts .now) (c .before .before .before .before .before .before .before .before .before .before .before .before .before .before .before .before .before .before .before .before .before .before .before .before .before .before .before .before .before .before .before .before .before .before .args .records .now) (c .before .before .before .before .before .before .before .before .before .before .before .before .before .before .before .before .before .before .before .before .before .before .before .before .before .before .before .before .before .before .before .before .before .before .args .began .now) (c .before .before .before .before .before .before .before .before .before .before .next-step .kept .1 .1 .1 .1 .1 .1 .1 .0 ∙ sym (part-long _ (c .before .before .before .before .before .before .before .before .before .before .before .before .before .before .before .before .before .before .before .before .before .before .before .before .before .before .before .before .before .before .before .before .before .before .args .depths .now) (omega (arith, c .before .before .before .before .before .before .before .before .before .before .before .before .before .before .before .before .before .before .before .before .before .before .before .before .before .before .before .before .before .before .before .before .before .before .pre .1 .depths-long, c .before .before .before .before .before .before .before .before .before .before .before .before .before .before .before .before .before .before .before .before .before .before .sizes-of .ensures .squares-fit)))) (c .before .before .before .before .before .before .before .before .before .before .next-step .kept .1 .1 .1 .1 .1 .1 .1 .1 .0 ∙ sym (part-long _ (c .before .before .before .before .before .before .before .before .before .before .before .before .before .before .before .before .before .before .before .before .before .before .before .before .before .before .before .before .before .before .before .before .before .before .args .lasts .now) (omega (arith, c .before .before .before .before .before .before .before .before .before .before .before .before .before .before .before .before .before .before .before .before .before .before .before .before .before .before .before .before .before .before .before .before .before .before .pre .1 .lasts-long, c .before .before .before .before .before .before .before .before .before .before .before .before .before .before .before .before .before .before .before .before .before .before .sizes-of .ensures .squares-fit)))) (c .before .before .before .before .before .before .before .before .before .before .next-step .kept .1 .1 .1 .1 .1 .1 .1 .1 .1 .0 ∙ sym (part-long _ (c .before .before .before .before .before .before .before .before .before .before .before .before .before .before .before .before .before .before .before .before .before .before .before .before .before .before .before .before .before .before .before .before .before .before .args .records .now) (omega (arith, c .before .before .before .before .before .before .before .before .before .before .before .before .before .before .before .before .before .before .before .before .before .before .before .before .before .before .before .before .before .before .before .before .before .before .pre .1 .records-long, c .before .before .before .before .before .before .before .before .before .before .before .before .before .before .before .before .before .before .before .before .before .before .sizes-of .ensures .records-fit)))) (c .before .before .before .before .before .before .before .before .before .before .next-step .kept .1 .1 .1 .1 .1 .1 .1 .1 .1 .1 .0 ∙ sym (part-long _ (c .before .before .before .before .before .before .before .before .before .before .before .before .before .before .before .before .before .before .before .before .before .before .before .before .before .before .before .before .before .before .before .before .before .before .args .began .now) (omega (arith, c .before .before .before .before .before .before .before .before .before .before .before .before .before .before .before .before .before .before .before .before .before .before .before .before .before .before .before .before .before .before .before .before .before .before .pre .1 .began-long, c .before .before .before .before .before .before .before .before .before .before .before .before .before .before .before .before .before .before .before .before .before .before .sizes-of .ensures .began-fits)))) (c .before .before .before .before .before .before .before .before .before .before .next-step .ensures)
+    let one = stepped c in
+    let z = to-last (one .before) in
+    let s = start z in
+    let kept = one .next-step .kept .1 .1 .1 .1 .1 .1 .1 .1 in
+    held-step (s .args .desk) (z .sizes-of .ensures) (s .args .marks .now) (s .args .beds .now) (s .args .roughness .now) (s .args .rates .now)
+    (s .args .depths .now) (s .args .rain .now) (s .args .inflow .now) (s .args .lasts .now) (s .args .records .now) (s .args .began .now)
+    (kept .0 ∙ sym (part-long _ _ (depths-fit z))) (kept .1 .0 ∙ sym (part-long _ _ (lasts-fit z))) (kept .1 .1 .0 ∙ sym (part-long _ _ (records-fit z)))
+    (kept .1 .1 .1 .0 ∙ sym (part-long _ _ (began-fit z))) (one .next-step .ensures)
 
 pub step-held-spec : {M : Type 1} → statement M
 step-held-spec =

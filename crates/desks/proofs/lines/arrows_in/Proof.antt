@@ -40,19 +40,45 @@ same-length-4 c = search needs
 -- src/lines.rt:358:9
 returns : tie.Need-returns
 returns c =
-    λ l b. arrows-refused (plan (c .before .before .before .before .before .before .before .before .before .before .before .before .before .before .before .before .before .before .before .before .before .before .before .before .before .before .args .desk .heading .shape) (c .before .before .before .before .before .before .before .before .before .before .before .before .before .before .before .before .before .before .before .before .before .before .before .before .before .before .args .marks .now)) (c .before .before .before .before .before .before .before .before .before .before .before .before .before .before .before .before .before .before .before .before .before .before .before .before .before .before .args .desk) (c .before .before .before .before .before .before .before .before .before .before .before .before .before .before .before .before .before .before .before .before .before .before .before .before .before .before .args .depths .now) l (c .before .before .before .before .before .before .before .before .before .before .before .before .before .before .before .before .before .before .before .before .before .before .before .before .before .before .args .records .now) b (c .before .before .before .before .before .before .before .before .before .before .before .all-arrows .ensures) (c .before .before .before .before .before .before .before .before .before .before .before .before .before .before .before .before .before .before .before .before .before .before .before .before .before .before .pre .0 .marks-long) (c .before .before .before .before .before .before .before .before .before .before .before .before .before .before .before .before .before .before .before .before .before .before .before .before .before .before .pre .1) (c .before .before .before .before .before .before .before .before .before .before .before .before .before .before .before .before .before .before .before .before .before .before .before .before .before .before .pre .2) (c .before .before .before .before .before .before .before .before .before .before .before .before .before .before .before .before .before .before .before .before .before .before .before .before .before .before .pre .3) (c .before .before .before .before .if1 .taken) (c .before .before .refuse-line .ensures)
+    let start =
+    c .before .before .before .before .before .before .before .before .before .before .before .before .before .before .before .before
+    .before .before .before .before .before .before .before .before .before .before in
+    let a = start .args in
+    let at-all-arrows = c .before .before .before .before .before .before .before .before .before .before .before .all-arrows in
+    λ l b.
+    arrows-refused (plan (a .desk .heading .shape) (a .marks .now)) (a .desk) (a .depths .now) l (a .records .now) b (at-all-arrows .ensures)
+    (start .pre .0 .marks-long) (start .pre .1) (start .pre .2) (start .pre .3) (c .before .before .before .before .if1 .taken)
+    (c .before .before .refuse-line .ensures)
 
 -- src/lines.rt:360:9
 put-arrows-requires : tie.Need-put-arrows-requires
-put-arrows-requires c κs = (
-  (c .before .before .before .before .before .before .before .before .before .before .before .before .before .before .before .before .before .before .before .before .before .before .before .before .before .before .pre .0 .fine, omega (arith, c .before .before .before .before .before .before .before .before .before .before .before .all-arrows .kept .1 .1 .1 .1 .1 .1 .0, c .before .before .before .before .before .before .before .before .before .before .before .before .before .before .before .before .before .before .before .before .before .before .before .before .before .before .pre .1), omega (arith, c .before .before .before .before .before .before .before .before .before .before .before .all-arrows .kept .1 .1 .1 .1 .1 .1 .1 .0, c .before .before .before .before .before .before .before .before .before .before .before .before .before .before .before .before .before .before .before .before .before .before .before .before .before .before .pre .2), omega (arith, c .before .before .before .before .before .before .before .before .before .before .before .all-arrows .kept .1 .1 .1 .1 .1 .1 .1 .1 .0, c .before .before .before .before .before .before .before .before .before .before .before .before .before .before .before .before .before .before .before .before .before .before .before .before .before .before .pre .3)),
-  omega (arith, (seen-short (c .before .before .before .before .before .before .before .before .before .before .before .before .before .before .before .before .before .before .before .before .before .before .before .before .before .before .args .desk .heading .shape) (c .before .before .before .before .before .before .before .before .before .before .before .before .before .before .before .before .before .before .before .before .before .before .before .before .before .before .pre .0 .fine) (sights (c .before .before .before .before .before .before .before .before .before .before .before .all-arrows .last .1 .1 .1 .1 .1 .1 .0) (c .before .before .before .before .before .before .before .before .before .before .before .all-arrows .last .1 .1 .1 .1 .1 .1 .1 .0) (c .before .before .before .before .before .before .before .before .before .before .before .all-arrows .last .1 .1 .1 .1 .1 .1 .1 .1 .0)) (record { east-fits = c .before .before .before .before .before .before .before .slice-known6 .given; north-fits = c .before .before .before .before .before .slice-known7 .given })), c .before .before .before .before .before .before .before .before .before .before .before .before .before .before .before .before .before .before .before .before .before .before .before .before .before .before .pre .0 .out-long),
-)
+put-arrows-requires c κs =
+    let start =
+    c .before .before .before .before .before .before .before .before .before .before .before .before .before .before .before .before
+    .before .before .before .before .before .before .before .before .before .before in
+    let at-all-arrows = c .before .before .before .before .before .before .before .before .before .before .before .all-arrows in
+    let at-slice-known6 = c .before .before .before .before .before .before .before .slice-known6 in
+    let at-slice-known7 = c .before .before .before .before .before .slice-known7 in (
+      (start .pre .0 .fine, omega (arith, at-all-arrows .kept .1 .1 .1 .1 .1 .1 .0, start .pre .1), omega (arith, at-all-arrows .kept .1 .1 .1 .1 .1 .1 .1 .0, start .pre .2), omega (arith, at-all-arrows .kept .1 .1 .1 .1 .1 .1 .1 .1 .0, start .pre .3)),
+      omega (arith, (seen-short (start .args .desk .heading .shape) (start .pre .0 .fine) (sights (at-all-arrows .last .1 .1 .1 .1 .1 .1 .0) (at-all-arrows .last .1 .1 .1 .1 .1 .1 .1 .0) (at-all-arrows .last .1 .1 .1 .1 .1 .1 .1 .1 .0)) (record { east-fits = at-slice-known6 .given; north-fits = at-slice-known7 .given })), start .pre .0 .out-long),
+    )
 
 -- src/lines.rt:361:9
 put-ending-requires : tie.Need-put-ending-requires
 put-ending-requires c κs =
-    ending-fits mostArrows (c .before .before .before .put-arrows .ensures) (seen-short (c .before .before .before .before .before .before .before .before .before .before .before .before .before .before .before .before .before .before .before .before .before .before .before .before .before .before .before .before .before .before .args .desk .heading .shape) (c .before .before .before .before .before .before .before .before .before .before .before .before .before .before .before .before .before .before .before .before .before .before .before .before .before .before .before .before .before .before .pre .0 .fine) (sights (c .before .before .before .before .before .before .before .before .before .before .before .before .before .before .before .all-arrows .last .1 .1 .1 .1 .1 .1 .0) (c .before .before .before .before .before .before .before .before .before .before .before .before .before .before .before .all-arrows .last .1 .1 .1 .1 .1 .1 .1 .0) (c .before .before .before .before .before .before .before .before .before .before .before .before .before .before .before .all-arrows .last .1 .1 .1 .1 .1 .1 .1 .1 .0)) (record { east-fits = c .before .before .before .before .before .before .before .before .before .before .before .slice-known6 .given; north-fits = c .before .before .before .before .before .before .before .before .before .slice-known7 .given })) (c .before .before .before .before .before .before .before .before .before .before .before .before .before .before .before .before .before .before .before .before .before .before .before .before .before .before .before .before .before .before .pre .0 .out-long) (omega arith)
+    let start =
+    c .before .before .before .before .before .before .before .before .before .before .before .before .before .before .before .before
+    .before .before .before .before .before .before .before .before .before .before .before .before .before .before in
+    let at-all-arrows =
+    c .before .before .before .before .before .before .before .before .before .before .before .before .before .before .before
+    .all-arrows in
+    let at-slice-known6 = c .before .before .before .before .before .before .before .before .before .before .before .slice-known6 in
+    let at-slice-known7 = c .before .before .before .before .before .before .before .before .before .slice-known7 in
+    ending-fits mostArrows (c .before .before .before .put-arrows .ensures)
+    (seen-short (start .args .desk .heading .shape) (start .pre .0 .fine)
+    (sights (at-all-arrows .last .1 .1 .1 .1 .1 .1 .0) (at-all-arrows .last .1 .1 .1 .1 .1 .1 .1 .0)
+    (at-all-arrows .last .1 .1 .1 .1 .1 .1 .1 .1 .0)) (record { east-fits = at-slice-known6 .given; north-fits = at-slice-known7 .given }))
+    (start .pre .0 .out-long) (omega arith)
 
 -- src/lines.rt:362:5
 desk-still-requires : tie.Need-desk-still-requires
@@ -80,7 +106,27 @@ same-length-8 c = search needs
 -- src/lines.rt:329:1
 returns-2 : tie.Need-returns-2
 returns-2 c =
-    λ l b. arrows-shown (plan (c .before .before .before .before .before .before .before .before .before .before .before .before .before .before .before .before .before .before .before .before .before .before .before .before .before .before .before .before .before .before .before .before .before .before .args .desk .heading .shape) (c .before .before .before .before .before .before .before .before .before .before .before .before .before .before .before .before .before .before .before .before .before .before .before .before .before .before .before .before .before .before .before .before .before .before .args .marks .now)) (c .before .before .before .before .before .before .before .before .before .before .before .before .before .before .before .before .before .before .before .before .before .before .before .before .before .before .before .before .before .before .before .before .before .before .args .desk) (c .before .before .before .before .before .before .before .before .before .before .before .before .before .before .before .before .before .before .before .before .before .before .before .before .before .before .before .before .before .before .before .before .before .before .args .depths .now) l (c .before .before .before .before .before .before .before .before .before .before .before .before .before .before .before .before .before .before .before .before .before .before .before .before .before .before .before .before .before .before .before .before .before .before .args .records .now) b (c .before .before .before .before .before .before .before .before .before .before .before .before .before .before .before .before .before .before .before .all-arrows .ensures) (c .before .before .before .before .before .before .before .before .before .before .before .before .before .before .before .before .before .before .before .before .before .before .before .before .before .before .before .before .before .before .before .before .before .before .pre .0 .marks-long) (c .before .before .before .before .before .before .before .before .before .before .before .before .before .before .before .before .before .before .before .before .before .before .before .before .before .before .before .before .before .before .before .before .before .before .pre .1) (c .before .before .before .before .before .before .before .before .before .before .before .before .before .before .before .before .before .before .before .before .before .before .before .before .before .before .before .before .before .before .before .before .before .before .pre .2) (c .before .before .before .before .before .before .before .before .before .before .before .before .before .before .before .before .before .before .before .before .before .before .before .before .before .before .before .before .before .before .before .before .before .before .pre .3) (c .before .before .before .before .before .before .before .before .before .before .before .before .if1 .left) (text-told mostArrows (c .before .before .before .before .before .before .before .put-arrows .ensures) (seen-short (c .before .before .before .before .before .before .before .before .before .before .before .before .before .before .before .before .before .before .before .before .before .before .before .before .before .before .before .before .before .before .before .before .before .before .args .desk .heading .shape) (c .before .before .before .before .before .before .before .before .before .before .before .before .before .before .before .before .before .before .before .before .before .before .before .before .before .before .before .before .before .before .before .before .before .before .pre .0 .fine) (sights (c .before .before .before .before .before .before .before .before .before .before .before .before .before .before .before .before .before .before .before .all-arrows .last .1 .1 .1 .1 .1 .1 .0) (c .before .before .before .before .before .before .before .before .before .before .before .before .before .before .before .before .before .before .before .all-arrows .last .1 .1 .1 .1 .1 .1 .1 .0) (c .before .before .before .before .before .before .before .before .before .before .before .before .before .before .before .before .before .before .before .all-arrows .last .1 .1 .1 .1 .1 .1 .1 .1 .0)) (record { east-fits = c .before .before .before .before .before .before .before .before .before .before .before .before .before .before .before .slice-known6 .given; north-fits = c .before .before .before .before .before .before .before .before .before .before .before .before .before .slice-known7 .given })) (c .before .before .before .before .before .before .before .before .before .before .before .before .before .before .before .before .before .before .before .before .before .before .before .before .before .before .before .before .before .before .before .before .before .before .pre .0 .out-long) (omega arith) (c .before .before .before .put-ending .ensures) (c .desk-still .ensures))
+    let start =
+    c .before .before .before .before .before .before .before .before .before .before .before .before .before .before .before .before
+    .before .before .before .before .before .before .before .before .before .before .before .before .before .before .before .before
+    .before .before in
+    let a = start .args in
+    let at-all-arrows =
+    c .before .before .before .before .before .before .before .before .before .before .before .before .before .before .before .before
+    .before .before .before .all-arrows in
+    let at-slice-known6 =
+    c .before .before .before .before .before .before .before .before .before .before .before .before .before .before .before
+    .slice-known6 in
+    let at-slice-known7 = c .before .before .before .before .before .before .before .before .before .before .before .before .before .slice-known7 in
+    let at-if1 = c .before .before .before .before .before .before .before .before .before .before .before .before .if1 in
+    let at-put-arrows = c .before .before .before .before .before .before .before .put-arrows in
+    λ l b. arrows-shown (plan (a .desk .heading .shape) (a .marks .now)) (a .desk) (a .depths .now) l (a .records .now) b (at-all-arrows .ensures)
+    (start .pre .0 .marks-long) (start .pre .1) (start .pre .2) (start .pre .3) (at-if1 .left)
+    (text-told mostArrows (at-put-arrows .ensures)
+    (seen-short (a .desk .heading .shape) (start .pre .0 .fine)
+    (sights (at-all-arrows .last .1 .1 .1 .1 .1 .1 .0) (at-all-arrows .last .1 .1 .1 .1 .1 .1 .1 .0)
+    (at-all-arrows .last .1 .1 .1 .1 .1 .1 .1 .1 .0)) (record { east-fits = at-slice-known6 .given; north-fits = at-slice-known7 .given }))
+    (start .pre .0 .out-long) (omega arith) (c .before .before .before .put-ending .ensures) (c .desk-still .ensures))
 
 pub arrows-in-spec : {M : Type 1} → statement M
 arrows-in-spec =

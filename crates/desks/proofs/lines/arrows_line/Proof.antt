@@ -28,7 +28,8 @@ array-borrow-prefix-kinds c = search needs
 -- src/lines.rt:385:9
 slice-aggregate-arrows-in : tie.Need-slice-aggregate-arrows-in
 slice-aggregate-arrows-in c =
-    c .before .before .before .before .before .before .before .before .pre .marks-long ∙ sym (room-part (c .before .before .before .before .before .before .before .before .pre) (c .before .before .before .no-kinds .result) (c .before .before .before .no-kinds .ensures))
+    let start = c .before .before .before .before .before .before .before .before in
+    start .pre .marks-long ∙ sym (room-part (start .pre) (c .before .before .before .no-kinds .result) (c .before .before .before .no-kinds .ensures))
 
 -- src/lines.rt:386:9
 array-borrow-prefix-east : tie.Need-array-borrow-prefix-east
@@ -37,7 +38,9 @@ array-borrow-prefix-east c = search needs
 -- src/lines.rt:386:9
 slice-aggregate-arrows-in-2 : tie.Need-slice-aggregate-arrows-in-2
 slice-aggregate-arrows-in-2 c =
-    c .before .before .before .before .before .before .before .before .before .pre .marks-long ∙ sym (room-part (c .before .before .before .before .before .before .before .before .before .pre) (c .before .before .before .no-speeds .result) (c .before .before .before .no-speeds .ensures))
+    let start = c .before .before .before .before .before .before .before .before .before in
+    start .pre .marks-long
+    ∙ sym (room-part (start .pre) (c .before .before .before .no-speeds .result) (c .before .before .before .no-speeds .ensures))
 
 -- src/lines.rt:387:9
 array-borrow-prefix-north : tie.Need-array-borrow-prefix-north
@@ -46,12 +49,21 @@ array-borrow-prefix-north c = search needs
 -- src/lines.rt:387:9
 slice-aggregate-arrows-in-3 : tie.Need-slice-aggregate-arrows-in-3
 slice-aggregate-arrows-in-3 c =
-    c .before .before .before .before .before .before .before .before .before .before .pre .marks-long ∙ sym (room-part (c .before .before .before .before .before .before .before .before .before .before .pre) (c .before .before .before .no-speeds2 .result) (c .before .before .before .no-speeds2 .ensures))
+    let start = c .before .before .before .before .before .before .before .before .before .before in
+    start .pre .marks-long
+    ∙ sym (room-part (start .pre) (c .before .before .before .no-speeds2 .result) (c .before .before .before .no-speeds2 .ensures))
 
 -- src/lines.rt:380:5
 arrows-in-requires : tie.Need-arrows-in-requires
 arrows-in-requires c κs =
-    (c .before .before .before .before .before .before .before .before .before .before .before .pre, room-part (c .before .before .before .before .before .before .before .before .before .before .before .pre) (c .before .before .before .before .before .before .no-kinds .result) (c .before .before .before .before .before .before .no-kinds .ensures), room-part (c .before .before .before .before .before .before .before .before .before .before .before .pre) (c .before .before .before .before .before .no-speeds .result) (c .before .before .before .before .before .no-speeds .ensures), room-part (c .before .before .before .before .before .before .before .before .before .before .before .pre) (c .before .before .before .before .no-speeds2 .result) (c .before .before .before .before .no-speeds2 .ensures))
+    let start = c .before .before .before .before .before .before .before .before .before .before .before in
+    let at-no-kinds = c .before .before .before .before .before .before .no-kinds in
+    let at-no-speeds = c .before .before .before .before .before .no-speeds in (
+      start .pre,
+      room-part (start .pre) (at-no-kinds .result) (at-no-kinds .ensures),
+      room-part (start .pre) (at-no-speeds .result) (at-no-speeds .ensures),
+      room-part (start .pre) (c .before .before .before .before .no-speeds2 .result) (c .before .before .before .before .no-speeds2 .ensures),
+    )
 
 -- src/lines.rt:366:1
 same-length : tie.Need-same-length

@@ -36,12 +36,23 @@ same-length-3 c = search needs
 -- src/lines.rt:122:9
 returns : tie.Need-returns
 returns c =
-    back-refused (plan (c .before .before .before .before .before .before .before .before .before .before .before .before .before .before .before .before .before .before .before .before .before .before .args .desk .heading .shape) (c .before .before .before .before .before .before .before .before .before .before .before .before .before .before .before .before .before .before .before .before .before .before .args .marks .now)) (evening (c .before .before .before .before .before .before .before .before .before .before .before .before .before .before .before .before .before .before .before .before .before .before .args .depths .now) (c .before .before .before .before .before .before .before .before .before .before .before .before .before .before .before .before .before .before .before .before .before .before .args .lasts .now) (c .before .before .before .before .before .before .before .before .before .before .before .before .before .before .before .before .before .before .before .before .before .before .args .records .now) (c .before .before .before .before .before .before .before .before .before .before .before .before .before .before .before .before .before .before .before .before .before .before .args .began .now) (c .before .before .before .before .before .before .before .before .before .before .before .before .before .before .before .before .before .before .before .before .before .before .args .desk .log)) (c .before .before .before .before .before .before .before .before .before .before .before .before .before .before .before .before .before .before .before .before .before .before .args .desk .account) (c .before .before .before .before .before .before .before .before .before .before .before .before .before .before .before .before .before .before .before .before .before .before .args .count) (c .before .before .before .before .before .before .before .before .before .before .back .result) (c .before .before .before .before .before .before .before .before .before .before .back .ensures) (λ z. c .before .before .before .before .if1 .taken z) (c .before .before .tried-line .ensures)
+    let start =
+    c .before .before .before .before .before .before .before .before .before .before .before .before .before .before .before .before
+    .before .before .before .before .before .before in
+    let a = start .args in
+    let at-back = c .before .before .before .before .before .before .before .before .before .before .back in
+    back-refused (plan (a .desk .heading .shape) (a .marks .now))
+    (evening (a .depths .now) (a .lasts .now) (a .records .now) (a .began .now) (a .desk .log)) (a .desk .account) (a .count) (at-back .result)
+    (at-back .ensures) (λ z. c .before .before .before .before .if1 .taken z) (c .before .before .tried-line .ensures)
 
 -- src/lines.rt:124:5
 shown-line-requires : tie.Need-shown-line-requires
 shown-line-requires c κs =
-    shows-on (c .before .before .before .before .before .before .before .before .before .before .before .before .before .before .before .before .before .before .before .before .pre .shows) (c .before .before .before .before .before .before .before .before .back .kept .1 .1 .1 .1 .1 .0)
+    let start =
+    c .before .before .before .before .before .before .before .before .before .before .before .before .before .before .before .before
+    .before .before .before .before in
+    let at-back = c .before .before .before .before .before .before .before .before .back in
+    shows-on (start .pre .shows) (at-back .kept .1 .1 .1 .1 .1 .0)
 
 -- src/lines.rt:94:1
 same-length-4 : tie.Need-same-length-4
@@ -58,7 +69,15 @@ same-length-6 c = search needs
 -- src/lines.rt:94:1
 returns-2 : tie.Need-returns-2
 returns-2 c =
-    back-shown (plan (c .before .before .before .before .before .before .before .before .before .before .before .before .before .before .before .before .before .before .before .before .before .before .before .args .desk .heading .shape) (c .before .before .before .before .before .before .before .before .before .before .before .before .before .before .before .before .before .before .before .before .before .before .before .args .marks .now)) (evening (c .before .before .before .before .before .before .before .before .before .before .before .before .before .before .before .before .before .before .before .before .before .before .before .args .depths .now) (c .before .before .before .before .before .before .before .before .before .before .before .before .before .before .before .before .before .before .before .before .before .before .before .args .lasts .now) (c .before .before .before .before .before .before .before .before .before .before .before .before .before .before .before .before .before .before .before .before .before .before .before .args .records .now) (c .before .before .before .before .before .before .before .before .before .before .before .before .before .before .before .before .before .before .before .before .before .before .before .args .began .now) (c .before .before .before .before .before .before .before .before .before .before .before .before .before .before .before .before .before .before .before .before .before .before .before .args .desk .log)) (c .before .before .before .before .before .before .before .before .before .before .before .before .before .before .before .before .before .before .before .before .before .before .before .args .desk .account) (c .before .before .before .before .before .before .before .before .before .before .before .before .before .before .before .before .before .before .before .before .before .before .before .args .count) (c .before .before .before .before .before .before .before .before .before .before .before .back .result) (c .before .before .before .before .before .before .before .before .before .before .before .back .ensures) (c .before .before .before .before .before .if1 .left) (c .before .before .shown-line .ensures)
+    let start =
+    c .before .before .before .before .before .before .before .before .before .before .before .before .before .before .before .before
+    .before .before .before .before .before .before .before in
+    let a = start .args in
+    let at-back = c .before .before .before .before .before .before .before .before .before .before .before .back in
+    let at-if1 = c .before .before .before .before .before .if1 in
+    back-shown (plan (a .desk .heading .shape) (a .marks .now))
+    (evening (a .depths .now) (a .lasts .now) (a .records .now) (a .began .now) (a .desk .log)) (a .desk .account) (a .count) (at-back .result)
+    (at-back .ensures) (at-if1 .left) (c .before .before .shown-line .ensures)
 
 pub back-line-spec : {M : Type 1} → statement M
 back-line-spec =

@@ -49,7 +49,11 @@ same-length c = search needs
 returns : tie.Need-returns
 unfolding entryTold
 returns c =
-    entry-as _ _ _ _ _ (c .before .before .before .before .before .entry .given .1) (c .before .before .hatch-line .ensures (c .before .before .before .before .before .before .before .before .before .before .before .before .before .before .args .depths .now) (c .before .before .before .before .before .before .before .before .before .before .before .before .before .before .args .lasts .now) (c .before .before .before .before .before .before .before .before .before .before .before .before .before .before .args .records .now) (c .before .before .before .before .before .before .before .before .before .before .before .before .before .before .args .began .now))
+    let start = c .before .before .before .before .before .before .before .before .before .before .before .before .before .before in
+    let a = start .args in
+    let at-entry = c .before .before .before .before .before .entry in
+    entry-as _ _ _ _ _ (at-entry .given .1)
+    (c .before .before .hatch-line .ensures (a .depths .now) (a .lasts .now) (a .records .now) (a .began .now))
 
 -- src/lines.rt:449:1
 same-length-2 : tie.Need-same-length-2
@@ -77,7 +81,11 @@ same-length-5 c = search needs
 returns-3 : tie.Need-returns-3
 unfolding entryTold
 returns-3 c =
-    entry-as _ _ _ _ _ (c .before .before .before .before .before .entry3 .given .1) (as-told (c .before .before .before .before .before .before .before .before .before .before .before .before .before .before .args .depths .now) (c .before .before .before .before .before .before .before .before .before .before .before .before .before .before .args .lasts .now) (c .before .before .before .before .before .before .before .before .before .before .before .before .before .before .args .records .now) (c .before .before .before .before .before .before .before .before .before .before .before .before .before .before .args .began .now) (c .before .before .refuse-line .ensures))
+    let start = c .before .before .before .before .before .before .before .before .before .before .before .before .before .before in
+    let a = start .args in
+    let at-entry3 = c .before .before .before .before .before .entry3 in
+    entry-as _ _ _ _ _ (at-entry3 .given .1)
+    (as-told (a .depths .now) (a .lasts .now) (a .records .now) (a .began .now) (c .before .before .refuse-line .ensures))
 
 -- src/lines.rt:449:1
 same-length-6 : tie.Need-same-length-6
@@ -87,7 +95,10 @@ same-length-6 c = search needs
 returns-4 : tie.Need-returns-4
 unfolding entryTold
 returns-4 c =
-    entry-as _ _ _ _ _ (c .before .before .before .before .enum-told .given .1) (as-told (c .before .before .before .before .before .before .before .before .before .before .before .before .before .args .depths .now) (c .before .before .before .before .before .before .before .before .before .before .before .before .before .args .lasts .now) (c .before .before .before .before .before .before .before .before .before .before .before .before .before .args .records .now) (c .before .before .before .before .before .before .before .before .before .before .before .before .before .args .began .now) (c .before .before .refuse-line2 .ensures))
+    let start = c .before .before .before .before .before .before .before .before .before .before .before .before .before in
+    let a = start .args in
+    entry-as _ _ _ _ _ (c .before .before .before .before .enum-told .given .1)
+    (as-told (a .depths .now) (a .lasts .now) (a .records .now) (a .began .now) (c .before .before .refuse-line2 .ensures))
 
 pub entry-line-spec : {M : Type 1} → statement M
 entry-line-spec =

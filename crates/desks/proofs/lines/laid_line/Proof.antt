@@ -23,7 +23,10 @@ same-length c = search needs
 -- src/lines.rt:403:1
 returns : tie.Need-returns
 returns c =
-    account-as (plan (c .before .before .before .before .before .before .before .before .before .args .desk .heading .shape) (c .before .before .before .before .before .before .before .before .before .args .marks .now)) (c .before .before .before .before .before .before .before .before .before .args .depths .now) (c .before .before .before .before .open-account .ensures) (c .before .before .shown-line .ensures)
+    let start = c .before .before .before .before .before .before .before .before .before in
+    let a = start .args in
+    account-as (plan (a .desk .heading .shape) (a .marks .now)) (a .depths .now) (c .before .before .before .before .open-account .ensures)
+    (c .before .before .shown-line .ensures)
 
 pub laid-line-spec : {M : Type 1} → statement M
 laid-line-spec = tie.close (tie.spec open-account-requires shown-line-requires same-length returns)

@@ -19,7 +19,10 @@ same-length c = search needs
 -- src/lines.rt:169:9
 returns : tie.Need-returns
 returns c =
-    λ l k b. last-tried (c .before .before .before .before .before .before .before .before .args .tried) (plan (c .before .before .before .before .before .before .before .before .args .desk .heading .shape) (c .before .before .before .before .before .before .before .before .args .marks .now)) (c .before .before .before .before .before .before .before .before .args .depths .now) l k b (c .before .before .before .before .before .before .before .before .args .every) (c .before .before .before .before .if1 .taken) (c .before .before .tried-line .ensures)
+    let start = c .before .before .before .before .before .before .before .before in
+    let a = start .args in
+    λ l k b. last-tried (a .tried) (plan (a .desk .heading .shape) (a .marks .now)) (a .depths .now) l k b (a .every)
+    (c .before .before .before .before .if1 .taken) (c .before .before .tried-line .ensures)
 
 -- src/lines.rt:171:5
 shown-line-requires : tie.Need-shown-line-requires
@@ -32,7 +35,10 @@ same-length-2 c = search needs
 -- src/lines.rt:157:1
 returns-2 : tie.Need-returns-2
 returns-2 c =
-    λ l k b. last-shown (c .before .before .before .before .before .before .before .before .args .tried) (plan (c .before .before .before .before .before .before .before .before .args .desk .heading .shape) (c .before .before .before .before .before .before .before .before .args .marks .now)) (c .before .before .before .before .before .before .before .before .args .depths .now) l k b (c .before .before .before .before .before .before .before .before .args .every) (c .before .before .before .before .if1 .left) (c .before .before .shown-line .ensures)
+    let start = c .before .before .before .before .before .before .before .before in
+    let a = start .args in
+    λ l k b. last-shown (a .tried) (plan (a .desk .heading .shape) (a .marks .now)) (a .depths .now) l k b (a .every)
+    (c .before .before .before .before .if1 .left) (c .before .before .shown-line .ensures)
 
 pub last-line-spec : {M : Type 1} → statement M
 last-line-spec =

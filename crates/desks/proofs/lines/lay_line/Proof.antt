@@ -23,7 +23,11 @@ same-length c = search needs
 -- src/lines.rt:432:9
 returns : tie.Need-returns
 returns c =
-    λ k b. lay-uncounted (plan (c .before .before .before .before .before .before .before .before .before .before .before .args .desk .heading .shape) (c .before .before .before .before .before .before .before .before .before .before .before .args .marks .now)) (c .before .before .before .before .before .before .before .before .before .before .before .args .depths .now) (c .before .before .before .before .before .before .before .before .before .before .before .args .lasts .now) k b (c .before .before .before .before .before .before .before .before .before .before .before .args .inflow .now) (c .before .before .before .before .before .before .before .before .before .before .before .args .text .now) (c .before .before .before .before .before .before .before .before .before .before .before .args .bytes) (c .before .before .before .before .before .before .before .before .before .before .before .args .desk) (c .before .before .before .before .if1 .taken) (c .before .before .refuse-line .ensures)
+    let start = c .before .before .before .before .before .before .before .before .before .before .before in
+    let a = start .args in
+    λ k b.
+    lay-uncounted (plan (a .desk .heading .shape) (a .marks .now)) (a .depths .now) (a .lasts .now) k b (a .inflow .now) (a .text .now) (a .bytes)
+    (a .desk) (c .before .before .before .before .if1 .taken) (c .before .before .refuse-line .ensures)
 
 -- src/lines.rt:435:9
 refuse-line-requires-2 : tie.Need-refuse-line-requires-2
@@ -36,7 +40,11 @@ same-length-2 c = search needs
 -- src/lines.rt:435:9
 returns-2 : tie.Need-returns-2
 returns-2 c =
-    λ k b. lay-too-long (plan (c .before .before .before .before .before .before .before .before .before .before .before .before .args .desk .heading .shape) (c .before .before .before .before .before .before .before .before .before .before .before .before .args .marks .now)) (c .before .before .before .before .before .before .before .before .before .before .before .before .args .depths .now) (c .before .before .before .before .before .before .before .before .before .before .before .before .args .lasts .now) k b (c .before .before .before .before .before .before .before .before .before .before .before .before .args .inflow .now) (c .before .before .before .before .before .before .before .before .before .before .before .before .args .text .now) (c .before .before .before .before .before .before .before .before .before .before .before .before .args .bytes) (c .before .before .before .before .before .before .before .before .before .before .before .before .args .desk) (c .before .before .before .before .if2 .taken) (c .before .before .refuse-line2 .ensures)
+    let start = c .before .before .before .before .before .before .before .before .before .before .before .before in
+    let a = start .args in
+    λ k b.
+    lay-too-long (plan (a .desk .heading .shape) (a .marks .now)) (a .depths .now) (a .lasts .now) k b (a .inflow .now) (a .text .now) (a .bytes)
+    (a .desk) (c .before .before .before .before .if2 .taken) (c .before .before .refuse-line2 .ensures)
 
 -- src/lines.rt:439:9
 kept-slots-requires : tie.Need-kept-slots-requires
@@ -45,8 +53,14 @@ kept-slots-requires c κs = search needs
 -- src/lines.rt:440:9
 read-stand-requires : tie.Need-read-stand-requires
 read-stand-requires c κs =
-    let s = c .before .before .before .before .before .before .before .before .before .before .before .before .before .pre .0 in
-    (s .fine, omega (arith, s .marks-long), omega (arith, s .depths-long), omega (arith, c .before .before .before .before .before .before .before .before .before .before .before .before .before .pre .1), slots-some (c .before .before .before .before .before .before .before .before .before .before .before .before .before .args .desk .heading .shape) (s .fine) (c .before .before .kept-slots .ensures))
+    let start = c .before .before .before .before .before .before .before .before .before .before .before .before .before in
+    let s = start .pre .0 in (
+      s .fine,
+      omega (arith, s .marks-long),
+      omega (arith, s .depths-long),
+      omega (arith, start .pre .1),
+      slots-some (start .args .desk .heading .shape) (s .fine) (c .before .before .kept-slots .ensures),
+    )
 
 -- src/lines.rt:442:9
 refuse-line-requires-3 : tie.Need-refuse-line-requires-3
@@ -68,7 +82,22 @@ same-length-5 c = search needs
 -- src/lines.rt:442:9
 returns-3 : tie.Need-returns-3
 returns-3 c =
-    λ k b. lay-refused (plan (c .before .before .before .before .before .before .before .before .before .before .before .before .before .before .before .before .before .before .before .before .before .before .before .before .args .desk .heading .shape) (c .before .before .before .before .before .before .before .before .before .before .before .before .before .before .before .before .before .before .before .before .before .before .before .before .args .marks .now)) (c .before .before .before .before .before .before .before .before .before .before .before .before .before .before .before .before .before .before .before .before .before .before .before .before .args .depths .now) (c .before .before .before .before .before .before .before .before .before .before .before .before .before .before .before .before .before .before .before .before .before .before .before .before .args .lasts .now) k b (c .before .before .before .before .before .before .before .before .before .before .before .before .before .before .before .before .before .before .before .before .before .before .before .before .args .inflow .now) (c .before .before .before .before .before .before .before .before .before .before .before .before .before .before .before .before .before .before .before .before .before .before .before .before .args .text .now) (c .before .before .before .before .before .before .before .before .before .before .before .before .before .before .before .before .before .before .before .before .before .before .before .before .args .bytes) (c .before .before .before .before .before .before .before .before .before .before .before .before .before .before .before .before .before .before .before .before .before .before .before .before .args .desk) (c .before .before .before .before .before .before .before .before .before .before .before .before .before .before .before .before .before .if1 .left) (c .before .before .before .before .before .before .before .before .before .before .before .before .before .before .before .before .if2 .left) (c .before .before .before .before .before .before .before .before .before .before .before .before .before .kept-slots .ensures) (c .before .before .before .before .before .before .before .before .before .before .read-stand .ensures) (c .before .before .before .before .if3 .taken) (c .before .before .refuse-line3 .ensures)
+    let start =
+    c .before .before .before .before .before .before .before .before .before .before .before .before .before .before .before .before
+    .before .before .before .before .before .before .before .before in
+    let a = start .args in
+    let at-if1 =
+    c .before .before .before .before .before .before .before .before .before .before .before .before .before .before .before .before
+    .before .if1 in
+    let at-if2 =
+    c .before .before .before .before .before .before .before .before .before .before .before .before .before .before .before .before
+    .if2 in
+    let at-kept-slots = c .before .before .before .before .before .before .before .before .before .before .before .before .before .kept-slots in
+    let at-read-stand = c .before .before .before .before .before .before .before .before .before .before .read-stand in
+    λ k b.
+    lay-refused (plan (a .desk .heading .shape) (a .marks .now)) (a .depths .now) (a .lasts .now) k b (a .inflow .now) (a .text .now) (a .bytes)
+    (a .desk) (at-if1 .left) (at-if2 .left) (at-kept-slots .ensures) (at-read-stand .ensures) (c .before .before .before .before .if3 .taken)
+    (c .before .before .refuse-line3 .ensures)
 
 -- src/lines.rt:445:5
 laid-line-requires : tie.Need-laid-line-requires
@@ -91,7 +120,25 @@ same-length-8 c = search needs
 -- src/lines.rt:418:1
 returns-4 : tie.Need-returns-4
 returns-4 c =
-    λ k b. lay-laid (plan (c .before .before .before .before .before .before .before .before .before .before .before .before .before .before .before .before .before .before .before .before .before .before .before .before .before .before .args .desk .heading .shape) (c .before .before .before .before .before .before .before .before .before .before .before .before .before .before .before .before .before .before .before .before .before .before .before .before .before .before .args .marks .now)) (c .before .before .before .before .before .before .before .before .before .before .before .before .before .before .before .before .before .before .before .before .before .before .before .before .before .before .args .depths .now) (c .before .before .before .before .before .before .before .before .before .before .before .before .before .before .before .before .before .before .before .before .before .before .before .before .before .before .args .lasts .now) k b (c .before .before .before .before .before .before .before .before .before .before .before .before .before .before .before .before .before .before .before .before .before .before .before .before .before .before .args .inflow .now) (c .before .before .before .before .before .before .before .before .before .before .before .before .before .before .before .before .before .before .before .before .before .before .before .before .before .before .args .text .now) (c .before .before .before .before .before .before .before .before .before .before .before .before .before .before .before .before .before .before .before .before .before .before .before .before .before .before .args .bytes) (c .before .before .before .before .before .before .before .before .before .before .before .before .before .before .before .before .before .before .before .before .before .before .before .before .before .before .args .desk) (c .before .before .before .before .before .before .before .before .before .before .before .before .before .before .before .before .before .before .before .if1 .left) (c .before .before .before .before .before .before .before .before .before .before .before .before .before .before .before .before .before .before .if2 .left) (c .before .before .before .before .before .before .before .before .before .before .before .before .before .before .before .kept-slots .ensures) (c .before .before .before .before .before .before .before .before .before .before .before .before .read-stand .ensures) (c .before .before .before .before .before .before .if3 .left) (c .before .before .laid-line .ensures)
+    let start =
+    c .before .before .before .before .before .before .before .before .before .before .before .before .before .before .before .before
+    .before .before .before .before .before .before .before .before .before .before in
+    let a = start .args in
+    let at-if1 =
+    c .before .before .before .before .before .before .before .before .before .before .before .before .before .before .before .before
+    .before .before .before .if1 in
+    let at-if2 =
+    c .before .before .before .before .before .before .before .before .before .before .before .before .before .before .before .before
+    .before .before .if2 in
+    let at-kept-slots =
+    c .before .before .before .before .before .before .before .before .before .before .before .before .before .before .before
+    .kept-slots in
+    let at-read-stand = c .before .before .before .before .before .before .before .before .before .before .before .before .read-stand in
+    let at-if3 = c .before .before .before .before .before .before .if3 in
+    λ k b.
+    lay-laid (plan (a .desk .heading .shape) (a .marks .now)) (a .depths .now) (a .lasts .now) k b (a .inflow .now) (a .text .now) (a .bytes)
+    (a .desk) (at-if1 .left) (at-if2 .left) (at-kept-slots .ensures) (at-read-stand .ensures) (at-if3 .left)
+    (c .before .before .laid-line .ensures)
 
 pub lay-line-spec : {M : Type 1} → statement M
 lay-line-spec =

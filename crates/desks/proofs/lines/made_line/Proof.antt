@@ -20,7 +20,10 @@ desk-with-requires c κs = search needs
 -- src/lines.rt:203:9
 returns : tie.Need-returns
 returns c =
-    λ l k b. made-unshown (c .before .before .before .before .before .before .before .before .before .args .tried) (plan (c .before .before .before .before .before .before .before .before .before .args .desk .heading .shape) (c .before .before .before .before .before .before .before .before .before .args .marks .now)) (c .before .before .before .before .before .before .before .before .before .args .depths .now) l k b (c .before .before .before .before .before .before .before .before .before .args .desk) (c .before .before .before .before .before .before .before .before .before .args .series) (c .before .one-less .ensures) (c .before .before .if1 .taken) (c .desk-with .ensures)
+    let start = c .before .before .before .before .before .before .before .before .before in
+    let a = start .args in
+    λ l k b. made-unshown (a .tried) (plan (a .desk .heading .shape) (a .marks .now)) (a .depths .now) l k b (a .desk) (a .series)
+    (c .before .one-less .ensures) (c .before .before .if1 .taken) (c .desk-with .ensures)
 
 -- src/lines.rt:207:9
 put-state-requires : tie.Need-put-state-requires
@@ -41,7 +44,11 @@ same-length c = search needs
 -- src/lines.rt:188:1
 returns-2 : tie.Need-returns-2
 returns-2 c =
-    λ l k b. made-shown (c .before .before .before .before .before .before .before .before .before .before .before .before .before .before .before .args .tried) (plan (c .before .before .before .before .before .before .before .before .before .before .before .before .before .before .before .args .desk .heading .shape) (c .before .before .before .before .before .before .before .before .before .before .before .before .before .before .before .args .marks .now)) (c .before .before .before .before .before .before .before .before .before .before .before .before .before .before .before .args .depths .now) l k b (c .before .before .before .before .before .before .before .before .before .before .before .before .before .before .before .args .desk) (c .before .before .before .before .before .before .before .before .before .before .before .before .before .before .before .args .series) (c .before .one-less2 .ensures) (c .before .before .before .before .before .before .before .before .if1 .left) (c .before .before .before .before .put-state .ensures) (c .desk-with2 .ensures)
+    let start = c .before .before .before .before .before .before .before .before .before .before .before .before .before .before .before in
+    let a = start .args in
+    let at-if1 = c .before .before .before .before .before .before .before .before .if1 in
+    λ l k b. made-shown (a .tried) (plan (a .desk .heading .shape) (a .marks .now)) (a .depths .now) l k b (a .desk) (a .series)
+    (c .before .one-less2 .ensures) (at-if1 .left) (c .before .before .before .before .put-state .ensures) (c .desk-with2 .ensures)
 
 pub made-line-spec : {M : Type 1} → statement M
 made-line-spec =

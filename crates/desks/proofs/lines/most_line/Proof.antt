@@ -28,7 +28,11 @@ bounds-number-requires c κs = search needs
 -- src/lines.rt:380:9
 put-ending-requires : tie.Need-put-ending-requires
 put-ending-requires c κs =
-    ending-fits mostBounds (c .before .before .before .before .put-bounds .ensures) (most-short (c .before .before .before .before .before .before .before .before .before .before .before .args .desk .heading .rules) (c .before .before .before .before .before .before .before .before .before .before .before .args .desk .log .run .clock) (c .before .before .before .before .before .before .before .before .before .before .before .args .end) (c .before .before .before .before .before .before .step-bounds .ensures)) (sym (c .before .before .before .before .before .before .before .before .before .before .before .pre)) (omega arith)
+    let start = c .before .before .before .before .before .before .before .before .before .before .before in
+    let a = start .args in
+    let at-step-bounds = c .before .before .before .before .before .before .step-bounds in
+    ending-fits mostBounds (c .before .before .before .before .put-bounds .ensures)
+    (most-short (a .desk .heading .rules) (a .desk .log .run .clock) (a .end) (at-step-bounds .ensures)) (sym (start .pre)) (omega arith)
 
 -- src/lines.rt:381:5
 desk-still-requires : tie.Need-desk-still-requires
@@ -41,7 +45,14 @@ same-length c = search needs
 -- src/lines.rt:371:1
 returns : tie.Need-returns
 returns c =
-    λ p d l k b. most-told p (c .before .before .before .before .before .before .before .before .before .before .before .before .before .before .before .args .end) d l k b (c .before .before .before .before .before .before .before .before .before .before .step-bounds .ensures) (c .before .before .before .before .bounds-number .ensures) (text-told mostBounds (c .before .before .before .before .before .before .before .before .put-bounds .ensures) (most-short (c .before .before .before .before .before .before .before .before .before .before .before .before .before .before .before .args .desk .heading .rules) (c .before .before .before .before .before .before .before .before .before .before .before .before .before .before .before .args .desk .log .run .clock) (c .before .before .before .before .before .before .before .before .before .before .before .before .before .before .before .args .end) (c .before .before .before .before .before .before .before .before .before .before .step-bounds .ensures)) (sym (c .before .before .before .before .before .before .before .before .before .before .before .before .before .before .before .pre)) (omega arith) (c .before .before .before .put-ending .ensures) (c .desk-still .ensures))
+    let start = c .before .before .before .before .before .before .before .before .before .before .before .before .before .before .before in
+    let a = start .args in
+    let at-step-bounds = c .before .before .before .before .before .before .before .before .before .before .step-bounds in
+    let at-put-bounds = c .before .before .before .before .before .before .before .before .put-bounds in
+    λ p d l k b. most-told p (a .end) d l k b (at-step-bounds .ensures) (c .before .before .before .before .bounds-number .ensures)
+    (text-told mostBounds (at-put-bounds .ensures)
+    (most-short (a .desk .heading .rules) (a .desk .log .run .clock) (a .end) (at-step-bounds .ensures)) (sym (start .pre)) (omega arith)
+    (c .before .before .before .put-ending .ensures) (c .desk-still .ensures))
 
 pub most-line-spec : {M : Type 1} → statement M
 most-line-spec =

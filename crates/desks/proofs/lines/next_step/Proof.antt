@@ -1,105 +1,135 @@
-use Rattle.ledger.specs.Runs.{plan}
-use Rattle.hatches.specs.Log.{evening}
-use Rattle.checks.specs.Given.{given, ground}
+-- `desks::lines::next_step` meets its contract: no step is left, or the next is tried, which refuses or is made.
+-- Assumes nothing.
+use Rattle.ledger.specs.Runs.{Plan, plan}
+use Rattle.hatches.specs.Log.{Evening, evening}
+use Rattle.checks.specs.Given.{Given, given, ground}
 use Rattle.checks.proofs.CheckLaws.{fails-by, holds-by}
 use Rattle.desks.proofs.AnswerLaws.{shows-on, trial-lent, some-left, next-none, next-refused, next-made}
 use borrow.Author.Needs.{needs}
 use Rattle.desks.proofs.lines.next_step.Statement.{statement}
 use Rattle.desks.proofs.lines.next_step.Tie as tie
-use Rattle.desks.proofs.lines.next_step.Reads as reads
-use Rattle.desks.proofs.lines.next_step.Lts as lts
-use Rattle.desks.proofs.lines.last_line.Reads as last-line-reads
-use Rattle.desks.proofs.lines.made_line.Reads as made-line-reads
-use Rattle.desks.proofs.lines.steps_left.Reads as steps-left-reads
-use Rattle.trying.proofs.lines.step_once.Reads as step-once-reads
 
--- src/lines.rt:244:9
+-- ---- the places, each by one after it
+
+abbrev start : tie.After-steps-left → tie.Start
+start c = c .before .before .before .before .before .before .before .before .before .before .before .before .before .before .before .before .before
+
+abbrev left : tie.After-step-once → tie.Else1
+left c = c .before .before .before .before .before
+
+abbrev begun : tie.After-step-once → tie.Start
+begun c = start (left c .before)
+
+abbrev once : tie.After-struct-known → tie.After-step-once
+once c = c .before .before .before .before .before .before .before .before .before
+
+abbrev refused : tie.After-last-line2 → tie.Then2
+refused c = c .before .before .before
+
+abbrev made : tie.After-made-line → tie.Else2
+made c = c .before .before .before
+
+-- ---- what is known there
+
+abbrev p : tie.Start → Plan
+p s = plan (s .args .desk .heading .shape) (s .args .marks .now)
+
+abbrev g : tie.Start → Given
+g s =
+    given (ground (s .args .desk .heading .rules) (s .args .beds .now) (s .args .roughness .now) (s .args .rates .now)) (s .args .rain .now)
+    (s .args .inflow .now)
+
+abbrev e : tie.Start → Evening
+e s = evening (s .args .depths .now) (s .args .lasts .now) (s .args .records .now) (s .args .began .now) (s .args .desk .log)
+
+-- ---- the answers
+
 steps-left-requires : tie.Need-steps-left-requires
 steps-left-requires c κs = search needs
 
--- src/lines.rt:250:9
 last-line-requires : tie.Need-last-line-requires
 last-line-requires c κs = search needs
 
--- src/lines.rt:250:9
 same-length : tie.Need-same-length
 same-length c = search needs
 
--- src/lines.rt:250:9
 same-length-2 : tie.Need-same-length-2
 same-length-2 c = search needs
 
--- src/lines.rt:250:9
 returns : tie.Need-returns
 returns c =
-    next-none (plan (c .before .before .before .before .before .before .before .before .before .before .before .before .before .before .before .before .before .before .before .before .before .before .before .args .desk .heading .shape) (c .before .before .before .before .before .before .before .before .before .before .before .before .before .before .before .before .before .before .before .before .before .before .before .args .marks .now)) (given (ground (c .before .before .before .before .before .before .before .before .before .before .before .before .before .before .before .before .before .before .before .before .before .before .before .args .desk .heading .rules) (c .before .before .before .before .before .before .before .before .before .before .before .before .before .before .before .before .before .before .before .before .before .before .before .args .beds .now) (c .before .before .before .before .before .before .before .before .before .before .before .before .before .before .before .before .before .before .before .before .before .before .before .args .roughness .now) (c .before .before .before .before .before .before .before .before .before .before .before .before .before .before .before .before .before .before .before .before .before .before .before .args .rates .now)) (c .before .before .before .before .before .before .before .before .before .before .before .before .before .before .before .before .before .before .before .before .before .before .before .args .rain .now) (c .before .before .before .before .before .before .before .before .before .before .before .before .before .before .before .before .before .before .before .before .before .before .before .args .inflow .now)) (evening (c .before .before .before .before .before .before .before .before .before .before .before .before .before .before .before .before .before .before .before .before .before .before .before .args .depths .now) (c .before .before .before .before .before .before .before .before .before .before .before .before .before .before .before .before .before .before .before .before .before .before .before .args .lasts .now) (c .before .before .before .before .before .before .before .before .before .before .before .before .before .before .before .before .before .before .before .before .before .before .before .args .records .now) (c .before .before .before .before .before .before .before .before .before .before .before .before .before .before .before .before .before .before .before .before .before .before .before .args .began .now) (c .before .before .before .before .before .before .before .before .before .before .before .before .before .before .before .before .before .before .before .before .before .before .before .args .desk .log)) (c .before .before .before .before .before .before .before .before .before .before .before .before .before .before .before .before .before .before .before .before .before .before .before .args .desk .account) (c .before .before .before .before .before .before .before .before .before .before .before .before .before .before .before .before .before .before .before .before .before .before .before .args .desk .series) (fails-by (c .before .before .before .before .before .before .steps-left .ensures) (c .before .before .before .before .before .if1 .taken)) (c .before .before .last-line .ensures (c .before .before .before .before .before .before .before .before .before .before .before .before .before .before .before .before .before .before .before .before .before .before .before .args .lasts .now) (c .before .before .before .before .before .before .before .before .before .before .before .before .before .before .before .before .before .before .before .before .before .before .before .args .records .now) (c .before .before .before .before .before .before .before .before .before .before .before .before .before .before .before .before .before .before .before .before .before .before .before .args .began .now))
+    let told = c .before .before in
+    let tested = told .before .before .before in
+    let s = start (tested .before) in
+    next-none (p s) (g s) (e s) (s .args .desk .account) (s .args .desk .series)
+    (fails-by (tested .before .steps-left .ensures) (tested .if1 .taken))
+    (told .last-line .ensures (s .args .lasts .now) (s .args .records .now) (s .args .began .now))
 
--- src/lines.rt:252:9
 step-once-requires : tie.Need-step-once-requires
-step-once-requires c κs =
-    trial-lent (c .before .before .before .before .before .before .before .before .before .before .before .before .before .before .before .before .before .before .before .before .before .before .pre)
+step-once-requires c κs = let s = start (c .before .before .before .before .before) in (trial-lent (s .pre .0), s .pre .1)
 
--- src/lines.rt:269:9
 last-line-requires-2 : tie.Need-last-line-requires-2
 last-line-requires-2 c κs =
-    shows-on (c .before .before .before .before .before .before .before .before .before .before .before .before .before .before .before .before .before .before .before .before .before .before .before .before .before .before .before .before .before .before .before .before .before .before .before .pre .shows) (c .before .before .before .before .before .before .before .before .before .before .before .before .step-once .kept .1 .1 .1 .1 .1 .1 .1 .1 .1 .1 .0)
+    let one = once (c .before .before .before) in
+    shows-on (begun one .pre .0 .shows) (one .step-once .kept .1 .1 .1 .1 .1 .1 .1 .1 .1 .1 .1 .0)
 
--- src/lines.rt:269:9
 same-length-3 : tie.Need-same-length-3
-same-length-3 c =
-    c .before .before .before .before .before .before .before .before .before .before .before .before .before .before .before .step-once .kept .1 .1 .1 .1 .1 .1 .1 .1 .1 .1 .0
+same-length-3 c = once (refused (c .before .before) .before) .step-once .kept .1 .1 .1 .1 .1 .1 .1 .1 .1 .1 .1 .0
 
--- src/lines.rt:269:9
 same-length-4 : tie.Need-same-length-4
 same-length-4 c = search needs
 
--- src/lines.rt:269:9
 same-length-5 : tie.Need-same-length-5
 same-length-5 c = search needs
 
--- src/lines.rt:269:9
 same-length-6 : tie.Need-same-length-6
 same-length-6 c = search needs
 
--- src/lines.rt:269:9
 same-length-7 : tie.Need-same-length-7
 same-length-7 c = search needs
 
--- src/lines.rt:269:9
 returns-2 : tie.Need-returns-2
 returns-2 c =
-    next-refused (plan (c .before .before .before .before .before .before .before .before .before .before .before .before .before .before .before .before .before .before .before .before .before .before .before .before .before .before .before .before .before .before .before .before .before .before .before .before .before .before .args .desk .heading .shape) (c .before .before .before .before .before .before .before .before .before .before .before .before .before .before .before .before .before .before .before .before .before .before .before .before .before .before .before .before .before .before .before .before .before .before .before .before .before .before .args .marks .now)) (given (ground (c .before .before .before .before .before .before .before .before .before .before .before .before .before .before .before .before .before .before .before .before .before .before .before .before .before .before .before .before .before .before .before .before .before .before .before .before .before .before .args .desk .heading .rules) (c .before .before .before .before .before .before .before .before .before .before .before .before .before .before .before .before .before .before .before .before .before .before .before .before .before .before .before .before .before .before .before .before .before .before .before .before .before .before .args .beds .now) (c .before .before .before .before .before .before .before .before .before .before .before .before .before .before .before .before .before .before .before .before .before .before .before .before .before .before .before .before .before .before .before .before .before .before .before .before .before .before .args .roughness .now) (c .before .before .before .before .before .before .before .before .before .before .before .before .before .before .before .before .before .before .before .before .before .before .before .before .before .before .before .before .before .before .before .before .before .before .before .before .before .before .args .rates .now)) (c .before .before .before .before .before .before .before .before .before .before .before .before .before .before .before .before .before .before .before .before .before .before .before .before .before .before .before .before .before .before .before .before .before .before .before .before .before .before .args .rain .now) (c .before .before .before .before .before .before .before .before .before .before .before .before .before .before .before .before .before .before .before .before .before .before .before .before .before .before .before .before .before .before .before .before .before .before .before .before .before .before .args .inflow .now)) (evening (c .before .before .before .before .before .before .before .before .before .before .before .before .before .before .before .before .before .before .before .before .before .before .before .before .before .before .before .before .before .before .before .before .before .before .before .before .before .before .args .depths .now) (c .before .before .before .before .before .before .before .before .before .before .before .before .before .before .before .before .before .before .before .before .before .before .before .before .before .before .before .before .before .before .before .before .before .before .before .before .before .before .args .lasts .now) (c .before .before .before .before .before .before .before .before .before .before .before .before .before .before .before .before .before .before .before .before .before .before .before .before .before .before .before .before .before .before .before .before .before .before .before .before .before .before .args .records .now) (c .before .before .before .before .before .before .before .before .before .before .before .before .before .before .before .before .before .before .before .before .before .before .before .before .before .before .before .before .before .before .before .before .before .before .before .before .before .before .args .began .now) (c .before .before .before .before .before .before .before .before .before .before .before .before .before .before .before .before .before .before .before .before .before .before .before .before .before .before .before .before .before .before .before .before .before .before .before .before .before .before .args .desk .log)) (c .before .before .before .before .before .before .before .before .before .before .before .before .before .before .before .before .before .before .before .before .before .before .before .before .before .before .before .before .before .before .before .before .before .before .before .before .before .before .args .desk .account) (c .before .before .before .before .before .before .before .before .before .before .before .before .before .before .before .before .before .before .before .before .before .before .before .before .before .before .before .before .before .before .before .before .before .before .before .before .before .before .args .desk .series) (holds-by (c .before .before .before .before .before .before .before .before .before .before .before .before .before .before .before .before .before .before .before .before .before .steps-left .ensures) (c .before .before .before .before .before .before .before .before .before .before .before .before .before .before .before .before .before .before .before .before .if1 .left)) (c .before .before .before .before .before .before .before .before .before .before .before .before .before .before .before .step-once .ensures) (λ z. c .before .before .before .before .before .if2 .taken z) (c .before .before .last-line2 .ensures (c .before .before .before .before .before .before .before .before .before .before .before .before .before .before .before .step-once .last .1 .1 .1 .1 .1 .1 .1 .1 .1 .1 .1 .0) (c .before .before .before .before .before .before .before .before .before .before .before .before .before .before .before .step-once .last .1 .1 .1 .1 .1 .1 .1 .1 .1 .1 .1 .1 .0) (c .before .before .before .before .before .before .before .before .before .before .before .before .before .before .before .step-once .last .1 .1 .1 .1 .1 .1 .1 .1 .1 .1 .1 .1 .1 .0))
+    let told = c .before .before in
+    let one = once (refused told .before) in
+    let s = begun one in
+    let last = one .step-once .last .1 .1 .1 .1 .1 .1 .1 .1 .1 .1 .1 .1 in
+    next-refused (p s) (g s) (e s) (s .args .desk .account) (s .args .desk .series)
+    (holds-by (left one .before .steps-left .ensures) (left one .if1 .left)) (one .step-once .ensures) (λ z. refused told .if2 .taken z)
+    (told .last-line2 .ensures (last .0) (last .1 .0) (last .1 .1 .0))
 
--- src/lines.rt:271:5
 made-line-requires : tie.Need-made-line-requires
 made-line-requires c κs =
-    (shows-on (c .before .before .before .before .before .before .before .before .before .before .before .before .before .before .before .before .before .before .before .before .before .before .before .before .before .before .before .before .before .before .before .before .before .before .before .pre .shows) (c .before .before .before .before .before .before .before .before .before .before .before .before .step-once .kept .1 .1 .1 .1 .1 .1 .1 .1 .1 .1 .0), some-left (c .before .before .before .before .before .before .before .before .before .before .before .before .before .before .before .before .before .before .before .before .before .before .before .before .before .before .before .before .before .before .before .before .before .before .before .args .desk .series) (c .before .before .before .before .before .before .before .before .before .before .before .before .before .before .before .before .before .before .before .before .before .before .before .before .before .before .before .before .before .before .before .before .before .before .before .args .desk .log .run .clock) (holds-by (c .before .before .before .before .before .before .before .before .before .before .before .before .before .before .before .before .before .before .steps-left .ensures) (c .before .before .before .before .before .before .before .before .before .before .before .before .before .before .before .before .before .if1 .left)))
+    let one = once (c .before .before .before) in
+    let s = begun one in (
+      shows-on (s .pre .0 .shows) (one .step-once .kept .1 .1 .1 .1 .1 .1 .1 .1 .1 .1 .1 .0),
+      some-left (s .args .desk .series) (s .args .desk .log .run .clock) (holds-by (left one .before .steps-left .ensures) (left one .if1 .left)),
+    )
 
--- src/lines.rt:222:1
 same-length-8 : tie.Need-same-length-8
-same-length-8 c =
-    c .before .before .before .before .before .before .before .before .before .before .before .before .before .before .before .step-once .kept .1 .1 .1 .1 .1 .1 .1 .1 .1 .1 .0
+same-length-8 c = once (made (c .before .before) .before) .step-once .kept .1 .1 .1 .1 .1 .1 .1 .1 .1 .1 .1 .0
 
--- src/lines.rt:222:1
 same-length-9 : tie.Need-same-length-9
 same-length-9 c = search needs
 
--- src/lines.rt:222:1
 same-length-10 : tie.Need-same-length-10
 same-length-10 c = search needs
 
--- src/lines.rt:222:1
 same-length-11 : tie.Need-same-length-11
 same-length-11 c = search needs
 
--- src/lines.rt:222:1
 same-length-12 : tie.Need-same-length-12
 same-length-12 c = search needs
 
--- src/lines.rt:222:1
 returns-3 : tie.Need-returns-3
 returns-3 c =
-    next-made (plan (c .before .before .before .before .before .before .before .before .before .before .before .before .before .before .before .before .before .before .before .before .before .before .before .before .before .before .before .before .before .before .before .before .before .before .before .before .before .before .args .desk .heading .shape) (c .before .before .before .before .before .before .before .before .before .before .before .before .before .before .before .before .before .before .before .before .before .before .before .before .before .before .before .before .before .before .before .before .before .before .before .before .before .before .args .marks .now)) (given (ground (c .before .before .before .before .before .before .before .before .before .before .before .before .before .before .before .before .before .before .before .before .before .before .before .before .before .before .before .before .before .before .before .before .before .before .before .before .before .before .args .desk .heading .rules) (c .before .before .before .before .before .before .before .before .before .before .before .before .before .before .before .before .before .before .before .before .before .before .before .before .before .before .before .before .before .before .before .before .before .before .before .before .before .before .args .beds .now) (c .before .before .before .before .before .before .before .before .before .before .before .before .before .before .before .before .before .before .before .before .before .before .before .before .before .before .before .before .before .before .before .before .before .before .before .before .before .before .args .roughness .now) (c .before .before .before .before .before .before .before .before .before .before .before .before .before .before .before .before .before .before .before .before .before .before .before .before .before .before .before .before .before .before .before .before .before .before .before .before .before .before .args .rates .now)) (c .before .before .before .before .before .before .before .before .before .before .before .before .before .before .before .before .before .before .before .before .before .before .before .before .before .before .before .before .before .before .before .before .before .before .before .before .before .before .args .rain .now) (c .before .before .before .before .before .before .before .before .before .before .before .before .before .before .before .before .before .before .before .before .before .before .before .before .before .before .before .before .before .before .before .before .before .before .before .before .before .before .args .inflow .now)) (evening (c .before .before .before .before .before .before .before .before .before .before .before .before .before .before .before .before .before .before .before .before .before .before .before .before .before .before .before .before .before .before .before .before .before .before .before .before .before .before .args .depths .now) (c .before .before .before .before .before .before .before .before .before .before .before .before .before .before .before .before .before .before .before .before .before .before .before .before .before .before .before .before .before .before .before .before .before .before .before .before .before .before .args .lasts .now) (c .before .before .before .before .before .before .before .before .before .before .before .before .before .before .before .before .before .before .before .before .before .before .before .before .before .before .before .before .before .before .before .before .before .before .before .before .before .before .args .records .now) (c .before .before .before .before .before .before .before .before .before .before .before .before .before .before .before .before .before .before .before .before .before .before .before .before .before .before .before .before .before .before .before .before .before .before .before .before .before .before .args .began .now) (c .before .before .before .before .before .before .before .before .before .before .before .before .before .before .before .before .before .before .before .before .before .before .before .before .before .before .before .before .before .before .before .before .before .before .before .before .before .before .args .desk .log)) (c .before .before .before .before .before .before .before .before .before .before .before .before .before .before .before .before .before .before .before .before .before .before .before .before .before .before .before .before .before .before .before .before .before .before .before .before .before .before .args .desk .account) (c .before .before .before .before .before .before .before .before .before .before .before .before .before .before .before .before .before .before .before .before .before .before .before .before .before .before .before .before .before .before .before .before .before .before .before .before .before .before .args .desk .series) (holds-by (c .before .before .before .before .before .before .before .before .before .before .before .before .before .before .before .before .before .before .before .before .before .steps-left .ensures) (c .before .before .before .before .before .before .before .before .before .before .before .before .before .before .before .before .before .before .before .before .if1 .left)) (c .before .before .before .before .before .before .before .before .before .before .before .before .before .before .before .step-once .ensures) (c .before .before .before .before .before .if2 .left) (c .before .before .made-line .ensures (c .before .before .before .before .before .before .before .before .before .before .before .before .before .before .before .step-once .last .1 .1 .1 .1 .1 .1 .1 .1 .1 .1 .1 .0) (c .before .before .before .before .before .before .before .before .before .before .before .before .before .before .before .step-once .last .1 .1 .1 .1 .1 .1 .1 .1 .1 .1 .1 .1 .0) (c .before .before .before .before .before .before .before .before .before .before .before .before .before .before .before .step-once .last .1 .1 .1 .1 .1 .1 .1 .1 .1 .1 .1 .1 .1 .0))
+    let told = c .before .before in
+    let one = once (made told .before) in
+    let s = begun one in
+    let last = one .step-once .last .1 .1 .1 .1 .1 .1 .1 .1 .1 .1 .1 .1 in
+    next-made (p s) (g s) (e s) (s .args .desk .account) (s .args .desk .series)
+    (holds-by (left one .before .steps-left .ensures) (left one .if1 .left)) (one .step-once .ensures) (made told .if2 .left)
+    (told .made-line .ensures (last .0) (last .1 .0) (last .1 .1 .0))
 
 pub next-step-spec : {M : Type 1} → statement M
 next-step-spec =

@@ -122,7 +122,11 @@ same-length-4 c = search needs
 returns-2 : tie.Need-returns-2
 unfolding orderTold
 returns-2 c =
-    order-as _ _ _ _ _ _ (c .before .before .before .before .before .order2 .given .1) (c .before .before .draw-line .ensures (c .before .before .before .before .before .before .before .before .before .before .before .before .before .before .before .args .depths .now) (c .before .before .before .before .before .before .before .before .before .before .before .before .before .before .before .args .lasts .now) (c .before .before .before .before .before .before .before .before .before .before .before .before .before .before .before .args .records .now) (c .before .before .before .before .before .before .before .before .before .before .before .before .before .before .before .args .began .now))
+    let start = c .before .before .before .before .before .before .before .before .before .before .before .before .before .before .before in
+    let a = start .args in
+    let at-order2 = c .before .before .before .before .before .order2 in
+    order-as _ _ _ _ _ _ (at-order2 .given .1)
+    (c .before .before .draw-line .ensures (a .depths .now) (a .lasts .now) (a .records .now) (a .began .now))
 
 -- src/lines.rt:480:1
 same-length-5 : tie.Need-same-length-5
@@ -132,7 +136,12 @@ same-length-5 c = search needs
 returns-3 : tie.Need-returns-3
 unfolding orderTold
 returns-3 c =
-    order-as _ _ _ _ _ _ (c .before .before .before .before .before .order3 .given .1) (c .before .before .step-line .ensures (plan (c .before .before .before .before .before .before .before .before .before .before .before .before .before .before .before .args .desk .heading .shape) (c .before .before .before .before .before .before .before .before .before .before .before .before .before .before .before .args .marks .now)) (c .before .before .before .before .before .before .before .before .before .before .before .before .before .before .before .args .depths .now) (c .before .before .before .before .before .before .before .before .before .before .before .before .before .before .before .args .lasts .now) (c .before .before .before .before .before .before .before .before .before .before .before .before .before .before .before .args .records .now) (c .before .before .before .before .before .before .before .before .before .before .before .before .before .before .before .args .began .now))
+    let start = c .before .before .before .before .before .before .before .before .before .before .before .before .before .before .before in
+    let a = start .args in
+    let at-order3 = c .before .before .before .before .before .order3 in
+    order-as _ _ _ _ _ _ (at-order3 .given .1)
+    (c .before .before .step-line .ensures (plan (a .desk .heading .shape) (a .marks .now)) (a .depths .now) (a .lasts .now) (a .records .now)
+    (a .began .now))
 
 -- src/lines.rt:480:1
 same-length-6 : tie.Need-same-length-6
@@ -146,7 +155,11 @@ same-length-7 c = search needs
 returns-4 : tie.Need-returns-4
 unfolding orderTold
 returns-4 c =
-    order-as _ _ _ _ _ _ (c .before .before .before .before .before .enum-told .given .1) (as-told (c .before .before .before .before .before .before .before .before .before .before .before .before .before .before .before .args .depths .now) (c .before .before .before .before .before .before .before .before .before .before .before .before .before .before .before .args .lasts .now) (c .before .before .before .before .before .before .before .before .before .before .before .before .before .before .before .args .records .now) (c .before .before .before .before .before .before .before .before .before .before .before .before .before .before .before .args .began .now) (c .before .before .show-line .ensures))
+    let start = c .before .before .before .before .before .before .before .before .before .before .before .before .before .before .before in
+    let a = start .args in
+    let at-enum-told = c .before .before .before .before .before .enum-told in
+    order-as _ _ _ _ _ _ (at-enum-told .given .1)
+    (as-told (a .depths .now) (a .lasts .now) (a .records .now) (a .began .now) (c .before .before .show-line .ensures))
 
 -- src/lines.rt:480:1
 same-length-8 : tie.Need-same-length-8
@@ -160,7 +173,9 @@ same-length-9 c = search needs
 returns-5 : tie.Need-returns-5
 unfolding orderTold
 returns-5 c =
-    order-as _ _ _ _ _ _ (c .before .before .before .before .before .enum-told2 .given .1) (c .before .before .arrows-line .ensures (c .before .before .before .before .before .before .before .before .before .before .before .before .before .before .before .args .lasts .now) (c .before .before .before .before .before .before .before .before .before .before .before .before .before .before .before .args .began .now))
+    let start = c .before .before .before .before .before .before .before .before .before .before .before .before .before .before .before in
+    let at-enum-told2 = c .before .before .before .before .before .enum-told2 in
+    order-as _ _ _ _ _ _ (at-enum-told2 .given .1) (c .before .before .arrows-line .ensures (start .args .lasts .now) (start .args .began .now))
 
 -- src/lines.rt:480:1
 same-length-10 : tie.Need-same-length-10
@@ -170,7 +185,12 @@ same-length-10 c = search needs
 returns-6 : tie.Need-returns-6
 unfolding orderTold
 returns-6 c =
-    order-as _ _ _ _ _ _ (c .before .before .before .before .before .order4 .given .1) (c .before .before .most-line .ensures (plan (c .before .before .before .before .before .before .before .before .before .before .before .before .before .before .before .args .desk .heading .shape) (c .before .before .before .before .before .before .before .before .before .before .before .before .before .before .before .args .marks .now)) (c .before .before .before .before .before .before .before .before .before .before .before .before .before .before .before .args .depths .now) (c .before .before .before .before .before .before .before .before .before .before .before .before .before .before .before .args .lasts .now) (c .before .before .before .before .before .before .before .before .before .before .before .before .before .before .before .args .records .now) (c .before .before .before .before .before .before .before .before .before .before .before .before .before .before .before .args .began .now))
+    let start = c .before .before .before .before .before .before .before .before .before .before .before .before .before .before .before in
+    let a = start .args in
+    let at-order4 = c .before .before .before .before .before .order4 in
+    order-as _ _ _ _ _ _ (at-order4 .given .1)
+    (c .before .before .most-line .ensures (plan (a .desk .heading .shape) (a .marks .now)) (a .depths .now) (a .lasts .now) (a .records .now)
+    (a .began .now))
 
 -- src/lines.rt:480:1
 same-length-11 : tie.Need-same-length-11
@@ -188,7 +208,9 @@ same-length-13 c = search needs
 returns-7 : tie.Need-returns-7
 unfolding orderTold
 returns-7 c =
-    order-as _ _ _ _ _ _ (c .before .before .before .before .before .before .enum-told3 .given .1) (c .before .before .stand-line .ensures (c .before .before .before .before .before .before .before .before .before .before .before .before .before .before .before .before .args .records .now) (c .before .before .before .before .before .before .before .before .before .before .before .before .before .before .before .before .args .began .now))
+    let start = c .before .before .before .before .before .before .before .before .before .before .before .before .before .before .before .before in
+    let at-enum-told3 = c .before .before .before .before .before .before .enum-told3 in
+    order-as _ _ _ _ _ _ (at-enum-told3 .given .1) (c .before .before .stand-line .ensures (start .args .records .now) (start .args .began .now))
 
 -- src/lines.rt:480:1
 same-length-14 : tie.Need-same-length-14
@@ -206,7 +228,12 @@ same-length-16 c = search needs
 returns-8 : tie.Need-returns-8
 unfolding orderTold
 returns-8 c =
-    order-as _ _ _ _ _ _ (c .before .before .before .before .before .before .before .before .before .before .before .order5 .given .1) (c .before .before .before .before .before .before .lay-line .ensures (c .before .before .before .before .before .before .before .before .before .before .before .before .before .before .before .before .before .before .before .before .before .args .records .now) (c .before .before .before .before .before .before .before .before .before .before .before .before .before .before .before .before .before .before .before .before .before .args .began .now))
+    let start =
+    c .before .before .before .before .before .before .before .before .before .before .before .before .before .before .before .before
+    .before .before .before .before .before in
+    let at-order5 = c .before .before .before .before .before .before .before .before .before .before .before .order5 in
+    let at-lay-line = c .before .before .before .before .before .before .lay-line in
+    order-as _ _ _ _ _ _ (at-order5 .given .1) (at-lay-line .ensures (start .args .records .now) (start .args .began .now))
 
 -- src/lines.rt:480:1
 same-length-17 : tie.Need-same-length-17
@@ -216,7 +243,11 @@ same-length-17 c = search needs
 returns-9 : tie.Need-returns-9
 unfolding orderTold
 returns-9 c =
-    order-as _ _ _ _ _ _ (c .before .before .before .before .before .order6 .given .1) (as-told (c .before .before .before .before .before .before .before .before .before .before .before .before .before .before .before .args .depths .now) (c .before .before .before .before .before .before .before .before .before .before .before .before .before .before .before .args .lasts .now) (c .before .before .before .before .before .before .before .before .before .before .before .before .before .before .before .args .records .now) (c .before .before .before .before .before .before .before .before .before .before .before .before .before .before .before .args .began .now) (c .before .before .refuse-line .ensures))
+    let start = c .before .before .before .before .before .before .before .before .before .before .before .before .before .before .before in
+    let a = start .args in
+    let at-order6 = c .before .before .before .before .before .order6 in
+    order-as _ _ _ _ _ _ (at-order6 .given .1)
+    (as-told (a .depths .now) (a .lasts .now) (a .records .now) (a .began .now) (c .before .before .refuse-line .ensures))
 
 -- src/lines.rt:480:1
 same-length-18 : tie.Need-same-length-18
@@ -226,7 +257,10 @@ same-length-18 c = search needs
 returns-10 : tie.Need-returns-10
 unfolding orderTold
 returns-10 c =
-    order-as _ _ _ _ _ _ (c .before .before .before .before .enum-told4 .given .1) (as-told (c .before .before .before .before .before .before .before .before .before .before .before .before .before .before .args .depths .now) (c .before .before .before .before .before .before .before .before .before .before .before .before .before .before .args .lasts .now) (c .before .before .before .before .before .before .before .before .before .before .before .before .before .before .args .records .now) (c .before .before .before .before .before .before .before .before .before .before .before .before .before .before .args .began .now) (c .before .before .refuse-line2 .ensures))
+    let start = c .before .before .before .before .before .before .before .before .before .before .before .before .before .before in
+    let a = start .args in
+    order-as _ _ _ _ _ _ (c .before .before .before .before .enum-told4 .given .1)
+    (as-told (a .depths .now) (a .lasts .now) (a .records .now) (a .began .now) (c .before .before .refuse-line2 .ensures))
 
 pub order-line-spec : {M : Type 1} → statement M
 order-line-spec =

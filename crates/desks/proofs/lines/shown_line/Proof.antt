@@ -32,7 +32,12 @@ same-length c = search needs
 -- src/lines.rt:65:1
 returns : tie.Need-returns
 returns c =
-    shown-told _ _ _ _ (c .before .no-series .ensures) (c .before .before .before .before .before .before .before .before .before .before .before .before .before .before .before .before .before .pre .out-long) (c .before .before .before .before .before .before .before .before .put-state .ensures) (c .before .before .before .before .put-ending .ensures) (c .desk-with .ensures)
+    let start =
+    c .before .before .before .before .before .before .before .before .before .before .before .before .before .before .before .before
+    .before in
+    let at-put-state = c .before .before .before .before .before .before .before .before .put-state in
+    shown-told _ _ _ _ (c .before .no-series .ensures) (start .pre .out-long) (at-put-state .ensures)
+    (c .before .before .before .before .put-ending .ensures) (c .desk-with .ensures)
 
 pub shown-line-spec : {M : Type 1} → statement M
 shown-line-spec =

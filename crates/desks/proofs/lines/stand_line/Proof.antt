@@ -20,7 +20,9 @@ put-stand-requires c κs =
 -- src/lines.rt:398:9
 put-ending-requires : tie.Need-put-ending-requires
 put-ending-requires c κs =
-    ending-fits mostStand (c .before .before .before .put-stand .ensures .wrote) (c .before .before .before .put-stand .ensures .short) (c .before .before .before .before .before .before .before .before .before .before .before .before .pre .0 .out-long) (omega arith)
+    let start = c .before .before .before .before .before .before .before .before .before .before .before .before in
+    ending-fits mostStand (c .before .before .before .put-stand .ensures .wrote) (c .before .before .before .put-stand .ensures .short)
+    (start .pre .0 .out-long) (omega arith)
 
 -- src/lines.rt:399:5
 desk-still-requires : tie.Need-desk-still-requires
@@ -33,7 +35,12 @@ same-length c = search needs
 -- src/lines.rt:385:1
 returns : tie.Need-returns
 returns c =
-    λ k b. stand-told (plan (c .before .before .before .before .before .before .before .before .before .before .before .before .before .before .before .before .args .desk .heading .shape) (c .before .before .before .before .before .before .before .before .before .before .before .before .before .before .before .before .args .marks .now)) (c .before .before .before .before .before .before .before .before .before .before .before .before .before .before .before .before .args .depths .now) (c .before .before .before .before .before .before .before .before .before .before .before .before .before .before .before .before .args .lasts .now) k b (text-told mostStand (c .before .before .before .before .before .before .before .put-stand .ensures .wrote) (c .before .before .before .before .before .before .before .put-stand .ensures .short) (c .before .before .before .before .before .before .before .before .before .before .before .before .before .before .before .before .pre .0 .out-long) (omega arith) (c .before .before .before .put-ending .ensures) (c .desk-still .ensures))
+    let start = c .before .before .before .before .before .before .before .before .before .before .before .before .before .before .before .before in
+    let a = start .args in
+    let at-put-stand = c .before .before .before .before .before .before .before .put-stand in
+    λ k b. stand-told (plan (a .desk .heading .shape) (a .marks .now)) (a .depths .now) (a .lasts .now) k b
+    (text-told mostStand (at-put-stand .ensures .wrote) (at-put-stand .ensures .short) (start .pre .0 .out-long) (omega arith)
+    (c .before .before .before .put-ending .ensures) (c .desk-still .ensures))
 
 pub stand-line-spec : {M : Type 1} → statement M
 stand-line-spec =

@@ -22,7 +22,9 @@ same-length c = search needs
 -- src/lines.rt:133:9
 returns : tie.Need-returns
 returns c =
-    λ p d l k b. step-refused (c .before .before .before .before .before .before .args .desk) (c .before .before .before .before .before .before .args .count) (c .before .before .before .before .before .before .args .end) (c .before .before .before .before .before .before .args .every) p d l k b 12
+    let start = c .before .before .before .before .before .before in
+    let a = start .args in
+    λ p d l k b. step-refused (a .desk) (a .count) (a .end) (a .every) p d l k b 12
     (refusal-here 12 _ (lt-leb _ _ (c .before .before .before .before .if1 .taken)))
     (λ z. omega arith) (c .before .before .refuse-line .ensures)
 
@@ -37,8 +39,11 @@ same-length-2 c = search needs
 -- src/lines.rt:136:9
 returns-2 : tie.Need-returns-2
 returns-2 c =
-    λ p d l k b. step-refused (c .before .before .before .before .before .before .before .args .desk) (c .before .before .before .before .before .before .before .args .count) (c .before .before .before .before .before .before .before .args .end) (c .before .before .before .before .before .before .before .args .every) p d l k b 12
-    (refusal-later 12 _ (le-leb _ _ (c .before .before .before .before .before .if1 .left)) ∙ refusal-here 12 _ (lt-leb _ _ (c .before .before .before .before .if2 .taken)))
+    let start = c .before .before .before .before .before .before .before in
+    let a = start .args in
+    let at-if1 = c .before .before .before .before .before .if1 in
+    λ p d l k b. step-refused (a .desk) (a .count) (a .end) (a .every) p d l k b 12
+    (refusal-later 12 _ (le-leb _ _ (at-if1 .left)) ∙ refusal-here 12 _ (lt-leb _ _ (c .before .before .before .before .if2 .taken)))
     (λ z. omega arith) (c .before .before .refuse-line2 .ensures)
 
 -- src/lines.rt:139:9
@@ -52,8 +57,13 @@ same-length-3 c = search needs
 -- src/lines.rt:139:9
 returns-3 : tie.Need-returns-3
 returns-3 c =
-    λ p d l k b. step-refused (c .before .before .before .before .before .before .before .before .args .desk) (c .before .before .before .before .before .before .before .before .args .count) (c .before .before .before .before .before .before .before .before .args .end) (c .before .before .before .before .before .before .before .before .args .every) p d l k b 12
-    (refusal-later 12 _ (le-leb _ _ (c .before .before .before .before .before .before .if1 .left)) ∙ (refusal-later 12 _ (le-leb _ _ (c .before .before .before .before .before .if2 .left)) ∙ refusal-here 12 _ (lt-leb _ _ (c .before .before .before .before .if3 .taken))))
+    let start = c .before .before .before .before .before .before .before .before in
+    let a = start .args in
+    let at-if1 = c .before .before .before .before .before .before .if1 in
+    let at-if2 = c .before .before .before .before .before .if2 in
+    λ p d l k b. step-refused (a .desk) (a .count) (a .end) (a .every) p d l k b 12
+    (refusal-later 12 _ (le-leb _ _ (at-if1 .left))
+    ∙ (refusal-later 12 _ (le-leb _ _ (at-if2 .left)) ∙ refusal-here 12 _ (lt-leb _ _ (c .before .before .before .before .if3 .taken))))
     (λ z. omega arith) (c .before .before .refuse-line3 .ensures)
 
 -- src/lines.rt:143:9
@@ -67,8 +77,15 @@ same-length-4 c = search needs
 -- src/lines.rt:143:9
 returns-4 : tie.Need-returns-4
 returns-4 c =
-    λ p d l k b. step-refused (c .before .before .before .before .before .before .before .before .before .args .desk) (c .before .before .before .before .before .before .before .before .before .args .count) (c .before .before .before .before .before .before .before .before .before .args .end) (c .before .before .before .before .before .before .before .before .before .args .every) p d l k b 5
-    (refusal-later 12 _ (le-leb _ _ (c .before .before .before .before .before .before .before .if1 .left)) ∙ (refusal-later 12 _ (le-leb _ _ (c .before .before .before .before .before .before .if2 .left)) ∙ (refusal-later 12 _ (le-leb _ _ (c .before .before .before .before .before .if3 .left)) ∙ refusal-here 5 _ (lt-leb _ _ (c .before .before .before .before .if4 .taken)))))
+    let start = c .before .before .before .before .before .before .before .before .before in
+    let a = start .args in
+    let at-if1 = c .before .before .before .before .before .before .before .if1 in
+    let at-if2 = c .before .before .before .before .before .before .if2 in
+    let at-if3 = c .before .before .before .before .before .if3 in
+    λ p d l k b. step-refused (a .desk) (a .count) (a .end) (a .every) p d l k b 5
+    (refusal-later 12 _ (le-leb _ _ (at-if1 .left))
+    ∙ (refusal-later 12 _ (le-leb _ _ (at-if2 .left))
+    ∙ (refusal-later 12 _ (le-leb _ _ (at-if3 .left)) ∙ refusal-here 5 _ (lt-leb _ _ (c .before .before .before .before .if4 .taken)))))
     (λ z. omega arith) (c .before .before .refuse-line4 .ensures)
 
 -- src/lines.rt:153:5
@@ -78,8 +95,18 @@ desk-with-requires c κs = search needs
 -- src/lines.rt:128:1
 returns-5 : tie.Need-returns-5
 returns-5 c =
-    λ p d l k b. step-begun (c .before .before .before .before .before .before .before .before .args .desk) (c .before .before .before .before .before .before .before .before .args .count) (c .before .before .before .before .before .before .before .before .args .end) (c .before .before .before .before .before .before .before .before .args .every) p d l k b
-    (passed-refusal _ (le-leb _ _ (c .before .before .before .before .before .before .if1 .left), (le-leb _ _ (c .before .before .before .before .before .if2 .left), (le-leb _ _ (c .before .before .before .before .if3 .left), (le-leb _ _ (c .before .before .before .if4 .left), tt)))))
+    let start = c .before .before .before .before .before .before .before .before in
+    let a = start .args in
+    let at-if1 = c .before .before .before .before .before .before .if1 in
+    let at-if2 = c .before .before .before .before .before .if2 in
+    λ p d l k b. step-begun (a .desk) (a .count) (a .end) (a .every) p d l k b
+    (passed-refusal _ (
+      le-leb _ _ (at-if1 .left),
+      (
+        le-leb _ _ (at-if2 .left),
+        (le-leb _ _ (c .before .before .before .before .if3 .left), (le-leb _ _ (c .before .before .before .if4 .left), tt)),
+      ),
+    ))
     (c .desk-with .ensures)
 
 pub step-line-spec : {M : Type 1} → statement M

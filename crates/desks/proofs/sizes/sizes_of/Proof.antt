@@ -42,8 +42,10 @@ record-size-requires c κs =
 -- src/sizes.rt:46:18
 mul-t7 : tie.Need-mul-t7
 mul-t7 c =
-    let m : c .before .before .before .before .kept-slots .result * c .record-size .result ≡ keptSlots (c .before .before .before .before .before .args .heading .shape) * recordSize (plan (c .before .before .before .before .before .args .heading .shape) []) = ap₂ (λ (x y : ℕ). x * y) (c .before .before .before .before .kept-slots .ensures) (c .record-size .ensures) in
-    omega (arith, m, slots-fit (c .before .before .before .before .before .args .heading .shape))
+    let start = c .before .before .before .before .before in
+    let a = start .args in
+    let m : c .before .before .before .before .kept-slots .result * c .record-size .result ≡ keptSlots (a .heading .shape) * recordSize (plan (a .heading .shape) []) = ap₂ (λ (x y : ℕ). x * y) (c .before .before .before .before .kept-slots .ensures) (c .record-size .ensures) in
+    omega (arith, m, slots-fit (a .heading .shape))
 
 -- src/sizes.rt:47:16
 mul-t8 : tie.Need-mul-t8
@@ -53,7 +55,9 @@ mul-t8 c =
 -- src/sizes.rt:37:1
 returns : tie.Need-returns
 returns c =
-    sizes-made (c .before .before .before .before .before .args .heading) (c .before .before .before .before .before .pre) (c .before .before .before .squares-of .ensures) (c .before .before .before .before .kept-slots .ensures) (c .record-size .ensures) refl refl
+    let start = c .before .before .before .before .before in
+    sizes-made (start .args .heading) (start .pre) (c .before .before .before .squares-of .ensures)
+    (c .before .before .before .before .kept-slots .ensures) (c .record-size .ensures) refl refl
 
 pub sizes-of-spec : {M : Type 1} → statement M
 sizes-of-spec =

@@ -20,7 +20,9 @@ desk-with-requires c κs = search needs
 -- src/state.rt:153:1
 returns : tie.Need-returns
 returns c =
-    c .desk-with .ensures ∙ ap (λ (s : Series). deskWith (c .before .before .before .before .args .desk) (c .before .before .before .before .args .desk .log) (c .before .before .before .before .args .desk .account) s (c .before .before .before .before .args .length)) (c .before .no-series .ensures)
+    let start = c .before .before .before .before in
+    let a = start .args in
+    c .desk-with .ensures ∙ ap (λ (s : Series). deskWith (a .desk) (a .desk .log) (a .desk .account) s (a .length)) (c .before .no-series .ensures)
 
 pub desk-still-spec : {M : Type 1} → statement M
 desk-still-spec = tie.close (tie.spec no-series-requires desk-with-requires returns)

@@ -35,7 +35,11 @@ no-series-requires c κs = search needs
 -- src/state.rt:116:1
 returns : tie.Need-returns
 returns c =
-    desk-fresh (c .before .before .before .before .before .args .heading) (c .before .before .before .before .before .args .start) (c .before .before .before .before .before .args .length) (c .before .before .before .before .kept-slots .ensures) (c .before .before .before .fresh-run .ensures) (c .before .before .open-log .ensures) (c .before .open-account .ensures) (c .no-series .ensures)
+    let start = c .before .before .before .before .before in
+    let a = start .args in
+    desk-fresh (a .heading) (a .start) (a .length) (c .before .before .before .before .kept-slots .ensures)
+    (c .before .before .before .fresh-run .ensures) (c .before .before .open-log .ensures) (c .before .open-account .ensures)
+    (c .no-series .ensures)
 
 pub fresh-desk-spec : {M : Type 1} → statement M
 fresh-desk-spec =

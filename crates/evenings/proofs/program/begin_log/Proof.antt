@@ -48,7 +48,11 @@ room-3 : (c : tie.After-put-refused-arg3) → mostPrinted ≤ length ((c .before
 room-3 c = search needs
 
 reads : (c : tie.After-read) → Reads ((c .before .before .before .before .before .before .before .before .before .before .before .before .before .before .before .before .before .before .before .before .before .before .before .before .before .before) .args .sheet .now) programRooms (c .read .result) (rooms-read c)
-reads c = read-zero ((c .before .before .before .before .before .before .before .before .before .before .before .before .before .before .before .before .clear-sheet) .ensures) (c .read .ensures)
+reads c =
+    let at-clear-sheet =
+    c .before .before .before .before .before .before .before .before .before .before .before .before .before .before .before .before
+    .clear-sheet in
+    read-zero ((at-clear-sheet) .ensures) (c .read .ensures)
 
 clear-sheet-requires : tie.Need-clear-sheet-requires
 clear-sheet-requires c κs = search needs
@@ -70,8 +74,16 @@ no-night-requires c κs = search needs
 
 returns : tie.Need-returns
 returns c =
-    let s = (c .before .before .before .before .before .before .before .before .before .before .before .before .before .before .before .before .before .before .before .before) in
-    begin-long (s .args .sheet .now) (s .args .log .now) (zero-lasts (c .before .before .before .before .before .before .before .before)) (zero-records (c .before .before .before .before .before .before)) (zero-began (c .before .before .before .before)) ((c .before .before .before .before .before .before .before .before .before .before .clear-sheet) .ensures) ((c .before .before .before .if1) .taken) ((c .no-night) .ensures) (refused-printed (room-1 (c .before .before)) (omega arith) (omega arith) ((c .before .put-refused) .ensures))
+    let at-before =
+    c .before .before .before .before .before .before .before .before .before .before .before .before .before .before .before .before
+    .before .before .before .before in
+    let at-clear-sheet = c .before .before .before .before .before .before .before .before .before .before .clear-sheet in
+    let at-before-2 = c .before .before .before .before .before .before .before .before in
+    let at-before-3 = c .before .before .before .before .before .before in
+    let s = (at-before) in
+    begin-long (s .args .sheet .now) (s .args .log .now) (zero-lasts (at-before-2)) (zero-records (at-before-3))
+    (zero-began (c .before .before .before .before)) ((at-clear-sheet) .ensures) ((c .before .before .before .if1) .taken)
+    ((c .no-night) .ensures) (refused-printed (room-1 (c .before .before)) (omega arith) (omega arith) ((c .before .put-refused) .ensures))
 
 put-refused-requires-2 : tie.Need-put-refused-requires-2
 put-refused-requires-2 c κs = search needs
@@ -81,8 +93,17 @@ no-night-requires-2 c κs = search needs
 
 returns-2 : tie.Need-returns-2
 returns-2 c =
-    let s = (c .before .before .before .before .before .before .before .before .before .before .before .before .before .before .before .before .before .before .before .before .before) in
-    begin-longer (s .args .sheet .now) (s .args .log .now) (zero-lasts (c .before .before .before .before .before .before .before .before .before)) (zero-records (c .before .before .before .before .before .before .before)) (zero-began (c .before .before .before .before .before)) ((c .before .before .before .before .if1) .left) ((c .before .before .before .before .before .before .before .before .before .before .before .clear-sheet) .ensures) ((c .before .before .before .if2) .taken) ((c .no-night2) .ensures) (refused-printed (room-2 (c .before .before)) (omega arith) (omega arith) ((c .before .put-refused2) .ensures))
+    let at-before =
+    c .before .before .before .before .before .before .before .before .before .before .before .before .before .before .before .before
+    .before .before .before .before .before in
+    let at-clear-sheet = c .before .before .before .before .before .before .before .before .before .before .before .clear-sheet in
+    let at-before-2 = c .before .before .before .before .before .before .before .before .before in
+    let at-before-3 = c .before .before .before .before .before .before .before in
+    let s = (at-before) in
+    begin-longer (s .args .sheet .now) (s .args .log .now) (zero-lasts (at-before-2)) (zero-records (at-before-3))
+    (zero-began (c .before .before .before .before .before)) ((c .before .before .before .before .if1) .left) ((at-clear-sheet) .ensures)
+    ((c .before .before .before .if2) .taken) ((c .no-night2) .ensures)
+    (refused-printed (room-2 (c .before .before)) (omega arith) (omega arith) ((c .before .put-refused2) .ensures))
 
 read-requires : tie.Need-read-requires
 read-requires c κs = search needs
@@ -109,8 +130,21 @@ returns-3 c =
 
 returns-4 : tie.Need-returns-4
 returns-4 c =
-    let s = (c .before .before .before .before .before .before .before .before .before .before .before .before .before .before .before .before .before .before .before .before .before .before .before .before .before .before .before .before .before .before) in
-    begin-opened (s .args .sheet .now) (s .args .log .now) (zero-lasts (c .before .before .before .before .before .before .before .before .before .before .before .before .before .before .before .before .before .before)) (zero-records (c .before .before .before .before .before .before .before .before .before .before .before .before .before .before .before .before)) (zero-began (c .before .before .before .before .before .before .before .before .before .before .before .before .before .before)) ((c .before .before .before .before .before .before .before .before .before .before .before .before .before .if1) .left) ((c .before .before .before .before .before .before .before .before .before .before .before .before .if2) .left) (read-as ((c .before .before .heading) .given .1) (reads (c .before .before .before .before))) ((c .first-night) .ensures)
+    let at-before =
+    c .before .before .before .before .before .before .before .before .before .before .before .before .before .before .before .before
+    .before .before .before .before .before .before .before .before .before .before .before .before .before .before in
+    let at-before-2 =
+    c .before .before .before .before .before .before .before .before .before .before .before .before .before .before .before .before
+    .before .before in
+    let at-before-3 =
+    c .before .before .before .before .before .before .before .before .before .before .before .before .before .before .before .before in
+    let at-if1 = c .before .before .before .before .before .before .before .before .before .before .before .before .before .if1 in
+    let at-before-4 = c .before .before .before .before .before .before .before .before .before .before .before .before .before .before in
+    let at-if2 = c .before .before .before .before .before .before .before .before .before .before .before .before .if2 in
+    let s = (at-before) in
+    begin-opened (s .args .sheet .now) (s .args .log .now) (zero-lasts (at-before-2)) (zero-records (at-before-3)) (zero-began (at-before-4))
+    ((at-if1) .left) ((at-if2) .left) (read-as ((c .before .before .heading) .given .1) (reads (c .before .before .before .before)))
+    ((c .first-night) .ensures)
 
 pub begin-log-spec : {M : Type 1} → statement M
 begin-log-spec =

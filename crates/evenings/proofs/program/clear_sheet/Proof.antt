@@ -74,7 +74,13 @@ clear-requires-6 : tie.Need-clear-requires-6
 clear-requires-6 c κs = search needs
 
 returns : tie.Need-returns
-returns c = rooms-zero (zero-marks (c .before .before .before .before .before .before .before .before .before .before .before .before)) (zero-beds (c .before .before .before .before .before .before .before .before .before .before)) (zero-roughness (c .before .before .before .before .before .before .before .before)) (zero-rates (c .before .before .before .before .before .before)) (zero-depths (c)) (zero-rain (c .before .before .before .before)) (zero-inflow (c .before .before))
+returns c =
+    let at-before = c .before .before .before .before .before .before .before .before .before .before .before .before in
+    let at-before-2 = c .before .before .before .before .before .before .before .before .before .before in
+    let at-before-3 = c .before .before .before .before .before .before .before .before in
+    let at-before-4 = c .before .before .before .before .before .before in
+    rooms-zero (zero-marks (at-before)) (zero-beds (at-before-2)) (zero-roughness (at-before-3)) (zero-rates (at-before-4)) (zero-depths (c))
+    (zero-rain (c .before .before .before .before)) (zero-inflow (c .before .before))
 
 pub clear-sheet-spec : {M : Type 1} → statement M
 clear-sheet-spec =

@@ -28,7 +28,9 @@ rooms-fit-requires : tie.Need-rooms-fit-requires
 rooms-fit-requires c κs = search needs
 
 returns-2 : tie.Need-returns-2
-returns-2 c = let s = (c .before .before .before .before .before .before .before .before .before .before .before .before .before .before) in (c .rooms-fit) .ensures ∙ fits-are (s .args .night) (R s) (holds-by ((c .before .before .before .night-fine) .ensures) ((c .before .before .if1) .left)) ((c .before .sizes-of) .ensures)
+returns-2 c =
+    let at-before = c .before .before .before .before .before .before .before .before .before .before .before .before .before .before in
+    let s = (at-before) in (c .rooms-fit) .ensures ∙ fits-are (s .args .night) (R s) (holds-by ((c .before .before .before .night-fine) .ensures) ((c .before .before .if1) .left)) ((c .before .sizes-of) .ensures)
 
 pub fits-spec : {M : Type 1} → statement M
 fits-spec =

@@ -29,10 +29,17 @@ over-requires : tie.Need-over-requires
 over-requires c κs = search needs
 
 returns : tie.Need-returns
-returns c = let s = (c .before .before .before .before .before .before .before .before .before .before .before .before .before .before) in night-none (s .args .text .now) (s .args .night) (R s) (left-is (s .args .text .now) (s .args .night) (fails-by ((c .before .before .is-left) .ensures) ((c .before .if1) .taken))) ((c .over) .ensures)
+returns c =
+    let at-before = c .before .before .before .before .before .before .before .before .before .before .before .before .before .before in
+    let s = (at-before) in night-none (s .args .text .now) (s .args .night) (R s) (left-is (s .args .text .now) (s .args .night) (fails-by ((c .before .before .is-left) .ensures) ((c .before .if1) .taken))) ((c .over) .ensures)
 
 fits-requires : tie.Need-fits-requires
-fits-requires c κs = let s = (c .before .before .before .before .before .before .before .before .before .before .before .before .before .before .before .before .before) in omega (arith, left-at (s .args .text .now) (s .args .night) (left-is (s .args .text .now) (s .args .night) (holds-by ((c .before .before .before .before .before .is-left) .ensures) ((c .before .before .before .before .if1) .left))))
+fits-requires c κs =
+    let at-before =
+    c .before .before .before .before .before .before .before .before .before .before .before .before .before .before .before .before
+    .before in
+    let at-is-left = c .before .before .before .before .before .is-left in
+    let s = (at-before) in omega (arith, left-at (s .args .text .now) (s .args .night) (left-is (s .args .text .now) (s .args .night) (holds-by ((at-is-left) .ensures) ((c .before .before .before .before .if1) .left))))
 
 put-refused-requires : tie.Need-put-refused-requires
 put-refused-requires c κs = search needs
@@ -54,12 +61,27 @@ same-length-4 c = search needs
 
 returns-2 : tie.Need-returns-2
 returns-2 c =
-    let s = (c .before .before .before .before .before .before .before .before .before .before .before .before .before .before .before .before .before .before .before .before .before .before) in
-    night-refused (s .args .text .now) (s .args .night) (R s) (left-is (s .args .text .now) (s .args .night) (holds-by ((c .before .before .before .before .before .before .before .before .before .before .is-left) .ensures) ((c .before .before .before .before .before .before .before .before .before .if1) .left)))
-    (fails-by {t = nightFits (s .args .night) (R s)} ((c .before .before .before .before .fits2) .ensures) ((c .before .before .before .if2) .taken)) ((c .over2) .ensures) (refused-printed (room (c .before .before)) (omega arith) (omega arith) ((c .before .put-refused) .ensures))
+    let at-before =
+    c .before .before .before .before .before .before .before .before .before .before .before .before .before .before .before .before
+    .before .before .before .before .before .before in
+    let at-is-left = c .before .before .before .before .before .before .before .before .before .before .is-left in
+    let at-if1 = c .before .before .before .before .before .before .before .before .before .if1 in
+    let s = (at-before) in
+    night-refused (s .args .text .now) (s .args .night) (R s)
+    (left-is (s .args .text .now) (s .args .night) (holds-by ((at-is-left) .ensures) ((at-if1) .left)))
+    (fails-by {t = nightFits (s .args .night) (R s)} ((c .before .before .before .before .fits2) .ensures) ((c .before .before .before .if2) .taken))
+    ((c .over2) .ensures) (refused-printed (room (c .before .before)) (omega arith) (omega arith) ((c .before .put-refused) .ensures))
 
 take-held-requires : tie.Need-take-held-requires
-take-held-requires c κs = let s = (c .before .before .before .before .before .before .before .before .before .before .before .before .before .before .before .before .before .before .before .before .before .before .before .before) in ((left-is (s .args .text .now) (s .args .night) (holds-by ((c .before .before .before .before .before .before .before .before .before .before .before .before .is-left) .ensures) ((c .before .before .before .before .before .before .before .before .before .before .before .if1) .left))), holds-by {t = nightFits (s .args .night) (R s)} ((c .before .before .before .before .before .before .fits2) .ensures) ((c .before .before .before .before .before .if2) .left))
+take-held-requires c κs =
+    let at-before =
+    c .before .before .before .before .before .before .before .before .before .before .before .before .before .before .before .before
+    .before .before .before .before .before .before .before .before in
+    let at-is-left = c .before .before .before .before .before .before .before .before .before .before .before .before .is-left in
+    let at-if1 = c .before .before .before .before .before .before .before .before .before .before .before .if1 in
+    let at-fits2 = c .before .before .before .before .before .before .fits2 in
+    let at-if2 = c .before .before .before .before .before .if2 in
+    let s = (at-before) in ((left-is (s .args .text .now) (s .args .night) (holds-by ((at-is-left) .ensures) ((at-if1) .left))), holds-by {t = nightFits (s .args .night) (R s)} ((at-fits2) .ensures) ((at-if2) .left))
 
 same-length-5 : tie.Need-same-length-5
 same-length-5 c = search needs

@@ -14,7 +14,8 @@ add-t7 : tie.Need-add-t7
 add-t7 c = search needs
 
 returns : tie.Need-returns
-returns c = let s = (c .before .before .before .before) in ap (λ (b : Bool). record { more = b; at = s .args .taken .next; line = s .args .night .line + 1; length = s .args .taken .length; heading = s .args .night .heading; log = s .args .taken .log }) (c .before .goes-on .ensures)
+returns c =
+    let s = (c .before .before .before .before) in ap (λ (b : Bool). record { more = b; at = s .args .taken .next; line = s .args .night .line + 1; length = s .args .taken .length; heading = s .args .night .heading; log = s .args .taken .log }) (c .before .goes-on .ensures)
 
 pub next-night-spec : {M : Type 1} → statement M
 next-night-spec = tie.close (tie.spec goes-on-requires add-t7 returns)

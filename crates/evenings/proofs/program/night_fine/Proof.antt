@@ -41,9 +41,20 @@ add-result c = search needs
 returns-5 : tie.Need-returns-5
 unfolding nightFine
 returns-5 c =
-    let s = (c .before .before .before .before .before .before .before .before .before .before .before) in
+    let at-before = c .before .before .before .before .before .before .before .before .before .before .before in
+    let at-shape-fine = c .before .before .before .before .before .before .before .before .before .shape-fine in
+    let at-if1 = c .before .before .before .before .before .before .before .before .if1 in
+    let at-squares-of = c .before .before .before .before .before .before .before .squares-of in
+    let at-if2 = c .before .before .before .before .before .before .if2 in
+    let s = (at-before) in
     every-decided _ 4 _ refl
-    (λ t. (holds-by (c .before .before .before .before .before .before .before .before .before .shape-fine .ensures) (c .before .before .before .before .before .before .before .before .if1 .left), (le-leb (squares (s .args .night .heading .shape)) programSquares (omega (arith, c .before .before .before .before .before .before .before .squares-of .ensures, c .before .before .before .before .before .before .if2 .left)), (le-leb _ _ (c .before .before .before .before .if3 .left), (le-leb _ _ (c .before .before .if4 .left), (t, tt))))))
+    (λ t. (
+      holds-by (at-shape-fine .ensures) (at-if1 .left),
+      (
+        le-leb (squares (s .args .night .heading .shape)) programSquares (omega (arith, at-squares-of .ensures, at-if2 .left)),
+        (le-leb _ _ (c .before .before .before .before .if3 .left), (le-leb _ _ (c .before .before .if4 .left), (t, tt))),
+      ),
+    ))
 
 pub night-fine-spec : {M : Type 1} → statement M
 night-fine-spec =

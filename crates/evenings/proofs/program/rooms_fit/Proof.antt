@@ -46,7 +46,36 @@ returns-9 c = sym (every-fails _ 8 (lt-leb _ _ (c .if9 .taken)))
 
 returns-10 : tie.Need-returns-10
 unfolding sizesFit
-returns-10 c = every-decided _ 9 _ refl (λ t. (le-leb _ _ (c .before .before .before .before .before .before .before .before .before .before .before .before .before .before .before .before .before .if1 .left), (le-leb _ _ (c .before .before .before .before .before .before .before .before .before .before .before .before .before .before .before .if2 .left), (le-leb _ _ (c .before .before .before .before .before .before .before .before .before .before .before .before .before .if3 .left), (le-leb _ _ (c .before .before .before .before .before .before .before .before .before .before .before .if4 .left), (le-leb _ _ (c .before .before .before .before .before .before .before .before .before .if5 .left), (le-leb _ _ (c .before .before .before .before .before .before .before .if6 .left), (le-leb _ _ (c .before .before .before .before .before .if7 .left), (le-leb _ _ (c .before .before .before .if8 .left), (le-leb _ _ (c .before .if9 .left), (t, tt)))))))))))
+returns-10 c =
+    let at-if1 =
+    c .before .before .before .before .before .before .before .before .before .before .before .before .before .before .before .before
+    .before .if1 in
+    let at-if2 = c .before .before .before .before .before .before .before .before .before .before .before .before .before .before .before .if2 in
+    let at-if3 = c .before .before .before .before .before .before .before .before .before .before .before .before .before .if3 in
+    let at-if4 = c .before .before .before .before .before .before .before .before .before .before .before .if4 in
+    let at-if5 = c .before .before .before .before .before .before .before .before .before .if5 in
+    let at-if6 = c .before .before .before .before .before .before .before .if6 in
+    let at-if7 = c .before .before .before .before .before .if7 in
+    every-decided _ 9 _ refl
+    (λ t. (
+      le-leb _ _ (at-if1 .left),
+      (
+        le-leb _ _ (at-if2 .left),
+        (
+          le-leb _ _ (at-if3 .left),
+          (
+            le-leb _ _ (at-if4 .left),
+            (
+              le-leb _ _ (at-if5 .left),
+              (
+                le-leb _ _ (at-if6 .left),
+                (le-leb _ _ (at-if7 .left), (le-leb _ _ (c .before .before .before .if8 .left), (le-leb _ _ (c .before .if9 .left), (t, tt)))),
+              ),
+            ),
+          ),
+        ),
+      ),
+    ))
 
 pub rooms-fit-spec : {M : Type 1} → statement M
 rooms-fit-spec =

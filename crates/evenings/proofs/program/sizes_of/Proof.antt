@@ -32,7 +32,8 @@ record-size-requires c κs = let s = (c .before .before .before .before .before)
 
 mul-t8 : tie.Need-mul-t8
 mul-t8 c =
-    let s = (c .before .before .before .before .before .before) in
+    let at-before = c .before .before .before .before .before .before in
+    let s = (at-before) in
     let m : c .before .before .before .before .kept-records .result * c .record-size .result ≡ keptRecords (plan (s .args .night .heading .shape) []) * recordSize (plan (s .args .night .heading .shape) []) = ap₂ (λ (x y : ℕ). x * y) (c .before .before .before .before .kept-records .ensures) (c .record-size .ensures) in
     omega (arith, m, kept-fit (s .args .night .heading .shape))
 
@@ -40,7 +41,9 @@ mul-t9 : tie.Need-mul-t9
 mul-t9 c = let s = (c .before .before .before .before .before .before) in omega (arith, c .before .before .before .before .kept-records .ensures, kept-few (s .args .night .heading .shape))
 
 returns : tie.Need-returns
-returns c = let s = (c .before .before .before .before .before .before) in sizes-made (s .args .night) (s .pre) (c .before .before .before .squares-of .ensures) (c .before .before .before .before .kept-records .ensures) (c .record-size .ensures) refl refl
+returns c =
+    let at-before = c .before .before .before .before .before .before in
+    let s = (at-before) in sizes-made (s .args .night) (s .pre) (c .before .before .before .squares-of .ensures) (c .before .before .before .before .kept-records .ensures) (c .record-size .ensures) refl refl
 
 pub sizes-of-spec : {M : Type 1} → statement M
 sizes-of-spec =

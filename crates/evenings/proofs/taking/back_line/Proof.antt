@@ -33,7 +33,12 @@ rates-back-requires c κs =
     (λ l. omega (arith, k, backs-newest _ _ _ (c .before .before .before .before .take-backs .ensures) l), omega (arith, k, s .pre .0 .1))
 
 sub-further : tie.Need-sub-further
-sub-further c = let s = (c .before .before .before .before .before .before .before .before .before .before .before .before .before .before .before .before .before .before) in omega (arith, backs-few _ _ _ (c .before .before .before .before .before .before .before .before .take-backs .ensures), standing-is (s .args .log) (s .pre .1 .0), back-kept (s .args .log) (s .args .count) (s .pre .1 .1))
+sub-further c =
+    let at-before =
+    c .before .before .before .before .before .before .before .before .before .before .before .before .before .before .before .before
+    .before .before in
+    let at-take-backs = c .before .before .before .before .before .before .before .before .take-backs in
+    let s = (at-before) in omega (arith, backs-few _ _ _ (at-take-backs .ensures), standing-is (s .args .log) (s .pre .1 .0), back-kept (s .args .log) (s .args .count) (s .pre .1 .1))
 
 further-requires : tie.Need-further-requires
 further-requires c κs = search needs
@@ -46,9 +51,16 @@ same-length-2 c = search needs
 
 returns : tie.Need-returns
 returns c =
-    let s = (c .before .before .before .before .before .before .before .before .before .before .before .before .before .before .before .before .before .before .before) in
+    let at-before =
+    c .before .before .before .before .before .before .before .before .before .before .before .before .before .before .before .before
+    .before .before .before in
+    let at-record-size = c .before .before .before .before .before .before .before .before .before .before .before .before .before .record-size in
+    let at-slots-in = c .before .before .before .before .before .before .before .before .before .before .before .before .slots-in in
+    let at-take-backs = c .before .before .before .before .before .before .before .before .before .take-backs in
+    let s = (at-before) in
     λ g.
-    back-done (P s) g (E s) (s .args .count) (c .before .before .before .before .before .before .before .before .before .take-backs .ensures) (slots-are (P s) (s .args .records .now) (c .before .before .before .before .before .before .before .before .before .before .before .before .before .record-size .ensures) (c .before .before .before .before .before .before .before .before .before .before .before .before .slots-in .ensures))
+    back-done (P s) g (E s) (s .args .count) (at-take-backs .ensures)
+    (slots-are (P s) (s .args .records .now) (at-record-size .ensures) (at-slots-in .ensures))
     (c .before .before .before .before .rates-back .ensures) (c .further .ensures)
 
 pub back-line-spec : {M : Type 1} → statement M

@@ -23,8 +23,12 @@ same-length-2 c = search needs
 
 returns : tie.Need-returns
 returns c =
-    let s = (c .before .before .before .before .before .before .before .before .before .before .before .before .before .before) in
-    back-done (plan (s .args .shape) (s .args .marks .now)) (world (s .args .depths .now) (s .args .lasts .now) (s .args .records .now) (s .args .run)) (c .before .before .before .before .before .before .before .take-back .ensures) (c .before .before2 .given .1)
+    let at-before = c .before .before .before .before .before .before .before .before .before .before .before .before .before .before in
+    let at-take-back = c .before .before .before .before .before .before .before .take-back in
+    let s = (at-before) in
+    back-done (plan (s .args .shape) (s .args .marks .now))
+    (world (s .args .depths .now) (s .args .lasts .now) (s .args .records .now) (s .args .run)) (at-take-back .ensures)
+    (c .before .before2 .given .1)
 
 same-length-3 : tie.Need-same-length-3
 same-length-3 c = search needs
@@ -34,8 +38,12 @@ same-length-4 c = search needs
 
 returns-2 : tie.Need-returns-2
 returns-2 c =
-    let s = (c .before .before .before .before .before .before .before .before .before .before .before .before .before .before) in
-    back-refused (plan (s .args .shape) (s .args .marks .now)) (world (s .args .depths .now) (s .args .lasts .now) (s .args .records .now) (s .args .run)) (c .before .before .before .before .before .before .before .take-back .ensures) (c .before .number .given .1)
+    let at-before = c .before .before .before .before .before .before .before .before .before .before .before .before .before .before in
+    let at-take-back = c .before .before .before .before .before .before .before .take-back in
+    let s = (at-before) in
+    back-refused (plan (s .args .shape) (s .args .marks .now))
+    (world (s .args .depths .now) (s .args .lasts .now) (s .args .records .now) (s .args .run)) (at-take-back .ensures)
+    (c .before .number .given .1)
 
 pub back-once-spec : {M : Type 1} → statement M
 back-once-spec =

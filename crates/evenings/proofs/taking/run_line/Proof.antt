@@ -69,15 +69,36 @@ run-to-requires c κs = search needs
 
 keep-made-requires : tie.Need-keep-made-requires
 keep-made-requires c κs =
-    let s = (c .before .before .before .before .before .before .before .before .before .before .before .before .before .before .before .before .before .before .before .before .before .before .before .before .before .before .before .before .before .before) in
-    let k = slots-are (P s) (s .args .records .now) (c .before .before .before .before .before .before .before .before .before .before .before .before .before .before .before .before .record-size .ensures) (c .before .before .before .before .before .before .before .before .before .before .before .before .before .before .before .slots-in .ensures) in
-    (nine s, λ l. omega (arith, k, run-newest _ _ _ _ (c .before .before .before .before .before .before .before .before .before .run-to .ensures .ends) l), omega (arith, k, entered s .lent .room))
+    let at-before =
+    c .before .before .before .before .before .before .before .before .before .before .before .before .before .before .before .before
+    .before .before .before .before .before .before .before .before .before .before .before .before .before .before in
+    let at-record-size =
+    c .before .before .before .before .before .before .before .before .before .before .before .before .before .before .before .before
+    .record-size in
+    let at-slots-in =
+    c .before .before .before .before .before .before .before .before .before .before .before .before .before .before .before .slots-in in
+    let at-run-to = c .before .before .before .before .before .before .before .before .before .run-to in
+    let s = (at-before) in
+    let k = slots-are (P s) (s .args .records .now) (at-record-size .ensures) (at-slots-in .ensures) in
+    (nine s, λ l. omega (arith, k, run-newest _ _ _ _ (at-run-to .ensures .ends) l), omega (arith, k, entered s .lent .room))
 
 rates-with-requires : tie.Need-rates-with-requires
-rates-with-requires c κs = let s = (c .before .before .before .before .before .before .before .before .before .before .before .before .before .before .before .before .before .before .before .before .before .before .before .before .before .before .before .before .before .before .before .before .before) in rate-number _ _ _ _ _ (entered s .line)
+rates-with-requires c κs =
+    let at-before =
+    c .before .before .before .before .before .before .before .before .before .before .before .before .before .before .before .before
+    .before .before .before .before .before .before .before .before .before .before .before .before .before .before .before .before
+    .before in
+    let s = (at-before) in rate-number _ _ _ _ _ (entered s .line)
 
 add-further : tie.Need-add-further
-add-further c = let s = (c .before .before .before .before .before .before .before .before .before .before .before .before .before .before .before .before .before .before .before .before .before .before .before .before .before .before .before .before .before .before .before .before .before .before .before .before) in omega (arith, run-few _ _ _ _ (c .before .before .before .before .before .before .before .before .before .before .before .before .before .before .before .run-to .ensures .ends), entered s .steps-few, rate-clock _ _ _ _ _ (entered s .line))
+add-further c =
+    let at-before =
+    c .before .before .before .before .before .before .before .before .before .before .before .before .before .before .before .before
+    .before .before .before .before .before .before .before .before .before .before .before .before .before .before .before .before
+    .before .before .before .before in
+    let at-run-to =
+    c .before .before .before .before .before .before .before .before .before .before .before .before .before .before .before .run-to in
+    let s = (at-before) in omega (arith, run-few _ _ _ _ (at-run-to .ensures .ends), entered s .steps-few, rate-clock _ _ _ _ _ (entered s .line))
 
 further-requires : tie.Need-further-requires
 further-requires c κs = search needs
@@ -96,12 +117,31 @@ same-length-4 c = c .before .before .before .before .before .before .keep-made .
 
 returns : tie.Need-returns
 returns c =
-    let s = (c .before .before .before .before .before .before .before .before .before .before .before .before .before .before .before .before .before .before .before .before .before .before .before .before .before .before .before .before .before .before .before .before .before .before .before .before .before) in
+    let at-before =
+    c .before .before .before .before .before .before .before .before .before .before .before .before .before .before .before .before
+    .before .before .before .before .before .before .before .before .before .before .before .before .before .before .before .before
+    .before .before .before .before .before in
+    let at-fill-table =
+    c .before .before .before .before .before .before .before .before .before .before .before .before .before .before .before .before
+    .before .before .before .before .before .before .before .before .fill-table in
+    let at-record-size =
+    c .before .before .before .before .before .before .before .before .before .before .before .before .before .before .before .before
+    .before .before .before .before .before .before .before .record-size in
+    let at-slots-in =
+    c .before .before .before .before .before .before .before .before .before .before .before .before .before .before .before .before
+    .before .before .before .before .before .before .slots-in in
+    let at-run-to =
+    c .before .before .before .before .before .before .before .before .before .before .before .before .before .before .before .before
+    .run-to in
+    let at-keep-made = c .before .before .before .before .before .before .keep-made in
+    let s = (at-before) in
     rate-done (P s) (G s) (E s) (s .args .clock) (s .args .number) (s .args .rate)
-    (c .before .before .before .before .before .before .before .before .before .before .before .before .before .before .before .before .run-to .ensures .ends
-    ∙ ap (λ (t : List ℕ). runTo (P s) (given (G s .lie) (G s .rain) t) (s .args .clock) (world (s .args .depths .now) (s .args .lasts .now) (s .args .records .now) (s .args .log .run)))
-    (table-is (s .args .inflow .now) (s .args .log .hatches) (s .args .log .litres) (c .before .before .before .before .before .before .before .before .before .before .before .before .before .before .before .before .before .before .before .before .before .before .before .before .fill-table .ensures)))
-    (slots-are (P s) (s .args .records .now) (c .before .before .before .before .before .before .before .before .before .before .before .before .before .before .before .before .before .before .before .before .before .before .before .record-size .ensures) (c .before .before .before .before .before .before .before .before .before .before .before .before .before .before .before .before .before .before .before .before .before .before .slots-in .ensures)) (c .before .before .before .before .before .before .keep-made .ensures) (c .before .before .before .rates-with .ensures) (c .further .ensures)
+    (at-run-to .ensures .ends
+    ∙ ap
+    (λ (t : List ℕ). runTo (P s) (given (G s .lie) (G s .rain) t) (s .args .clock) (world (s .args .depths .now) (s .args .lasts .now) (s .args .records .now) (s .args .log .run)))
+    (table-is (s .args .inflow .now) (s .args .log .hatches) (s .args .log .litres) (at-fill-table .ensures)))
+    (slots-are (P s) (s .args .records .now) (at-record-size .ensures) (at-slots-in .ensures)) (at-keep-made .ensures)
+    (c .before .before .before .rates-with .ensures) (c .further .ensures)
 
 pub run-line-spec : {M : Type 1} → statement M
 run-line-spec =

@@ -30,7 +30,11 @@ same-length-2 : tie.Need-same-length-2 Inv-loop μ-loop
 same-length-2 c = c .before .before .before .before .before .before .back-once .kept .1 .1 .1 .1 .0 ∙ c .before .before .before .before .before .before .before .before .before .before .loop .inv .2
 
 returns : tie.Need-returns Inv-loop μ-loop
-returns c = backing-stops _ _ _ (c .before .before .before .before .before .before .before .before .before .before .loop .inv .0) (c .before .before .before .before .before .before .before .before .before .loop-test .taken) (c .before .before .before .before .before .before .back-once .ensures) (c .if1 .taken)
+returns c =
+    let at-loop = c .before .before .before .before .before .before .before .before .before .before .loop in
+    let at-loop-test = c .before .before .before .before .before .before .before .before .before .loop-test in
+    let at-back-once = c .before .before .before .before .before .before .back-once in
+    backing-stops _ _ _ (at-loop .inv .0) (at-loop-test .taken) (at-back-once .ensures) (c .if1 .taken)
 
 add-steps : tie.Need-add-steps Inv-loop μ-loop
 add-steps c = omega (arith, c .before .before .before .before .before .before .before .before .before .loop-test .taken)
@@ -39,7 +43,14 @@ loop-less : tie.Need-loop-less Inv-loop μ-loop
 loop-less c = omega (arith, c .before .before .before .before .before .before .before .before .before .loop-test .taken)
 
 loop-again : tie.Need-loop-again Inv-loop μ-loop
-loop-again c = (backing-on _ _ _ (c .before .before .before .before .before .before .before .before .before .before .loop .inv .0) (c .before .before .before .before .before .before .before .before .before .loop-test .taken) (c .before .before .before .before .before .before .back-once .ensures) (c .if1 .left), c .before .before .before .before .before .before .back-once .kept .1 .1 .1 .0 ∙ c .before .before .before .before .before .before .before .before .before .before .loop .inv .1, c .before .before .before .before .before .before .back-once .kept .1 .1 .1 .1 .0 ∙ c .before .before .before .before .before .before .before .before .before .before .loop .inv .2)
+loop-again c =
+    let at-loop = c .before .before .before .before .before .before .before .before .before .before .loop in
+    let at-loop-test = c .before .before .before .before .before .before .before .before .before .loop-test in
+    let at-back-once = c .before .before .before .before .before .before .back-once in (
+      backing-on _ _ _ (at-loop .inv .0) (at-loop-test .taken) (at-back-once .ensures) (c .if1 .left),
+      at-back-once .kept .1 .1 .1 .0 ∙ at-loop .inv .1,
+      at-back-once .kept .1 .1 .1 .1 .0 ∙ at-loop .inv .2,
+    )
 
 same-length-3 : tie.Need-same-length-3 Inv-loop μ-loop
 same-length-3 c = c .before .loop .inv .1

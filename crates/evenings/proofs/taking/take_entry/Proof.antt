@@ -54,13 +54,25 @@ enum-known-entry-2 : tie.Need-enum-known-entry-2
 enum-known-entry-2 c = search needs
 
 run-line-requires : tie.Need-run-line-requires
-run-line-requires c κs = let s = (c .before .before .before .before .before .before .before .before .before .before .before .before .before .before .before .before .before .before .before .before .before .before) in ap (λ (x : Entry). refusal (entryRefusals (P s) (G s) (E s) x)) (sym (c .before .before .before .before .before .entry2 .given .1)) ∙ (passed (c .before .before .before .before .before .before .before))
+run-line-requires c κs =
+    let at-before =
+    c .before .before .before .before .before .before .before .before .before .before .before .before .before .before .before .before
+    .before .before .before .before .before .before in
+    let at-before-2 = c .before .before .before .before .before .before .before in
+    let at-entry2 = c .before .before .before .before .before .entry2 in
+    let s = (at-before) in ap (λ (x : Entry). refusal (entryRefusals (P s) (G s) (E s) x)) (sym (at-entry2 .given .1)) ∙ (passed (at-before-2))
 
 enum-known-entry-3 : tie.Need-enum-known-entry-3
 enum-known-entry-3 c = search needs
 
 back-line-requires : tie.Need-back-line-requires
-back-line-requires c κs = let s = (c .before .before .before .before .before .before .before .before .before .before .before .before .before .before .before .before .before .before .before .before .before .before) in entered-back (P s) (G s) (E s) (passed (c .before .before .before .before .before .before .before)) (c .before .before .before .before .before .entry3 .given .1)
+back-line-requires c κs =
+    let at-before =
+    c .before .before .before .before .before .before .before .before .before .before .before .before .before .before .before .before
+    .before .before .before .before .before .before in
+    let at-before-2 = c .before .before .before .before .before .before .before in
+    let at-entry3 = c .before .before .before .before .before .entry3 in
+    let s = (at-before) in entered-back (P s) (G s) (E s) (passed (at-before-2)) (at-entry3 .given .1)
 
 enum-told : tie.Need-enum-told
 enum-told c = search needs
@@ -75,7 +87,11 @@ same-length-6 : tie.Need-same-length-6
 same-length-6 c = search needs
 
 returns-2 : tie.Need-returns-2
-returns-2 c = let s = (c .before .before .before .before .before .before .before .before .before .before .before .before .before .before .before .before .before .before .before) in took-hatch (P s) (G s) (E s) (passed (c .before .before .before .before)) (c .before .before .entry .given .1) (c .name-hatch .ensures)
+returns-2 c =
+    let at-before =
+    c .before .before .before .before .before .before .before .before .before .before .before .before .before .before .before .before
+    .before .before .before in
+    let s = (at-before) in took-hatch (P s) (G s) (E s) (passed (c .before .before .before .before)) (c .before .before .entry .given .1) (c .name-hatch .ensures)
 
 same-length-7 : tie.Need-same-length-7
 same-length-7 c = search needs
@@ -90,7 +106,15 @@ same-length-10 : tie.Need-same-length-10
 same-length-10 c = search needs
 
 returns-3 : tie.Need-returns-3
-returns-3 c = let s = (c .before .before .before .before .before .before .before .before .before .before .before .before .before .before .before .before .before .before .before .before .before .before .before .before .before .before .before .before .before .before .before) in took-rate (P s) (G s) (E s) (passed (c .before .before .before .before .before .before .before .before .before .before .before .before .before .before .before .before)) (c .before .before .before .before .before .before .before .before .before .before .before .before .before .before .entry2 .given .1) (c .before .before .before .before .before .before .before .before .run-line .ensures)
+returns-3 c =
+    let at-before =
+    c .before .before .before .before .before .before .before .before .before .before .before .before .before .before .before .before
+    .before .before .before .before .before .before .before .before .before .before .before .before .before .before .before in
+    let at-before-2 =
+    c .before .before .before .before .before .before .before .before .before .before .before .before .before .before .before .before in
+    let at-entry2 = c .before .before .before .before .before .before .before .before .before .before .before .before .before .before .entry2 in
+    let at-run-line = c .before .before .before .before .before .before .before .before .run-line in
+    let s = (at-before) in took-rate (P s) (G s) (E s) (passed (at-before-2)) (at-entry2 .given .1) (at-run-line .ensures)
 
 same-length-11 : tie.Need-same-length-11
 same-length-11 c = search needs
@@ -105,7 +129,13 @@ same-length-14 : tie.Need-same-length-14
 same-length-14 c = search needs
 
 returns-4 : tie.Need-returns-4
-returns-4 c = let s = (c .before .before .before .before .before .before .before .before .before .before .before .before .before .before .before .before .before .before .before .before .before .before .before .before .before .before .before) in took-back (P s) (G s) (E s) (passed (c .before .before .before .before .before .before .before .before .before .before .before .before)) (c .before .before .before .before .before .before .before .before .before .before .entry3 .given .1) (c .before .before .before .before .back-line .ensures (G s))
+returns-4 c =
+    let at-before =
+    c .before .before .before .before .before .before .before .before .before .before .before .before .before .before .before .before
+    .before .before .before .before .before .before .before .before .before .before .before in
+    let at-before-2 = c .before .before .before .before .before .before .before .before .before .before .before .before in
+    let at-entry3 = c .before .before .before .before .before .before .before .before .before .before .entry3 in
+    let s = (at-before) in took-back (P s) (G s) (E s) (passed (at-before-2)) (at-entry3 .given .1) (c .before .before .before .before .back-line .ensures (G s))
 
 same-length-15 : tie.Need-same-length-15
 same-length-15 c = search needs

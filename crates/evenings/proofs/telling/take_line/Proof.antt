@@ -48,8 +48,16 @@ same-length-4 c = search needs
 
 returns : tie.Need-returns
 returns c =
-    let s = (c .before .before .before .before .before .before .before .before .before .before .before .before .before .before .before .before .before .before .before .before .before .before .before .before .before .before .before .before .before) in
-    shown-whole (P s) (G s) (s .args .text .now) (s .args .at) (s .args .line) (E s) (c .before .before .before .before .before .before .before .before .before .before .before .before .before .before .before .before .before .log-line .ensures) (c .before .before .before .before .before .before .before .before .before .before .before .before .take-entry .ensures) (c .put-entry .ensures _ _ _)
+    let at-before =
+    c .before .before .before .before .before .before .before .before .before .before .before .before .before .before .before .before
+    .before .before .before .before .before .before .before .before .before .before .before .before .before in
+    let at-log-line =
+    c .before .before .before .before .before .before .before .before .before .before .before .before .before .before .before .before
+    .before .log-line in
+    let at-take-entry = c .before .before .before .before .before .before .before .before .before .before .before .before .take-entry in
+    let s = (at-before) in
+    shown-whole (P s) (G s) (s .args .text .now) (s .args .at) (s .args .line) (E s) (at-log-line .ensures) (at-take-entry .ensures)
+    (c .put-entry .ensures _ _ _)
 
 pub take-line-spec : {M : Type 1} → statement M
 take-line-spec =

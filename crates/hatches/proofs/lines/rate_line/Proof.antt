@@ -29,7 +29,12 @@ unread-requires-2 : tie.Need-unread-requires-2
 unread-requires-2 c κs = search needs
 
 returns-2 : tie.Need-returns-2
-returns-2 c = c .unread2 .ensures ∙ rate-unread _ _ (sym (c .before .before .before .before .before .clock .given .1) ∙ c .before .before .before .before .before .before .before .number-at .ensures) (c .before .before .before .rest-of-line .ensures) (not-true _ (c .before .if1 .taken))
+returns-2 c =
+    let at-number-at = c .before .before .before .before .before .before .before .number-at in
+    let at-clock = c .before .before .before .before .before .clock in
+    c .unread2 .ensures
+    ∙ rate-unread _ _ (sym (at-clock .given .1) ∙ at-number-at .ensures) (c .before .before .before .rest-of-line .ensures)
+    (not-true _ (c .before .if1 .taken))
 
 array-read-t11 : tie.Need-array-read-t11
 array-read-t11 c = search needs
@@ -38,7 +43,11 @@ array-read-t14 : tie.Need-array-read-t14
 array-read-t14 c = search needs
 
 returns-3 : tie.Need-returns-3
-returns-3 c = rate-read _ _ (sym (c .before .before .before .before .before .clock .given .1) ∙ c .before .before .before .before .before .before .before .number-at .ensures) (c .before .before .before .rest-of-line .ensures) (not-false _ (c .before .if1 .left))
+returns-3 c =
+    let at-number-at = c .before .before .before .before .before .before .before .number-at in
+    let at-clock = c .before .before .before .before .before .clock in
+    rate-read _ _ (sym (at-clock .given .1) ∙ at-number-at .ensures) (c .before .before .before .rest-of-line .ensures)
+    (not-false _ (c .before .if1 .left))
 
 pub rate-line-spec : {M : Type 1} → statement M
 rate-line-spec =

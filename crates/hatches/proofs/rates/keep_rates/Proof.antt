@@ -29,8 +29,12 @@ loop-less c = omega (arith, c .before .before .before .before .before .loop-test
 
 loop-again : tie.Need-loop-again Inv-loop μ-loop
 loop-again c =
-    let s = c .before .before .before .before .before .before .before .before in
-    keeping-next (c .before .before .before .before .before .before .loop .inv) (c .before .before .before .before .before .loop-test .taken) (s .pre .0) (s .pre .2) (c .before .before .before .before .slot-after .ensures) (c .before .before .keep-one .ensures)
+    let at-before = c .before .before .before .before .before .before .before .before in
+    let at-loop = c .before .before .before .before .before .before .loop in
+    let at-loop-test = c .before .before .before .before .before .loop-test in
+    let s = at-before in
+    keeping-next (at-loop .inv) (at-loop-test .taken) (s .pre .0) (s .pre .2) (c .before .before .before .before .slot-after .ensures)
+    (c .before .before .keep-one .ensures)
 
 same-length : tie.Need-same-length Inv-loop μ-loop
 same-length c = c .before .loop .inv .long

@@ -40,7 +40,9 @@ slice-aggregate-copy-into : tie.Need-slice-aggregate-copy-into
 slice-aggregate-copy-into c = search needs
 
 copy-into-requires : tie.Need-copy-into-requires
-copy-into-requires c κs = let s = (c .before .before .before .before .before .before .before) in omega (arith, s .pre .1, ap length (row-named (s .args .hatches) (s .args .t2) (s .args .hatch) (not-false _ (c .before .before .before .before .if1 .left))))
+copy-into-requires c κs =
+    let at-before = c .before .before .before .before .before .before .before in
+    let s = (at-before) in omega (arith, s .pre .1, ap length (row-named (s .args .hatches) (s .args .t2) (s .args .hatch) (not-false _ (c .before .before .before .before .if1 .left))))
 
 add-result : tie.Need-add-result
 add-result c = search needs
@@ -49,7 +51,10 @@ same-length : tie.Need-same-length
 same-length c = search needs
 
 returns-2 : tie.Need-returns-2
-returns-2 c = let s = (c .before .before .before .before .before .before .before .before .before .before) in row-put (s .args .hatches) (s .args .t2) (s .args .hatch) (not-false _ (c .before .before .before .before .before .before .before .if1 .left)) (c .before .before .copy-into .ensures)
+returns-2 c =
+    let at-before = c .before .before .before .before .before .before .before .before .before .before in
+    let at-if1 = c .before .before .before .before .before .before .before .if1 in
+    let s = (at-before) in row-put (s .args .hatches) (s .args .t2) (s .args .hatch) (not-false _ (at-if1 .left)) (c .before .before .copy-into .ensures)
 
 pub put-row-spec : {M : Type 1} → statement M
 put-row-spec =

@@ -21,7 +21,8 @@ slot-ago-requires : tie.Need-slot-ago-requires
 slot-ago-requires c κs = let s = (c .before .before .before) in s .pre .0 (omega (arith, c .before .if1 .left))
 
 rates-in-requires : tie.Need-rates-in-requires
-rates-in-requires c κs = let s = (c .before .before .before .before) in omega (arith, c .slot-ago .ensures, ago-below (s .args .slots) (s .args .steps - 1) (s .args .log .run .newest) (s .pre .0 (omega (arith, c .before .before .if1 .left))), s .pre .1)
+rates-in-requires c κs =
+    let s = (c .before .before .before .before) in omega (arith, c .slot-ago .ensures, ago-below (s .args .slots) (s .args .steps - 1) (s .args .log .run .newest) (s .pre .0 (omega (arith, c .before .before .if1 .left))), s .pre .1)
 
 returns-2 : tie.Need-returns-2
 returns-2 c = let s = (c .before .before .before .before .before) in back-some (s .args .slots) (s .args .began .now) (s .args .log) (omega (arith, c .before .before .before .if1 .left)) (c .before .slot-ago .ensures) (c .rates-in .ensures)

@@ -32,7 +32,8 @@ loop-again : tie.Need-loop-again Inv-loop μ-loop
 loop-again c =
     let s = c .before .before .before in
     let inv = c .before .before .loop .inv in (
-      c .slot-before .ensures ∙ (ap (slotBefore (s .args .slots)) (inv .0) ∙ (sym (ago-step (s .args .slots) (s .args .newest) (c .before .before .loop .back)) ∙ ap (slotAgo (s .args .slots) (s .args .newest)) (sym (add-one (c .before .before .loop .back))))),
+      c .slot-before .ensures
+          ∙ (ap (slotBefore (s .args .slots)) (inv .0) ∙ (sym (ago-step (s .args .slots) (s .args .newest) (c .before .before .loop .back)) ∙ ap (slotAgo (s .args .slots) (s .args .newest)) (sym (add-one (c .before .before .loop .back))))),
       rw (c .slot-before .ensures) (before-below _ _ (inv .1)),
       omega (arith, c .before .loop-test .taken),
     )

@@ -69,13 +69,18 @@ returns-5 c =
 returns-6 : tie.Need-returns-6
 unfolding entryRefusals
 returns-6 c =
+    let at-line-fine = c .before .before .before .before .before .before .before .before .before .line-fine in
+    let at-if1 = c .before .before .before .before .before .before .before .before .if1 in
+    let at-lent-fine = c .before .before .before .before .before .before .before .lent-fine in
+    let at-if2 = c .before .before .before .before .before .before .if2 in
+    let at-draw-fine = c .before .before .before .before .before .draw-fine in
     λ beds roughness rates rain lasts.
     sym
     (passed-refusal _ (
-      holds-by (c .before .before .before .before .before .before .before .before .before .line-fine .ensures) (c .before .before .before .before .before .before .before .before .if1 .left),
+      holds-by (at-line-fine .ensures) (at-if1 .left),
       (
-        holds-by (c .before .before .before .before .before .before .before .lent-fine .ensures) (c .before .before .before .before .before .before .if2 .left),
-        (holds-by (c .before .before .before .before .before .draw-fine .ensures) (c .before .before .before .before .if3 .left), (holds-by (c .before .before .before .standing-fine .ensures) (c .before .before .if4 .left), (holds-by (c .before .kept-fine .ensures) (c .if5 .left), tt))),
+        holds-by (at-lent-fine .ensures) (at-if2 .left),
+        (holds-by (at-draw-fine .ensures) (c .before .before .before .before .if3 .left), (holds-by (c .before .before .before .standing-fine .ensures) (c .before .before .if4 .left), (holds-by (c .before .kept-fine .ensures) (c .if5 .left), tt))),
       ),
     ))
 

@@ -26,7 +26,9 @@ square-at-requires : tie.Need-square-at-requires
 square-at-requires c κs = search needs
 
 is-closed-requires : tie.Need-is-closed-requires
-is-closed-requires c κs = let s = (c .before .before .before .before .before .before .before) in square-inside (s .args .shape) (s .args .marks .now) (c .square-at .ensures) (omega (arith, c .before .before .before .if1 .left)) (omega (arith, c .before .if2 .left)) (s .pre .1)
+is-closed-requires c κs =
+    let at-before = c .before .before .before .before .before .before .before in
+    let s = (at-before) in square-inside (s .args .shape) (s .args .marks .now) (c .square-at .ensures) (omega (arith, c .before .before .before .if1 .left)) (omega (arith, c .before .if2 .left)) (s .pre .1)
 
 returns-3 : tie.Need-returns-3
 unfolding drawFine
@@ -40,11 +42,24 @@ table-fits-requires c κs = search needs
 returns-4 : tie.Need-returns-4
 unfolding drawFine
 returns-4 c =
-    let s = (c .before .before .before .before .before .before .before .before .before .before) in
+    let at-before = c .before .before .before .before .before .before .before .before .before .before in
+    let at-if1 = c .before .before .before .before .before .before .if1 in
+    let s = (at-before) in
     let j = table-judged (s .args .inflow .now) (s .args .log) (inflowKind .width) (c .table-fits .ensures (s .args .log .litres)) in
     λ number.
     every-decided _ 3 _ j
-    (λ t. (lt-ltb _ _ (c .before .before .before .before .before .before .if1 .left), (lt-ltb _ _ (c .before .before .before .before .if2 .left), (ap not (closed-at (plan (s .args .shape) (s .args .marks .now)) (c .before .before .before .square-at .ensures) (c .before .before .is-closed .ensures) (c .before .if3 .left)), (j ∙ t, tt)))))
+    (λ t. (
+      lt-ltb _ _ (at-if1 .left),
+      (
+        lt-ltb _ _ (c .before .before .before .before .if2 .left),
+        (
+          ap not
+              (closed-at (plan (s .args .shape) (s .args .marks .now)) (c .before .before .before .square-at .ensures)
+              (c .before .before .is-closed .ensures) (c .before .if3 .left)),
+          (j ∙ t, tt),
+        ),
+      ),
+    ))
 
 pub hatch-draw-fine-spec : {M : Type 1} → statement M
 hatch-draw-fine-spec =

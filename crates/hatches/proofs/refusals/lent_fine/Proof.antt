@@ -56,10 +56,26 @@ slots-in-requires-2 c κs = search needs
 returns-5 : tie.Need-returns-5
 unfolding lentFine oneEach
 returns-5 c =
-    let s = (c .before .before .before .before .before .before .before .before .before .before .before .before .before .before .before) in
+    let at-before = c .before .before .before .before .before .before .before .before .before .before .before .before .before .before .before in
+    let at-shape-fine = c .before .before .before .before .before .before .before .before .before .before .shape-fine in
+    let at-if1 = c .before .before .before .before .before .before .before .before .before .if1 in
+    let at-squares-of = c .before .before .before .before .before .before .before .before .squares-of in
+    let at-if2 = c .before .before .before .before .before .before .before .if2 in
+    let at-one-each = c .before .before .before .before .before .before .one-each in
+    let at-if3 = c .before .before .before .before .before .if3 in
+    let s = (at-before) in
     let j = slots-judged (plan (s .args .shape) (s .args .marks .now)) (s .args .records .now) (s .args .began .now) (c .before .before .record-size .ensures) (c .before .slots-in .ensures) (c .slots-in2 .ensures) in
     every-decided _ 4 _ j
-    (λ t. (holds-by (c .before .before .before .before .before .before .before .before .before .before .shape-fine .ensures) (c .before .before .before .before .before .before .before .before .before .if1 .left), (le-leb (squares (s .args .shape)) programSquares (omega (arith, c .before .before .before .before .before .before .before .before .squares-of .ensures, c .before .before .before .before .before .before .before .if2 .left)), (holds-by (c .before .before .before .before .before .before .one-each .ensures) (c .before .before .before .before .before .if3 .left), (holds-by (c .before .before .before .before .one-each2 .ensures) (c .before .before .before .if4 .left), (j ∙ t, tt))))))
+    (λ t. (
+      holds-by (at-shape-fine .ensures) (at-if1 .left),
+      (
+        le-leb (squares (s .args .shape)) programSquares (omega (arith, at-squares-of .ensures, at-if2 .left)),
+        (
+          holds-by (at-one-each .ensures) (at-if3 .left),
+          (holds-by (c .before .before .before .before .one-each2 .ensures) (c .before .before .before .if4 .left), (j ∙ t, tt)),
+        ),
+      ),
+    ))
 
 pub lent-fine-spec : {M : Type 1} → statement M
 lent-fine-spec =

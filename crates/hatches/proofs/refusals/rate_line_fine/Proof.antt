@@ -30,9 +30,17 @@ returns-3 c = λ litres. sym (every-fails _ 2 (lt-leb _ _ (c .if3 .taken)))
 returns-4 : tie.Need-returns-4
 unfolding lineFine
 returns-4 c =
+    let at-is-named = c .before .before .before .before .before .before .is-named in
+    let at-if1 = c .before .before .before .before .before .if1 in
     λ litres.
     every-decided _ 3 _ refl
-    (λ t. (holds-by (c .before .before .before .before .before .before .is-named .ensures) (c .before .before .before .before .before .if1 .left), (holds-by (c .before .before .before .before .is-multiple .ensures) (c .before .before .before .if2 .left), (le-leb _ _ (c .before .before .if3 .left), (t, tt)))))
+    (λ t. (
+      holds-by (at-is-named .ensures) (at-if1 .left),
+      (
+        holds-by (c .before .before .before .before .is-multiple .ensures) (c .before .before .before .if2 .left),
+        (le-leb _ _ (c .before .before .if3 .left), (t, tt)),
+      ),
+    ))
 
 pub rate-line-fine-spec : {M : Type 1} → statement M
 rate-line-fine-spec =

@@ -23,27 +23,38 @@ put-place-requires c κs =
 
 array-share-prefix-room : tie.Need-array-share-prefix-room
 array-share-prefix-room c =
-    put-within (c .before .put-place .ensures) (omega (arith, place-short (c .before .before .before .before .args .row) (c .before .before .before .before .args .column) (c .before .before .before .before .fits .row .fits) (c .before .before .before .before .fits .column .fits)))
+    let start = c .before .before .before .before in
+    put-within (c .before .put-place .ensures)
+    (omega (arith, place-short (start .args .row) (start .args .column) (start .fits .row .fits) (start .fits .column .fits)))
 
 slice-aggregate-word-at : tie.Need-slice-aggregate-word-at
 slice-aggregate-word-at c =
-    sym (length-take-le _ _ (put-within (c .before .before .put-place .ensures) (omega (arith, place-short (c .before .before .before .before .before .args .row) (c .before .before .before .before .before .args .column) (c .before .before .before .before .before .fits .row .fits) (c .before .before .before .before .before .fits .column .fits)))))
+    let start = c .before .before .before .before .before in
+    sym
+    (length-take-le _ _
+    (put-within (c .before .before .put-place .ensures)
+    (omega (arith, place-short (start .args .row) (start .args .column) (start .fits .row .fits) (start .fits .column .fits)))))
 
 word-at-requires : tie.Need-word-at-requires
 word-at-requires c κs = search needs
 
 returns : tie.Need-returns
 returns c =
-    hole-unplaced (c .before .before .before .before .before .before .before .args .text .now) (c .before .before .before .before .before .before .before .args .at) (c .before .before .before .before .before .before .before .args .row) (c .before .before .before .before .before .before .before .args .column)
-    (ap (wordAt (c .before .before .before .before .before .before .before .args .text .now) (c .before .before .before .before .before .before .before .args .at)) (sym (put-again (c .before .before .before .before .put-place .ensures))) ∙ (sym (c .before .word-at .ensures) ∙ not-true _ (c .if1 .taken)))
+    let start = c .before .before .before .before .before .before .before in
+    let a = start .args in
+    hole-unplaced (a .text .now) (a .at) (a .row) (a .column)
+    (ap (wordAt (a .text .now) (a .at)) (sym (put-again (c .before .before .before .before .put-place .ensures)))
+    ∙ (sym (c .before .word-at .ensures) ∙ not-true _ (c .if1 .taken)))
 
 add-after : tie.Need-add-after
 add-after c =
+    let start = c .before .before .before .before .before .before .before in
+    let a = start .args in
     omega (
       arith,
       c .before .before .before .before .put-place .ensures .next,
-      word-within (c .before .before .before .before .before .before .before .args .text .now) (c .before .before .before .before .before .before .before .args .at) (placeText (c .before .before .before .before .before .before .before .args .row) (c .before .before .before .before .before .before .before .args .column))
-          (ap (wordAt (c .before .before .before .before .before .before .before .args .text .now) (c .before .before .before .before .before .before .before .args .at)) (sym (put-again (c .before .before .before .before .put-place .ensures))) ∙ (sym (c .before .word-at .ensures) ∙ not-false _ (c .if1 .left))),
+      word-within (a .text .now) (a .at) (placeText (a .row) (a .column))
+          (ap (wordAt (a .text .now) (a .at)) (sym (put-again (c .before .before .before .before .put-place .ensures))) ∙ (sym (c .before .word-at .ensures) ∙ not-false _ (c .if1 .left))),
     )
 
 slice-aggregate-word-at-2 : tie.Need-slice-aggregate-word-at-2
@@ -58,9 +69,13 @@ add-t19 c =
 
 returns-2 : tie.Need-returns-2
 returns-2 c =
-    hole-open (c .before .before .before .before .before .before .before .before .before .before .args .text .now) (c .before .before .before .before .before .before .before .before .before .before .args .at) (c .before .before .before .before .before .before .before .before .before .before .args .row) (c .before .before .before .before .before .before .before .before .before .before .args .column)
-    (ap (wordAt (c .before .before .before .before .before .before .before .before .before .before .args .text .now) (c .before .before .before .before .before .before .before .before .before .before .args .at)) (sym (put-again (c .before .before .before .before .before .before .before .put-place .ensures))) ∙ (sym (c .before .before .before .before .word-at .ensures) ∙ not-false _ (c .before .before .before .if1 .left)))
-    (omega (arith, c .before .before .before .before .before .before .before .put-place .ensures .next)) (sym (c .before .word-at2 .ensures) ∙ c .if2 .taken)
+    let start = c .before .before .before .before .before .before .before .before .before .before in
+    let a = start .args in
+    let at-put-place = c .before .before .before .before .before .before .before .put-place in
+    hole-open (a .text .now) (a .at) (a .row) (a .column)
+    (ap (wordAt (a .text .now) (a .at)) (sym (put-again (at-put-place .ensures)))
+    ∙ (sym (c .before .before .before .before .word-at .ensures) ∙ not-false _ (c .before .before .before .if1 .left)))
+    (omega (arith, at-put-place .ensures .next)) (sym (c .before .word-at2 .ensures) ∙ c .if2 .taken)
 
 slice-aggregate-word-at-3 : tie.Need-slice-aggregate-word-at-3
 slice-aggregate-word-at-3 c = search needs
@@ -74,15 +89,29 @@ add-t23 c =
 
 returns-3 : tie.Need-returns-3
 returns-3 c =
-    hole-exit (c .before .before .before .before .before .before .before .before .before .before .before .before .before .args .text .now) (c .before .before .before .before .before .before .before .before .before .before .before .before .before .args .at) (c .before .before .before .before .before .before .before .before .before .before .before .before .before .args .row) (c .before .before .before .before .before .before .before .before .before .before .before .before .before .args .column)
-    (ap (wordAt (c .before .before .before .before .before .before .before .before .before .before .before .before .before .args .text .now) (c .before .before .before .before .before .before .before .before .before .before .before .before .before .args .at)) (sym (put-again (c .before .before .before .before .before .before .before .before .before .before .put-place .ensures))) ∙ (sym (c .before .before .before .before .before .before .before .word-at .ensures) ∙ not-false _ (c .before .before .before .before .before .before .if1 .left)))
-    (omega (arith, c .before .before .before .before .before .before .before .before .before .before .put-place .ensures .next)) (sym (c .before .before .before .before .word-at2 .ensures) ∙ c .before .before .before .if2 .left) (sym (c .before .word-at3 .ensures) ∙ c .if3 .taken)
+    let start = c .before .before .before .before .before .before .before .before .before .before .before .before .before in
+    let a = start .args in
+    let at-put-place = c .before .before .before .before .before .before .before .before .before .before .put-place in
+    let at-word-at = c .before .before .before .before .before .before .before .word-at in
+    let at-if1 = c .before .before .before .before .before .before .if1 in
+    hole-exit (a .text .now) (a .at) (a .row) (a .column)
+    (ap (wordAt (a .text .now) (a .at)) (sym (put-again (at-put-place .ensures))) ∙ (sym (at-word-at .ensures) ∙ not-false _ (at-if1 .left)))
+    (omega (arith, at-put-place .ensures .next))
+    (sym (c .before .before .before .before .word-at2 .ensures) ∙ c .before .before .before .if2 .left)
+    (sym (c .before .word-at3 .ensures) ∙ c .if3 .taken)
 
 returns-4 : tie.Need-returns-4
 returns-4 c =
-    hole-none (c .before .before .before .before .before .before .before .before .before .before .before .before .before .args .text .now) (c .before .before .before .before .before .before .before .before .before .before .before .before .before .args .at) (c .before .before .before .before .before .before .before .before .before .before .before .before .before .args .row) (c .before .before .before .before .before .before .before .before .before .before .before .before .before .args .column)
-    (ap (wordAt (c .before .before .before .before .before .before .before .before .before .before .before .before .before .args .text .now) (c .before .before .before .before .before .before .before .before .before .before .before .before .before .args .at)) (sym (put-again (c .before .before .before .before .before .before .before .before .before .before .put-place .ensures))) ∙ (sym (c .before .before .before .before .before .before .before .word-at .ensures) ∙ not-false _ (c .before .before .before .before .before .before .if1 .left)))
-    (omega (arith, c .before .before .before .before .before .before .before .before .before .before .put-place .ensures .next)) (sym (c .before .before .before .before .word-at2 .ensures) ∙ c .before .before .before .if2 .left) (sym (c .before .word-at3 .ensures) ∙ c .if3 .left)
+    let start = c .before .before .before .before .before .before .before .before .before .before .before .before .before in
+    let a = start .args in
+    let at-put-place = c .before .before .before .before .before .before .before .before .before .before .put-place in
+    let at-word-at = c .before .before .before .before .before .before .before .word-at in
+    let at-if1 = c .before .before .before .before .before .before .if1 in
+    hole-none (a .text .now) (a .at) (a .row) (a .column)
+    (ap (wordAt (a .text .now) (a .at)) (sym (put-again (at-put-place .ensures))) ∙ (sym (at-word-at .ensures) ∙ not-false _ (at-if1 .left)))
+    (omega (arith, at-put-place .ensures .next))
+    (sym (c .before .before .before .before .word-at2 .ensures) ∙ c .before .before .before .if2 .left)
+    (sym (c .before .word-at3 .ensures) ∙ c .if3 .left)
 
 pub hole-at-spec : {M : Type 1} → statement M
 hole-at-spec =

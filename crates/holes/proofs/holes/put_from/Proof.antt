@@ -41,14 +41,16 @@ rem-put-line-with c =
 
 put-line-with-requires : tie.Need-put-line-with-requires Inv-loop μ-loop
 put-line-with-requires c κs =
-    let a = c .before .before .before .before .before .before .before .args in
+    let start = c .before .before .before .before .before .before .before in
+    let a = start .args in
     let l = c .before .before .before .loop in
-    let look = c .before .before .before .before .before .before .before .pre .0 .0 in
-    let fits = one-fits (joined (lookedAt (a .text .now)) (linePut (a .text .now) (a .beds .now))) (drop (startOf (a .text .now) (lookedAt (a .text .now))) (a .text .now)) (a .at) (a .out .now) (c .before .before .before .before .before .before .before .pre .1) in (
+    let look = start .pre .0 .0 in
+    let fits = one-fits (joined (lookedAt (a .text .now)) (linePut (a .text .now) (a .beds .now))) (drop (startOf (a .text .now) (lookedAt (a .text .now))) (a .text .now)) (a .at) (a .out .now) (start .pre .1) in (
       line-in look (l .square) (l .inv .1),
       omega (
         arith,
-        line-fits (linePut (a .text .now) (a .beds .now)) (lookedAt (a .text .now)) (a .at) (a .out .now) fits (l .square) (l .inv .2) (omega (arith, c .before .before .loop-test .taken, look .squares-are)),
+        line-fits (linePut (a .text .now) (a .beds .now)) (lookedAt (a .text .now)) (a .at) (a .out .now) fits (l .square) (l .inv .2)
+            (omega (arith, c .before .before .loop-test .taken, look .squares-are)),
         ap length (line-as look (l .square) (l .inv .1) (a .beds .now) (c .before .number .ensures)),
       ),
     )
@@ -67,14 +69,19 @@ loop-less c =
 
 loop-again : tie.Need-loop-again Inv-loop μ-loop
 loop-again c =
-    let a = c .before .before .before .before .before .before .before .before .before .before .before .args in
-    let l = c .before .before .before .before .before .before .before .loop in
-    let look = c .before .before .before .before .before .before .before .before .before .before .before .pre .0 .0 in
-    let fits = one-fits (joined (lookedAt (a .text .now)) (linePut (a .text .now) (a .beds .now))) (drop (startOf (a .text .now) (lookedAt (a .text .now))) (a .text .now)) (a .at) (a .out .now) (c .before .before .before .before .before .before .before .before .before .before .before .pre .1) in (
-      omega (arith, c .before .before .before .before .before .before .loop-test .taken),
+    let start = c .before .before .before .before .before .before .before .before .before .before .before in
+    let at-loop = c .before .before .before .before .before .before .before .loop in
+    let at-loop-test = c .before .before .before .before .before .before .loop-test in
+    let at-number = c .before .before .before .before .before .number in
+    let a = start .args in
+    let l = at-loop in
+    let look = start .pre .0 .0 in
+    let fits = one-fits (joined (lookedAt (a .text .now)) (linePut (a .text .now) (a .beds .now))) (drop (startOf (a .text .now) (lookedAt (a .text .now))) (a .text .now)) (a .at) (a .out .now) (start .pre .1) in (
+      omega (arith, at-loop-test .taken),
       line-on look (l .square) (l .inv .1) (c .next-line .ensures),
-      line-written (linePut (a .text .now) (a .beds .now)) (lookedAt (a .text .now)) (a .at) (a .out .now) fits (l .square) (l .inv .2) (omega (arith, c .before .before .before .before .before .before .loop-test .taken, look .squares-are))
-          (written-as (line-as look (l .square) (l .inv .1) (a .beds .now) (c .before .before .before .before .before .number .ensures)) (c .before .before .before .put-line-with .ensures)),
+      line-written (linePut (a .text .now) (a .beds .now)) (lookedAt (a .text .now)) (a .at) (a .out .now) fits (l .square) (l .inv .2)
+          (omega (arith, at-loop-test .taken, look .squares-are))
+          (written-as (line-as look (l .square) (l .inv .1) (a .beds .now) (at-number .ensures)) (c .before .before .before .put-line-with .ensures)),
     )
 
 sub-put-word : tie.Need-sub-put-word Inv-loop μ-loop
@@ -91,34 +98,43 @@ part-put-word-end c =
 
 put-word-requires : tie.Need-put-word-requires Inv-loop μ-loop
 put-word-requires c κs =
-    let a = c .before .before .before .before .before .before .before .args in
+    let start = c .before .before .before .before .before .before .before in
+    let a = start .args in
     let l = c .before .before .before .loop in
-    let look = c .before .before .before .before .before .before .before .pre .0 .0 in
+    let look = start .pre .0 .0 in
     omega (
       arith,
-      other-fits (joined (lookedAt (a .text .now)) (linePut (a .text .now) (a .beds .now))) (drop (startOf (a .text .now) (lookedAt (a .text .now))) (a .text .now)) (a .at) (a .out .now) (c .before .before .before .before .before .before .before .pre .1)
+      other-fits (joined (lookedAt (a .text .now)) (linePut (a .text .now) (a .beds .now)))
+          (drop (startOf (a .text .now) (lookedAt (a .text .now))) (a .text .now)) (a .at) (a .out .now) (start .pre .1)
           (lines-whole (linePut (a .text .now) (a .beds .now)) (all-lines look (omega (arith, l .inv .0, c .before .before .loop-test .left))) (l .inv .2)),
       ap length (rest-is look {i = l .square} (omega (arith, l .inv .0, c .before .before .loop-test .left)) (l .inv .1)),
     )
 
 same-length : tie.Need-same-length Inv-loop μ-loop
 same-length c =
-    let a = c .before .before .before .before .before .before .before .before .before .before .args in
-    let l = c .before .before .before .before .before .before .loop in
-    let look = c .before .before .before .before .before .before .before .before .before .before .pre .0 .0 in
-    wrote-length (c .before .before .before .before .before .before .before .before .before .before .pre .1)
-    (both-put (joined (lookedAt (a .text .now)) (linePut (a .text .now) (a .beds .now))) (drop (startOf (a .text .now) (lookedAt (a .text .now))) (a .text .now)) (a .at) (a .out .now) (c .before .before .before .before .before .before .before .before .before .before .pre .1)
-    (lines-whole (linePut (a .text .now) (a .beds .now)) (all-lines look (omega (arith, l .inv .0, c .before .before .before .before .before .loop-test .left))) (l .inv .2))
-    (written-as (rest-is look {i = l .square} (omega (arith, l .inv .0, c .before .before .before .before .before .loop-test .left)) (l .inv .1)) (c .before .before .put-word .ensures)))
+    let start = c .before .before .before .before .before .before .before .before .before .before in
+    let at-loop = c .before .before .before .before .before .before .loop in
+    let at-loop-test = c .before .before .before .before .before .loop-test in
+    let a = start .args in
+    let l = at-loop in
+    let look = start .pre .0 .0 in
+    wrote-length (start .pre .1)
+    (both-put (joined (lookedAt (a .text .now)) (linePut (a .text .now) (a .beds .now))) (drop (startOf (a .text .now) (lookedAt (a .text .now))) (a .text .now)) (a .at) (a .out .now) (start .pre .1)
+    (lines-whole (linePut (a .text .now) (a .beds .now)) (all-lines look (omega (arith, l .inv .0, at-loop-test .left))) (l .inv .2))
+    (written-as (rest-is look {i = l .square} (omega (arith, l .inv .0, at-loop-test .left)) (l .inv .1)) (c .before .before .put-word .ensures)))
 
 returns : tie.Need-returns Inv-loop μ-loop
 returns c =
-    let a = c .before .before .before .before .before .before .before .before .before .before .args in
-    let l = c .before .before .before .before .before .before .loop in
-    let look = c .before .before .before .before .before .before .before .before .before .before .pre .0 .0 in
-    both-put (joined (lookedAt (a .text .now)) (linePut (a .text .now) (a .beds .now))) (drop (startOf (a .text .now) (lookedAt (a .text .now))) (a .text .now)) (a .at) (a .out .now) (c .before .before .before .before .before .before .before .before .before .before .pre .1)
-    (lines-whole (linePut (a .text .now) (a .beds .now)) (all-lines look (omega (arith, l .inv .0, c .before .before .before .before .before .loop-test .left))) (l .inv .2))
-    (written-as (rest-is look {i = l .square} (omega (arith, l .inv .0, c .before .before .before .before .before .loop-test .left)) (l .inv .1)) (c .before .before .put-word .ensures))
+    let start = c .before .before .before .before .before .before .before .before .before .before in
+    let at-loop = c .before .before .before .before .before .before .loop in
+    let at-loop-test = c .before .before .before .before .before .loop-test in
+    let a = start .args in
+    let l = at-loop in
+    let look = start .pre .0 .0 in
+    both-put (joined (lookedAt (a .text .now)) (linePut (a .text .now) (a .beds .now)))
+    (drop (startOf (a .text .now) (lookedAt (a .text .now))) (a .text .now)) (a .at) (a .out .now) (start .pre .1)
+    (lines-whole (linePut (a .text .now) (a .beds .now)) (all-lines look (omega (arith, l .inv .0, at-loop-test .left))) (l .inv .2))
+    (written-as (rest-is look {i = l .square} (omega (arith, l .inv .0, at-loop-test .left)) (l .inv .1)) (c .before .before .put-word .ensures))
 
 pub put-from-spec : {M : Type 1} → statement M
 put-from-spec =

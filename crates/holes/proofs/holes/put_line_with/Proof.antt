@@ -97,52 +97,94 @@ put-bed-requires c κs =
 
 add-rest : tie.Need-add-rest
 add-rest c =
-    let a = c .before .before .before .before .before .before .before .before .before .before .before .before .before .before .before .before .args in
-    let t = told-at (a .text .now) (a .start) (a .row) (a .column) (sym (c .before .before .before .before .before .before .before .before .before .before .spot .given .1) ∙ c .before .before .before .before .before .before .before .before .before .before .before .before .hole-at .ensures) in
+    let start = c .before .before .before .before .before .before .before .before .before .before .before .before .before .before .before .before in
+    let at-next-line = c .before .before .before .before .before .before .before .before .before .before .before .before .before .next-line in
+    let at-hole-at = c .before .before .before .before .before .before .before .before .before .before .before .before .hole-at in
+    let at-spot = c .before .before .before .before .before .before .before .before .before .before .spot in
+    let a = start .args in
+    let t = told-at (a .text .now) (a .start) (a .row) (a .column) (sym (at-spot .given .1) ∙ at-hole-at .ensures) in
     let k = hole-spot (a .text .now) (a .start) (a .row) (a .column) (t .0) in
-    omega (arith, t .1, k .before, k .inside, k .after, c .before .before .before .before .before .before .before .before .before .before .before .before .before .next-line .ensures, next-within (a .text .now) (a .start) (c .before .before .before .before .before .before .before .before .before .before .before .before .before .before .before .before .pre .0))
+    omega (arith, t .1, k .before, k .inside, k .after, at-next-line .ensures, next-within (a .text .now) (a .start) (start .pre .0))
 
 sub-put-word-3 : tie.Need-sub-put-word-3
 sub-put-word-3 c =
-    let a = c .before .before .before .before .before .before .before .before .before .before .before .before .before .before .before .before .before .args in
-    let t = told-at (a .text .now) (a .start) (a .row) (a .column) (sym (c .before .before .before .before .before .before .before .before .before .before .before .spot .given .1) ∙ c .before .before .before .before .before .before .before .before .before .before .before .before .before .hole-at .ensures) in
+    let start =
+    c .before .before .before .before .before .before .before .before .before .before .before .before .before .before .before .before
+    .before in
+    let at-next-line = c .before .before .before .before .before .before .before .before .before .before .before .before .before .before .next-line in
+    let at-hole-at = c .before .before .before .before .before .before .before .before .before .before .before .before .before .hole-at in
+    let at-spot = c .before .before .before .before .before .before .before .before .before .before .before .spot in
+    let a = start .args in
+    let t = told-at (a .text .now) (a .start) (a .row) (a .column) (sym (at-spot .given .1) ∙ at-hole-at .ensures) in
     let k = hole-spot (a .text .now) (a .start) (a .row) (a .column) (t .0) in
-    omega (arith, t .1, k .before, k .inside, k .after, c .before .before .before .before .before .before .before .before .before .before .before .before .before .before .next-line .ensures, next-within (a .text .now) (a .start) (c .before .before .before .before .before .before .before .before .before .before .before .before .before .before .before .before .before .pre .0))
+    omega (arith, t .1, k .before, k .inside, k .after, at-next-line .ensures, next-within (a .text .now) (a .start) (start .pre .0))
 
 part-put-word-start-3 : tie.Need-part-put-word-start-3
 part-put-word-start-3 c =
-    let a = c .before .before .before .before .before .before .before .before .before .before .before .before .before .before .before .before .before .args in
-    let t = told-at (a .text .now) (a .start) (a .row) (a .column) (sym (c .before .before .before .before .before .before .before .before .before .before .before .spot .given .1) ∙ c .before .before .before .before .before .before .before .before .before .before .before .before .before .hole-at .ensures) in
+    let start =
+    c .before .before .before .before .before .before .before .before .before .before .before .before .before .before .before .before
+    .before in
+    let at-next-line = c .before .before .before .before .before .before .before .before .before .before .before .before .before .before .next-line in
+    let at-hole-at = c .before .before .before .before .before .before .before .before .before .before .before .before .before .hole-at in
+    let at-spot = c .before .before .before .before .before .before .before .before .before .before .before .spot in
+    let a = start .args in
+    let t = told-at (a .text .now) (a .start) (a .row) (a .column) (sym (at-spot .given .1) ∙ at-hole-at .ensures) in
     let k = hole-spot (a .text .now) (a .start) (a .row) (a .column) (t .0) in
-    omega (arith, t .1, k .before, k .inside, k .after, c .before .before .before .before .before .before .before .before .before .before .before .before .before .before .next-line .ensures, next-within (a .text .now) (a .start) (c .before .before .before .before .before .before .before .before .before .before .before .before .before .before .before .before .before .pre .0))
+    omega (arith, t .1, k .before, k .inside, k .after, at-next-line .ensures, next-within (a .text .now) (a .start) (start .pre .0))
 
 part-put-word-end-3 : tie.Need-part-put-word-end-3
 part-put-word-end-3 c =
-    let a = c .before .before .before .before .before .before .before .before .before .before .before .before .before .before .before .before .before .args in
-    let t = told-at (a .text .now) (a .start) (a .row) (a .column) (sym (c .before .before .before .before .before .before .before .before .before .before .before .spot .given .1) ∙ c .before .before .before .before .before .before .before .before .before .before .before .before .before .hole-at .ensures) in
+    let start =
+    c .before .before .before .before .before .before .before .before .before .before .before .before .before .before .before .before
+    .before in
+    let at-next-line = c .before .before .before .before .before .before .before .before .before .before .before .before .before .before .next-line in
+    let at-hole-at = c .before .before .before .before .before .before .before .before .before .before .before .before .before .hole-at in
+    let at-spot = c .before .before .before .before .before .before .before .before .before .before .before .spot in
+    let a = start .args in
+    let t = told-at (a .text .now) (a .start) (a .row) (a .column) (sym (at-spot .given .1) ∙ at-hole-at .ensures) in
     let k = hole-spot (a .text .now) (a .start) (a .row) (a .column) (t .0) in
-    omega (arith, t .1, k .before, k .inside, k .after, c .before .before .before .before .before .before .before .before .before .before .before .before .before .before .next-line .ensures, next-within (a .text .now) (a .start) (c .before .before .before .before .before .before .before .before .before .before .before .before .before .before .before .before .before .pre .0))
+    omega (arith, t .1, k .before, k .inside, k .after, at-next-line .ensures, next-within (a .text .now) (a .start) (start .pre .0))
 
 put-word-requires-3 : tie.Need-put-word-requires-3
 put-word-requires-3 c κs =
-    let a = c .before .before .before .before .before .before .before .before .before .before .before .before .before .before .before .before .before .before .args in
-    let spot = c .before .before .before .before .before .before .before .before .before .before .before .before .spot .given .0 .0 in
-    let t = told-at (a .text .now) (a .start) (a .row) (a .column) (sym (c .before .before .before .before .before .before .before .before .before .before .before .before .spot .given .1) ∙ c .before .before .before .before .before .before .before .before .before .before .before .before .before .before .hole-at .ensures) in
-    third-fits (between (a .text .now) (a .start) spot) (bedText (a .bed)) (between (a .text .now) (spot + 1) (c .before .before .before .before .before .before .before .before .before .before .before .before .before .before .before .next-line .result))
-    (line-parts (a .text .now) (a .start) (a .row) (a .column) (bedText (a .bed)) (t .0) (t .1) (c .before .before .before .before .before .before .before .before .before .before .before .before .before .before .before .next-line .ensures)) (a .at) (a .out .now)
-    (c .before .before .before .before .before .before .before .before .before .before .before .before .before .before .before .before .before .before .pre .1) (c .before .before .before .before .before .before .before .before .put-word2 .ensures) (c .before .before .before .before .put-bed .ensures)
+    let start =
+    c .before .before .before .before .before .before .before .before .before .before .before .before .before .before .before .before
+    .before .before in
+    let at-next-line =
+    c .before .before .before .before .before .before .before .before .before .before .before .before .before .before .before .next-line in
+    let at-hole-at = c .before .before .before .before .before .before .before .before .before .before .before .before .before .before .hole-at in
+    let at-spot = c .before .before .before .before .before .before .before .before .before .before .before .before .spot in
+    let at-put-word2 = c .before .before .before .before .before .before .before .before .put-word2 in
+    let a = start .args in
+    let spot = at-spot .given .0 .0 in
+    let t = told-at (a .text .now) (a .start) (a .row) (a .column) (sym (at-spot .given .1) ∙ at-hole-at .ensures) in
+    third-fits (between (a .text .now) (a .start) spot) (bedText (a .bed)) (between (a .text .now) (spot + 1) (at-next-line .result))
+    (line-parts (a .text .now) (a .start) (a .row) (a .column) (bedText (a .bed)) (t .0) (t .1) (at-next-line .ensures)) (a .at) (a .out .now)
+    (start .pre .1) (at-put-word2 .ensures) (c .before .before .before .before .put-bed .ensures)
 
 same-length-2 : tie.Need-same-length-2
 same-length-2 c = search needs
 
 returns-2 : tie.Need-returns-2
 returns-2 c =
-    let a = c .before .before .before .before .before .before .before .before .before .before .before .before .before .before .before .before .before .before .before .before .before .args in
-    let spot = c .before .before .before .before .before .before .before .before .before .before .before .before .before .before .before .spot .given .0 .0 in
-    let t = told-at (a .text .now) (a .start) (a .row) (a .column) (sym (c .before .before .before .before .before .before .before .before .before .before .before .before .before .before .before .spot .given .1) ∙ c .before .before .before .before .before .before .before .before .before .before .before .before .before .before .before .before .before .hole-at .ensures) in
-    three-put (between (a .text .now) (a .start) spot) (bedText (a .bed)) (between (a .text .now) (spot + 1) (c .before .before .before .before .before .before .before .before .before .before .before .before .before .before .before .before .before .before .next-line .result))
-    (line-parts (a .text .now) (a .start) (a .row) (a .column) (bedText (a .bed)) (t .0) (t .1) (c .before .before .before .before .before .before .before .before .before .before .before .before .before .before .before .before .before .before .next-line .ensures)) (a .at) (a .out .now)
-    (c .before .before .before .before .before .before .before .before .before .before .before .before .before .before .before .before .before .before .before .before .before .pre .1) (c .before .before .before .before .before .before .before .before .before .before .before .put-word2 .ensures) (c .before .before .before .before .before .before .before .put-bed .ensures) (c .before .before .put-word3 .ensures)
+    let start =
+    c .before .before .before .before .before .before .before .before .before .before .before .before .before .before .before .before
+    .before .before .before .before .before in
+    let at-next-line =
+    c .before .before .before .before .before .before .before .before .before .before .before .before .before .before .before .before
+    .before .before .next-line in
+    let at-hole-at =
+    c .before .before .before .before .before .before .before .before .before .before .before .before .before .before .before .before
+    .before .hole-at in
+    let at-spot = c .before .before .before .before .before .before .before .before .before .before .before .before .before .before .before .spot in
+    let at-put-word2 = c .before .before .before .before .before .before .before .before .before .before .before .put-word2 in
+    let at-put-bed = c .before .before .before .before .before .before .before .put-bed in
+    let a = start .args in
+    let spot = at-spot .given .0 .0 in
+    let t = told-at (a .text .now) (a .start) (a .row) (a .column) (sym (at-spot .given .1) ∙ at-hole-at .ensures) in
+    three-put (between (a .text .now) (a .start) spot) (bedText (a .bed)) (between (a .text .now) (spot + 1) (at-next-line .result))
+    (line-parts (a .text .now) (a .start) (a .row) (a .column) (bedText (a .bed)) (t .0) (t .1) (at-next-line .ensures)) (a .at) (a .out .now)
+    (start .pre .1) (at-put-word2 .ensures) (at-put-bed .ensures) (c .before .before .put-word3 .ensures)
 
 pub put-line-with-spec : {M : Type 1} → statement M
 put-line-with-spec =

@@ -23,7 +23,9 @@ slice-aggregate-put-fields c = search needs
 
 put-fields-requires : tie.Need-put-fields-requires
 put-fields-requires c κs =
-    second-fits cellWord (fieldsText (c .before .before .before .before .before .before .before .before .args .row ∷ c .before .before .before .before .before .before .before .before .args .column ∷ [])) (tab ∷ []) refl 0 (c .before .before .before .before .before .before .before .before .args .room .now) (omega (arith, c .before .before .before .before .before .before .before .before .pre))
+    let start = c .before .before .before .before .before .before .before .before in
+    let a = start .args in
+    second-fits cellWord (fieldsText (a .row ∷ a .column ∷ [])) (tab ∷ []) refl 0 (a .room .now) (omega (arith, start .pre))
     (c .before .before .before .before .put-word .ensures)
 
 slice-aggregate-put-word-2 : tie.Need-slice-aggregate-put-word-2
@@ -31,10 +33,13 @@ slice-aggregate-put-word-2 c = search needs
 
 put-word-requires-2 : tie.Need-put-word-requires-2
 put-word-requires-2 c κs =
+    let start = c .before .before .before .before .before .before .before .before .before .before .before .before .before in
+    let a = start .args in
+    let at-put-word = c .before .before .before .before .before .before .before .before .before .put-word in
     omega (
       arith,
-      third-fits cellWord (fieldsText (c .before .before .before .before .before .before .before .before .before .before .before .before .before .args .row ∷ c .before .before .before .before .before .before .before .before .before .before .before .before .before .args .column ∷ [])) (tab ∷ []) refl 0 (c .before .before .before .before .before .before .before .before .before .before .before .before .before .args .room .now) (omega (arith, c .before .before .before .before .before .before .before .before .before .before .before .before .before .pre))
-          (c .before .before .before .before .before .before .before .before .before .put-word .ensures) (c .before .before .before .before .put-fields .ensures),
+      third-fits cellWord (fieldsText (a .row ∷ a .column ∷ [])) (tab ∷ []) refl 0 (a .room .now) (omega (arith, start .pre))
+          (at-put-word .ensures) (c .before .before .before .before .put-fields .ensures),
     )
 
 same-length : tie.Need-same-length
@@ -42,8 +47,12 @@ same-length c = search needs
 
 returns : tie.Need-returns
 returns c =
-    three-put cellWord (fieldsText (c .before .before .before .before .before .before .before .before .before .before .before .before .before .before .before .before .args .row ∷ c .before .before .before .before .before .before .before .before .before .before .before .before .before .before .before .before .args .column ∷ [])) (tab ∷ []) refl 0 (c .before .before .before .before .before .before .before .before .before .before .before .before .before .before .before .before .args .room .now) (omega (arith, c .before .before .before .before .before .before .before .before .before .before .before .before .before .before .before .before .pre))
-    (c .before .before .before .before .before .before .before .before .before .before .before .before .put-word .ensures) (c .before .before .before .before .before .before .before .put-fields .ensures) (c .before .before .put-word2 .ensures)
+    let start = c .before .before .before .before .before .before .before .before .before .before .before .before .before .before .before .before in
+    let a = start .args in
+    let at-put-word = c .before .before .before .before .before .before .before .before .before .before .before .before .put-word in
+    let at-put-fields = c .before .before .before .before .before .before .before .put-fields in
+    three-put cellWord (fieldsText (a .row ∷ a .column ∷ [])) (tab ∷ []) refl 0 (a .room .now) (omega (arith, start .pre))
+    (at-put-word .ensures) (at-put-fields .ensures) (c .before .before .put-word2 .ensures)
 
 pub put-place-spec : {M : Type 1} → statement M
 put-place-spec =

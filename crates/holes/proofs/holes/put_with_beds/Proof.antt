@@ -18,20 +18,30 @@ slice-aggregate-put-word c =
 
 put-word-requires : tie.Need-put-word-requires
 put-word-requires c κs =
-    head-fits (c .before .before .before .before .before .before .args .text .now) (c .before .before .before .before .before .before .args .beds .now) (c .before .before .cells-at .ensures) (c .before .before .before .before .before .before .args .out .now) (c .before .before .before .before .before .before .pre .1)
+    let start = c .before .before .before .before .before .before in
+    let a = start .args in
+    head-fits (a .text .now) (a .beds .now) (c .before .before .cells-at .ensures) (a .out .now) (start .pre .1)
 
 put-from-requires : tie.Need-put-from-requires
-put-from-requires c κs = (
-  (c .before .before .before .before .before .before .before .before .before .before .pre .0 .0, c .before .before .before .before .before .before .before .before .before .before .pre .0 .1, c .before .before .before .before .before .before .cells-at .ensures),
-  cells-fit (c .before .before .before .before .before .before .before .before .before .before .args .text .now) (c .before .before .before .before .before .before .before .before .before .before .args .beds .now) (c .before .before .before .before .before .before .cells-at .ensures) (c .before .before .before .before .before .before .before .before .before .before .args .out .now) (c .before .before .before .before .before .before .before .before .before .before .pre .1) (c .before .before .before .put-word .ensures),
-)
+put-from-requires c κs =
+    let start = c .before .before .before .before .before .before .before .before .before .before in
+    let a = start .args in
+    let at-cells-at = c .before .before .before .before .before .before .cells-at in (
+      (start .pre .0 .0, start .pre .0 .1, at-cells-at .ensures),
+      cells-fit (a .text .now) (a .beds .now) (at-cells-at .ensures) (a .out .now) (start .pre .1) (c .before .before .before .put-word .ensures),
+    )
 
 same-length : tie.Need-same-length
 same-length c = search needs
 
 returns : tie.Need-returns
 returns c =
-    beds-put (c .before .before .before .before .before .before .before .before .before .before .before .before .before .args .text .now) (c .before .before .before .before .before .before .before .before .before .before .before .before .before .args .beds .now) (c .before .before .before .before .before .before .before .before .before .cells-at .ensures) (c .before .before .before .before .before .before .before .before .before .before .before .before .before .args .out .now) (c .before .before .before .before .before .before .before .before .before .before .before .before .before .pre .1) (c .before .before .before .before .before .before .put-word .ensures) (c .before .before .put-from .ensures)
+    let start = c .before .before .before .before .before .before .before .before .before .before .before .before .before in
+    let a = start .args in
+    let at-cells-at = c .before .before .before .before .before .before .before .before .before .cells-at in
+    let at-put-word = c .before .before .before .before .before .before .put-word in
+    beds-put (a .text .now) (a .beds .now) (at-cells-at .ensures) (a .out .now) (start .pre .1) (at-put-word .ensures)
+    (c .before .before .put-from .ensures)
 
 pub put-with-beds-spec : {M : Type 1} → statement M
 put-with-beds-spec =

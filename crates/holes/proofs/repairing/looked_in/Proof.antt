@@ -30,7 +30,11 @@ returns-3 c =
 
 returns-4 : tie.Need-returns-4
 returns-4 c =
-    c .before .squares-of .ensures ∙ looked-all (c .before .before .before .before .before .before .args .top) (not-false _ (c .before .before .before .before .if1 .left)) (sym (c .before .before .before .shape-fine .ensures) ∙ not-false _ (c .before .before .if2 .left)) (omega (arith, c .if3 .left, c .before .squares-of .ensures))
+    let start = c .before .before .before .before .before .before in
+    c .before .squares-of .ensures
+    ∙ looked-all (start .args .top) (not-false _ (c .before .before .before .before .if1 .left))
+    (sym (c .before .before .before .shape-fine .ensures) ∙ not-false _ (c .before .before .if2 .left))
+    (omega (arith, c .if3 .left, c .before .squares-of .ensures))
 
 pub looked-in-spec : {M : Type 1} → statement M
 looked-in-spec =

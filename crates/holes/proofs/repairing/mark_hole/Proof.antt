@@ -19,7 +19,11 @@ enum-told c = search needs
 
 returns : tie.Need-returns
 returns c =
-    sym (pick-true _ _ (ap not (told-none (c .before .before .before .before .before .args .text .now) (c .before .before .before .before .before .args .start) (c .before .before .before .before .before .args .row) (c .before .before .before .before .before .args .column) (sym (c .enum-told .given .1) ∙ c .before .before .hole-at .ensures))))
+    let start = c .before .before .before .before .before in
+    let a = start .args in
+    sym
+    (pick-true _ _
+    (ap not (told-none (a .text .now) (a .start) (a .row) (a .column) (sym (c .enum-told .given .1) ∙ c .before .before .hole-at .ensures))))
 
 mul-beds : tie.Need-mul-beds
 mul-beds c = search needs
@@ -32,7 +36,12 @@ same-length c = search needs
 
 returns-2 : tie.Need-returns-2
 returns-2 c =
-    sym (pick-false _ _ (ap not (told-at (c .before .before .before .before .before .before .args .text .now) (c .before .before .before .before .before .before .args .start) (c .before .before .before .before .before .before .args .row) (c .before .before .before .before .before .before .args .column) (sym (c .before .-spot .given .1) ∙ c .before .before .before .hole-at .ensures) .0)))
+    let start = c .before .before .before .before .before .before in
+    let a = start .args in
+    sym
+    (pick-false _ _
+    (ap not
+    (told-at (a .text .now) (a .start) (a .row) (a .column) (sym (c .before .-spot .given .1) ∙ c .before .before .before .hole-at .ensures) .0)))
 
 pub mark-hole-spec : {M : Type 1} → statement M
 mark-hole-spec =

@@ -17,8 +17,10 @@ put-number-requires c κs =
 
 put-field-requires : tie.Need-put-field-requires
 put-field-requires c κs =
-    let a = c .before .before .before .before .before .before .args in
-    second-fits (decimal (a .row)) (fieldText (a .column)) (givenRest (a .row) (a .column) (a .bed) (a .turn)) (given-is (a .row) (a .column) (a .bed) (a .turn)) (a .at) (a .out .now) (c .before .before .before .before .before .before .pre) (c .before .before .before .put-number .ensures)
+    let start = c .before .before .before .before .before .before in
+    let a = start .args in
+    second-fits (decimal (a .row)) (fieldText (a .column)) (givenRest (a .row) (a .column) (a .bed) (a .turn))
+    (given-is (a .row) (a .column) (a .bed) (a .turn)) (a .at) (a .out .now) (start .pre) (c .before .before .before .put-number .ensures)
 
 cast-if1 : tie.Need-cast-if1
 cast-if1 c = search needs
@@ -28,11 +30,16 @@ slice-aggregate-put-word c = search needs
 
 put-word-requires : tie.Need-put-word-requires
 put-word-requires c κs =
-    let a = c .before .before .before .before .before .before .before .before .before .before .before .before .args in
+    let start = c .before .before .before .before .before .before .before .before .before .before .before .before in
+    let at-put-number = c .before .before .before .before .before .before .before .before .before .put-number in
+    let at-put-field = c .before .before .before .before .before .put-field in
+    let a = start .args in
     omega (
       arith,
-      third-fits (decimal (a .row)) (fieldText (a .column)) (tab ∷ 45 ∷ tab ∷ 45 ∷ newline ∷ []) (unknown-given (a .row) (a .column) (a .bed) (a .turn) (c .before .before .if1 .taken)) (a .at) (a .out .now) (c .before .before .before .before .before .before .before .before .before .before .before .before .pre) (c .before .before .before .before .before .before .before .before .before .put-number .ensures)
-          (c .before .before .before .before .before .put-field .ensures),
+      third-fits (decimal (a .row)) (fieldText (a .column)) (tab ∷ 45 ∷ tab ∷ 45 ∷ newline ∷ [])
+          (unknown-given (a .row) (a .column) (a .bed) (a .turn) (c .before .before .if1 .taken)) (a .at) (a .out .now) (start .pre)
+          (at-put-number .ensures)
+          (at-put-field .ensures),
     )
 
 same-length : tie.Need-same-length
@@ -40,31 +47,45 @@ same-length c = search needs
 
 returns : tie.Need-returns
 returns c =
-    let a = c .before .before .before .before .before .before .before .before .before .before .before .before .before .before .before .args in
-    three-put (decimal (a .row)) (fieldText (a .column)) (tab ∷ 45 ∷ tab ∷ 45 ∷ newline ∷ []) (unknown-given (a .row) (a .column) (a .bed) (a .turn) (c .before .before .before .before .before .if1 .taken)) (a .at) (a .out .now) (c .before .before .before .before .before .before .before .before .before .before .before .before .before .before .before .pre) (c .before .before .before .before .before .before .before .before .before .before .before .before .put-number .ensures)
-    (c .before .before .before .before .before .before .before .before .put-field .ensures) (c .before .before .put-word .ensures)
+    let start = c .before .before .before .before .before .before .before .before .before .before .before .before .before .before .before in
+    let at-put-number = c .before .before .before .before .before .before .before .before .before .before .before .before .put-number in
+    let at-put-field = c .before .before .before .before .before .before .before .before .put-field in
+    let at-if1 = c .before .before .before .before .before .if1 in
+    let a = start .args in
+    three-put (decimal (a .row)) (fieldText (a .column)) (tab ∷ 45 ∷ tab ∷ 45 ∷ newline ∷ [])
+    (unknown-given (a .row) (a .column) (a .bed) (a .turn) (at-if1 .taken)) (a .at) (a .out .now) (start .pre) (at-put-number .ensures)
+    (at-put-field .ensures) (c .before .before .put-word .ensures)
 
 slice-aggregate-put-fields : tie.Need-slice-aggregate-put-fields
 slice-aggregate-put-fields c = search needs
 
 put-fields-requires : tie.Need-put-fields-requires
 put-fields-requires c κs =
-    let a = c .before .before .before .before .before .before .before .before .before .before .before .before .args in
+    let start = c .before .before .before .before .before .before .before .before .before .before .before .before in
+    let at-put-number = c .before .before .before .before .before .before .before .before .before .put-number in
+    let at-put-field = c .before .before .before .before .before .put-field in
+    let a = start .args in
     omega (
       arith,
       length-append (fieldsText (a .bed ∷ a .turn ∷ [])) (newline ∷ []),
-      third-fits (decimal (a .row)) (fieldText (a .column)) (fieldsText (a .bed ∷ a .turn ∷ []) ++ (newline ∷ [])) (known-given (a .row) (a .column) (a .bed) (a .turn) (c .before .before .if1 .left)) (a .at) (a .out .now) (c .before .before .before .before .before .before .before .before .before .before .before .before .pre) (c .before .before .before .before .before .before .before .before .before .put-number .ensures)
-          (c .before .before .before .before .before .put-field .ensures),
+      third-fits (decimal (a .row)) (fieldText (a .column)) (fieldsText (a .bed ∷ a .turn ∷ []) ++ (newline ∷ []))
+          (known-given (a .row) (a .column) (a .bed) (a .turn) (c .before .before .if1 .left)) (a .at) (a .out .now) (start .pre)
+          (at-put-number .ensures)
+          (at-put-field .ensures),
     )
 
 put-byte-requires : tie.Need-put-byte-requires
 put-byte-requires c κs =
-    let a = c .before .before .before .before .before .before .before .before .before .before .before .before .before .before .before .before .args in
+    let start = c .before .before .before .before .before .before .before .before .before .before .before .before .before .before .before .before in
+    let at-put-number = c .before .before .before .before .before .before .before .before .before .before .before .before .before .put-number in
+    let at-put-field = c .before .before .before .before .before .before .before .before .before .put-field in
+    let at-if1 = c .before .before .before .before .before .before .if1 in
+    let a = start .args in
     omega (
       arith,
       other-fits (fieldsText (a .bed ∷ a .turn ∷ [])) (newline ∷ []) _ _
-          (third-fits (decimal (a .row)) (fieldText (a .column)) (fieldsText (a .bed ∷ a .turn ∷ []) ++ (newline ∷ [])) (known-given (a .row) (a .column) (a .bed) (a .turn) (c .before .before .before .before .before .before .if1 .left)) (a .at) (a .out .now) (c .before .before .before .before .before .before .before .before .before .before .before .before .before .before .before .before .pre) (c .before .before .before .before .before .before .before .before .before .before .before .before .before .put-number .ensures)
-          (c .before .before .before .before .before .before .before .before .before .put-field .ensures))
+          (third-fits (decimal (a .row)) (fieldText (a .column)) (fieldsText (a .bed ∷ a .turn ∷ []) ++ (newline ∷ [])) (known-given (a .row) (a .column) (a .bed) (a .turn) (at-if1 .left)) (a .at) (a .out .now) (start .pre) (at-put-number .ensures)
+          (at-put-field .ensures))
           (c .before .before .before .put-fields .ensures),
     )
 
@@ -73,12 +94,24 @@ same-length-2 c = search needs
 
 returns-2 : tie.Need-returns-2
 returns-2 c =
-    let a = c .before .before .before .before .before .before .before .before .before .before .before .before .before .before .before .before .before .before .before .args in
+    let start =
+    c .before .before .before .before .before .before .before .before .before .before .before .before .before .before .before .before
+    .before .before .before in
+    let at-put-number =
+    c .before .before .before .before .before .before .before .before .before .before .before .before .before .before .before .before
+    .put-number in
+    let at-put-field = c .before .before .before .before .before .before .before .before .before .before .before .before .put-field in
+    let at-if1 = c .before .before .before .before .before .before .before .before .before .if1 in
+    let at-put-fields = c .before .before .before .before .before .before .put-fields in
+    let a = start .args in
     let rest =
-    third-fits (decimal (a .row)) (fieldText (a .column)) (fieldsText (a .bed ∷ a .turn ∷ []) ++ (newline ∷ [])) (known-given (a .row) (a .column) (a .bed) (a .turn) (c .before .before .before .before .before .before .before .before .before .if1 .left)) (a .at) (a .out .now) (c .before .before .before .before .before .before .before .before .before .before .before .before .before .before .before .before .before .before .before .pre) (c .before .before .before .before .before .before .before .before .before .before .before .before .before .before .before .before .put-number .ensures)
-    (c .before .before .before .before .before .before .before .before .before .before .before .before .put-field .ensures) in
-    three-put (decimal (a .row)) (fieldText (a .column)) (fieldsText (a .bed ∷ a .turn ∷ []) ++ (newline ∷ [])) (known-given (a .row) (a .column) (a .bed) (a .turn) (c .before .before .before .before .before .before .before .before .before .if1 .left)) (a .at) (a .out .now) (c .before .before .before .before .before .before .before .before .before .before .before .before .before .before .before .before .before .before .before .pre) (c .before .before .before .before .before .before .before .before .before .before .before .before .before .before .before .before .put-number .ensures)
-    (c .before .before .before .before .before .before .before .before .before .before .before .before .put-field .ensures) (both-put (fieldsText (a .bed ∷ a .turn ∷ [])) (newline ∷ []) _ _ rest (c .before .before .before .before .before .before .put-fields .ensures) (c .before .before .put-byte .ensures))
+    third-fits (decimal (a .row)) (fieldText (a .column)) (fieldsText (a .bed ∷ a .turn ∷ []) ++ (newline ∷ []))
+    (known-given (a .row) (a .column) (a .bed) (a .turn) (at-if1 .left)) (a .at) (a .out .now) (start .pre) (at-put-number .ensures)
+    (at-put-field .ensures) in
+    three-put (decimal (a .row)) (fieldText (a .column)) (fieldsText (a .bed ∷ a .turn ∷ []) ++ (newline ∷ []))
+    (known-given (a .row) (a .column) (a .bed) (a .turn) (at-if1 .left)) (a .at) (a .out .now) (start .pre) (at-put-number .ensures)
+    (at-put-field .ensures)
+    (both-put (fieldsText (a .bed ∷ a .turn ∷ [])) (newline ∷ []) _ _ rest (at-put-fields .ensures) (c .before .before .put-byte .ensures))
 
 pub put-given-spec : {M : Type 1} → statement M
 put-given-spec =

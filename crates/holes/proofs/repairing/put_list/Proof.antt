@@ -50,18 +50,23 @@ rem-put-hole c =
 
 put-hole-requires : tie.Need-put-hole-requires Inv-loop μ-loop
 put-hole-requires c κs =
-    let a = c .before .before .before .before .before .before .before .before .before .before .args in
+    let start = c .before .before .before .before .before .before .before .before .before .before in
+    let a = start .args in
     let l = c .before .before .before .before .loop in
-    let look = c .before .before .before .before .before .before .before .before .before .before .pre .0 .0 in
+    let look = start .pre .0 .0 in
     omega (
       arith,
-      line-fits (listedLine (a .text .now) (a .beds .now) (a .turns .now)) (lookedAt (a .text .now)) (a .at) (a .out .now) (c .before .before .before .before .before .before .before .before .before .before .pre .1) (l .square) (l .inv .2) (omega (arith, c .before .before .before .loop-test .taken, look .squares-are)),
-      ap length (listed-as look (l .square) (l .inv .1) (a .beds .now) (a .turns .now) (c .before .before .number .ensures) (c .before .number2 .ensures)),
+      line-fits (listedLine (a .text .now) (a .beds .now) (a .turns .now)) (lookedAt (a .text .now)) (a .at) (a .out .now) (start .pre .1)
+          (l .square) (l .inv .2) (omega (arith, c .before .before .before .loop-test .taken, look .squares-are)),
+      ap length
+          (listed-as look (l .square) (l .inv .1) (a .beds .now) (a .turns .now) (c .before .before .number .ensures) (c .before .number2 .ensures)),
     )
 
 next-line-requires : tie.Need-next-line-requires Inv-loop μ-loop
 next-line-requires c κs =
-    line-in (c .before .before .before .before .before .before .before .before .before .before .before .before .before .pre .0 .0) (c .before .before .before .before .before .before .before .loop .square) (c .before .before .before .before .before .before .before .loop .inv .1)
+    let start = c .before .before .before .before .before .before .before .before .before .before .before .before .before in
+    let at-loop = c .before .before .before .before .before .before .before .loop in
+    line-in (start .pre .0 .0) (at-loop .square) (at-loop .inv .1)
 
 add-square : tie.Need-add-square Inv-loop μ-loop
 add-square c =
@@ -73,20 +78,28 @@ loop-less c =
 
 loop-again : tie.Need-loop-again Inv-loop μ-loop
 loop-again c =
-    let a = c .before .before .before .before .before .before .before .before .before .before .before .before .before .before .args in
-    let l = c .before .before .before .before .before .before .before .before .loop in
-    let look = c .before .before .before .before .before .before .before .before .before .before .before .before .before .before .pre .0 .0 in (
-      omega (arith, c .before .before .before .before .before .before .before .loop-test .taken),
+    let start = c .before .before .before .before .before .before .before .before .before .before .before .before .before .before in
+    let at-loop = c .before .before .before .before .before .before .before .before .loop in
+    let at-loop-test = c .before .before .before .before .before .before .before .loop-test in
+    let at-number = c .before .before .before .before .before .before .number in
+    let at-number2 = c .before .before .before .before .before .number2 in
+    let a = start .args in
+    let l = at-loop in
+    let look = start .pre .0 .0 in (
+      omega (arith, at-loop-test .taken),
       line-on look (l .square) (l .inv .1) (c .next-line .ensures),
-      line-written (listedLine (a .text .now) (a .beds .now) (a .turns .now)) (lookedAt (a .text .now)) (a .at) (a .out .now) (c .before .before .before .before .before .before .before .before .before .before .before .before .before .before .pre .1) (l .square) (l .inv .2) (omega (arith, c .before .before .before .before .before .before .before .loop-test .taken, look .squares-are))
-          (written-as (listed-as look (l .square) (l .inv .1) (a .beds .now) (a .turns .now) (c .before .before .before .before .before .before .number .ensures) (c .before .before .before .before .before .number2 .ensures)) (c .before .before .before .put-hole .ensures)),
+      line-written (listedLine (a .text .now) (a .beds .now) (a .turns .now)) (lookedAt (a .text .now)) (a .at) (a .out .now) (start .pre .1)
+          (l .square) (l .inv .2) (omega (arith, at-loop-test .taken, look .squares-are))
+          (written-as (listed-as look (l .square) (l .inv .1) (a .beds .now) (a .turns .now) (at-number .ensures) (at-number2 .ensures)) (c .before .before .before .put-hole .ensures)),
     )
 
 same-length : tie.Need-same-length Inv-loop μ-loop
 same-length c =
-    let a = c .before .before .before .before .before .before .before .args in
+    let start = c .before .before .before .before .before .before .before in
+    let a = start .args in
     let l = c .before .loop in
-    lines-length (listedLine (a .text .now) (a .beds .now) (a .turns .now)) (lookedAt (a .text .now)) (a .at) (a .out .now) (c .before .before .before .before .before .before .before .pre .1) (l .square) (l .inv .2) (omega (arith, l .inv .0, c .before .before .before .before .before .before .before .pre .0 .0 .squares-are))
+    lines-length (listedLine (a .text .now) (a .beds .now) (a .turns .now)) (lookedAt (a .text .now)) (a .at) (a .out .now) (start .pre .1)
+    (l .square) (l .inv .2) (omega (arith, l .inv .0, start .pre .0 .0 .squares-are))
 
 returns : tie.Need-returns Inv-loop μ-loop
 returns c =

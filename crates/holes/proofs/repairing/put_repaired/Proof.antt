@@ -14,7 +14,10 @@ squares-of-requires c κs = search needs
 
 mark-holes-requires : tie.Need-mark-holes-requires
 mark-holes-requires c κs =
-    (looked (c .before .before .before .before .before .before .args .text .now) (c .before .before .before .before .before .before .pre .0) (c .before .squares-of .ensures), omega (arith, c .before .squares-of .ensures, c .before .before .before .before .before .before .pre .0 .beds-long))
+    let start = c .before .before .before .before .before .before in (
+      looked (start .args .text .now) (start .pre .0) (c .before .squares-of .ensures),
+      omega (arith, c .before .squares-of .ensures, start .pre .0 .beds-long),
+    )
 
 slice-aggregate-fill-rounds : tie.Need-slice-aggregate-fill-rounds
 slice-aggregate-fill-rounds c = search needs
@@ -25,22 +28,36 @@ array-borrow-prefix-before c =
 
 slice-aggregate-fill-rounds-2 : tie.Need-slice-aggregate-fill-rounds-2
 slice-aggregate-fill-rounds-2 c =
-    taken-long {size = programSquares} _ (omega (arith, c .before .before .before .before .before .before .before .squares-of .ensures, c .before .before .before .before .before .before .before .before .before .before .before .before .pre .0 .few)) refl
+    let start = c .before .before .before .before .before .before .before .before .before .before .before .before in
+    let at-squares-of = c .before .before .before .before .before .before .before .squares-of in
+    taken-long {size = programSquares} _ (omega (arith, at-squares-of .ensures, start .pre .0 .few)) refl
 
 fill-rounds-requires : tie.Need-fill-rounds-requires
-fill-rounds-requires c κs = (
-  (c .before .before .before .before .before .before .before .before .before .before .before .before .pre .0 .in-range, c .before .before .before .before .before .before .before .before .before .before .before .before .pre .0 .marks-long, c .before .before .before .before .before .before .before .before .before .before .before .before .pre .0 .few, sym (c .before .before .before .before .before .before .before .squares-of .ensures) ∙ taken-long {size = programSquares} _ (omega (arith, c .before .before .before .before .before .before .before .squares-of .ensures, c .before .before .before .before .before .before .before .before .before .before .before .before .pre .0 .few)) refl),
-  seen (c .before .before .before .before .before .before .before .before .before .before .before .before .args .text .now) (c .before .before .before .before .before .before .before .before .before .before .before .before .pre .0) (c .before .before .before .before .before .before .before .squares-of .ensures) (c .before .before .before .before .before .mark-holes .ensures),
-)
+fill-rounds-requires c κs =
+    let start = c .before .before .before .before .before .before .before .before .before .before .before .before in
+    let at-squares-of = c .before .before .before .before .before .before .before .squares-of in
+    let at-mark-holes = c .before .before .before .before .before .mark-holes in (
+      (start .pre .0 .in-range, start .pre .0 .marks-long, start .pre .0 .few, sym (at-squares-of .ensures) ∙ taken-long {size = programSquares} _ (omega (arith, at-squares-of .ensures, start .pre .0 .few)) refl),
+      seen (start .args .text .now) (start .pre .0) (at-squares-of .ensures) (at-mark-holes .ensures),
+    )
 
 put-with-beds-requires : tie.Need-put-with-beds-requires
 put-with-beds-requires c κs =
-    let k = c .before .before .before .before .before .before .before .before .before .before .before .before .before .before .before .before .before .before .before .pre .0 in (
+    let start =
+    c .before .before .before .before .before .before .before .before .before .before .before .before .before .before .before .before
+    .before .before .before in
+    let a = start .args in
+    let at-squares-of =
+    c .before .before .before .before .before .before .before .before .before .before .before .before .before .before .squares-of in
+    let at-mark-holes = c .before .before .before .before .before .before .before .before .before .before .before .before .mark-holes in
+    let at-fill-rounds = c .before .before .before .before .before .before .fill-rounds in
+    let k = start .pre .0 in (
       (
-        looked (c .before .before .before .before .before .before .before .before .before .before .before .before .before .before .before .before .before .before .before .args .text .now) k (c .before .before .before .before .before .before .before .before .before .before .before .before .before .before .squares-of .ensures),
-        omega (arith, c .before .before .before .before .before .before .before .before .before .before .before .before .before .before .squares-of .ensures, rooms-long (c .before .before .before .before .before .before .before .before .before .before .before .before .before .before .before .before .before .before .before .args .text .now) k (c .before .before .before .before .before .before .before .before .before .before .before .before .before .before .squares-of .ensures) (c .before .before .before .before .before .before .before .before .before .before .before .before .mark-holes .ensures) (k .few) (c .before .before .before .before .before .before .fill-rounds .ensures) .0),
+        looked (a .text .now) k (at-squares-of .ensures),
+        omega (arith, at-squares-of .ensures, rooms-long (a .text .now) k (at-squares-of .ensures) (at-mark-holes .ensures) (k .few) (at-fill-rounds .ensures) .0),
       ),
-      sheet-fits (c .before .before .before .before .before .before .before .before .before .before .before .before .before .before .before .before .before .before .before .args .text .now) k (c .before .before .before .before .before .before .before .before .before .before .before .before .before .before .squares-of .ensures) (c .before .before .before .before .before .before .before .before .before .before .before .before .mark-holes .ensures) (k .few) (c .before .before .before .before .before .before .fill-rounds .ensures) (λ i. omega (arith, c .before .before .before .before .slice-known4 .given i)) (c .before .before .before .before .before .before .before .before .before .before .before .before .before .before .before .before .before .before .before .args .out .now) (c .before .before .before .before .before .before .before .before .before .before .before .before .before .before .before .before .before .before .before .pre .1),
+      sheet-fits (a .text .now) k (at-squares-of .ensures) (at-mark-holes .ensures) (k .few) (at-fill-rounds .ensures)
+          (λ i. omega (arith, c .before .before .before .before .slice-known4 .given i)) (a .out .now) (start .pre .1),
     )
 
 slice-aggregate-put-list : tie.Need-slice-aggregate-put-list
@@ -48,15 +65,29 @@ slice-aggregate-put-list c = search needs
 
 put-list-requires : tie.Need-put-list-requires
 put-list-requires c κs =
-    let k = c .before .before .before .before .before .before .before .before .before .before .before .before .before .before .before .before .before .before .before .before .before .before .before .before .before .pre .0 in
-    let long = rooms-long (c .before .before .before .before .before .before .before .before .before .before .before .before .before .before .before .before .before .before .before .before .before .before .before .before .before .args .text .now) k (c .before .before .before .before .before .before .before .before .before .before .before .before .before .before .before .before .before .before .before .before .squares-of .ensures) (c .before .before .before .before .before .before .before .before .before .before .before .before .before .before .before .before .before .before .mark-holes .ensures) (k .few) (c .before .before .before .before .before .before .before .before .before .before .before .before .fill-rounds .ensures) in (
+    let start =
+    c .before .before .before .before .before .before .before .before .before .before .before .before .before .before .before .before
+    .before .before .before .before .before .before .before .before .before in
+    let a = start .args in
+    let at-squares-of =
+    c .before .before .before .before .before .before .before .before .before .before .before .before .before .before .before .before
+    .before .before .before .before .squares-of in
+    let at-mark-holes =
+    c .before .before .before .before .before .before .before .before .before .before .before .before .before .before .before .before
+    .before .before .mark-holes in
+    let at-fill-rounds = c .before .before .before .before .before .before .before .before .before .before .before .before .fill-rounds in
+    let at-slice-known4 = c .before .before .before .before .before .before .before .before .before .before .slice-known4 in
+    let at-put-with-beds = c .before .before .before .before .before .put-with-beds in
+    let k = start .pre .0 in
+    let long = rooms-long (a .text .now) k (at-squares-of .ensures) (at-mark-holes .ensures) (k .few) (at-fill-rounds .ensures) in (
       (
-        looked (c .before .before .before .before .before .before .before .before .before .before .before .before .before .before .before .before .before .before .before .before .before .before .before .before .before .args .text .now) k (c .before .before .before .before .before .before .before .before .before .before .before .before .before .before .before .before .before .before .before .before .squares-of .ensures),
-        omega (arith, c .before .before .before .before .before .before .before .before .before .before .before .before .before .before .before .before .before .before .before .before .squares-of .ensures, long .0),
-        omega (arith, c .before .before .before .before .before .before .before .before .before .before .before .before .before .before .before .before .before .before .before .before .squares-of .ensures, long .1, k .few),
+        looked (a .text .now) k (at-squares-of .ensures),
+        omega (arith, at-squares-of .ensures, long .0),
+        omega (arith, at-squares-of .ensures, long .1, k .few),
       ),
-      list-fits (c .before .before .before .before .before .before .before .before .before .before .before .before .before .before .before .before .before .before .before .before .before .before .before .before .before .args .text .now) k (c .before .before .before .before .before .before .before .before .before .before .before .before .before .before .before .before .before .before .before .before .squares-of .ensures) (c .before .before .before .before .before .before .before .before .before .before .before .before .before .before .before .before .before .before .mark-holes .ensures) (k .few) (c .before .before .before .before .before .before .before .before .before .before .before .before .fill-rounds .ensures) (λ i. omega (arith, c .before .before .before .before .before .before .before .before .before .before .slice-known4 .given i)) (c .before .before .before .before .before .before .before .before .before .before .before .before .before .before .before .before .before .before .before .before .before .before .before .before .before .args .out .now) (c .before .before .before .before .before .before .before .before .before .before .before .before .before .before .before .before .before .before .before .before .before .before .before .before .before .pre .1)
-          (c .before .before .before .before .before .put-with-beds .ensures),
+      list-fits (a .text .now) k (at-squares-of .ensures) (at-mark-holes .ensures) (k .few) (at-fill-rounds .ensures)
+          (λ i. omega (arith, at-slice-known4 .given i)) (a .out .now) (start .pre .1)
+          (at-put-with-beds .ensures),
     )
 
 same-length : tie.Need-same-length
@@ -67,9 +98,24 @@ same-length-2 c = search needs
 
 returns : tie.Need-returns
 returns c =
-    let k = c .before .before .before .before .before .before .before .before .before .before .before .before .before .before .before .before .before .before .before .before .before .before .before .before .before .before .before .before .pre .0 in
-    repaired-put (c .before .before .before .before .before .before .before .before .before .before .before .before .before .before .before .before .before .before .before .before .before .before .before .before .before .before .before .before .args .text .now) k (c .before .before .before .before .before .before .before .before .before .before .before .before .before .before .before .before .before .before .before .before .before .before .before .squares-of .ensures) (c .before .before .before .before .before .before .before .before .before .before .before .before .before .before .before .before .before .before .before .before .before .mark-holes .ensures) (k .few) (c .before .before .before .before .before .before .before .before .before .before .before .before .before .before .before .fill-rounds .ensures) (λ i. omega (arith, c .before .before .before .before .before .before .before .before .before .before .before .before .before .slice-known4 .given i)) (c .before .before .before .before .before .before .before .before .before .before .before .before .before .before .before .before .before .before .before .before .before .before .before .before .before .before .before .before .args .out .now) (c .before .before .before .before .before .before .before .before .before .before .before .before .before .before .before .before .before .before .before .before .before .before .before .before .before .before .before .before .pre .1)
-    (c .before .before .before .before .before .before .before .before .put-with-beds .ensures) (c .before .before .put-list .ensures)
+    let start =
+    c .before .before .before .before .before .before .before .before .before .before .before .before .before .before .before .before
+    .before .before .before .before .before .before .before .before .before .before .before .before in
+    let at-squares-of =
+    c .before .before .before .before .before .before .before .before .before .before .before .before .before .before .before .before
+    .before .before .before .before .before .before .before .squares-of in
+    let at-mark-holes =
+    c .before .before .before .before .before .before .before .before .before .before .before .before .before .before .before .before
+    .before .before .before .before .before .mark-holes in
+    let at-fill-rounds =
+    c .before .before .before .before .before .before .before .before .before .before .before .before .before .before .before
+    .fill-rounds in
+    let at-slice-known4 = c .before .before .before .before .before .before .before .before .before .before .before .before .before .slice-known4 in
+    let at-put-with-beds = c .before .before .before .before .before .before .before .before .put-with-beds in
+    let k = start .pre .0 in
+    repaired-put (start .args .text .now) k (at-squares-of .ensures) (at-mark-holes .ensures) (k .few) (at-fill-rounds .ensures)
+    (λ i. omega (arith, at-slice-known4 .given i)) (start .args .out .now) (start .pre .1)
+    (at-put-with-beds .ensures) (c .before .before .put-list .ensures)
 
 pub put-repaired-spec : {M : Type 1} → statement M
 put-repaired-spec =

@@ -43,7 +43,11 @@ reads c {a} e =
 
 -- as many squares as are looked at, which a room holds
 count : (c : tie.After-read-within) → c .before .before .before .before .before .before .before .before .before .before .before .before .before .looked-in .result ≡ lookedAt (start c .args .text .now)
-count c = c .before .before .before .before .before .before .before .before .before .before .before .before .before .looked-in .ensures ∙ ap lookedIn (c .before .before .before .before .before .before .before .before .before .before .before .before .before .before .before .grid-line .ensures)
+count c =
+    let at-grid-line =
+    c .before .before .before .before .before .before .before .before .before .before .before .before .before .before .before .grid-line in
+    let at-looked-in = c .before .before .before .before .before .before .before .before .before .before .before .before .before .looked-in in
+    at-looked-in .ensures ∙ ap lookedIn (at-grid-line .ensures)
 
 few : (c : tie.After-read-within) → c .before .before .before .before .before .before .before .before .before .before .before .before .before .looked-in .result ≤ programSquares
 few c = omega (arith, count c, looked-few (lineOne (start c .args .text .now)))
@@ -149,26 +153,43 @@ slice-aggregate-put-repaired-2 c =
 
 put-repaired-requires : tie.Need-put-repaired-requires
 put-repaired-requires c κs =
-    let r = c .before .before .before .before .before .before .before .before .before .before .before .before .before in
+    let at-if1 =
+    c .before .before .before .before .before .before .before .before .before .before .before .before .before .before .before .before
+    .before .before .before .before .before .before .before .before .before .before .before .before .before .if1 in
+    let at-grid-line =
+    c .before .before .before .before .before .before .before .before .before .before .before .before .before .before .before .before
+    .before .before .before .before .before .before .before .before .before .before .before .before .grid-line in
+    let at-before = c .before .before .before .before .before .before .before .before .before .before .before .before .before in
+    let r = at-before in
     let s = start r .args .text .now in
-    let short : length s ≤ mostText = omega (arith, c .before .before .before .before .before .before .before .before .before .before .before .before .before .before .before .before .before .before .before .before .before .before .before .before .before .before .before .before .before .if1 .left) in (
-      repairable s short (reads r (c .before .before .before .before .sheet2 .given .1)) (count r) (ap (λ (g : GridLine). g .shape) (c .before .before .before .before .before .before .before .before .before .before .before .before .before .before .before .before .before .before .before .before .before .before .before .before .before .before .before .before .grid-line .ensures)),
+    let short : length s ≤ mostText = omega (arith, at-if1 .left) in (
+      repairable s short (reads r (c .before .before .before .before .sheet2 .given .1)) (count r)
+          (ap (λ (g : GridLine). g .shape) (at-grid-line .ensures)),
       omega arith,
     )
 
 returns-2 : tie.Need-returns-2
 returns-2 c =
-    let r = c .before .before .before .before .before .before .before .before .before .before .before .before in
+    let at-if1 =
+    c .before .before .before .before .before .before .before .before .before .before .before .before .before .before .before .before
+    .before .before .before .before .before .before .before .before .before .before .before .before .if1 in
+    let at-before = c .before .before .before .before .before .before .before .before .before .before .before .before in
+    let r = at-before in
     let s = start r .args .text .now in
-    let short : length s ≤ mostText = omega (arith, c .before .before .before .before .before .before .before .before .before .before .before .before .before .before .before .before .before .before .before .before .before .before .before .before .before .before .before .before .if1 .left) in
+    let short : length s ≤ mostText = omega (arith, at-if1 .left) in
     repair-refused s short (reads r (c .before .before .before .sheet .given .1)) (omega arith) (omega arith) (omega arith) (c .put-refused2 .ensures)
 
 returns-3 : tie.Need-returns-3
 returns-3 c =
-    let r = c .before .before .before .before .before .before .before .before .before .before .before .before .before .before .before in
+    let at-if1 =
+    c .before .before .before .before .before .before .before .before .before .before .before .before .before .before .before .before
+    .before .before .before .before .before .before .before .before .before .before .before .before .before .before .before .if1 in
+    let at-before = c .before .before .before .before .before .before .before .before .before .before .before .before .before .before .before in
+    let at-sheet2 = c .before .before .before .before .before .before .sheet2 in
+    let r = at-before in
     let s = start r .args .text .now in
-    let short : length s ≤ mostText = omega (arith, c .before .before .before .before .before .before .before .before .before .before .before .before .before .before .before .before .before .before .before .before .before .before .before .before .before .before .before .before .before .before .before .if1 .left) in
-    repair-read s short (reads r (c .before .before .before .before .before .before .sheet2 .given .1)) (count r) (omega arith) (c .before .put-repaired .ensures)
+    let short : length s ≤ mostText = omega (arith, at-if1 .left) in
+    repair-read s short (reads r (at-sheet2 .given .1)) (count r) (omega arith) (c .before .put-repaired .ensures)
 
 pub repair-of-spec : {M : Type 1} → statement M
 repair-of-spec =

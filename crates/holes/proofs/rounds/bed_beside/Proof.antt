@@ -15,7 +15,9 @@ squares-of-requires c κs = search needs
 
 returns : tie.Need-returns
 returns c =
-    off-bed (c .before .before .before .before .before .args .shape) (c .before .before .before .before .before .args .marks .now) (c .before .before .before .before .before .args .beds .now) (c .before .before .before .before .before .args .square) (c .before .before .before .before .before .args .side) (c .before .before .beside-on .ensures)
+    let start = c .before .before .before .before .before in
+    let a = start .args in
+    off-bed (a .shape) (a .marks .now) (a .beds .now) (a .square) (a .side) (c .before .before .beside-on .ensures)
     (omega (arith, c .if1 .taken, c .before .squares-of .ensures))
 
 is-closed-requires : tie.Need-is-closed-requires
@@ -23,7 +25,9 @@ is-closed-requires c κs = search needs
 
 returns-2 : tie.Need-returns-2
 returns-2 c =
-    closed-bed (c .before .before .before .before .before .before .before .args .shape) (c .before .before .before .before .before .before .before .args .marks .now) (c .before .before .before .before .before .before .before .args .beds .now) (c .before .before .before .before .before .before .before .args .square) (c .before .before .before .before .before .before .before .args .side) (c .before .before .before .before .beside-on .ensures)
+    let start = c .before .before .before .before .before .before .before in
+    let a = start .args in
+    closed-bed (a .shape) (a .marks .now) (a .beds .now) (a .square) (a .side) (c .before .before .before .before .beside-on .ensures)
     (sym (c .before .is-closed .ensures) ∙ c .if2 .taken)
 
 mul-result : tie.Need-mul-result
@@ -34,8 +38,12 @@ shared-slice-read-result c = search needs
 
 returns-3 : tie.Need-returns-3
 returns-3 c =
-    open-bed (c .before .before .before .before .before .before .before .before .args .shape) (c .before .before .before .before .before .before .before .before .args .marks .now) (c .before .before .before .before .before .before .before .before .args .beds .now) (c .before .before .before .before .before .before .before .before .args .square) (c .before .before .before .before .before .before .before .before .args .side) (c .before .before .before .before .before .beside-on .ensures)
-    (omega (arith, c .before .before .before .if1 .left, c .before .before .before .before .squares-of .ensures)) (sym (c .before .before .is-closed .ensures) ∙ c .before .if2 .left)
+    let start = c .before .before .before .before .before .before .before .before in
+    let a = start .args in
+    let at-beside-on = c .before .before .before .before .before .beside-on in
+    open-bed (a .shape) (a .marks .now) (a .beds .now) (a .square) (a .side) (at-beside-on .ensures)
+    (omega (arith, c .before .before .before .if1 .left, c .before .before .before .before .squares-of .ensures))
+    (sym (c .before .before .is-closed .ensures) ∙ c .before .if2 .left)
 
 pub bed-beside-spec : {M : Type 1} → statement M
 bed-beside-spec =

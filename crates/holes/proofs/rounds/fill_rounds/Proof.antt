@@ -30,50 +30,127 @@ cast-loop c =
 
 copy-into-requires : tie.Need-copy-into-requires Inv-loop μ-loop
 copy-into-requires c κs =
-    let g = going-long (c .before .before .before .before .before .before .before .before .before .args .shape) (c .before .before .before .before .before .before .before .before .before .args .marks .now) (c .before .before .before .before .before .before .before .before .before .args .beds .now) (c .before .before .before .before .before .before .before .before .before .pre .1) (c .before .before .before .loop .inv .2) in
-    omega (arith, g .0, c .before .before .before .before .before .before .before .before .before .pre .0 .3, c .before .before .before .loop .inv .1)
+    let start = c .before .before .before .before .before .before .before .before .before in
+    let a = start .args in
+    let g = going-long (a .shape) (a .marks .now) (a .beds .now) (start .pre .1) (c .before .before .before .loop .inv .2) in
+    omega (arith, g .0, start .pre .0 .3, c .before .before .before .loop .inv .1)
 
 one-round-requires : tie.Need-one-round-requires Inv-loop μ-loop
 one-round-requires c κs =
-    let g = going-long (c .before .before .before .before .before .before .before .before .before .before .before .before .before .before .args .shape) (c .before .before .before .before .before .before .before .before .before .before .before .before .before .before .args .marks .now) (c .before .before .before .before .before .before .before .before .before .before .before .before .before .before .args .beds .now) (c .before .before .before .before .before .before .before .before .before .before .before .before .before .before .pre .1) (c .before .before .before .before .before .before .before .before .loop .inv .2) in
-    let b = copied (c .before .before .before .before .before .before .before .before .before .before .before .before .before .before .args .shape) (c .before .before .before .before .before .before .before .before .before .before .before .before .before .before .args .marks .now) (c .before .before .before .before .before .before .before .before .before .before .before .before .before .before .args .beds .now) (c .before .before .before .before .before .before .before .before .before .before .before .before .before .before .pre .1) (c .before .before .before .before .before .before .before .before .loop .inv .0) (omega (arith, c .before .before .before .before .before .before .before .loop-test .taken, c .before .before .before .before .before .before .before .before .before .squares-of .ensures)) (c .before .before .before .before .before .before .before .before .loop .inv .2) (c .before .before .before .before .before .before .before .before .loop .before) (omega (arith, c .before .before .before .before .before .before .before .before .before .before .before .before .before .before .pre .0 .3, c .before .before .before .before .before .before .before .before .loop .inv .1)) (c .before .before .before .before .copy-into .ensures) in
-    (c .before .before .before .before .before .before .before .before .before .before .before .before .before .before .pre .0 .0, c .before .before .before .before .before .before .before .before .before .before .before .before .before .before .pre .0 .1, omega (arith, ap length b, g .0), omega (arith, g .0))
+    let start = c .before .before .before .before .before .before .before .before .before .before .before .before .before .before in
+    let a = start .args in
+    let at-squares-of = c .before .before .before .before .before .before .before .before .before .squares-of in
+    let at-loop = c .before .before .before .before .before .before .before .before .loop in
+    let at-loop-test = c .before .before .before .before .before .before .before .loop-test in
+    let g = going-long (a .shape) (a .marks .now) (a .beds .now) (start .pre .1) (at-loop .inv .2) in
+    let b = copied (a .shape) (a .marks .now) (a .beds .now) (start .pre .1) (at-loop .inv .0) (omega (arith, at-loop-test .taken, at-squares-of .ensures)) (at-loop .inv .2) (at-loop .before) (omega (arith, start .pre .0 .3, at-loop .inv .1)) (c .before .before .before .before .copy-into .ensures) in
+    (start .pre .0 .0, start .pre .0 .1, omega (arith, ap length b, g .0), omega (arith, g .0))
 
 same-beds-requires : tie.Need-same-beds-requires Inv-loop μ-loop
 same-beds-requires c κs =
-    let g = going-long (c .before .before .before .before .before .before .before .before .before .before .before .before .before .before .before .before .before .before .before .args .shape) (c .before .before .before .before .before .before .before .before .before .before .before .before .before .before .before .before .before .before .before .args .marks .now) (c .before .before .before .before .before .before .before .before .before .before .before .before .before .before .before .before .before .before .before .args .beds .now) (c .before .before .before .before .before .before .before .before .before .before .before .before .before .before .before .before .before .before .before .pre .1) (c .before .before .before .before .before .before .before .before .before .before .before .before .before .loop .inv .2) in
-    let b = copied (c .before .before .before .before .before .before .before .before .before .before .before .before .before .before .before .before .before .before .before .args .shape) (c .before .before .before .before .before .before .before .before .before .before .before .before .before .before .before .before .before .before .before .args .marks .now) (c .before .before .before .before .before .before .before .before .before .before .before .before .before .before .before .before .before .before .before .args .beds .now) (c .before .before .before .before .before .before .before .before .before .before .before .before .before .before .before .before .before .before .before .pre .1) (c .before .before .before .before .before .before .before .before .before .before .before .before .before .loop .inv .0) (omega (arith, c .before .before .before .before .before .before .before .before .before .before .before .before .loop-test .taken, c .before .before .before .before .before .before .before .before .before .before .before .before .before .before .squares-of .ensures)) (c .before .before .before .before .before .before .before .before .before .before .before .before .before .loop .inv .2) (c .before .before .before .before .before .before .before .before .before .before .before .before .before .loop .before) (omega (arith, c .before .before .before .before .before .before .before .before .before .before .before .before .before .before .before .before .before .before .before .pre .0 .3, c .before .before .before .before .before .before .before .before .before .before .before .before .before .loop .inv .1)) (c .before .before .before .before .before .before .before .before .before .copy-into .ensures) in
-    ap length b ∙ (g .0 ∙ sym (ap length (c .before .before .before .before .one-round .ensures) ∙ round-long (c .before .before .before .before .before .before .before .before .before .before .before .before .before .before .before .before .before .before .before .args .shape) (c .before .before .before .before .before .before .before .before .before .before .before .before .before .before .before .before .before .before .before .args .marks .now) (c .before .before .before .before .before .before .before .before .before .before .before .before .before .before .before .before .before .before .before .args .beds .now) (c .before .before .before .before .before .before .before .before .before .before .before .before .before .before .before .before .before .before .before .pre .1) _))
+    let start =
+    c .before .before .before .before .before .before .before .before .before .before .before .before .before .before .before .before
+    .before .before .before in
+    let a = start .args in
+    let at-squares-of =
+    c .before .before .before .before .before .before .before .before .before .before .before .before .before .before .squares-of in
+    let at-loop = c .before .before .before .before .before .before .before .before .before .before .before .before .before .loop in
+    let at-loop-test = c .before .before .before .before .before .before .before .before .before .before .before .before .loop-test in
+    let at-copy-into = c .before .before .before .before .before .before .before .before .before .copy-into in
+    let g = going-long (a .shape) (a .marks .now) (a .beds .now) (start .pre .1) (at-loop .inv .2) in
+    let b = copied (a .shape) (a .marks .now) (a .beds .now) (start .pre .1) (at-loop .inv .0) (omega (arith, at-loop-test .taken, at-squares-of .ensures)) (at-loop .inv .2) (at-loop .before) (omega (arith, start .pre .0 .3, at-loop .inv .1)) (at-copy-into .ensures) in
+    ap length b
+    ∙ (g .0
+    ∙ sym
+    (ap length (c .before .before .before .before .one-round .ensures)
+    ∙ round-long (a .shape) (a .marks .now) (a .beds .now) (start .pre .1) _))
 
 same-length : tie.Need-same-length Inv-loop μ-loop
 same-length c =
-    ap length (c .before .before .before .before .before .before .one-round .ensures) ∙ (round-long (c .before .before .before .before .before .before .before .before .before .before .before .before .before .before .before .before .before .before .before .before .before .args .shape) (c .before .before .before .before .before .before .before .before .before .before .before .before .before .before .before .before .before .before .before .before .before .args .marks .now) (c .before .before .before .before .before .before .before .before .before .before .before .before .before .before .before .before .before .before .before .before .before .args .beds .now) (c .before .before .before .before .before .before .before .before .before .before .before .before .before .before .before .before .before .before .before .before .before .pre .1) _ ∙ sym (c .before .before .before .before .before .before .before .before .before .before .before .before .before .before .before .before .before .before .before .before .before .pre .1 .one-each))
+    let start =
+    c .before .before .before .before .before .before .before .before .before .before .before .before .before .before .before .before
+    .before .before .before .before .before in
+    let a = start .args in
+    let at-one-round = c .before .before .before .before .before .before .one-round in
+    ap length (at-one-round .ensures) ∙ (round-long (a .shape) (a .marks .now) (a .beds .now) (start .pre .1) _ ∙ sym (start .pre .1 .one-each))
 
 same-length-2 : tie.Need-same-length-2 Inv-loop μ-loop
 same-length-2 c =
-    going-long (c .before .before .before .before .before .before .before .before .before .before .before .before .before .before .before .before .before .before .before .before .before .args .shape) (c .before .before .before .before .before .before .before .before .before .before .before .before .before .before .before .before .before .before .before .before .before .args .marks .now) (c .before .before .before .before .before .before .before .before .before .before .before .before .before .before .before .before .before .before .before .before .before .args .beds .now) (c .before .before .before .before .before .before .before .before .before .before .before .before .before .before .before .before .before .before .before .before .before .pre .1) (c .before .before .before .before .before .before .before .before .before .before .before .before .before .before .before .loop .inv .2) .1
+    let start =
+    c .before .before .before .before .before .before .before .before .before .before .before .before .before .before .before .before
+    .before .before .before .before .before in
+    let a = start .args in
+    let at-loop = c .before .before .before .before .before .before .before .before .before .before .before .before .before .before .before .loop in
+    going-long (a .shape) (a .marks .now) (a .beds .now) (start .pre .1) (at-loop .inv .2) .1
 
 same-length-3 : tie.Need-same-length-3 Inv-loop μ-loop
 same-length-3 c =
-    let g = going-long (c .before .before .before .before .before .before .before .before .before .before .before .before .before .before .before .before .before .before .before .before .before .args .shape) (c .before .before .before .before .before .before .before .before .before .before .before .before .before .before .before .before .before .before .before .before .before .args .marks .now) (c .before .before .before .before .before .before .before .before .before .before .before .before .before .before .before .before .before .before .before .before .before .args .beds .now) (c .before .before .before .before .before .before .before .before .before .before .before .before .before .before .before .before .before .before .before .before .before .pre .1) (c .before .before .before .before .before .before .before .before .before .before .before .before .before .before .before .loop .inv .2) in
-    let b = copied (c .before .before .before .before .before .before .before .before .before .before .before .before .before .before .before .before .before .before .before .before .before .args .shape) (c .before .before .before .before .before .before .before .before .before .before .before .before .before .before .before .before .before .before .before .before .before .args .marks .now) (c .before .before .before .before .before .before .before .before .before .before .before .before .before .before .before .before .before .before .before .before .before .args .beds .now) (c .before .before .before .before .before .before .before .before .before .before .before .before .before .before .before .before .before .before .before .before .before .pre .1) (c .before .before .before .before .before .before .before .before .before .before .before .before .before .before .before .loop .inv .0) (omega (arith, c .before .before .before .before .before .before .before .before .before .before .before .before .before .before .loop-test .taken, c .before .before .before .before .before .before .before .before .before .before .before .before .before .before .before .before .squares-of .ensures)) (c .before .before .before .before .before .before .before .before .before .before .before .before .before .before .before .loop .inv .2) (c .before .before .before .before .before .before .before .before .before .before .before .before .before .before .before .loop .before) (omega (arith, c .before .before .before .before .before .before .before .before .before .before .before .before .before .before .before .before .before .before .before .before .before .pre .0 .3, c .before .before .before .before .before .before .before .before .before .before .before .before .before .before .before .loop .inv .1)) (c .before .before .before .before .before .before .before .before .before .before .before .copy-into .ensures) in
-    omega (arith, ap length b, g .0, c .before .before .before .before .before .before .before .before .before .before .before .before .before .before .before .before .before .before .before .before .before .pre .0 .3)
+    let start =
+    c .before .before .before .before .before .before .before .before .before .before .before .before .before .before .before .before
+    .before .before .before .before .before in
+    let a = start .args in
+    let at-squares-of =
+    c .before .before .before .before .before .before .before .before .before .before .before .before .before .before .before .before
+    .squares-of in
+    let at-loop = c .before .before .before .before .before .before .before .before .before .before .before .before .before .before .before .loop in
+    let at-loop-test = c .before .before .before .before .before .before .before .before .before .before .before .before .before .before .loop-test in
+    let at-copy-into = c .before .before .before .before .before .before .before .before .before .before .before .copy-into in
+    let g = going-long (a .shape) (a .marks .now) (a .beds .now) (start .pre .1) (at-loop .inv .2) in
+    let b = copied (a .shape) (a .marks .now) (a .beds .now) (start .pre .1) (at-loop .inv .0) (omega (arith, at-loop-test .taken, at-squares-of .ensures)) (at-loop .inv .2) (at-loop .before) (omega (arith, start .pre .0 .3, at-loop .inv .1)) (at-copy-into .ensures) in
+    omega (arith, ap length b, g .0, start .pre .0 .3)
 
 returns : tie.Need-returns Inv-loop μ-loop
 returns c =
-    let b = copied (c .before .before .before .before .before .before .before .before .before .before .before .before .before .before .before .before .before .before .before .before .before .args .shape) (c .before .before .before .before .before .before .before .before .before .before .before .before .before .before .before .before .before .before .before .before .before .args .marks .now) (c .before .before .before .before .before .before .before .before .before .before .before .before .before .before .before .before .before .before .before .before .before .args .beds .now) (c .before .before .before .before .before .before .before .before .before .before .before .before .before .before .before .before .before .before .before .before .before .pre .1) (c .before .before .before .before .before .before .before .before .before .before .before .before .before .before .before .loop .inv .0) (omega (arith, c .before .before .before .before .before .before .before .before .before .before .before .before .before .before .loop-test .taken, c .before .before .before .before .before .before .before .before .before .before .before .before .before .before .before .before .squares-of .ensures)) (c .before .before .before .before .before .before .before .before .before .before .before .before .before .before .before .loop .inv .2) (c .before .before .before .before .before .before .before .before .before .before .before .before .before .before .before .loop .before) (omega (arith, c .before .before .before .before .before .before .before .before .before .before .before .before .before .before .before .before .before .before .before .before .before .pre .0 .3, c .before .before .before .before .before .before .before .before .before .before .before .before .before .before .before .loop .inv .1)) (c .before .before .before .before .before .before .before .before .before .before .before .copy-into .ensures) in
-    going-still (c .before .before .before .before .before .before .before .before .before .before .before .before .before .before .before .before .before .before .before .before .before .args .shape) (c .before .before .before .before .before .before .before .before .before .before .before .before .before .before .before .before .before .before .before .before .before .args .marks .now) (c .before .before .before .before .before .before .before .before .before .before .before .before .before .before .before .before .before .before .before .before .before .args .beds .now) (c .before .before .before .before .before .before .before .before .before .before .before .before .before .before .before .before .before .before .before .before .before .pre .1) (c .before .before .before .before .before .before .before .before .before .before .before .before .before .before .before .loop .inv .0) (omega (arith, c .before .before .before .before .before .before .before .before .before .before .before .before .before .before .loop-test .taken, c .before .before .before .before .before .before .before .before .before .before .before .before .before .before .before .before .squares-of .ensures)) (c .before .before .before .before .before .before .before .before .before .before .before .before .before .before .before .loop .inv .2) b (c .before .before .before .before .before .before .one-round .ensures) (sym (c .if1 .taken) ∙ c .before .same-beds .ensures)
+    let start =
+    c .before .before .before .before .before .before .before .before .before .before .before .before .before .before .before .before
+    .before .before .before .before .before in
+    let a = start .args in
+    let at-squares-of =
+    c .before .before .before .before .before .before .before .before .before .before .before .before .before .before .before .before
+    .squares-of in
+    let at-loop = c .before .before .before .before .before .before .before .before .before .before .before .before .before .before .before .loop in
+    let at-loop-test = c .before .before .before .before .before .before .before .before .before .before .before .before .before .before .loop-test in
+    let at-copy-into = c .before .before .before .before .before .before .before .before .before .before .before .copy-into in
+    let at-one-round = c .before .before .before .before .before .before .one-round in
+    let b = copied (a .shape) (a .marks .now) (a .beds .now) (start .pre .1) (at-loop .inv .0) (omega (arith, at-loop-test .taken, at-squares-of .ensures)) (at-loop .inv .2) (at-loop .before) (omega (arith, start .pre .0 .3, at-loop .inv .1)) (at-copy-into .ensures) in
+    going-still (a .shape) (a .marks .now) (a .beds .now) (start .pre .1) (at-loop .inv .0)
+    (omega (arith, at-loop-test .taken, at-squares-of .ensures)) (at-loop .inv .2) b (at-one-round .ensures)
+    (sym (c .if1 .taken) ∙ c .before .same-beds .ensures)
 
 note-round-requires : tie.Need-note-round-requires Inv-loop μ-loop
 note-round-requires c κs =
-    let g = going-long (c .before .before .before .before .before .before .before .before .before .before .before .before .before .before .before .before .before .before .before .before .before .before .before .before .args .shape) (c .before .before .before .before .before .before .before .before .before .before .before .before .before .before .before .before .before .before .before .before .before .before .before .before .args .marks .now) (c .before .before .before .before .before .before .before .before .before .before .before .before .before .before .before .before .before .before .before .before .before .before .before .before .args .beds .now) (c .before .before .before .before .before .before .before .before .before .before .before .before .before .before .before .before .before .before .before .before .before .before .before .before .pre .1) (c .before .before .before .before .before .before .before .before .before .before .before .before .before .before .before .before .before .before .loop .inv .2) in
-    let b = copied (c .before .before .before .before .before .before .before .before .before .before .before .before .before .before .before .before .before .before .before .before .before .before .before .before .args .shape) (c .before .before .before .before .before .before .before .before .before .before .before .before .before .before .before .before .before .before .before .before .before .before .before .before .args .marks .now) (c .before .before .before .before .before .before .before .before .before .before .before .before .before .before .before .before .before .before .before .before .before .before .before .before .args .beds .now) (c .before .before .before .before .before .before .before .before .before .before .before .before .before .before .before .before .before .before .before .before .before .before .before .before .pre .1) (c .before .before .before .before .before .before .before .before .before .before .before .before .before .before .before .before .before .before .loop .inv .0) (omega (arith, c .before .before .before .before .before .before .before .before .before .before .before .before .before .before .before .before .before .loop-test .taken, c .before .before .before .before .before .before .before .before .before .before .before .before .before .before .before .before .before .before .before .squares-of .ensures)) (c .before .before .before .before .before .before .before .before .before .before .before .before .before .before .before .before .before .before .loop .inv .2) (c .before .before .before .before .before .before .before .before .before .before .before .before .before .before .before .before .before .before .loop .before) (omega (arith, c .before .before .before .before .before .before .before .before .before .before .before .before .before .before .before .before .before .before .before .before .before .before .before .before .pre .0 .3, c .before .before .before .before .before .before .before .before .before .before .before .before .before .before .before .before .before .before .loop .inv .1)) (c .before .before .before .before .before .before .before .before .before .before .before .before .before .before .copy-into .ensures) in
-    let l = ap length (c .before .before .before .before .before .before .before .before .before .one-round .ensures) ∙ round-long (c .before .before .before .before .before .before .before .before .before .before .before .before .before .before .before .before .before .before .before .before .before .before .before .before .args .shape) (c .before .before .before .before .before .before .before .before .before .before .before .before .before .before .before .before .before .before .before .before .before .before .before .before .args .marks .now) (c .before .before .before .before .before .before .before .before .before .before .before .before .before .before .before .before .before .before .before .before .before .before .before .before .args .beds .now) (c .before .before .before .before .before .before .before .before .before .before .before .before .before .before .before .before .before .before .before .before .before .before .before .before .pre .1) _ in
-    (omega (arith, ap length b, g .0, l), omega (arith, ap length b, g .0, g .1, c .before .before .before .before .before .before .before .before .before .before .before .before .before .before .before .before .before .before .before .before .before .before .before .before .pre .0 .2))
+    let start =
+    c .before .before .before .before .before .before .before .before .before .before .before .before .before .before .before .before
+    .before .before .before .before .before .before .before .before in
+    let a = start .args in
+    let at-squares-of =
+    c .before .before .before .before .before .before .before .before .before .before .before .before .before .before .before .before
+    .before .before .before .squares-of in
+    let at-loop =
+    c .before .before .before .before .before .before .before .before .before .before .before .before .before .before .before .before
+    .before .before .loop in
+    let at-loop-test =
+    c .before .before .before .before .before .before .before .before .before .before .before .before .before .before .before .before
+    .before .loop-test in
+    let at-copy-into = c .before .before .before .before .before .before .before .before .before .before .before .before .before .before .copy-into in
+    let at-one-round = c .before .before .before .before .before .before .before .before .before .one-round in
+    let g = going-long (a .shape) (a .marks .now) (a .beds .now) (start .pre .1) (at-loop .inv .2) in
+    let b = copied (a .shape) (a .marks .now) (a .beds .now) (start .pre .1) (at-loop .inv .0) (omega (arith, at-loop-test .taken, at-squares-of .ensures)) (at-loop .inv .2) (at-loop .before) (omega (arith, start .pre .0 .3, at-loop .inv .1)) (at-copy-into .ensures) in
+    let l = ap length (at-one-round .ensures) ∙ round-long (a .shape) (a .marks .now) (a .beds .now) (start .pre .1) _ in
+    (omega (arith, ap length b, g .0, l), omega (arith, ap length b, g .0, g .1, start .pre .0 .2))
 
 add-turn : tie.Need-add-turn Inv-loop μ-loop
 add-turn c =
-    omega (arith, c .before .before .before .before .before .before .before .before .before .before .before .before .before .before .before .before .before .before .before .before .loop-test .taken, c .before .before .before .before .before .before .before .before .before .before .before .before .before .before .before .before .before .before .before .before .before .before .squares-of .ensures, c .before .before .before .before .before .before .before .before .before .before .before .before .before .before .before .before .before .before .before .before .before .before .before .before .before .before .before .pre .0 .0 .few)
+    let start =
+    c .before .before .before .before .before .before .before .before .before .before .before .before .before .before .before .before
+    .before .before .before .before .before .before .before .before .before .before .before in
+    let at-squares-of =
+    c .before .before .before .before .before .before .before .before .before .before .before .before .before .before .before .before
+    .before .before .before .before .before .before .squares-of in
+    let at-loop-test =
+    c .before .before .before .before .before .before .before .before .before .before .before .before .before .before .before .before
+    .before .before .before .before .loop-test in
+    omega (arith, at-loop-test .taken, at-squares-of .ensures, start .pre .0 .0 .few)
 
 loop-less : tie.Need-loop-less Inv-loop μ-loop
 loop-less c =
@@ -81,17 +158,43 @@ loop-less c =
 
 loop-again : tie.Need-loop-again Inv-loop μ-loop
 loop-again c =
-    let g = going-long (c .before .before .before .before .before .before .before .before .before .before .before .before .before .before .before .before .before .before .before .before .before .before .before .before .before .before .before .args .shape) (c .before .before .before .before .before .before .before .before .before .before .before .before .before .before .before .before .before .before .before .before .before .before .before .before .before .before .before .args .marks .now) (c .before .before .before .before .before .before .before .before .before .before .before .before .before .before .before .before .before .before .before .before .before .before .before .before .before .before .before .args .beds .now) (c .before .before .before .before .before .before .before .before .before .before .before .before .before .before .before .before .before .before .before .before .before .before .before .before .before .before .before .pre .1) (c .before .before .before .before .before .before .before .before .before .before .before .before .before .before .before .before .before .before .before .before .before .loop .inv .2) in
-    let b = copied (c .before .before .before .before .before .before .before .before .before .before .before .before .before .before .before .before .before .before .before .before .before .before .before .before .before .before .before .args .shape) (c .before .before .before .before .before .before .before .before .before .before .before .before .before .before .before .before .before .before .before .before .before .before .before .before .before .before .before .args .marks .now) (c .before .before .before .before .before .before .before .before .before .before .before .before .before .before .before .before .before .before .before .before .before .before .before .before .before .before .before .args .beds .now) (c .before .before .before .before .before .before .before .before .before .before .before .before .before .before .before .before .before .before .before .before .before .before .before .before .before .before .before .pre .1) (c .before .before .before .before .before .before .before .before .before .before .before .before .before .before .before .before .before .before .before .before .before .loop .inv .0) (omega (arith, c .before .before .before .before .before .before .before .before .before .before .before .before .before .before .before .before .before .before .before .before .loop-test .taken, c .before .before .before .before .before .before .before .before .before .before .before .before .before .before .before .before .before .before .before .before .before .before .squares-of .ensures)) (c .before .before .before .before .before .before .before .before .before .before .before .before .before .before .before .before .before .before .before .before .before .loop .inv .2) (c .before .before .before .before .before .before .before .before .before .before .before .before .before .before .before .before .before .before .before .before .before .loop .before) (omega (arith, c .before .before .before .before .before .before .before .before .before .before .before .before .before .before .before .before .before .before .before .before .before .before .before .before .before .before .before .pre .0 .3, c .before .before .before .before .before .before .before .before .before .before .before .before .before .before .before .before .before .before .before .before .before .loop .inv .1)) (c .before .before .before .before .before .before .before .before .before .before .before .before .before .before .before .before .before .copy-into .ensures) in
-    (omega arith, omega (arith, ap length b, g .0, c .before .before .before .before .before .before .before .before .before .before .before .before .before .before .before .before .before .before .before .before .before .before .before .before .before .before .before .pre .0 .3), going-more (c .before .before .before .before .before .before .before .before .before .before .before .before .before .before .before .before .before .before .before .before .before .before .before .before .before .before .before .args .shape) (c .before .before .before .before .before .before .before .before .before .before .before .before .before .before .before .before .before .before .before .before .before .before .before .before .before .before .before .args .marks .now) (c .before .before .before .before .before .before .before .before .before .before .before .before .before .before .before .before .before .before .before .before .before .before .before .before .before .before .before .args .beds .now) (c .before .before .before .before .before .before .before .before .before .before .before .before .before .before .before .before .before .before .before .before .before .before .before .before .before .before .before .pre .1) (c .before .before .before .before .before .before .before .before .before .before .before .before .before .before .before .before .before .before .before .before .before .loop .inv .0) (omega (arith, c .before .before .before .before .before .before .before .before .before .before .before .before .before .before .before .before .before .before .before .before .loop-test .taken, c .before .before .before .before .before .before .before .before .before .before .before .before .before .before .before .before .before .before .before .before .before .before .squares-of .ensures)) (c .before .before .before .before .before .before .before .before .before .before .before .before .before .before .before .before .before .before .before .before .before .loop .inv .2) b (c .before .before .before .before .before .before .before .before .before .before .before .before .one-round .ensures) (c .before .before .note-round .ensures))
+    let start =
+    c .before .before .before .before .before .before .before .before .before .before .before .before .before .before .before .before
+    .before .before .before .before .before .before .before .before .before .before .before in
+    let a = start .args in
+    let at-squares-of =
+    c .before .before .before .before .before .before .before .before .before .before .before .before .before .before .before .before
+    .before .before .before .before .before .before .squares-of in
+    let at-loop =
+    c .before .before .before .before .before .before .before .before .before .before .before .before .before .before .before .before
+    .before .before .before .before .before .loop in
+    let at-loop-test =
+    c .before .before .before .before .before .before .before .before .before .before .before .before .before .before .before .before
+    .before .before .before .before .loop-test in
+    let at-copy-into =
+    c .before .before .before .before .before .before .before .before .before .before .before .before .before .before .before .before
+    .before .copy-into in
+    let at-one-round = c .before .before .before .before .before .before .before .before .before .before .before .before .one-round in
+    let g = going-long (a .shape) (a .marks .now) (a .beds .now) (start .pre .1) (at-loop .inv .2) in
+    let b = copied (a .shape) (a .marks .now) (a .beds .now) (start .pre .1) (at-loop .inv .0) (omega (arith, at-loop-test .taken, at-squares-of .ensures)) (at-loop .inv .2) (at-loop .before) (omega (arith, start .pre .0 .3, at-loop .inv .1)) (at-copy-into .ensures) in (
+      omega arith,
+      omega (arith, ap length b, g .0, start .pre .0 .3),
+      going-more (a .shape) (a .marks .now) (a .beds .now) (start .pre .1) (at-loop .inv .0)
+          (omega (arith, at-loop-test .taken, at-squares-of .ensures)) (at-loop .inv .2) b (at-one-round .ensures)
+          (c .before .before .note-round .ensures),
+    )
 
 same-length-4 : tie.Need-same-length-4 Inv-loop μ-loop
 same-length-4 c =
-    going-long (c .before .before .before .before .before .before .before .args .shape) (c .before .before .before .before .before .before .before .args .marks .now) (c .before .before .before .before .before .before .before .args .beds .now) (c .before .before .before .before .before .before .before .pre .1) (c .before .loop .inv .2) .0 ∙ sym (c .before .before .before .before .before .before .before .pre .1 .one-each)
+    let start = c .before .before .before .before .before .before .before in
+    let a = start .args in
+    going-long (a .shape) (a .marks .now) (a .beds .now) (start .pre .1) (c .before .loop .inv .2) .0 ∙ sym (start .pre .1 .one-each)
 
 same-length-5 : tie.Need-same-length-5 Inv-loop μ-loop
 same-length-5 c =
-    going-long (c .before .before .before .before .before .before .before .args .shape) (c .before .before .before .before .before .before .before .args .marks .now) (c .before .before .before .before .before .before .before .args .beds .now) (c .before .before .before .before .before .before .before .pre .1) (c .before .loop .inv .2) .1
+    let start = c .before .before .before .before .before .before .before in
+    let a = start .args in
+    going-long (a .shape) (a .marks .now) (a .beds .now) (start .pre .1) (c .before .loop .inv .2) .1
 
 same-length-6 : tie.Need-same-length-6 Inv-loop μ-loop
 same-length-6 c =
@@ -99,8 +202,10 @@ same-length-6 c =
 
 returns-2 : tie.Need-returns-2 Inv-loop μ-loop
 returns-2 c =
+    let start = c .before .before .before .before .before .before .before in
+    let a = start .args in
     let g = c .before .loop .inv .2 in
-    going-end (c .before .before .before .before .before .before .before .args .shape) (c .before .before .before .before .before .before .before .args .marks .now) (c .before .before .before .before .before .before .before .args .beds .now) (omega (arith, g .few, c .loop-test .left, c .before .before .squares-of .ensures)) g
+    going-end (a .shape) (a .marks .now) (a .beds .now) (omega (arith, g .few, c .loop-test .left, c .before .before .squares-of .ensures)) g
 
 pub fill-rounds-spec : {M : Type 1} → statement M
 fill-rounds-spec =

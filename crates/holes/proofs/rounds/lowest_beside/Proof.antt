@@ -28,8 +28,13 @@ lower-requires-3 c κs = search needs
 
 returns : tie.Need-returns
 returns c =
-    lowest-of (c .before .before .before .before .before .before .before .before .before .args .shape) (c .before .before .before .before .before .before .before .before .before .args .marks .now) (c .before .before .before .before .before .before .before .before .before .args .beds .now) (c .before .before .before .before .before .before .before .before .before .args .square) (c .before .before .before .before .before .before .bed-beside .ensures) (c .before .before .before .before .before .bed-beside2 .ensures)
-    (c .before .before .before .before .bed-beside3 .ensures) (c .before .before .before .bed-beside4 .ensures) (c .before .before .lower .ensures) (c .before .lower2 .ensures) (c .lower3 .ensures)
+    let start = c .before .before .before .before .before .before .before .before .before in
+    let a = start .args in
+    let at-bed-beside = c .before .before .before .before .before .before .bed-beside in
+    let at-bed-beside2 = c .before .before .before .before .before .bed-beside2 in
+    lowest-of (a .shape) (a .marks .now) (a .beds .now) (a .square) (at-bed-beside .ensures) (at-bed-beside2 .ensures)
+    (c .before .before .before .before .bed-beside3 .ensures) (c .before .before .before .bed-beside4 .ensures)
+    (c .before .before .lower .ensures) (c .before .lower2 .ensures) (c .lower3 .ensures)
 
 pub lowest-beside-spec : {M : Type 1} → statement M
 lowest-beside-spec =

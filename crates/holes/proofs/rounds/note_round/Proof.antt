@@ -24,11 +24,13 @@ loop-holds c =
     (omega arith, filled-none _ _ _)
 
 note-square-requires : tie.Need-note-square-requires Inv-loop μ-loop
-note-square-requires c κs = (
-  omega (arith, c .before .loop-test .taken),
-  omega (arith, c .before .loop-test .taken, c .before .before .before .before .before .before .pre .0),
-  omega (arith, c .before .loop-test .taken, c .before .before .before .before .before .before .pre .1, ap length (c .before .before .loop .inv .1), length-filled (c .before .before .loop .square) (λ i. eqb (getD (c .before .before .before .before .before .before .args .beds .now) i 0) (getD (c .before .before .before .before .before .before .args .before .now) i 0)) (λ i. c .before .before .before .before .before .before .args .turn) (c .before .before .before .before .before .before .args .turns .now)),
-)
+note-square-requires c κs =
+    let start = c .before .before .before .before .before .before in
+    let a = start .args in (
+      omega (arith, c .before .loop-test .taken),
+      omega (arith, c .before .loop-test .taken, start .pre .0),
+      omega (arith, c .before .loop-test .taken, start .pre .1, ap length (c .before .before .loop .inv .1), length-filled (c .before .before .loop .square) (λ i. eqb (getD (a .beds .now) i 0) (getD (a .before .now) i 0)) (λ i. a .turn) (a .turns .now)),
+    )
 
 add-square : tie.Need-add-square Inv-loop μ-loop
 add-square c =
@@ -39,18 +41,28 @@ loop-less c =
     omega (arith, c .before .before .before .before .loop-test .taken)
 
 loop-again : tie.Need-loop-again Inv-loop μ-loop
-loop-again c = (
-  omega (arith, c .before .before .before .before .loop-test .taken),
-  filled-next _ _ _ (c .before .before .before .before .before .loop .square) (omega (arith, c .before .before .before .before .loop-test .taken, c .before .before .before .before .before .before .before .before .before .pre .1)) (c .before .before .before .before .before .loop .inv .1) (c .before .before .note-square .ensures),
-)
+loop-again c =
+    let start = c .before .before .before .before .before .before .before .before .before in
+    let at-loop = c .before .before .before .before .before .loop in (
+      omega (arith, c .before .before .before .before .loop-test .taken),
+      filled-next _ _ _ (at-loop .square) (omega (arith, c .before .before .before .before .loop-test .taken, start .pre .1)) (at-loop .inv .1)
+          (c .before .before .note-square .ensures),
+    )
 
 same-length : tie.Need-same-length Inv-loop μ-loop
 same-length c =
-    ap length (c .before .loop .inv .1) ∙ length-filled (c .before .loop .square) (λ i. eqb (getD (c .before .before .before .before .before .args .beds .now) i 0) (getD (c .before .before .before .before .before .args .before .now) i 0)) (λ i. c .before .before .before .before .before .args .turn) (c .before .before .before .before .before .args .turns .now)
+    let start = c .before .before .before .before .before in
+    let a = start .args in
+    ap length (c .before .loop .inv .1)
+    ∙ length-filled (c .before .loop .square) (λ i. eqb (getD (a .beds .now) i 0) (getD (a .before .now) i 0)) (λ i. a .turn) (a .turns .now)
 
 returns : tie.Need-returns Inv-loop μ-loop
 returns c =
-    c .before .loop .inv .1 ∙ ap (λ (k : ℕ). filled k (λ i. eqb (getD (c .before .before .before .before .before .args .beds .now) i 0) (getD (c .before .before .before .before .before .args .before .now) i 0)) (λ i. c .before .before .before .before .before .args .turn) (c .before .before .before .before .before .args .turns .now)) (omega (arith, c .before .loop .inv .0, c .loop-test .left))
+    let start = c .before .before .before .before .before in
+    let a = start .args in
+    c .before .loop .inv .1
+    ∙ ap (λ (k : ℕ). filled k (λ i. eqb (getD (a .beds .now) i 0) (getD (a .before .now) i 0)) (λ i. a .turn) (a .turns .now))
+    (omega (arith, c .before .loop .inv .0, c .loop-test .left))
 
 pub note-round-spec : {M : Type 1} → statement M
 note-round-spec =

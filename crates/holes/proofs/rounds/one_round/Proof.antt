@@ -33,7 +33,11 @@ loop-holds c =
 
 bed-after-requires : tie.Need-bed-after-requires Inv-loop μ-loop
 bed-after-requires c κs =
-    (record { fine = c .before .before .before .before .before .before .pre .0; inside = omega (arith, c .loop-test .taken, c .before .before .squares-of .ensures); column-is = c .before .loop .inv .1 }, c .before .before .before .before .before .before .pre .1, c .before .before .before .before .before .before .pre .2)
+    let start = c .before .before .before .before .before .before in (
+      record { fine = start .pre .0; inside = omega (arith, c .loop-test .taken, c .before .before .squares-of .ensures); column-is = c .before .loop .inv .1 },
+      start .pre .1,
+      start .pre .2,
+    )
 
 mul-beds : tie.Need-mul-beds Inv-loop μ-loop
 mul-beds c =
@@ -41,11 +45,23 @@ mul-beds c =
 
 slice-write-beds : tie.Need-slice-write-beds Inv-loop μ-loop
 slice-write-beds c =
-    omega (arith, c .before .loop-test .taken, c .before .before .before .squares-of .ensures, c .before .before .before .before .before .before .before .pre .3, ap length (c .before .before .loop .inv .2), length-filled (c .before .before .loop .square) (λ i. false) (bedAfter (c .before .before .before .before .before .before .before .args .shape) (c .before .before .before .before .before .before .before .args .marks .now) (c .before .before .before .before .before .before .before .args .before .now)) (c .before .before .before .before .before .before .before .args .beds .now))
+    let start = c .before .before .before .before .before .before .before in
+    let a = start .args in
+    omega (
+      arith,
+      c .before .loop-test .taken,
+      c .before .before .before .squares-of .ensures,
+      start .pre .3,
+      ap length (c .before .before .loop .inv .2),
+      length-filled (c .before .before .loop .square) (λ i. false) (bedAfter (a .shape) (a .marks .now) (a .before .now)) (a .beds .now),
+    )
 
 next-column-requires : tie.Need-next-column-requires Inv-loop μ-loop
 next-column-requires c κs =
-    (c .before .before .before .before .before .before .before .pre .0, column-within (c .before .before .before .before .before .before .before .args .shape) (c .before .before .loop .square) (c .before .before .before .before .before .before .before .pre .0 .columns-low) (c .before .before .loop .inv .1))
+    let start = c .before .before .before .before .before .before .before in (
+      start .pre .0,
+      column-within (start .args .shape) (c .before .before .loop .square) (start .pre .0 .columns-low) (c .before .before .loop .inv .1),
+    )
 
 add-square : tie.Need-add-square Inv-loop μ-loop
 add-square c =
@@ -56,19 +72,30 @@ loop-less c =
     omega (arith, c .before .before .loop-test .taken)
 
 loop-again : tie.Need-loop-again Inv-loop μ-loop
-loop-again c = (
-  omega (arith, c .before .before .loop-test .taken),
-  carried (c .before .before .before .before .before .before .before .before .args .shape) (c .before .before .before .loop .square) (c .before .before .before .loop .inv .1) (c .next-column .ensures),
-  ap (λ (l : List ℕ). set l (c .before .before .before .loop .square) (c .before .bed-after .result)) (c .before .before .before .loop .inv .2) ∙ filled-store _ _ _ (c .before .before .before .loop .square) (omega (arith, c .before .before .loop-test .taken, c .before .before .before .before .squares-of .ensures, c .before .before .before .before .before .before .before .before .pre .3)) refl (c .before .bed-after .ensures),
-)
+loop-again c =
+    let start = c .before .before .before .before .before .before .before .before in (
+      omega (arith, c .before .before .loop-test .taken),
+      carried (start .args .shape) (c .before .before .before .loop .square) (c .before .before .before .loop .inv .1) (c .next-column .ensures),
+      ap (λ (l : List ℕ). set l (c .before .before .before .loop .square) (c .before .bed-after .result)) (c .before .before .before .loop .inv .2)
+          ∙ filled-store _ _ _ (c .before .before .before .loop .square)
+          (omega (arith, c .before .before .loop-test .taken, c .before .before .before .before .squares-of .ensures, start .pre .3)) refl
+          (c .before .bed-after .ensures),
+    )
 
 same-length : tie.Need-same-length Inv-loop μ-loop
 same-length c =
-    ap length (c .before .loop .inv .2) ∙ length-filled (c .before .loop .square) (λ i. false) (bedAfter (c .before .before .before .before .before .before .args .shape) (c .before .before .before .before .before .before .args .marks .now) (c .before .before .before .before .before .before .args .before .now)) (c .before .before .before .before .before .before .args .beds .now)
+    let start = c .before .before .before .before .before .before in
+    let a = start .args in
+    ap length (c .before .loop .inv .2)
+    ∙ length-filled (c .before .loop .square) (λ i. false) (bedAfter (a .shape) (a .marks .now) (a .before .now)) (a .beds .now)
 
 returns : tie.Need-returns Inv-loop μ-loop
 returns c =
-    round-made (c .before .before .before .before .before .before .args .shape) (c .before .before .before .before .before .before .args .marks .now) (c .before .before .before .before .before .before .args .before .now) (c .before .before .before .before .before .before .args .beds .now) (omega (arith, c .before .loop .inv .0, c .loop-test .left, c .before .before .squares-of .ensures)) (sym (c .before .before .before .before .before .before .pre .3)) (c .before .loop .inv .2)
+    let start = c .before .before .before .before .before .before in
+    let a = start .args in
+    round-made (a .shape) (a .marks .now) (a .before .now) (a .beds .now)
+    (omega (arith, c .before .loop .inv .0, c .loop-test .left, c .before .before .squares-of .ensures)) (sym (start .pre .3))
+    (c .before .loop .inv .2)
 
 pub one-round-spec : {M : Type 1} → statement M
 one-round-spec =

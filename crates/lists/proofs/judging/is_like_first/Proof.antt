@@ -23,8 +23,12 @@ slice-aggregate-same-plan c = part-long _ (omega (arith, c .before .before .squa
 
 same-plan-requires : tie.Need-same-plan-requires
 same-plan-requires c κs =
-    let n = c .before .before .squares-of .ensures in
-    (c .before .before .before .before .before .before .before .pre .0, omega (arith, n, part-long {n = c .before .before .squares-of .result} (c .before .before .before .before .before .before .before .args .marks .now) (omega (arith, n, c .before .before .before .before .before .before .before .pre .1))), c .before .before .before .before .before .before .before .pre .2)
+    let start = c .before .before .before .before .before .before .before in
+    let n = c .before .before .squares-of .ensures in (
+      start .pre .0,
+      omega (arith, n, part-long {n = c .before .before .squares-of .result} (start .args .marks .now) (omega (arith, n, start .pre .1))),
+      start .pre .2,
+    )
 
 returns-2 : tie.Need-returns-2
 returns-2 c =

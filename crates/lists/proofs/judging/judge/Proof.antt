@@ -22,7 +22,10 @@ same-length-2 : tie.Need-same-length-2
 same-length-2 c = search needs
 
 returns-2 : tie.Need-returns-2
-returns-2 c = judged-opened (c .before .before .before .before .before .before .before .before .before .before .before .before .args .text .now) (not-false _ (c .before .before .before .before .before .before .before .if1 .left)) (c .before .before .before .before .judge-text .ensures)
+returns-2 c =
+    let start = c .before .before .before .before .before .before .before .before .before .before .before .before in
+    let at-if1 = c .before .before .before .before .before .before .before .if1 in
+    judged-opened (start .args .text .now) (not-false _ (at-if1 .left)) (c .before .before .before .before .judge-text .ensures)
 
 pub judge-spec : {M : Type 1} → statement M
 judge-spec = tie.close (tie.spec refused-requires returns judge-text-requires same-length same-length-2 returns-2)

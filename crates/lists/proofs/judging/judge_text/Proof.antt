@@ -81,7 +81,10 @@ slice-aggregate-run-judged-6 c = search needs
 
 run-judged-requires : tie.Need-run-judged-requires
 run-judged-requires c κs =
-    let pre = c .before .before .before .before .before .before .before .before .before .before .before .before .before .before .before .before .before .before .before .before .before .before .before .before .before .before .before .before .before .before .before .pre in
+    let start =
+    c .before .before .before .before .before .before .before .before .before .before .before .before .before .before .before .before
+    .before .before .before .before .before .before .before .before .before .before .before .before .before .before .before in
+    let pre = start .pre in
     (read-holds mostText programSquares _ (reads (well c)), (pre .0, pre .2))
 
 same-length : tie.Need-same-length

@@ -40,8 +40,14 @@ same-length-2 c = search needs
 
 returns-2 : tie.Need-returns-2
 returns-2 c =
-    let pre = c .before .before .before .before .before .before .before .before .before .before .before .before .before .before .before .before .before .before .before .before .before .pre in
-    judged-run (c .before .before .before .before .before .before .before .before .before .before .is-like-first .ensures) (not-false _ (c .before .before .before .before .before .before .before .before .before .if1 .left)) (pre .1 .1) (pre .0 .few) (c .before .before .before .before .before .run-sheet-peaks .ensures .told)
+    let start =
+    c .before .before .before .before .before .before .before .before .before .before .before .before .before .before .before .before
+    .before .before .before .before .before in
+    let at-is-like-first = c .before .before .before .before .before .before .before .before .before .before .is-like-first in
+    let at-if1 = c .before .before .before .before .before .before .before .before .before .if1 in
+    let at-run-sheet-peaks = c .before .before .before .before .before .run-sheet-peaks in
+    let pre = start .pre in
+    judged-run (at-is-like-first .ensures) (not-false _ (at-if1 .left)) (pre .1 .1) (pre .0 .few) (at-run-sheet-peaks .ensures .told)
 
 pub run-judged-spec : {M : Type 1} → statement M
 run-judged-spec = tie.close (tie.spec is-like-first-requires refused-requires returns slice-aggregate-run-sheet-peaks run-sheet-peaks-requires same-length same-length-2 returns-2)

@@ -42,11 +42,19 @@ loop-less c = omega (arith, c .before .before .before .before .before .before .b
 
 loop-again : tie.Need-loop-again Inv-loop μ-loop
 loop-again c =
-    let n = c .before .before .before .before .before .before .before .before .before .before .before .before .squares-of .ensures in
-    let l = c .before .before .before .before .before .before .before .before .before .before .loop-test .taken in
-    let pre = c .before .before .before .before .before .before .before .before .before .before .before .before .before .before .before .before .before .before .pre .1 in (
+    let start =
+    c .before .before .before .before .before .before .before .before .before .before .before .before .before .before .before .before
+    .before .before in
+    let at-squares-of = c .before .before .before .before .before .before .before .before .before .before .before .before .squares-of in
+    let at-loop = c .before .before .before .before .before .before .before .before .before .before .before .loop in
+    let at-loop-test = c .before .before .before .before .before .before .before .before .before .before .loop-test in
+    let at-merge-square = c .before .before .before .before .before .before .merge-square in
+    let n = at-squares-of .ensures in
+    let l = at-loop-test .taken in
+    let pre = start .pre .1 in (
       omega (arith, l),
-      merged-more _ _ _ _ _ _ (c .before .before .before .before .before .before .before .before .before .before .before .loop .inv .1) (omega (arith, n, l, pre .0)) (omega (arith, n, l, pre .1)) (omega (arith, n, l, pre .2)) (c .before .before .before .before .before .before .merge-square .ensures),
+      merged-more _ _ _ _ _ _ (at-loop .inv .1) (omega (arith, n, l, pre .0)) (omega (arith, n, l, pre .1)) (omega (arith, n, l, pre .2))
+          (at-merge-square .ensures),
     )
 
 same-length : tie.Need-same-length Inv-loop μ-loop

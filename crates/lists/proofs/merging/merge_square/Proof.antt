@@ -45,9 +45,13 @@ same-length c = search needs
 
 returns-2 : tie.Need-returns-2
 returns-2 c =
-    let s = c .before .before .before .before .before .before .before .before .before .before .before .before .before .args in
+    let start = c .before .before .before .before .before .before .before .before .before .before .before .before .before in
+    let at-is-closed = c .before .before .before .before .before .before .before .is-closed in
+    let at-if1 = c .before .before .before .before .before .before .if1 in
+    let s = start .args in
     square-counted (s .merging) (s .square) (s .marks .now) (s .peaks .now) (s .counts .now) (s .deepest .now) (s .places .now)
-    (sym (c .before .before .before .before .before .before .before .is-closed .ensures) ∙ c .before .before .before .before .before .before .if1 .left) (c .before .before .before .count-with .ensures) (c .before .is-given .ensures) (not-true _ (c .if2 .taken))
+    (sym (at-is-closed .ensures) ∙ at-if1 .left) (c .before .before .before .count-with .ensures) (c .before .is-given .ensures)
+    (not-true _ (c .if2 .taken))
 
 mul-deepest : tie.Need-mul-deepest
 mul-deepest c = search needs
@@ -69,9 +73,13 @@ same-length-4 c = search needs
 
 returns-3 : tie.Need-returns-3
 returns-3 c =
-    let s = c .before .before .before .before .before .before .before .before .before .before .before .before .before .args in
+    let start = c .before .before .before .before .before .before .before .before .before .before .before .before .before in
+    let at-is-closed = c .before .before .before .before .before .before .before .is-closed in
+    let at-if1 = c .before .before .before .before .before .before .if1 in
+    let s = start .args in
     square-given (s .merging) (s .square) (s .marks .now) (s .peaks .now) (s .counts .now) (s .deepest .now) (s .places .now)
-    (sym (c .before .before .before .before .before .before .before .is-closed .ensures) ∙ c .before .before .before .before .before .before .if1 .left) (c .before .before .before .count-with .ensures) (c .before .is-given .ensures) (not-false _ (c .if2 .left))
+    (sym (at-is-closed .ensures) ∙ at-if1 .left) (c .before .before .before .count-with .ensures) (c .before .is-given .ensures)
+    (not-false _ (c .if2 .left))
 
 pub merge-square-spec : {M : Type 1} → statement M
 merge-square-spec = tie.close (tie.spec is-closed-requires returns mul-peak shared-slice-read-peak slice-read-count-with count-with-requires slice-write-counts mul-is-given slice-read-is-given is-given-requires same-length returns-2 mul-deepest slice-write-deepest slice-write-places same-length-2 same-length-3 same-length-4 returns-3)

@@ -33,11 +33,20 @@ list-after-requires c κs = search needs
 
 returns-2 : tie.Need-returns-2
 unfolding listed
-returns-2 c = by-number (listRefused 1) (listAfter (c .before .before .before .before .before .before .args .text .now)) (sym (c .before .before .before .number-at .ensures) ∙ c .before .enum-told .given .1) (c .refused2 .ensures) ∙ sym (pick-true _ _ (le-leb _ _ (c .before .before .before .before .if1 .left)))
+returns-2 c =
+    let start = c .before .before .before .before .before .before in
+    by-number (listRefused 1) (listAfter (start .args .text .now))
+    (sym (c .before .before .before .number-at .ensures) ∙ c .before .enum-told .given .1) (c .refused2 .ensures)
+    ∙ sym (pick-true _ _ (le-leb _ _ (c .before .before .before .before .if1 .left)))
 
 returns-3 : tie.Need-returns-3
 unfolding listed
-returns-3 c = by-number (listRefused 1) (listAfter (c .before .before .before .before .before .before .before .args .text .now)) (sym (c .before .before .before .before .number-at .ensures) ∙ c .before .before .wet .given .1) (c .list-after .ensures) ∙ sym (pick-true _ _ (le-leb _ _ (c .before .before .before .before .before .if1 .left)))
+returns-3 c =
+    let start = c .before .before .before .before .before .before .before in
+    let at-if1 = c .before .before .before .before .before .if1 in
+    by-number (listRefused 1) (listAfter (start .args .text .now))
+    (sym (c .before .before .before .before .number-at .ensures) ∙ c .before .before .wet .given .1) (c .list-after .ensures)
+    ∙ sym (pick-true _ _ (le-leb _ _ (at-if1 .left)))
 
 pub read-list-spec : {M : Type 1} → statement M
 read-list-spec = tie.close (tie.spec refused-requires returns number-at-requires enum-told refused-requires-2 enum-known-wet list-after-requires returns-2 returns-3)

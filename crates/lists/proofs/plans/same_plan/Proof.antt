@@ -22,7 +22,9 @@ squares-of-requires : tie.Need-squares-of-requires
 squares-of-requires c κs = c .before .before .before .before .before .before .before .before .pre .0
 
 same-marks-requires : tie.Need-same-marks-requires
-same-marks-requires c κs = (omega (arith, c .squares-of .ensures, c .before .before .before .before .before .before .before .before .before .pre .1), omega (arith, c .squares-of .ensures, c .before .before .before .before .before .before .before .before .before .pre .2))
+same-marks-requires c κs =
+    let start = c .before .before .before .before .before .before .before .before .before in
+    (omega (arith, c .squares-of .ensures, start .pre .1), omega (arith, c .squares-of .ensures, start .pre .2))
 
 returns-3 : tie.Need-returns-3
 returns-3 c =

@@ -40,7 +40,12 @@ loop-less : tie.Need-loop-less Inv-loop μ-loop
 loop-less c = omega (arith, c .before .loop-test .taken)
 
 loop-again : tie.Need-loop-again Inv-loop μ-loop
-loop-again c = (omega (arith, c .before .loop-test .taken), mark-copied (c .before .before .before .args .to .now) (c .before .before .before .args .from .now) (c .before .before .loop .inv .1) (omega (arith, c .before .loop-test .taken, c .before .before .before .pre)) (c .before .loop-test .taken))
+loop-again c =
+    let start = c .before .before .before in (
+      omega (arith, c .before .loop-test .taken),
+      mark-copied (start .args .to .now) (start .args .from .now) (c .before .before .loop .inv .1)
+          (omega (arith, c .before .loop-test .taken, start .pre)) (c .before .loop-test .taken),
+    )
 
 same-length : tie.Need-same-length Inv-loop μ-loop
 same-length c = as-long (c .before)

@@ -44,10 +44,15 @@ slice-aggregate-merge c =
 
 merge-requires : tie.Need-merge-requires
 merge-requires c κs =
-    let n = c .before .before .before .before .before .before .before .before .before .before .before in
-    let pre = c .before .before .before .before .before .before .before .before .before .before .before .before .before .before .before .before .before .before .pre in
+    let start =
+    c .before .before .before .before .before .before .before .before .before .before .before .before .before .before .before .before
+    .before .before in
+    let at-before = c .before .before .before .before .before .before .before .before .before .before .before in
+    let at-keep-first = c .before .before .before .before .before .before .before .before .keep-first in
+    let n = at-before in
+    let pre = start .pre in
     let few = pre .0 .2 in (
-      (pre .0 .1, omega (arith, few, pre .1 .0 .2, c .before .before .before .before .before .before .before .before .keep-first .kept .1 .1 .0), omega (arith, n .squares-of .ensures, part n (c .before .before .before .before .before .before .before .before .before .before .before .before .before .before .before .before .before .before .args .peaks .now) (pre .1 .0 .1))),
+      (pre .0 .1, omega (arith, few, pre .1 .0 .2, at-keep-first .kept .1 .1 .0), omega (arith, n .squares-of .ensures, part n (start .args .peaks .now) (pre .1 .0 .1))),
       (omega (arith, few, pre .1 .1 .0), omega (arith, few, pre .1 .1 .1), omega (arith, few, pre .1 .1 .2)),
     )
 
@@ -68,8 +73,19 @@ same-length-4 c = search needs
 
 returns : tie.Need-returns
 returns c =
-    let args = c .before .before .before .before .before .before .before .before .before .before .before .before .before .before .before .before .before .before .before .before .before .before .before .before .before .before .args in
-    accepted-whole (args .sheet-marks .now) (args .peaks .now) (args .marks .now) (c .before .before .before .before .before .before .before .before .before .before .before .before .before .before .before .before .before .before .before .squares-of .ensures) (c .before .before .before .before .before .before .before .before .before .before .before .before .before .before .before .before .keep-first .ensures) (c .before .before .before .before .before .before .before .merge .ensures) (c .accepted .ensures)
+    let start =
+    c .before .before .before .before .before .before .before .before .before .before .before .before .before .before .before .before
+    .before .before .before .before .before .before .before .before .before .before in
+    let at-squares-of =
+    c .before .before .before .before .before .before .before .before .before .before .before .before .before .before .before .before
+    .before .before .before .squares-of in
+    let at-keep-first =
+    c .before .before .before .before .before .before .before .before .before .before .before .before .before .before .before .before
+    .keep-first in
+    let at-merge = c .before .before .before .before .before .before .before .merge in
+    let args = start .args in
+    accepted-whole (args .sheet-marks .now) (args .peaks .now) (args .marks .now) (at-squares-of .ensures) (at-keep-first .ensures)
+    (at-merge .ensures) (c .accepted .ensures)
 
 pub take-accepted-spec : {M : Type 1} → statement M
 take-accepted-spec = tie.close (tie.spec squares-of-requires slice-aggregate-keep-first keep-first-requires add-t16 cast-t17 slice-aggregate-merge merge-requires accepted-requires same-length same-length-2 same-length-3 same-length-4 returns)

@@ -33,35 +33,84 @@ squares-of-requires c κs =
 
 slice-aggregate-put-highest : tie.Need-slice-aggregate-put-highest
 slice-aggregate-put-highest c =
-    part-long _ (omega (arith, c .before .before .before .before .before .before .before .before .before .before .before .before .before .before .before .before .before .before .before .pre .0 .marks-long, c .before .before .squares-of .ensures, c .before .before .before .before .before .before .before .before .before .before .before .before .before .before .before .before .before .before .before .pre .0 .few))
+    let start =
+    c .before .before .before .before .before .before .before .before .before .before .before .before .before .before .before .before
+    .before .before .before in
+    part-long _ (omega (arith, start .pre .0 .marks-long, c .before .before .squares-of .ensures, start .pre .0 .few))
 
 array-share-prefix-peaks : tie.Need-array-share-prefix-peaks
 array-share-prefix-peaks c =
-    omega (arith, c .before .before .before .before .before .before .before .run-sheet-peaks .ensures .told .peaks-long, length-replicate {A = ℕ} programSquares 0, c .before .before .squares-of .ensures, c .before .before .before .before .before .before .before .before .before .before .before .before .before .before .before .before .before .before .before .pre .0 .few)
+    let start =
+    c .before .before .before .before .before .before .before .before .before .before .before .before .before .before .before .before
+    .before .before .before in
+    let at-run-sheet-peaks = c .before .before .before .before .before .before .before .run-sheet-peaks in
+    omega (
+      arith,
+      at-run-sheet-peaks .ensures .told .peaks-long,
+      length-replicate {A = ℕ} programSquares 0,
+      c .before .before .squares-of .ensures,
+      start .pre .0 .few,
+    )
 
 slice-aggregate-put-highest-2 : tie.Need-slice-aggregate-put-highest-2
 slice-aggregate-put-highest-2 c =
-    part-long _ (omega (arith, c .before .before .before .before .before .before .before .before .run-sheet-peaks .ensures .told .peaks-long, length-replicate {A = ℕ} programSquares 0, c .before .before .before .squares-of .ensures, c .before .before .before .before .before .before .before .before .before .before .before .before .before .before .before .before .before .before .before .before .pre .0 .few))
+    let start =
+    c .before .before .before .before .before .before .before .before .before .before .before .before .before .before .before .before
+    .before .before .before .before in
+    let at-run-sheet-peaks = c .before .before .before .before .before .before .before .before .run-sheet-peaks in
+    part-long _
+    (omega (
+      arith,
+      at-run-sheet-peaks .ensures .told .peaks-long,
+      length-replicate {A = ℕ} programSquares 0,
+      c .before .before .before .squares-of .ensures,
+      start .pre .0 .few,
+    ))
 
 array-share-prefix-clocks : tie.Need-array-share-prefix-clocks
 array-share-prefix-clocks c =
-    omega (arith, c .before .before .before .before .before .before .before .before .run-sheet-peaks .ensures .told .clocks-long, length-replicate {A = ℕ} programSquares 0, c .before .before .before .squares-of .ensures, c .before .before .before .before .before .before .before .before .before .before .before .before .before .before .before .before .before .before .before .before .pre .0 .few)
+    let start =
+    c .before .before .before .before .before .before .before .before .before .before .before .before .before .before .before .before
+    .before .before .before .before in
+    let at-run-sheet-peaks = c .before .before .before .before .before .before .before .before .run-sheet-peaks in
+    omega (
+      arith,
+      at-run-sheet-peaks .ensures .told .clocks-long,
+      length-replicate {A = ℕ} programSquares 0,
+      c .before .before .before .squares-of .ensures,
+      start .pre .0 .few,
+    )
 
 slice-aggregate-put-highest-3 : tie.Need-slice-aggregate-put-highest-3
 slice-aggregate-put-highest-3 c =
-    part-long _ (omega (arith, c .before .before .before .before .before .before .before .before .before .run-sheet-peaks .ensures .told .clocks-long, length-replicate {A = ℕ} programSquares 0, c .before .before .before .before .squares-of .ensures, c .before .before .before .before .before .before .before .before .before .before .before .before .before .before .before .before .before .before .before .before .before .pre .0 .few))
+    let start =
+    c .before .before .before .before .before .before .before .before .before .before .before .before .before .before .before .before
+    .before .before .before .before .before in
+    let at-run-sheet-peaks = c .before .before .before .before .before .before .before .before .before .run-sheet-peaks in
+    part-long _
+    (omega (
+      arith,
+      at-run-sheet-peaks .ensures .told .clocks-long,
+      length-replicate {A = ℕ} programSquares 0,
+      c .before .before .before .before .squares-of .ensures,
+      start .pre .0 .few,
+    ))
 
 put-highest-requires : tie.Need-put-highest-requires
 put-highest-requires c κs =
-    let h = c .before .before .before .before .before .before .before .before .before .before .before .before .before .before .before .before .before .before .before .before .before .pre .0 in
+    let start =
+    c .before .before .before .before .before .before .before .before .before .before .before .before .before .before .before .before
+    .before .before .before .before .before in
+    let at-run-sheet-peaks = c .before .before .before .before .before .before .before .before .before .run-sheet-peaks in
+    let h = start .pre .0 in
     let n = c .before .before .before .before .squares-of .ensures in
     let zeros = length-replicate {A = ℕ} programSquares 0 in
-    let ran = c .before .before .before .before .before .before .before .before .before .run-sheet-peaks .ensures .told in (
-      (h .shape, h .few, c .before .before .before .before .before .before .before .before .before .before .before .before .before .before .before .before .before .before .before .before .before .pre .1),
+    let ran = at-run-sheet-peaks .ensures .told in (
+      (h .shape, h .few, start .pre .1),
       (
-        omega (arith, n, part-long {n = c .before .before .before .before .squares-of .result} (c .before .before .before .before .before .before .before .before .before .before .before .before .before .before .before .before .before .before .before .before .before .args .marks .now) (omega (arith, h .marks-long, n, h .few))),
-        omega (arith, n, part-long {n = c .before .before .before .before .squares-of .result} (c .before .before .before .before .before .before .before .before .before .run-sheet-peaks .last .1 .1 .1 .1 .1 .1 .1 .1 .0) (omega (arith, ran .peaks-long, zeros, n, h .few))),
-        omega (arith, n, part-long {n = c .before .before .before .before .squares-of .result} (c .before .before .before .before .before .before .before .before .before .run-sheet-peaks .last .1 .1 .1 .1 .1 .1 .1 .1 .1 .0) (omega (arith, ran .clocks-long, zeros, n, h .few))),
+        omega (arith, n, part-long {n = c .before .before .before .before .squares-of .result} (start .args .marks .now) (omega (arith, h .marks-long, n, h .few))),
+        omega (arith, n, part-long {n = c .before .before .before .before .squares-of .result} (at-run-sheet-peaks .last .1 .1 .1 .1 .1 .1 .1 .1 .0) (omega (arith, ran .peaks-long, zeros, n, h .few))),
+        omega (arith, n, part-long {n = c .before .before .before .before .squares-of .result} (at-run-sheet-peaks .last .1 .1 .1 .1 .1 .1 .1 .1 .1 .0) (omega (arith, ran .clocks-long, zeros, n, h .few))),
       ),
     )
 
@@ -73,8 +122,14 @@ same-length-2 c = search needs
 
 returns : tie.Need-returns
 returns c =
-    let s = (c .before .before .before .before .before .before .before .before .before .before .before .before .before .before .before .before .before .before .before .before .before .before .before .before) in
-    highest-printed (s .args .heading) (held s) (c .before .before .before .before .before .before .before .before .before .before .before .before .run-sheet-peaks .ensures .told) (s .pre .0 .few) (c .before .before .before .before .before .before .before .squares-of .ensures) (c .before .before .put-highest .ensures)
+    let at-before =
+    c .before .before .before .before .before .before .before .before .before .before .before .before .before .before .before .before
+    .before .before .before .before .before .before .before .before in
+    let at-run-sheet-peaks = c .before .before .before .before .before .before .before .before .before .before .before .before .run-sheet-peaks in
+    let at-squares-of = c .before .before .before .before .before .before .before .squares-of in
+    let s = (at-before) in
+    highest-printed (s .args .heading) (held s) (at-run-sheet-peaks .ensures .told) (s .pre .0 .few) (at-squares-of .ensures)
+    (c .before .before .put-highest .ensures)
 
 pub print-highest-spec : {M : Type 1} → statement M
 print-highest-spec =

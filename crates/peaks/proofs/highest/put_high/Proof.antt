@@ -39,8 +39,11 @@ slice-aggregate-put-line-2 c = search needs
 
 put-line-requires : tie.Need-put-line-requires
 put-line-requires c κs =
-    let s = c .before .before .before .before .before .before .before .before .before .before .before in
-    let e = high-open (plan (s .args .shape) (s .args .marks .now)) (s .args .peaks .now) (s .args .clocks .now) (s .args .square) (sym (c .before .before .before .before .before .before .is-closed .ensures) ∙ c .before .before .before .before .before .if1 .left) (c .before .before .before .before .number .ensures) (c .before .before .before .number2 .ensures) in
+    let at-before = c .before .before .before .before .before .before .before .before .before .before .before in
+    let at-is-closed = c .before .before .before .before .before .before .is-closed in
+    let at-if1 = c .before .before .before .before .before .if1 in
+    let s = at-before in
+    let e = high-open (plan (s .args .shape) (s .args .marks .now)) (s .args .peaks .now) (s .args .clocks .now) (s .args .square) (sym (at-is-closed .ensures) ∙ at-if1 .left) (c .before .before .before .before .number .ensures) (c .before .before .before .number2 .ensures) in
     omega (arith, ap length e, s .pre .1)
 
 same-length : tie.Need-same-length
@@ -48,8 +51,15 @@ same-length c = search needs
 
 returns-2 : tie.Need-returns-2
 returns-2 c =
-    let s = c .before .before .before .before .before .before .before .before .before .before .before .before .before .before in
-    written-as (high-open (plan (s .args .shape) (s .args .marks .now)) (s .args .peaks .now) (s .args .clocks .now) (s .args .square) (sym (c .before .before .before .before .before .before .before .before .before .is-closed .ensures) ∙ c .before .before .before .before .before .before .before .before .if1 .left) (c .before .before .before .before .before .before .before .number .ensures) (c .before .before .before .before .before .before .number2 .ensures)) (c .before .before .put-line .ensures)
+    let at-before = c .before .before .before .before .before .before .before .before .before .before .before .before .before .before in
+    let at-is-closed = c .before .before .before .before .before .before .before .before .before .is-closed in
+    let at-if1 = c .before .before .before .before .before .before .before .before .if1 in
+    let at-number = c .before .before .before .before .before .before .before .number in
+    let at-number2 = c .before .before .before .before .before .before .number2 in
+    let s = at-before in
+    written-as
+    (high-open (plan (s .args .shape) (s .args .marks .now)) (s .args .peaks .now) (s .args .clocks .now) (s .args .square)
+    (sym (at-is-closed .ensures) ∙ at-if1 .left) (at-number .ensures) (at-number2 .ensures)) (c .before .before .put-line .ensures)
 
 pub put-high-spec : {M : Type 1} → statement M
 put-high-spec =

@@ -61,9 +61,13 @@ same-length-2 c = search needs
 
 returns-2 : tie.Need-returns-2
 returns-2 c =
-    let k = (c .before .before .before .before .before .before .before .before .before .before) in
+    let at-before = c .before .before .before .before .before .before .before .before .before .before in
+    let at-if1 = c .before .before .before .before .before .before .before .before .if1 in
+    let at-put-highs = c .before .before .before .before .before .before .put-highs in
+    let k = (at-before) in
     let s = start k in
-    high-made (P s) (s .args .peaks .now) (s .args .clocks .now) (s .args .ran) (s .pre .0 .1) (words k) (clocks-small k) (s .pre .0 .2) (c .before .before .before .before .before .before .before .before .if1 .left) (c .before .before .before .before .before .before .put-highs .ensures) (c .before .before .put-totals .ensures)
+    high-made (P s) (s .args .peaks .now) (s .args .clocks .now) (s .args .ran) (s .pre .0 .1) (words k) (clocks-small k) (s .pre .0 .2)
+    (at-if1 .left) (at-put-highs .ensures) (c .before .before .put-totals .ensures)
 
 pub put-highest-spec : {M : Type 1} → statement M
 put-highest-spec =

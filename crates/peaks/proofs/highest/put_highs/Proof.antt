@@ -39,9 +39,13 @@ loop-holds c =
 
 put-high-requires : tie.Need-put-high-requires Inv-loop μ-loop
 put-high-requires c κs =
-    let s = c .before .before .before .before .before .before .before .before in
-    let n = c .before .before .before .squares-of .ensures in
-    ((s .pre .0 .0, omega (arith, n, s .pre .0 .1), omega (arith, n, s .pre .0 .2), omega (arith, n, s .pre .0 .3)), line-fits (text-of s) (squares (s .args .shape)) (s .args .at) (s .args .out .now) (fits s) (c .before .before .loop .square) (c .before .before .loop .inv .1) (omega (arith, n)))
+    let at-before = c .before .before .before .before .before .before .before .before in
+    let s = at-before in
+    let n = c .before .before .before .squares-of .ensures in (
+      (s .pre .0 .0, omega (arith, n, s .pre .0 .1), omega (arith, n, s .pre .0 .2), omega (arith, n, s .pre .0 .3)),
+      line-fits (text-of s) (squares (s .args .shape)) (s .args .at) (s .args .out .now) (fits s) (c .before .before .loop .square)
+          (c .before .before .loop .inv .1) (omega (arith, n)),
+    )
 
 add-square : tie.Need-add-square Inv-loop μ-loop
 add-square c =
@@ -53,8 +57,14 @@ loop-less c =
 
 loop-again : tie.Need-loop-again Inv-loop μ-loop
 loop-again c =
-    let s = (c .before .before .before .before .before .before .before .before .before .before .before) in
-    (omega arith, line-written (text-of s) (squares (s .args .shape)) (s .args .at) (s .args .out .now) (fits s) (c .before .before .before .before .before .loop .square) (c .before .before .before .before .before .loop .inv .1) (omega (arith, c .before .before .before .before .before .before .squares-of .ensures)) (c .before .before .put-high .ensures))
+    let at-before = c .before .before .before .before .before .before .before .before .before .before .before in
+    let at-squares-of = c .before .before .before .before .before .before .squares-of in
+    let at-loop = c .before .before .before .before .before .loop in
+    let s = (at-before) in (
+      omega arith,
+      line-written (text-of s) (squares (s .args .shape)) (s .args .at) (s .args .out .now) (fits s) (at-loop .square) (at-loop .inv .1)
+          (omega (arith, at-squares-of .ensures)) (c .before .before .put-high .ensures),
+    )
 
 same-length : tie.Need-same-length Inv-loop μ-loop
 same-length c =

@@ -1,7 +1,6 @@
 -- `peaks::raising::rises` meets its contract: the first test that decides.
 -- Assumes nothing.
-use mathlib.Core.Path.{sym, ap₂, _∙_}
-use lib.Dec.{ltb}
+use mathlib.Core.Path.{sym, _∙_}
 use Rattle.reckon.proofs.TestLaws.{pick-true, pick-false}
 use Rattle.peaks.specs.inner.Raised.{risesAt}
 use borrow.Author.Needs.{needs}
@@ -22,20 +21,16 @@ unfolding risesAt
 returns-2 c =
     sym (pick-false _ _ (sym (c .before .before .is-closed .ensures) ∙ c .before .if1 .left) ∙ pick-true _ _ (c .if2 .taken))
 
-number-requires : tie.Need-number-requires
-number-requires c κs =
-    search needs
-
-number-requires-2 : tie.Need-number-requires-2
-number-requires-2 c κs =
+above-requires : tie.Need-above-requires
+above-requires c κs =
     search needs
 
 returns-3 : tie.Need-returns-3
 unfolding risesAt
 returns-3 c =
-    ap₂ ltb (c .before .number .ensures) (c .number2 .ensures) ∙ sym (pick-false _ _ (sym (c .before .before .before .before .is-closed .ensures) ∙ c .before .before .before .if1 .left) ∙ pick-false _ _ (c .before .before .if2 .left))
+    c .above .ensures ∙ sym (pick-false _ _ (sym (c .before .before .before .is-closed .ensures) ∙ c .before .before .if1 .left) ∙ pick-false _ _ (c .before .if2 .left))
 
 pub rises-spec : {M : Type 1} → statement M
 rises-spec =
     tie.close
-    (tie.spec is-closed-requires returns returns-2 number-requires number-requires-2 returns-3)
+    (tie.spec is-closed-requires returns returns-2 above-requires returns-3)

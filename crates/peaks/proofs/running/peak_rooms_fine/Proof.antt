@@ -28,7 +28,15 @@ returns-2 c =
 
 returns-3 : tie.Need-returns-3
 returns-3 c =
-    every-decided _ 2 _ (ap (eqb (length (c .before .before .before .before .before .before .args .clocks .now))) (sym (c .before .squares-of .ensures))) (λ t. (holds-by (c .before .before .before .shape-fine .ensures) (c .before .before .if1 .left), (eq-eqb _ _ (c .if2 .left ∙ c .before .squares-of .ensures), (ap (eqb (length (c .before .before .before .before .before .before .args .clocks .now))) (sym (c .before .squares-of .ensures)) ∙ t, tt))))
+    let start = c .before .before .before .before .before .before in
+    every-decided _ 2 _ (ap (eqb (length (start .args .clocks .now))) (sym (c .before .squares-of .ensures)))
+    (λ t. (
+      holds-by (c .before .before .before .shape-fine .ensures) (c .before .before .if1 .left),
+      (
+        eq-eqb _ _ (c .if2 .left ∙ c .before .squares-of .ensures),
+        (ap (eqb (length (start .args .clocks .now))) (sym (c .before .squares-of .ensures)) ∙ t, tt),
+      ),
+    ))
 
 pub peak-rooms-fine-spec : {M : Type 1} → statement M
 peak-rooms-fine-spec =

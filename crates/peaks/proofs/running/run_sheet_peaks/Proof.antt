@@ -40,67 +40,125 @@ mul-inflow-end c =
 
 slice-aggregate-run-peaks : tie.Need-slice-aggregate-run-peaks
 slice-aggregate-run-peaks c =
-    part-long _ (omega (arith, c .before .before .before .before .before .before .before .before .before .before .before .before .before .before .before .pre .0 .marks-long, c .before .before .before .before .squares-of .ensures, c .before .before .before .before .before .before .before .before .before .before .before .before .before .before .before .pre .0 .few))
+    let start = c .before .before .before .before .before .before .before .before .before .before .before .before .before .before .before in
+    part-long _ (omega (arith, start .pre .0 .marks-long, c .before .before .before .before .squares-of .ensures, start .pre .0 .few))
 
 slice-aggregate-run-peaks-2 : tie.Need-slice-aggregate-run-peaks-2
 slice-aggregate-run-peaks-2 c =
-    part-long _ (omega (arith, c .before .before .before .before .before .before .before .before .before .before .before .before .before .before .before .before .pre .0 .beds-long, c .before .before .before .before .before .squares-of .ensures, c .before .before .before .before .before .before .before .before .before .before .before .before .before .before .before .before .pre .0 .few))
+    let start = c .before .before .before .before .before .before .before .before .before .before .before .before .before .before .before .before in
+    let at-squares-of = c .before .before .before .before .before .squares-of in
+    part-long _ (omega (arith, start .pre .0 .beds-long, at-squares-of .ensures, start .pre .0 .few))
 
 slice-aggregate-run-peaks-3 : tie.Need-slice-aggregate-run-peaks-3
 slice-aggregate-run-peaks-3 c =
-    part-long _ (omega (arith, c .before .before .before .before .before .before .before .before .before .before .before .before .before .before .before .before .before .pre .0 .roughness-long, c .before .before .before .before .before .before .squares-of .ensures, c .before .before .before .before .before .before .before .before .before .before .before .before .before .before .before .before .before .pre .0 .few))
+    let start =
+    c .before .before .before .before .before .before .before .before .before .before .before .before .before .before .before .before
+    .before in
+    let at-squares-of = c .before .before .before .before .before .before .squares-of in
+    part-long _ (omega (arith, start .pre .0 .roughness-long, at-squares-of .ensures, start .pre .0 .few))
 
 slice-aggregate-run-peaks-4 : tie.Need-slice-aggregate-run-peaks-4
 slice-aggregate-run-peaks-4 c =
-    part-long _ (omega (arith, c .before .before .before .before .before .before .before .before .before .before .before .before .before .before .before .before .before .before .pre .0 .rates-long, c .before .before .before .before .before .before .before .squares-of .ensures, c .before .before .before .before .before .before .before .before .before .before .before .before .before .before .before .before .before .before .pre .0 .few))
+    let start =
+    c .before .before .before .before .before .before .before .before .before .before .before .before .before .before .before .before
+    .before .before in
+    let at-squares-of = c .before .before .before .before .before .before .before .squares-of in
+    part-long _ (omega (arith, start .pre .0 .rates-long, at-squares-of .ensures, start .pre .0 .few))
 
 slice-aggregate-run-peaks-5 : tie.Need-slice-aggregate-run-peaks-5
 slice-aggregate-run-peaks-5 c =
-    part-long _ (omega (arith, c .before .before .before .before .before .before .before .before .before .before .before .before .before .before .before .before .before .before .before .pre .0 .rain-few, c .before .before .before .before .before .before .before .before .before .before .before .before .before .before .before .before .before .before .before .pre .0 .rain-long))
+    let start =
+    c .before .before .before .before .before .before .before .before .before .before .before .before .before .before .before .before
+    .before .before .before in
+    part-long _ (omega (arith, start .pre .0 .rain-few, start .pre .0 .rain-long))
 
 slice-aggregate-run-peaks-6 : tie.Need-slice-aggregate-run-peaks-6
 slice-aggregate-run-peaks-6 c =
-    part-long _ (omega (arith, c .before .before .before .before .before .before .before .before .before .before .before .before .before .before .before .before .before .before .before .before .pre .0 .inflow-few, c .before .before .before .before .before .before .before .before .before .before .before .before .before .before .before .before .before .before .before .before .pre .0 .inflow-long))
+    let start =
+    c .before .before .before .before .before .before .before .before .before .before .before .before .before .before .before .before
+    .before .before .before .before in
+    part-long _ (omega (arith, start .pre .0 .inflow-few, start .pre .0 .inflow-long))
 
 slice-relend-prefix-run-peaks : tie.Need-slice-relend-prefix-run-peaks
 slice-relend-prefix-run-peaks c =
-    omega (arith, c .before .before .before .before .before .before .before .before .before .before .before .before .before .before .before .before .before .before .before .before .pre .0 .depths-long, c .before .before .before .before .before .before .before .before .before .squares-of .ensures, c .before .before .before .before .before .before .before .before .before .before .before .before .before .before .before .before .before .before .before .before .pre .0 .few)
+    let start =
+    c .before .before .before .before .before .before .before .before .before .before .before .before .before .before .before .before
+    .before .before .before .before in
+    let at-squares-of = c .before .before .before .before .before .before .before .before .before .squares-of in
+    omega (arith, start .pre .0 .depths-long, at-squares-of .ensures, start .pre .0 .few)
 
 slice-aggregate-run-peaks-7 : tie.Need-slice-aggregate-run-peaks-7
 slice-aggregate-run-peaks-7 c =
-    part-long _ (omega (arith, c .before .before .before .before .before .before .before .before .before .before .before .before .before .before .before .before .before .before .before .before .before .pre .0 .depths-long, c .before .before .before .before .before .before .before .before .before .before .squares-of .ensures, c .before .before .before .before .before .before .before .before .before .before .before .before .before .before .before .before .before .before .before .before .before .pre .0 .few))
+    let start =
+    c .before .before .before .before .before .before .before .before .before .before .before .before .before .before .before .before
+    .before .before .before .before .before in
+    let at-squares-of = c .before .before .before .before .before .before .before .before .before .before .squares-of in
+    part-long _ (omega (arith, start .pre .0 .depths-long, at-squares-of .ensures, start .pre .0 .few))
 
 array-borrow-prefix-lasts : tie.Need-array-borrow-prefix-lasts
 array-borrow-prefix-lasts c =
-    omega (arith, c .before .before .before .before .before .before .before .before .before .before .squares-of .ensures, c .before .before .before .before .before .before .before .before .before .before .before .before .before .before .before .before .before .before .before .before .before .pre .0 .few)
+    let start =
+    c .before .before .before .before .before .before .before .before .before .before .before .before .before .before .before .before
+    .before .before .before .before .before in
+    let at-squares-of = c .before .before .before .before .before .before .before .before .before .before .squares-of in
+    omega (arith, at-squares-of .ensures, start .pre .0 .few)
 
 slice-aggregate-run-peaks-8 : tie.Need-slice-aggregate-run-peaks-8
 slice-aggregate-run-peaks-8 c =
-    taken-long {size = programSquares} _ (omega (arith, c .before .before .before .before .before .before .before .before .before .before .before .squares-of .ensures, c .before .before .before .before .before .before .before .before .before .before .before .before .before .before .before .before .before .before .before .before .before .before .pre .0 .few)) refl
+    let start =
+    c .before .before .before .before .before .before .before .before .before .before .before .before .before .before .before .before
+    .before .before .before .before .before .before in
+    let at-squares-of = c .before .before .before .before .before .before .before .before .before .before .before .squares-of in
+    taken-long {size = programSquares} _ (omega (arith, at-squares-of .ensures, start .pre .0 .few)) refl
 
 array-borrow-prefix-records : tie.Need-array-borrow-prefix-records
 array-borrow-prefix-records c =
-    omega (arith, c .before .before .before .before .before .before .before .before .before .before .record-size .ensures, c .before .before .before .before .before .before .before .before .before .before .before .before .before .before .before .before .before .before .before .before .before .before .pre .0 .few)
+    let start =
+    c .before .before .before .before .before .before .before .before .before .before .before .before .before .before .before .before
+    .before .before .before .before .before .before in
+    let at-record-size = c .before .before .before .before .before .before .before .before .before .before .record-size in
+    omega (arith, at-record-size .ensures, start .pre .0 .few)
 
 slice-aggregate-run-peaks-9 : tie.Need-slice-aggregate-run-peaks-9
 slice-aggregate-run-peaks-9 c =
-    taken-long {size = headWords + squareWords * programSquares} _ (omega (arith, c .before .before .before .before .before .before .before .before .before .before .before .record-size .ensures, c .before .before .before .before .before .before .before .before .before .before .before .before .before .before .before .before .before .before .before .before .before .before .before .pre .0 .few)) refl
+    let start =
+    c .before .before .before .before .before .before .before .before .before .before .before .before .before .before .before .before
+    .before .before .before .before .before .before .before in
+    let at-record-size = c .before .before .before .before .before .before .before .before .before .before .before .record-size in
+    taken-long {size = headWords + squareWords * programSquares} _ (omega (arith, at-record-size .ensures, start .pre .0 .few)) refl
 
 slice-relend-prefix-run-peaks-2 : tie.Need-slice-relend-prefix-run-peaks-2
 slice-relend-prefix-run-peaks-2 c =
-    omega (arith, c .before .before .before .before .before .before .before .before .before .before .before .before .before .before .before .before .before .before .before .before .before .before .before .pre .1 .0, c .before .before .before .before .before .before .before .before .before .before .before .before .squares-of .ensures, c .before .before .before .before .before .before .before .before .before .before .before .before .before .before .before .before .before .before .before .before .before .before .before .pre .0 .few)
+    let start =
+    c .before .before .before .before .before .before .before .before .before .before .before .before .before .before .before .before
+    .before .before .before .before .before .before .before in
+    let at-squares-of = c .before .before .before .before .before .before .before .before .before .before .before .before .squares-of in
+    omega (arith, start .pre .1 .0, at-squares-of .ensures, start .pre .0 .few)
 
 slice-aggregate-run-peaks-10 : tie.Need-slice-aggregate-run-peaks-10
 slice-aggregate-run-peaks-10 c =
-    part-long _ (omega (arith, c .before .before .before .before .before .before .before .before .before .before .before .before .before .before .before .before .before .before .before .before .before .before .before .before .pre .1 .0, c .before .before .before .before .before .before .before .before .before .before .before .before .before .squares-of .ensures, c .before .before .before .before .before .before .before .before .before .before .before .before .before .before .before .before .before .before .before .before .before .before .before .before .pre .0 .few))
+    let start =
+    c .before .before .before .before .before .before .before .before .before .before .before .before .before .before .before .before
+    .before .before .before .before .before .before .before .before in
+    let at-squares-of = c .before .before .before .before .before .before .before .before .before .before .before .before .before .squares-of in
+    part-long _ (omega (arith, start .pre .1 .0, at-squares-of .ensures, start .pre .0 .few))
 
 slice-relend-prefix-run-peaks-3 : tie.Need-slice-relend-prefix-run-peaks-3
 slice-relend-prefix-run-peaks-3 c =
-    omega (arith, c .before .before .before .before .before .before .before .before .before .before .before .before .before .before .before .before .before .before .before .before .before .before .before .before .pre .1 .1, c .before .before .before .before .before .before .before .before .before .before .before .before .before .squares-of .ensures, c .before .before .before .before .before .before .before .before .before .before .before .before .before .before .before .before .before .before .before .before .before .before .before .before .pre .0 .few)
+    let start =
+    c .before .before .before .before .before .before .before .before .before .before .before .before .before .before .before .before
+    .before .before .before .before .before .before .before .before in
+    let at-squares-of = c .before .before .before .before .before .before .before .before .before .before .before .before .before .squares-of in
+    omega (arith, start .pre .1 .1, at-squares-of .ensures, start .pre .0 .few)
 
 slice-aggregate-run-peaks-11 : tie.Need-slice-aggregate-run-peaks-11
 slice-aggregate-run-peaks-11 c =
-    part-long _ (omega (arith, c .before .before .before .before .before .before .before .before .before .before .before .before .before .before .before .before .before .before .before .before .before .before .before .before .before .pre .1 .1, c .before .before .before .before .before .before .before .before .before .before .before .before .before .before .squares-of .ensures, c .before .before .before .before .before .before .before .before .before .before .before .before .before .before .before .before .before .before .before .before .before .before .before .before .before .pre .0 .few))
+    let start =
+    c .before .before .before .before .before .before .before .before .before .before .before .before .before .before .before .before
+    .before .before .before .before .before .before .before .before .before in
+    let at-squares-of =
+    c .before .before .before .before .before .before .before .before .before .before .before .before .before .before .squares-of in
+    part-long _ (omega (arith, start .pre .1 .1, at-squares-of .ensures, start .pre .0 .few))
 
 run-peaks-requires : tie.Need-run-peaks-requires
 run-peaks-requires c κs = search needs
@@ -116,13 +174,29 @@ same-length-3 c = search needs
 
 returns : tie.Need-returns
 returns c =
-    let s = (c .before .before .before .before .before .before .before .before .before .before .before .before .before .before .before .before .before .before .before .before .before .before .before .before .before .before .before .before .before .before .before .before .before .before) in
+    let at-before =
+    c .before .before .before .before .before .before .before .before .before .before .before .before .before .before .before .before
+    .before .before .before .before .before .before .before .before .before .before .before .before .before .before .before .before
+    .before .before in
+    let at-fresh-run =
+    c .before .before .before .before .before .before .before .before .before .before .before .before .before .before .before .before
+    .before .before .before .before .before .before .before .before .fresh-run in
+    let at-squares-of =
+    c .before .before .before .before .before .before .before .before .before .before .before .before .before .before .before .before
+    .before .before .before .before .before .before .before .squares-of in
+    let at-record-size =
+    c .before .before .before .before .before .before .before .before .before .before .before .before .before .before .before .before
+    .before .before .before .before .before .before .record-size in
+    let at-run-peaks = c .before .before .before .before .before .before .before .before .run-peaks in
+    let s = (at-before) in
     let h = s .pre .0 in
-    let n = c .before .before .before .before .before .before .before .before .before .before .before .before .before .before .before .before .before .before .before .before .before .before .before .squares-of .ensures in
-    let m = c .before .before .before .before .before .before .before .before .before .before .before .before .before .before .before .before .before .before .before .before .before .before .record-size .ensures in
-    let long : (room : List ℕ) → length room ≡ programSquares → length (take (c .before .before .before .before .before .before .before .before .before .before .before .before .before .before .before .before .before .before .before .before .before .before .before .squares-of .result) room) ≡ c .before .before .before .before .before .before .before .before .before .before .before .before .before .before .before .before .before .before .before .before .before .before .before .squares-of .result = λ room e. sym (part-long room (omega (arith, e, n, h .few))) in
+    let n = at-squares-of .ensures in
+    let m = at-record-size .ensures in
+    let long : (room : List ℕ) → length room ≡ programSquares → length (take (at-squares-of .result) room) ≡ at-squares-of .result = λ room e. sym (part-long room (omega (arith, e, n, h .few))) in
     sheet-peaks (s .args .heading) (held s) h (s .args .peaks .now) (s .args .clocks .now) (s .pre .1 .0) (s .pre .1 .1) n
-    (from-nothing (s .args .heading) (partsAt (c .before .before .before .before .before .before .before .before .before .before .before .before .before .before .before .before .before .before .before .before .before .before .before .squares-of .result) (s .args .heading) (held s)) _ _ (h .shape) (long _ (s .pre .1 .0) ∙ n) (long _ (s .pre .1 .1) ∙ n) (parts-pass {held = held s} h n) (zeros-are _ _ n (h .few)) (zeros-are _ _ m (record-in h)) (c .before .before .before .before .before .before .before .before .before .before .before .before .before .before .before .before .before .before .before .before .before .before .before .before .fresh-run .ensures) (c .before .before .before .before .before .before .before .before .run-peaks .ensures))
+    (from-nothing (s .args .heading) (partsAt (at-squares-of .result) (s .args .heading) (held s)) _ _ (h .shape) (long _ (s .pre .1 .0) ∙ n)
+    (long _ (s .pre .1 .1) ∙ n) (parts-pass {held = held s} h n) (zeros-are _ _ n (h .few)) (zeros-are _ _ m (record-in h))
+    (at-fresh-run .ensures) (at-run-peaks .ensures))
     (same-length-2 c) (same-length-3 c)
 
 pub run-sheet-peaks-spec : {M : Type 1} → statement M

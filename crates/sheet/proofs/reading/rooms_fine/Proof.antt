@@ -98,7 +98,19 @@ returns-9 c =
     let e2 = side n in
     let e1 = shape e2 in
     every-decided _ 8 _ refl
-    (λ t. ((holds-by (e1 .before .shape-fine .ensures) (e1 .if1 .left)), ((holds-by (e2 .before .side-fine .ensures) (e2 .if2 .left)), (enough n _ (e3 .if3 .left), (enough n _ (e4 .if4 .left), (enough n _ (e5 .if5 .left), (enough n _ (e6 .if6 .left), (enough n _ (e7 .if7 .left), (le-leb _ _ (e8 .if8 .left), (t, tt))))))))))
+    (λ t. (
+      (holds-by (e1 .before .shape-fine .ensures) (e1 .if1 .left)),
+      (
+        (holds-by (e2 .before .side-fine .ensures) (e2 .if2 .left)),
+        (
+          enough n _ (e3 .if3 .left),
+          (
+            enough n _ (e4 .if4 .left),
+            (enough n _ (e5 .if5 .left), (enough n _ (e6 .if6 .left), (enough n _ (e7 .if7 .left), (le-leb _ _ (e8 .if8 .left), (t, tt))))),
+          ),
+        ),
+      ),
+    ))
 
 pub rooms-fine-spec : {M : Type 1} → statement M
 rooms-fine-spec =

@@ -92,8 +92,13 @@ put-cell-requires : tie.Need-put-cell-requires Inv-loop μ-loop
 put-cell-requires c κs =
     let here = line (found c) in
     let i = turn here .loop .inv .1 in
-    let in-old = inside here in
-    (omega (arith, in-old .marks, long-marks _ _ _ i), omega (arith, in-old .beds, long-beds _ _ _ i), omega (arith, in-old .roughness, long-roughness _ _ _ i), omega (arith, in-old .rates, long-rates _ _ _ i), omega (arith, in-old .depths, long-depths _ _ _ i))
+    let in-old = inside here in (
+      omega (arith, in-old .marks, long-marks _ _ _ i),
+      omega (arith, in-old .beds, long-beds _ _ _ i),
+      omega (arith, in-old .roughness, long-roughness _ _ _ i),
+      omega (arith, in-old .rates, long-rates _ _ _ i),
+      omega (arith, in-old .depths, long-depths _ _ _ i),
+    )
 
 add-square : tie.Need-add-square Inv-loop μ-loop
 add-square c = omega arith

@@ -30,8 +30,15 @@ put-row-requires c κs =
     let at-line-of = c .before .before .before in
     let at-loop-test = at-line-of .before in
     let at-loop = at-loop-test .before in
-    let start = at-loop .before .before .before .before in
-    (omega (arith, start .pre .0 .0, values-at _ _ _ _ (at-line-of .line-of .ensures)), omega (arith, at-loop .loop .inv .1, (table-fits _ (at-loop-test .loop-test .taken) (start .pre .1 .1)), table-room _ _ _ _ (start .pre .0 .0) _ _ (table-fits _ (at-loop-test .loop-test .taken) (start .pre .1 .1)) (at-loop .loop .inv .3)))
+    let start = at-loop .before .before .before .before in (
+      omega (arith, start .pre .0 .0, values-at _ _ _ _ (at-line-of .line-of .ensures)),
+      omega (
+        arith,
+        at-loop .loop .inv .1,
+        (table-fits _ (at-loop-test .loop-test .taken) (start .pre .1 .1)),
+        table-room _ _ _ _ (start .pre .0 .0) _ _ (table-fits _ (at-loop-test .loop-test .taken) (start .pre .1 .1)) (at-loop .loop .inv .3),
+      ),
+    )
 
 add-used : tie.Need-add-used Inv-loop μ-loop
 add-used c =
@@ -52,8 +59,14 @@ loop-again c =
     let at-line-of = at-put-row .before .before .before .before in
     let at-loop-test = at-line-of .before in
     let at-loop = at-loop-test .before in
-    let start = at-loop .before .before .before .before in
-    (omega arith, used-more _ _ (at-loop .loop .inv .1), row-more _ _ _ _ (start .pre .0 .0) (start .pre .0 .1) (at-loop .loop .inv .2) (at-line-of .line-of .ensures) (row-read _ _ _ _ (at-loop .loop .inv .2) (at-line-of .line-of .ensures) (omega (arith, start .pre .1 .0))), table-more _ _ _ _ (start .pre .0 .0) _ _ (table-fits _ (at-loop-test .loop-test .taken) (start .pre .1 .1)) (at-loop .loop .inv .2 .here) (at-loop .loop .inv .1) (at-loop .loop .inv .3) (at-line-of .line-of .ensures) (at-put-row .put-row .ensures))
+    let start = at-loop .before .before .before .before in (
+      omega arith,
+      used-more _ _ (at-loop .loop .inv .1),
+      row-more _ _ _ _ (start .pre .0 .0) (start .pre .0 .1) (at-loop .loop .inv .2) (at-line-of .line-of .ensures)
+          (row-read _ _ _ _ (at-loop .loop .inv .2) (at-line-of .line-of .ensures) (omega (arith, start .pre .1 .0))),
+      table-more _ _ _ _ (start .pre .0 .0) _ _ (table-fits _ (at-loop-test .loop-test .taken) (start .pre .1 .1)) (at-loop .loop .inv .2 .here)
+          (at-loop .loop .inv .1) (at-loop .loop .inv .3) (at-line-of .line-of .ensures) (at-put-row .put-row .ensures),
+    )
 
 same-length : tie.Need-same-length Inv-loop μ-loop
 same-length c =

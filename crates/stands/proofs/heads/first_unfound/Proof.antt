@@ -33,7 +33,13 @@ returns-5 c =
 returns-6 : tie.Need-returns-6
 returns-6 c =
     sym
-    (passed-refusal _ (not-false _ (c .before .before .before .before .if1 .left), (not-false _ (c .before .before .before .if2 .left), (not-false _ (c .before .before .if3 .left), (not-false _ (c .before .if4 .left), (not-false _ (c .if5 .left), tt))))))
+    (passed-refusal _ (
+      not-false _ (c .before .before .before .before .if1 .left),
+      (
+        not-false _ (c .before .before .before .if2 .left),
+        (not-false _ (c .before .before .if3 .left), (not-false _ (c .before .if4 .left), (not-false _ (c .if5 .left), tt))),
+      ),
+    ))
 
 pub first-unfound-spec : {M : Type 1} → statement M
 first-unfound-spec = tie.close (tie.spec returns returns-2 returns-3 returns-4 returns-5 returns-6)

@@ -37,7 +37,11 @@ first-unfound-requires c κs = search needs
 
 returns : tie.Need-returns
 returns c =
-    head-is _ (c .before .before .before .before .before .before .before .before .before .stand-line .ensures) (c .before .before .before .before .before .before .before .total-line .ensures) (c .before .before .before .before .before .total-line2 .ensures) (c .before .before .before .total-line3 .ensures) (c .before .total-line4 .ensures)
+    let at-stand-line = c .before .before .before .before .before .before .before .before .before .stand-line in
+    let at-total-line = c .before .before .before .before .before .before .before .total-line in
+    let at-total-line2 = c .before .before .before .before .before .total-line2 in
+    head-is _ (at-stand-line .ensures) (at-total-line .ensures) (at-total-line2 .ensures) (c .before .before .before .total-line3 .ensures)
+    (c .before .total-line4 .ensures)
     (c .first-unfound .ensures)
 
 pub read-head-spec : {M : Type 1} → statement M

@@ -37,8 +37,15 @@ returns-3 c =
 returns-4 : tie.Need-returns-4
 unfolding checksOf
 returns-4 c =
+    let at-waters-read = c .before .before .before .before .before .waters-read in
     sym
-    (passed-refusal _ (holds-by (c .before .before .before .before .before .waters-read .ensures) (c .before .before .before .before .if1 .left), (holds-by (c .before .before .before .draws-fine .ensures) (c .before .before .if2 .left), (holds-by (c .before .state-fine .ensures) (c .if3 .left), tt))))
+    (passed-refusal _ (
+      holds-by (at-waters-read .ensures) (c .before .before .before .before .if1 .left),
+      (
+        holds-by (c .before .before .before .draws-fine .ensures) (c .before .before .if2 .left),
+        (holds-by (c .before .state-fine .ensures) (c .if3 .left), tt),
+      ),
+    ))
 
 pub checked-spec : {M : Type 1} → statement M
 checked-spec =

@@ -40,9 +40,22 @@ returns-3 c =
 returns-4 : tie.Need-returns-4
 unfolding hatchFine
 returns-4 c =
-    let s = c .before .before .before .before .before .before .before .before in
+    let at-before = c .before .before .before .before .before .before .before .before in
+    let at-if1 = c .before .before .before .before .before .if1 in
+    let s = at-before in
     every-decided _ 3 _ refl
-    (λ t. (lt-ltb _ _ (c .before .before .before .before .before .if1 .left), (lt-ltb _ _ (c .before .before .before .if2 .left), (ap not (closed-at (plan (s .args .shape) (s .args .marks .now)) (c .before .before .square-at .ensures) (c .before .is-closed .ensures) (c .if3 .left)), (t, tt)))))
+    (λ t. (
+      lt-ltb _ _ (at-if1 .left),
+      (
+        lt-ltb _ _ (c .before .before .before .if2 .left),
+        (
+          ap not
+              (closed-at (plan (s .args .shape) (s .args .marks .now)) (c .before .before .square-at .ensures) (c .before .is-closed .ensures)
+              (c .if3 .left)),
+          (t, tt),
+        ),
+      ),
+    ))
 
 pub hatch-fine-spec : {M : Type 1} → statement M
 hatch-fine-spec =

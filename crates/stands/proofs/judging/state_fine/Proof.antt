@@ -30,8 +30,16 @@ returns-3 c = sym (every-fails _ 2 (lt-leb _ _ (c .if3 .taken)))
 returns-4 : tie.Need-returns-4
 unfolding stateFine
 returns-4 c =
+    let at-run-fine = c .before .before .before .before .before .before .run-fine in
+    let at-if1 = c .before .before .before .before .before .if1 in
     every-decided _ 3 _ refl
-    (λ t. (holds-by (c .before .before .before .before .before .before .run-fine .ensures) (c .before .before .before .before .before .if1 .left), (holds-by (c .before .before .before .before .standing-fine .ensures) (c .before .before .before .if2 .left), (le-leb _ _ (c .before .if3 .left), (t, tt)))))
+    (λ t. (
+      holds-by (at-run-fine .ensures) (at-if1 .left),
+      (
+        holds-by (c .before .before .before .before .standing-fine .ensures) (c .before .before .before .if2 .left),
+        (le-leb _ _ (c .before .if3 .left), (t, tt)),
+      ),
+    ))
 
 pub state-fine-spec : {M : Type 1} → statement M
 state-fine-spec =

@@ -29,8 +29,12 @@ squares-of-requires c κs = c .before .before .before .before .before .before .b
 
 returns-2 : tie.Need-returns-2
 returns-2 c =
-    let s = c .before .before .before .before .before .before .before .before .before .before in
-    bad-square (s .pre .2) (plan (s .args .shape) (s .args .marks .now)) (c .before .before .before .before .before .before .if1 .left) (c .before .before .before .before .before .pass-squares .ensures) (omega (arith, c .before .before .squares-of .ensures, c .if2 .taken))
+    let at-before = c .before .before .before .before .before .before .before .before .before .before in
+    let at-if1 = c .before .before .before .before .before .before .if1 in
+    let at-pass-squares = c .before .before .before .before .before .pass-squares in
+    let s = at-before in
+    bad-square (s .pre .2) (plan (s .args .shape) (s .args .marks .now)) (at-if1 .left) (at-pass-squares .ensures)
+    (omega (arith, c .before .before .squares-of .ensures, c .if2 .taken))
 
 returns-3 : tie.Need-returns-3
 returns-3 c =
@@ -39,8 +43,12 @@ returns-3 c =
 
 returns-4 : tie.Need-returns-4
 returns-4 c =
-    let s = c .before .before .before .before .before .before .before .before .before .before .before .before in
-    bad-none (s .pre .2) (plan (s .args .shape) (s .args .marks .now)) (c .before .before .before .before .before .before .before .before .if1 .left) (c .before .before .before .before .before .before .before .pass-squares .ensures) (omega (arith, c .before .before .before .before .squares-of .ensures, c .before .before .if2 .left))
+    let at-before = c .before .before .before .before .before .before .before .before .before .before .before .before in
+    let at-if1 = c .before .before .before .before .before .before .before .before .if1 in
+    let at-pass-squares = c .before .before .before .before .before .before .before .pass-squares in
+    let s = at-before in
+    bad-none (s .pre .2) (plan (s .args .shape) (s .args .marks .now)) (at-if1 .left) (at-pass-squares .ensures)
+    (omega (arith, c .before .before .before .before .squares-of .ensures, c .before .before .if2 .left))
     (c .if3 .left)
 
 pub bad-line-spec : {M : Type 1} → statement M

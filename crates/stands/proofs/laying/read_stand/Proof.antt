@@ -29,11 +29,16 @@ same-length-2 c = ap length (c .before .before .before .before .store-squares .e
 
 returns-2 : tie.Need-returns-2
 returns-2 c =
-    let s = c .before .before .before .before .before .before .before .before .before .before .before .before .before .before .before .before in
+    let at-before =
+    c .before .before .before .before .before .before .before .before .before .before .before .before .before .before .before .before in
+    let at-decide = c .before .before .before .before .before .before .before .before .before .before .decide in
+    let at-if1 = c .before .before .before .before .before .before .before .if1 in
+    let s = at-before in
     record {
-      answer = c .before .before .before .before .before .before .before .before .before .before .decide .ensures .laid-is;
+      answer = at-decide .ensures .laid-is;
       rooms-are =
-          water-laid (plan (s .args .shape) (s .args .marks .now)) (s .args .text .now) _ _ _ (c .before .before .before .before .before .before .before .if1 .left) (c .before .before .before .before .before .before .before .before .before .before .decide .ensures .at-is) (c .before .before .before .before .store-squares .ensures .0)
+          water-laid (plan (s .args .shape) (s .args .marks .now)) (s .args .text .now) _ _ _ (at-if1 .left) (at-decide .ensures .at-is)
+          (c .before .before .before .before .store-squares .ensures .0)
           (c .before .before .before .before .store-squares .ensures .1);
     }
 

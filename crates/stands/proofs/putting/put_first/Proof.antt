@@ -18,8 +18,10 @@ slice-aggregate-put-line-2 c = search needs
 
 put-line-requires : tie.Need-put-line-requires
 put-line-requires c κs =
-    let s = c .before .before .before .before .before .before .before in
-    let h = first-short (s .args .saved .log .steps) (s .args .saved .log .run .clock) (s .args .saved .log .run .length) (c .before .before .before .as-number .result) (omega (arith, c .before .before .before .before .before .before .before .good)) (omega (arith, c .before .before .before .before .before .before .before .good)) (omega (arith, c .before .before .before .before .before .before .before .good)) (omega arith) in
+    let at-good = c .before .before .before .before .before .before .before .good in
+    let at-before = c .before .before .before .before .before .before .before in
+    let s = at-before in
+    let h = first-short (s .args .saved .log .steps) (s .args .saved .log .run .clock) (s .args .saved .log .run .length) (c .before .before .before .as-number .result) (omega (arith, at-good)) (omega (arith, at-good)) (omega (arith, at-good)) (omega arith) in
     omega (arith, h, s .pre)
 
 same-length : tie.Need-same-length
@@ -27,9 +29,12 @@ same-length c = search needs
 
 returns : tie.Need-returns
 returns c =
-    let s = c .before .before .before .before .before .before .before .before .before .before in
-    let h = first-short (s .args .saved .log .steps) (s .args .saved .log .run .clock) (s .args .saved .log .run .length) (c .before .before .before .before .before .before .as-number .result) (omega (arith, c .before .before .before .before .before .before .before .before .before .before .good)) (omega (arith, c .before .before .before .before .before .before .before .before .before .before .good)) (omega (arith, c .before .before .before .before .before .before .before .before .before .before .good)) (omega arith) in
-    within-as (first-as (s .args .saved) (c .before .before .before .before .before .before .as-number .ensures)) h (c .before .before .put-line .ensures)
+    let at-good = c .before .before .before .before .before .before .before .before .before .before .good in
+    let at-before = c .before .before .before .before .before .before .before .before .before .before in
+    let at-as-number = c .before .before .before .before .before .before .as-number in
+    let s = at-before in
+    let h = first-short (s .args .saved .log .steps) (s .args .saved .log .run .clock) (s .args .saved .log .run .length) (at-as-number .result) (omega (arith, at-good)) (omega (arith, at-good)) (omega (arith, at-good)) (omega arith) in
+    within-as (first-as (s .args .saved) (at-as-number .ensures)) h (c .before .before .put-line .ensures)
 
 pub put-first-spec : {M : Type 1} → statement M
 put-first-spec =

@@ -31,8 +31,13 @@ loop-less c = omega arith
 
 loop-again : tie.Need-loop-again Inv-loop μ-loop
 loop-again c =
-    let s = c .before .before .before .before .before .before .before in
-    (omega arith, lines-more mostHatch (hatchText (s .args .hatches) (s .args .litres)) (s .args .at) (s .args .out .now) mostHatches (s .pre) (c .before .before .before .before .before .loop .inv .1) (omega arith) (c .before .before .put-hatch .ensures))
+    let at-before = c .before .before .before .before .before .before .before in
+    let at-loop = c .before .before .before .before .before .loop in
+    let s = at-before in (
+      omega arith,
+      lines-more mostHatch (hatchText (s .args .hatches) (s .args .litres)) (s .args .at) (s .args .out .now) mostHatches (s .pre)
+          (at-loop .inv .1) (omega arith) (c .before .before .put-hatch .ensures),
+    )
 
 same-length : tie.Need-same-length Inv-loop μ-loop
 same-length c =

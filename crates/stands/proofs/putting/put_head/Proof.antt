@@ -30,25 +30,55 @@ slice-aggregate-put-total-3 c = search needs
 
 put-total-requires-3 : tie.Need-put-total-requires-3
 put-total-requires-3 c κs =
-    let s = c .before .before .before .before .before .before .before .before .before .before .before .before .before .before .before .before .before .before .before in
-    (omega arith, start-fits (s .args .saved) (s .args .at) (s .args .out .now) (s .pre) (c .before .before .before .before .before .before .before .before .before .before .before .before .before .before .put-first .ensures) (c .before .before .before .before .before .before .before .before .before .put-total .ensures) (c .before .before .before .before .put-total2 .ensures))
+    let at-before =
+    c .before .before .before .before .before .before .before .before .before .before .before .before .before .before .before .before
+    .before .before .before in
+    let at-put-first = c .before .before .before .before .before .before .before .before .before .before .before .before .before .before .put-first in
+    let at-put-total = c .before .before .before .before .before .before .before .before .before .put-total in
+    let s = at-before in (
+      omega arith,
+      start-fits (s .args .saved) (s .args .at) (s .args .out .now) (s .pre) (at-put-first .ensures) (at-put-total .ensures)
+          (c .before .before .before .before .put-total2 .ensures),
+    )
 
 slice-aggregate-put-total-4 : tie.Need-slice-aggregate-put-total-4
 slice-aggregate-put-total-4 c = search needs
 
 put-total-requires-4 : tie.Need-put-total-requires-4
 put-total-requires-4 c κs =
-    let s = c .before .before .before .before .before .before .before .before .before .before .before .before .before .before .before .before .before .before .before .before .before .before .before .before in
-    (omega arith, given-fits (s .args .saved) (s .args .at) (s .args .out .now) (s .pre) (c .before .before .before .before .before .before .before .before .before .before .before .before .before .before .before .before .before .before .before .put-first .ensures) (c .before .before .before .before .before .before .before .before .before .before .before .before .before .before .put-total .ensures) (c .before .before .before .before .before .before .before .before .before .put-total2 .ensures) (c .before .before .before .before .put-total3 .ensures))
+    let at-before =
+    c .before .before .before .before .before .before .before .before .before .before .before .before .before .before .before .before
+    .before .before .before .before .before .before .before .before in
+    let at-put-first =
+    c .before .before .before .before .before .before .before .before .before .before .before .before .before .before .before .before
+    .before .before .before .put-first in
+    let at-put-total = c .before .before .before .before .before .before .before .before .before .before .before .before .before .before .put-total in
+    let at-put-total2 = c .before .before .before .before .before .before .before .before .before .put-total2 in
+    let s = at-before in (
+      omega arith,
+      given-fits (s .args .saved) (s .args .at) (s .args .out .now) (s .pre) (at-put-first .ensures) (at-put-total .ensures)
+          (at-put-total2 .ensures) (c .before .before .before .before .put-total3 .ensures),
+    )
 
 same-length : tie.Need-same-length
 same-length c = search needs
 
 returns : tie.Need-returns
 returns c =
-    let s = c .before .before .before .before .before .before .before .before .before .before .before .before .before .before .before .before .before .before .before .before .before .before .before .before .before .before .before in
-    head-put (s .args .saved) (s .args .at) (s .args .out .now) (s .pre) (c .before .before .before .before .before .before .before .before .before .before .before .before .before .before .before .before .before .before .before .before .before .before .put-first .ensures) (c .before .before .before .before .before .before .before .before .before .before .before .before .before .before .before .before .before .put-total .ensures) (c .before .before .before .before .before .before .before .before .before .before .before .before .put-total2 .ensures)
-    (c .before .before .before .before .before .before .before .put-total3 .ensures) (c .before .before .put-total4 .ensures)
+    let at-before =
+    c .before .before .before .before .before .before .before .before .before .before .before .before .before .before .before .before
+    .before .before .before .before .before .before .before .before .before .before .before in
+    let at-put-first =
+    c .before .before .before .before .before .before .before .before .before .before .before .before .before .before .before .before
+    .before .before .before .before .before .before .put-first in
+    let at-put-total =
+    c .before .before .before .before .before .before .before .before .before .before .before .before .before .before .before .before
+    .before .put-total in
+    let at-put-total2 = c .before .before .before .before .before .before .before .before .before .before .before .before .put-total2 in
+    let at-put-total3 = c .before .before .before .before .before .before .before .put-total3 in
+    let s = at-before in
+    head-put (s .args .saved) (s .args .at) (s .args .out .now) (s .pre) (at-put-first .ensures) (at-put-total .ensures) (at-put-total2 .ensures)
+    (at-put-total3 .ensures) (c .before .before .put-total4 .ensures)
 
 pub put-head-spec : {M : Type 1} → statement M
 put-head-spec =

@@ -25,11 +25,18 @@ loop-holds c = (omega arith, lines-none _ _ _ _)
 
 put-square-requires : tie.Need-put-square-requires Inv-loop μ-loop
 put-square-requires c κs =
-    let s = c .before .before .before .before .before .before .before .before in
+    let at-before = c .before .before .before .before .before .before .before .before in
+    let s = at-before in
     let f = squareText (plan (s .args .shape) (s .args .marks .now)) (s .args .depths .now) (s .args .lasts .now) in
     let n = c .before .before .before .squares-of .ensures in
-    let h = s .pre .0 in
-    (omega (arith, n, h .0 .few), omega (arith, n, h .1), omega (arith, n, h .2), omega (arith, n, h .3), lines-fit mostSquare f (s .args .at) (s .args .out .now) (squares (s .args .shape)) (s .pre .1) (c .before .before .loop .inv .1) (omega (arith, n)))
+    let h = s .pre .0 in (
+      omega (arith, n, h .0 .few),
+      omega (arith, n, h .1),
+      omega (arith, n, h .2),
+      omega (arith, n, h .3),
+      lines-fit mostSquare f (s .args .at) (s .args .out .now) (squares (s .args .shape)) (s .pre .1) (c .before .before .loop .inv .1)
+          (omega (arith, n)),
+    )
 
 add-square : tie.Need-add-square Inv-loop μ-loop
 add-square c = omega arith
@@ -39,9 +46,15 @@ loop-less c = omega arith
 
 loop-again : tie.Need-loop-again Inv-loop μ-loop
 loop-again c =
-    let s = c .before .before .before .before .before .before .before .before .before .before .before in
-    let f = squareText (plan (s .args .shape) (s .args .marks .now)) (s .args .depths .now) (s .args .lasts .now) in
-    (omega arith, lines-more mostSquare f (s .args .at) (s .args .out .now) (squares (s .args .shape)) (s .pre .1) (c .before .before .before .before .before .loop .inv .1) (omega (arith, c .before .before .before .before .before .before .squares-of .ensures)) (c .before .before .put-square .ensures))
+    let at-before = c .before .before .before .before .before .before .before .before .before .before .before in
+    let at-squares-of = c .before .before .before .before .before .before .squares-of in
+    let at-loop = c .before .before .before .before .before .loop in
+    let s = at-before in
+    let f = squareText (plan (s .args .shape) (s .args .marks .now)) (s .args .depths .now) (s .args .lasts .now) in (
+      omega arith,
+      lines-more mostSquare f (s .args .at) (s .args .out .now) (squares (s .args .shape)) (s .pre .1) (at-loop .inv .1)
+          (omega (arith, at-squares-of .ensures)) (c .before .before .put-square .ensures),
+    )
 
 same-length : tie.Need-same-length Inv-loop μ-loop
 same-length c =

@@ -18,8 +18,14 @@ put-hatches-requires c κs =
 
 put-squares-requires : tie.Need-put-squares-requires
 put-squares-requires c κs =
-    let s = c .before .before .before .before .before .before .before .before .before .before .before .before .before .before .before .before in
-    (s .pre .0, squares-fit (plan (s .args .shape) (s .args .marks .now)) (s .args .depths .now) (s .args .lasts .now) (s .args .saved) (s .args .at) (s .args .out .now) (s .pre .0 .0) (s .pre .1) (c .before .before .before .before .before .before .before .put-head .ensures) (c .before .before .before .put-hatches .ensures))
+    let at-before =
+    c .before .before .before .before .before .before .before .before .before .before .before .before .before .before .before .before in
+    let at-put-head = c .before .before .before .before .before .before .before .put-head in
+    let s = at-before in (
+      s .pre .0,
+      squares-fit (plan (s .args .shape) (s .args .marks .now)) (s .args .depths .now) (s .args .lasts .now) (s .args .saved) (s .args .at)
+          (s .args .out .now) (s .pre .0 .0) (s .pre .1) (at-put-head .ensures) (c .before .before .before .put-hatches .ensures),
+    )
 
 same-length : tie.Need-same-length
 same-length c = search needs

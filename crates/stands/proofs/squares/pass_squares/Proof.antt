@@ -28,8 +28,16 @@ returns c =
 
 add-lines : tie.Need-add-lines Inv-loop μ-loop
 add-lines c =
+    let start = c .before .before .before .before .before .before .before .before .before in
+    let at-squares-of = c .before .before .before .before .before .before .squares-of in
     let l = c .before .before .before .before .before in
-    omega (arith, line-few _ _ _ (l .loop .inv .1) (c .before .before .before .square-line .ensures), l .loop .inv .1 .few, c .before .before .before .before .before .before .squares-of .ensures, c .before .before .before .before .before .before .before .before .before .pre .0 .few)
+    omega (
+      arith,
+      line-few _ _ _ (l .loop .inv .1) (c .before .before .before .square-line .ensures),
+      l .loop .inv .1 .few,
+      at-squares-of .ensures,
+      start .pre .0 .few,
+    )
 
 add-square : tie.Need-add-square Inv-loop μ-loop
 add-square c = omega arith

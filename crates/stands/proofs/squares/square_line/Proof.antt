@@ -26,7 +26,11 @@ no-square-requires c κs = search needs
 
 returns-2 : tie.Need-returns-2
 returns-2 c =
-    c .no-square .ensures ∙ square-unfound _ _ _ _ (sym (c .before .before .before .before .before .before .is-closed .ensures) ∙ c .before .before .before .before .before .if1 .left) (c .before .before .before .line-of .ensures) (not-true _ (c .before .if2 .taken))
+    let at-is-closed = c .before .before .before .before .before .before .is-closed in
+    let at-if1 = c .before .before .before .before .before .if1 in
+    c .no-square .ensures
+    ∙ square-unfound _ _ _ _ (sym (at-is-closed .ensures) ∙ at-if1 .left) (c .before .before .before .line-of .ensures)
+    (not-true _ (c .before .if2 .taken))
 
 array-read-if3 : tie.Need-array-read-if3
 array-read-if3 c = search needs
@@ -39,8 +43,12 @@ no-square-requires-2 c κs = search needs
 
 returns-3 : tie.Need-returns-3
 returns-3 c =
+    let at-is-closed = c .before .before .before .before .before .before .before .before .is-closed in
+    let at-if1 = c .before .before .before .before .before .before .before .if1 in
+    let at-line-of = c .before .before .before .before .before .line-of in
     c .no-square2 .ensures
-    ∙ square-other _ _ _ _ (sym (c .before .before .before .before .before .before .before .before .is-closed .ensures) ∙ c .before .before .before .before .before .before .before .if1 .left) (c .before .before .before .before .before .line-of .ensures) (not-false _ (c .before .before .before .if2 .left)) (c .before .if3 .taken)
+    ∙ square-other _ _ _ _ (sym (at-is-closed .ensures) ∙ at-if1 .left) (at-line-of .ensures) (not-false _ (c .before .before .before .if2 .left))
+    (c .before .if3 .taken)
 
 array-read-t14 : tie.Need-array-read-t14
 array-read-t14 c = search needs
@@ -50,7 +58,10 @@ array-read-t20 c = search needs
 
 returns-4 : tie.Need-returns-4
 returns-4 c =
-    square-here _ _ _ _ (sym (c .before .before .before .before .before .before .before .is-closed .ensures) ∙ c .before .before .before .before .before .before .if1 .left) (c .before .before .before .before .line-of .ensures) (not-false _ (c .before .before .if2 .left)) (c .if3 .left)
+    let at-is-closed = c .before .before .before .before .before .before .before .is-closed in
+    let at-if1 = c .before .before .before .before .before .before .if1 in
+    square-here _ _ _ _ (sym (at-is-closed .ensures) ∙ at-if1 .left) (c .before .before .before .before .line-of .ensures)
+    (not-false _ (c .before .before .if2 .left)) (c .if3 .left)
 
 pub square-line-spec : {M : Type 1} → statement M
 square-line-spec =

@@ -38,11 +38,13 @@ water-fine-requires c κs = search needs
 
 returns : tie.Need-returns Inv-loop μ-loop
 returns c =
+    let at-before = c .before .before .before .before .before .before .before .before in
+    let at-squares-of = c .before .before .before .before .before .squares-of in
     let l = c .before .before .before .before in
-    let s = c .before .before .before .before .before .before .before .before in
+    let s = at-before in
     sym
     (waters-as (s .args .text .now) (s .args .at) (plan (s .args .shape) (s .args .marks .now))
-    ∙ all-fails _ _ (l .loop .square) (omega (arith, c .before .before .before .before .before .squares-of .ensures)) (fails-by (water-here _ _ _ _ (l .loop .inv .1) (c .before .before .square-line .ensures) (c .before .water-fine .ensures)) (c .if1 .taken)))
+    ∙ all-fails _ _ (l .loop .square) (omega (arith, at-squares-of .ensures)) (fails-by (water-here _ _ _ _ (l .loop .inv .1) (c .before .before .square-line .ensures) (c .before .water-fine .ensures)) (c .if1 .taken)))
 
 add-square : tie.Need-add-square Inv-loop μ-loop
 add-square c = omega arith
@@ -52,8 +54,12 @@ loop-less c = omega arith
 
 loop-again : tie.Need-loop-again Inv-loop μ-loop
 loop-again c =
-    let l = c .before .before .before .before in
-    (omega arith, start-more _ _ _ _ (l .loop .inv .1) (c .before .before .square-line .ensures), all-more _ _ (l .loop .inv .2) (holds-by (water-here _ _ _ _ (l .loop .inv .1) (c .before .before .square-line .ensures) (c .before .water-fine .ensures)) (c .if1 .left)))
+    let l = c .before .before .before .before in (
+      omega arith,
+      start-more _ _ _ _ (l .loop .inv .1) (c .before .before .square-line .ensures),
+      all-more _ _ (l .loop .inv .2)
+          (holds-by (water-here _ _ _ _ (l .loop .inv .1) (c .before .before .square-line .ensures) (c .before .water-fine .ensures)) (c .if1 .left)),
+    )
 
 returns-2 : tie.Need-returns-2 Inv-loop μ-loop
 returns-2 c =

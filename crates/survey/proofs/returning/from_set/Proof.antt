@@ -86,8 +86,14 @@ put-set-requires c κs =
     let at-set-bad = at-if2 .before in
     let at-read-note = at-set-bad .before in
     let s = at-read-note .before .before .before .before .before .before .before .before in
-    let n = note-read (files s) (at-read-note .read-note .ensures) (at-set-bad .set-bad .ensures) (at-if2 .if2 .left) in
-    ((n, set-good (files s) n (sym (bad-by (files s) (at-read-note .read-note .ensures) (at-set-bad .set-bad .ensures)) ∙ at-if2 .if2 .left) (holds-by (at-all-agree .all-agree .ensures) (at-if3 .if3 .left)) (holds-by (at-shape-taken .shape-taken .ensures) (at-if4 .if4 .left))), search needs)
+    let n = note-read (files s) (at-read-note .read-note .ensures) (at-set-bad .set-bad .ensures) (at-if2 .if2 .left) in (
+      (
+        n,
+        set-good (files s) n (sym (bad-by (files s) (at-read-note .read-note .ensures) (at-set-bad .set-bad .ensures)) ∙ at-if2 .if2 .left)
+            (holds-by (at-all-agree .all-agree .ensures) (at-if3 .if3 .left)) (holds-by (at-shape-taken .shape-taken .ensures) (at-if4 .if4 .left)),
+      ),
+      search needs,
+    )
 
 returns-5 : tie.Need-returns-5
 returns-5 c =
@@ -103,7 +109,8 @@ returns-5 c =
     let s = at-all-short .before .before .before .before .before .before in
     let n = note-read (files s) (at-read-note .read-note .ensures) (at-set-bad .set-bad .ensures) (at-if2 .if2 .left) in
     moves-back (files s)
-    (set-good (files s) n (sym (bad-by (files s) (at-read-note .read-note .ensures) (at-set-bad .set-bad .ensures)) ∙ at-if2 .if2 .left) (holds-by (at-all-agree .all-agree .ensures) (at-if3 .if3 .left)) (holds-by (at-shape-taken .shape-taken .ensures) (at-if4 .if4 .left)))
+    (set-good (files s) n (sym (bad-by (files s) (at-read-note .read-note .ensures) (at-set-bad .set-bad .ensures)) ∙ at-if2 .if2 .left)
+    (holds-by (at-all-agree .all-agree .ensures) (at-if3 .if3 .left)) (holds-by (at-shape-taken .shape-taken .ensures) (at-if4 .if4 .left)))
     (holds-by (at-all-short .all-short .ensures) (at-if1 .if1 .left)) (c .put-set .ensures)
 
 pub from-set-spec : {M : Type 1} → statement M

@@ -106,7 +106,8 @@ slice-aggregate-put-lying-7 c = search needs
 
 put-lying-requires : tie.Need-put-lying-requires
 put-lying-requires c κs =
-    let at-fill-rows2 = c .before .before .before .before .before .before .before .before .before in
+    let at-before = c .before .before .before .before .before .before .before .before .before in
+    let at-fill-rows2 = at-before in
     let at-fill-rows = at-fill-rows2 .before .before .before .before in
     let at-fill-column4 = at-fill-rows .before .before .before .before in
     let at-fill-column3 = at-fill-column4 .before .before .before in
@@ -114,8 +115,12 @@ put-lying-requires c κs =
     let at-fill-column = at-fill-column2 .before .before .before in
     let at-fill-marks = at-fill-column .before .before .before in
     let at-looked-heading = at-fill-marks .before .before in
-    let s = at-looked-heading .before .before .before .before .before .before .before .before .before in
-    (lies-by (files s) (s .pre .0 .1) (s .pre .0 .0) (at-looked-heading .looked-heading .ensures) (at-fill-marks .fill-marks .ensures) (at-fill-column .fill-column .ensures) (at-fill-column2 .fill-column2 .ensures) (at-fill-column3 .fill-column3 .ensures) (at-fill-column4 .fill-column4 .ensures) (at-fill-rows .fill-rows .ensures) (at-fill-rows2 .fill-rows2 .ensures), s .pre .1)
+    let s = at-looked-heading .before .before .before .before .before .before .before .before .before in (
+      lies-by (files s) (s .pre .0 .1) (s .pre .0 .0) (at-looked-heading .looked-heading .ensures) (at-fill-marks .fill-marks .ensures)
+          (at-fill-column .fill-column .ensures) (at-fill-column2 .fill-column2 .ensures) (at-fill-column3 .fill-column3 .ensures)
+          (at-fill-column4 .fill-column4 .ensures) (at-fill-rows .fill-rows .ensures) (at-fill-rows2 .fill-rows2 .ensures),
+      s .pre .1,
+    )
 
 same-length : tie.Need-same-length
 same-length c = search needs

@@ -33,7 +33,11 @@ refused-requires c κs = search needs
 returns : tie.Need-returns
 unfolding backRefusals
 returns c =
-    back-unfit (plan (c .before .before .before .before .before .before .before .before .args .shape) (c .before .before .before .before .before .before .before .before .args .marks .now)) (evening (c .before .before .before .before .before .before .before .before .args .depths .now) (c .before .before .before .before .before .before .before .before .args .lasts .now) (c .before .before .before .before .before .before .before .before .args .records .now) (c .before .before .before .before .before .before .before .before .args .began .now) (c .before .before .before .before .before .before .before .before .args .log)) (c .before .before .before .before .before .before .before .before .args .account) (c .before .before .before .before .before .before .before .before .args .count) (c .refused .ensures) (refusal-here 6 _ (fails-by (c .before .before .standing-fine .ensures) (c .before .if1 .taken))) (λ z. omega arith)
+    let start = c .before .before .before .before .before .before .before .before in
+    let a = start .args in
+    back-unfit (plan (a .shape) (a .marks .now)) (evening (a .depths .now) (a .lasts .now) (a .records .now) (a .began .now) (a .log))
+    (a .account) (a .count) (c .refused .ensures)
+    (refusal-here 6 _ (fails-by (c .before .before .standing-fine .ensures) (c .before .if1 .taken))) (λ z. omega arith)
 
 -- src/lines.rt:291:9
 refused-requires-2 : tie.Need-refused-requires-2
@@ -43,17 +47,37 @@ refused-requires-2 c κs = search needs
 returns-2 : tie.Need-returns-2
 unfolding backRefusals
 returns-2 c =
-    back-unfit (plan (c .before .before .before .before .before .before .before .before .before .before .before .args .shape) (c .before .before .before .before .before .before .before .before .before .before .before .args .marks .now)) (evening (c .before .before .before .before .before .before .before .before .before .before .before .args .depths .now) (c .before .before .before .before .before .before .before .before .before .before .before .args .lasts .now) (c .before .before .before .before .before .before .before .before .before .before .before .args .records .now) (c .before .before .before .before .before .before .before .before .before .before .before .args .began .now) (c .before .before .before .before .before .before .before .before .before .before .before .args .log)) (c .before .before .before .before .before .before .before .before .before .before .before .args .account) (c .before .before .before .before .before .before .before .before .before .before .before .args .count) (c .refused2 .ensures) (refusal-later 6 _ (holds-by (c .before .before .before .before .before .standing-fine .ensures) (c .before .before .before .before .if1 .left)) ∙ refusal-here 10 _ (kept-short (c .before .before .before .before .before .before .before .before .before .before .before .args .log) (c .before .before .before .before .before .before .before .before .before .before .before .args .count) (c .before .if2 .taken))) (λ z. omega arith)
+    let start = c .before .before .before .before .before .before .before .before .before .before .before in
+    let a = start .args in
+    let at-standing-fine = c .before .before .before .before .before .standing-fine in
+    back-unfit (plan (a .shape) (a .marks .now)) (evening (a .depths .now) (a .lasts .now) (a .records .now) (a .began .now) (a .log))
+    (a .account) (a .count) (c .refused2 .ensures)
+    (refusal-later 6 _ (holds-by (at-standing-fine .ensures) (c .before .before .before .before .if1 .left))
+    ∙ refusal-here 10 _ (kept-short (a .log) (a .count) (c .before .if2 .taken))) (λ z. omega arith)
 
 -- src/lines.rt:293:9
 back-line-requires : tie.Need-back-line-requires
 back-line-requires c κs =
-    ((c .before .before .before .before .before .before .before .before .before .before .before .before .pre .fine, c .before .before .before .before .before .before .before .before .before .before .before .before .pre .rates-suffice), (holds-by (c .before .before .before .before .before .before .standing-fine .ensures) (c .before .before .before .before .before .if1 .left), kept-enough (c .before .before .before .before .before .before .before .before .before .before .before .before .args .log) (c .before .before .before .before .before .before .before .before .before .before .before .before .args .count) (c .before .before .if2 .left)))
+    let start = c .before .before .before .before .before .before .before .before .before .before .before .before in
+    let at-standing-fine = c .before .before .before .before .before .before .standing-fine in
+    let at-if1 = c .before .before .before .before .before .if1 in (
+      (start .pre .fine, start .pre .rates-suffice),
+      (holds-by (at-standing-fine .ensures) (at-if1 .left), kept-enough (start .args .log) (start .args .count) (c .before .before .if2 .left)),
+    )
 
 -- src/lines.rt:295:17
 sub-steps : tie.Need-sub-steps
 sub-steps c =
-    omega (arith, back-count (plan (c .before .before .before .before .before .before .before .before .before .before .before .before .before .before .before .before .before .before .before .before .args .shape) (c .before .before .before .before .before .before .before .before .before .before .before .before .before .before .before .before .before .before .before .before .args .marks .now)) (evening (c .before .before .before .before .before .before .before .before .before .before .before .before .before .before .before .before .before .before .before .before .args .depths .now) (c .before .before .before .before .before .before .before .before .before .before .before .before .before .before .before .before .before .before .before .before .args .lasts .now) (c .before .before .before .before .before .before .before .before .before .before .before .before .before .before .before .before .before .before .before .before .args .records .now) (c .before .before .before .before .before .before .before .before .before .before .before .before .before .before .before .before .before .before .before .before .args .began .now) (c .before .before .before .before .before .before .before .before .before .before .before .before .before .before .before .before .before .before .before .before .args .log)) (c .before .before .before .before .before .before .before .before .before .before .before .before .before .before .before .before .before .before .before .before .args .account) (c .before .before .before .before .before .before .before .before .before .before .before .before .before .before .before .before .before .before .before .before .args .count) (c .before .before .before .before .before .before .before .back-line .ensures nothingGiven .1))
+    let start =
+    c .before .before .before .before .before .before .before .before .before .before .before .before .before .before .before .before
+    .before .before .before .before in
+    let a = start .args in
+    let at-back-line = c .before .before .before .before .before .before .before .back-line in
+    omega (
+      arith,
+      back-count (plan (a .shape) (a .marks .now)) (evening (a .depths .now) (a .lasts .now) (a .records .now) (a .began .now) (a .log))
+          (a .account) (a .count) (at-back-line .ensures nothingGiven .1),
+    )
 
 -- src/lines.rt:296:34
 record-size-requires : tie.Need-record-size-requires
@@ -67,9 +91,28 @@ slots-in-requires c κs = search needs
 -- src/lines.rt:300:18
 given-back-requires : tie.Need-given-back-requires
 given-back-requires c κs =
-    let k = slots-are (plan (c .before .before .before .before .before .before .before .before .before .before .before .before .before .before .before .before .before .before .before .before .before .before .args .shape) (c .before .before .before .before .before .before .before .before .before .before .before .before .before .before .before .before .before .before .before .before .before .before .args .marks .now)) (c .before .before .before .before .before .before .before .before .before .before .before .before .before .before .before .before .before .before .before .before .before .before .args .records .now) (c .before .record-size .ensures) (c .slots-in .ensures) in
-    let t = back-difference (plan (c .before .before .before .before .before .before .before .before .before .before .before .before .before .before .before .before .before .before .before .before .before .before .args .shape) (c .before .before .before .before .before .before .before .before .before .before .before .before .before .before .before .before .before .before .before .before .before .before .args .marks .now)) (evening (c .before .before .before .before .before .before .before .before .before .before .before .before .before .before .before .before .before .before .before .before .before .before .args .depths .now) (c .before .before .before .before .before .before .before .before .before .before .before .before .before .before .before .before .before .before .before .before .before .before .args .lasts .now) (c .before .before .before .before .before .before .before .before .before .before .before .before .before .before .before .before .before .before .before .before .before .before .args .records .now) (c .before .before .before .before .before .before .before .before .before .before .before .before .before .before .before .before .before .before .before .before .before .before .args .began .now) (c .before .before .before .before .before .before .before .before .before .before .before .before .before .before .before .before .before .before .before .before .before .before .args .log)) (c .before .before .before .before .before .before .before .before .before .before .before .before .before .before .before .before .before .before .before .before .before .before .args .account) (c .before .before .before .before .before .before .before .before .before .before .before .before .before .before .before .before .before .before .before .before .before .before .args .count) (c .before .before .before .before .before .before .before .before .before .before .before .before .if2 .left) (standing-is (c .before .before .before .before .before .before .before .before .before .before .before .before .before .before .before .before .before .before .before .before .before .before .args .log) (holds-by (c .before .before .before .before .before .before .before .before .before .before .before .before .before .before .before .before .standing-fine .ensures) (c .before .before .before .before .before .before .before .before .before .before .before .before .before .before .before .if1 .left)) .0) (back-count (plan (c .before .before .before .before .before .before .before .before .before .before .before .before .before .before .before .before .before .before .before .before .before .before .args .shape) (c .before .before .before .before .before .before .before .before .before .before .before .before .before .before .before .before .before .before .before .before .before .before .args .marks .now)) (evening (c .before .before .before .before .before .before .before .before .before .before .before .before .before .before .before .before .before .before .before .before .before .before .args .depths .now) (c .before .before .before .before .before .before .before .before .before .before .before .before .before .before .before .before .before .before .before .before .before .before .args .lasts .now) (c .before .before .before .before .before .before .before .before .before .before .before .before .before .before .before .before .before .before .before .before .before .before .args .records .now) (c .before .before .before .before .before .before .before .before .before .before .before .before .before .before .before .before .before .before .before .before .before .before .args .began .now) (c .before .before .before .before .before .before .before .before .before .before .before .before .before .before .before .before .before .before .before .before .before .before .args .log)) (c .before .before .before .before .before .before .before .before .before .before .before .before .before .before .before .before .before .before .before .before .before .before .args .account) (c .before .before .before .before .before .before .before .before .before .before .before .before .before .before .before .before .before .before .before .before .before .before .args .count) (c .before .before .before .before .before .before .before .before .before .back-line .ensures nothingGiven .1)) in
-    (λ l. omega (arith, k, backs-newest (plan (c .before .before .before .before .before .before .before .before .before .before .before .before .before .before .before .before .before .before .before .before .before .before .args .shape) (c .before .before .before .before .before .before .before .before .before .before .before .before .before .before .before .before .before .before .before .before .before .before .args .marks .now)) (c .before .before .before .before .before .before .before .before .before .before .before .before .before .before .before .before .before .before .before .before .before .before .args .count) (worldOf (evening (c .before .before .before .before .before .before .before .before .before .before .before .before .before .before .before .before .before .before .before .before .before .before .args .depths .now) (c .before .before .before .before .before .before .before .before .before .before .before .before .before .before .before .before .before .before .before .before .before .before .args .lasts .now) (c .before .before .before .before .before .before .before .before .before .before .before .before .before .before .before .before .before .before .before .before .before .before .args .records .now) (c .before .before .before .before .before .before .before .before .before .before .before .before .before .before .before .before .before .before .before .before .before .before .args .began .now) (c .before .before .before .before .before .before .before .before .before .before .before .before .before .before .before .before .before .before .before .before .before .before .args .log))) {e = backs (plan (c .before .before .before .before .before .before .before .before .before .before .before .before .before .before .before .before .before .before .before .before .before .before .args .shape) (c .before .before .before .before .before .before .before .before .before .before .before .before .before .before .before .before .before .before .before .before .before .before .args .marks .now)) (evening (c .before .before .before .before .before .before .before .before .before .before .before .before .before .before .before .before .before .before .before .before .before .before .args .depths .now) (c .before .before .before .before .before .before .before .before .before .before .before .before .before .before .before .before .before .before .before .before .before .before .args .lasts .now) (c .before .before .before .before .before .before .before .before .before .before .before .before .before .before .before .before .before .before .before .before .before .before .args .records .now) (c .before .before .before .before .before .before .before .before .before .before .before .before .before .before .before .before .before .before .before .before .before .before .args .began .now) (c .before .before .before .before .before .before .before .before .before .before .before .before .before .before .before .before .before .before .before .before .before .before .args .log)) (c .before .before .before .before .before .before .before .before .before .before .before .before .before .before .before .before .before .before .before .before .before .before .args .account) (c .before .before .before .before .before .before .before .before .before .before .before .before .before .before .before .before .before .before .before .before .before .before .args .count)} refl (omega (arith, t))), omega (arith, k, c .before .before .before .before .before .before .before .before .before .before .before .before .before .before .before .before .before .before .before .before .before .before .pre .slots-few))
+    let start =
+    c .before .before .before .before .before .before .before .before .before .before .before .before .before .before .before .before
+    .before .before .before .before .before .before in
+    let a = start .args in
+    let at-standing-fine =
+    c .before .before .before .before .before .before .before .before .before .before .before .before .before .before .before .before
+    .standing-fine in
+    let at-if1 = c .before .before .before .before .before .before .before .before .before .before .before .before .before .before .before .if1 in
+    let at-if2 = c .before .before .before .before .before .before .before .before .before .before .before .before .if2 in
+    let at-back-line = c .before .before .before .before .before .before .before .before .before .back-line in
+    let k = slots-are (plan (a .shape) (a .marks .now)) (a .records .now) (c .before .record-size .ensures) (c .slots-in .ensures) in
+    let t = back-difference (plan (a .shape) (a .marks .now)) (evening (a .depths .now) (a .lasts .now) (a .records .now) (a .began .now) (a .log)) (a .account) (a .count) (at-if2 .left) (standing-is (a .log) (holds-by (at-standing-fine .ensures) (at-if1 .left)) .0) (back-count (plan (a .shape) (a .marks .now)) (evening (a .depths .now) (a .lasts .now) (a .records .now) (a .began .now) (a .log)) (a .account) (a .count) (at-back-line .ensures nothingGiven .1)) in (
+      λ l. omega (
+        arith,
+        k,
+        backs-newest (plan (a .shape) (a .marks .now)) (a .count)
+            (worldOf (evening (a .depths .now) (a .lasts .now) (a .records .now) (a .began .now) (a .log)))
+            {e = backs (plan (a .shape) (a .marks .now)) (evening (a .depths .now) (a .lasts .now) (a .records .now) (a .began .now) (a .log)) (a .account) (a .count)}
+            refl (omega (arith, t)),
+      ),
+      omega (arith, k, start .pre .slots-few),
+    )
 
 -- src/lines.rt:272:1
 same-length : tie.Need-same-length
@@ -83,9 +126,24 @@ same-length-2 c = search needs
 returns-3 : tie.Need-returns-3
 unfolding backRefusals
 returns-3 c =
-    let k = slots-are (plan (c .before .before .before .before .before .before .before .before .before .before .before .before .before .before .before .before .before .before .before .before .before .before .before .args .shape) (c .before .before .before .before .before .before .before .before .before .before .before .before .before .before .before .before .before .before .before .before .before .before .before .args .marks .now)) (c .before .before .before .before .before .before .before .before .before .before .before .before .before .before .before .before .before .before .before .before .before .before .before .args .records .now) (c .before .before .record-size .ensures) (c .before .slots-in .ensures) in
-    let t = back-difference (plan (c .before .before .before .before .before .before .before .before .before .before .before .before .before .before .before .before .before .before .before .before .before .before .before .args .shape) (c .before .before .before .before .before .before .before .before .before .before .before .before .before .before .before .before .before .before .before .before .before .before .before .args .marks .now)) (evening (c .before .before .before .before .before .before .before .before .before .before .before .before .before .before .before .before .before .before .before .before .before .before .before .args .depths .now) (c .before .before .before .before .before .before .before .before .before .before .before .before .before .before .before .before .before .before .before .before .before .before .before .args .lasts .now) (c .before .before .before .before .before .before .before .before .before .before .before .before .before .before .before .before .before .before .before .before .before .before .before .args .records .now) (c .before .before .before .before .before .before .before .before .before .before .before .before .before .before .before .before .before .before .before .before .before .before .before .args .began .now) (c .before .before .before .before .before .before .before .before .before .before .before .before .before .before .before .before .before .before .before .before .before .before .before .args .log)) (c .before .before .before .before .before .before .before .before .before .before .before .before .before .before .before .before .before .before .before .before .before .before .before .args .account) (c .before .before .before .before .before .before .before .before .before .before .before .before .before .before .before .before .before .before .before .before .before .before .before .args .count) (c .before .before .before .before .before .before .before .before .before .before .before .before .before .if2 .left) (standing-is (c .before .before .before .before .before .before .before .before .before .before .before .before .before .before .before .before .before .before .before .before .before .before .before .args .log) (holds-by (c .before .before .before .before .before .before .before .before .before .before .before .before .before .before .before .before .before .standing-fine .ensures) (c .before .before .before .before .before .before .before .before .before .before .before .before .before .before .before .before .if1 .left)) .0) (back-count (plan (c .before .before .before .before .before .before .before .before .before .before .before .before .before .before .before .before .before .before .before .before .before .before .before .args .shape) (c .before .before .before .before .before .before .before .before .before .before .before .before .before .before .before .before .before .before .before .before .before .before .before .args .marks .now)) (evening (c .before .before .before .before .before .before .before .before .before .before .before .before .before .before .before .before .before .before .before .before .before .before .before .args .depths .now) (c .before .before .before .before .before .before .before .before .before .before .before .before .before .before .before .before .before .before .before .before .before .before .before .args .lasts .now) (c .before .before .before .before .before .before .before .before .before .before .before .before .before .before .before .before .before .before .before .before .before .before .before .args .records .now) (c .before .before .before .before .before .before .before .before .before .before .before .before .before .before .before .before .before .before .before .before .before .before .before .args .began .now) (c .before .before .before .before .before .before .before .before .before .before .before .before .before .before .before .before .before .before .before .before .before .before .before .args .log)) (c .before .before .before .before .before .before .before .before .before .before .before .before .before .before .before .before .before .before .before .before .before .before .before .args .account) (c .before .before .before .before .before .before .before .before .before .before .before .before .before .before .before .before .before .before .before .before .before .before .before .args .count) (c .before .before .before .before .before .before .before .before .before .before .back-line .ensures nothingGiven .1)) in
-    back-taken (plan (c .before .before .before .before .before .before .before .before .before .before .before .before .before .before .before .before .before .before .before .before .before .before .before .args .shape) (c .before .before .before .before .before .before .before .before .before .before .before .before .before .before .before .before .before .before .before .before .before .before .before .args .marks .now)) (evening (c .before .before .before .before .before .before .before .before .before .before .before .before .before .before .before .before .before .before .before .before .before .before .before .args .depths .now) (c .before .before .before .before .before .before .before .before .before .before .before .before .before .before .before .before .before .before .before .before .before .before .before .args .lasts .now) (c .before .before .before .before .before .before .before .before .before .before .before .before .before .before .before .before .before .before .before .before .before .before .before .args .records .now) (c .before .before .before .before .before .before .before .before .before .before .before .before .before .before .before .before .before .before .before .before .before .before .before .args .began .now) (c .before .before .before .before .before .before .before .before .before .before .before .before .before .before .before .before .before .before .before .before .before .before .before .args .log)) (c .before .before .before .before .before .before .before .before .before .before .before .before .before .before .before .before .before .before .before .before .before .before .before .args .account) (c .before .before .before .before .before .before .before .before .before .before .before .before .before .before .before .before .before .before .before .before .before .before .before .args .count) (passed-refusal _ (holds-by (c .before .before .before .before .before .before .before .before .before .before .before .before .before .before .before .before .before .standing-fine .ensures) (c .before .before .before .before .before .before .before .before .before .before .before .before .before .before .before .before .if1 .left), (kept-enough (c .before .before .before .before .before .before .before .before .before .before .before .before .before .before .before .before .before .before .before .before .before .before .before .args .log) (c .before .before .before .before .before .before .before .before .before .before .before .before .before .before .before .before .before .before .before .before .before .before .before .args .count) (c .before .before .before .before .before .before .before .before .before .before .before .before .before .if2 .left), tt))) (c .before .before .before .before .before .before .before .before .before .before .back-line .ensures nothingGiven) t k (c .given-back .ensures)
+    let start =
+    c .before .before .before .before .before .before .before .before .before .before .before .before .before .before .before .before
+    .before .before .before .before .before .before .before in
+    let a = start .args in
+    let at-standing-fine =
+    c .before .before .before .before .before .before .before .before .before .before .before .before .before .before .before .before
+    .before .standing-fine in
+    let at-if1 =
+    c .before .before .before .before .before .before .before .before .before .before .before .before .before .before .before .before
+    .if1 in
+    let at-if2 = c .before .before .before .before .before .before .before .before .before .before .before .before .before .if2 in
+    let at-back-line = c .before .before .before .before .before .before .before .before .before .before .back-line in
+    let k = slots-are (plan (a .shape) (a .marks .now)) (a .records .now) (c .before .before .record-size .ensures) (c .before .slots-in .ensures) in
+    let t = back-difference (plan (a .shape) (a .marks .now)) (evening (a .depths .now) (a .lasts .now) (a .records .now) (a .began .now) (a .log)) (a .account) (a .count) (at-if2 .left) (standing-is (a .log) (holds-by (at-standing-fine .ensures) (at-if1 .left)) .0) (back-count (plan (a .shape) (a .marks .now)) (evening (a .depths .now) (a .lasts .now) (a .records .now) (a .began .now) (a .log)) (a .account) (a .count) (at-back-line .ensures nothingGiven .1)) in
+    back-taken (plan (a .shape) (a .marks .now)) (evening (a .depths .now) (a .lasts .now) (a .records .now) (a .began .now) (a .log))
+    (a .account) (a .count)
+    (passed-refusal _ (holds-by (at-standing-fine .ensures) (at-if1 .left), (kept-enough (a .log) (a .count) (at-if2 .left), tt)))
+    (at-back-line .ensures nothingGiven) t k (c .given-back .ensures)
 
 pub back-spec : {M : Type 1} → statement M
 back-spec =

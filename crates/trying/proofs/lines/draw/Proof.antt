@@ -52,7 +52,11 @@ log-at-requires c κs = search needs
 returns-3 : tie.Need-returns-3
 unfolding drawTried
 returns-3 c =
-    unless-none _ _ _ _ (c .log-at .ensures ∙ ap (logAt (c .before .before .before .before .before .before .args .log)) (c .before .rates-with .ensures)) (passed-refusal _ (holds-by (c .before .before .before .before .before .is-named .ensures) (c .before .before .before .before .if1 .left), (le-leb _ _ (c .before .before .before .if2 .left), tt)))
+    let start = c .before .before .before .before .before .before in
+    let at-is-named = c .before .before .before .before .before .is-named in
+    unless-none _ _ _ _ (c .log-at .ensures ∙ ap (logAt (start .args .log)) (c .before .rates-with .ensures))
+    (passed-refusal _
+    (holds-by (at-is-named .ensures) (c .before .before .before .before .if1 .left), (le-leb _ _ (c .before .before .before .if2 .left), tt)))
 
 pub draw-spec : {M : Type 1} → statement M
 draw-spec =

@@ -35,7 +35,15 @@ further-requires c κs = search needs
 -- src/lines.rt:167:18
 account-with-requires : tie.Need-account-with-requires
 account-with-requires c κs =
-    (omega (arith, c .before .before .slot-after .ensures, after-below (c .before .before .before .before .before .before .before .before .before .before .before .args .slots) (c .before .before .before .before .before .before .before .before .before .before .before .args .log .run .newest) (omega (arith, c .before .before .before .before .before .before .before .before .before .before .before .pre .0 .0)), c .before .before .before .before .before .before .before .before .before .before .before .pre .0 .1), c .before .before .before .before .before .before .before .before .before .before .before .pre .1 .1)
+    let start = c .before .before .before .before .before .before .before .before .before .before .before in (
+      omega (
+        arith,
+        c .before .before .slot-after .ensures,
+        after-below (start .args .slots) (start .args .log .run .newest) (omega (arith, start .pre .0 .0)),
+        start .pre .0 .1,
+      ),
+      start .pre .1 .1,
+    )
 
 -- src/lines.rt:148:1
 same-length : tie.Need-same-length
@@ -44,7 +52,13 @@ same-length c = search needs
 -- src/lines.rt:148:1
 returns : tie.Need-returns
 returns c =
-    (ap₂ (λ (l : Log) (b : Account). tried 0 l b) (c .before .further .ensures) (c .account-with .ensures ∙ ap (λ (k : ℕ). accountWith (c .before .before .before .before .before .before .before .before .before .before .before .before .args .account) k (c .before .before .before .before .before .before .before .before .before .before .before .before .args .more)) (c .before .before .before .slot-after .ensures)), c .before .before .before .before .before .before .keep-made .ensures)
+    let start = c .before .before .before .before .before .before .before .before .before .before .before .before in
+    let at-keep-made = c .before .before .before .before .before .before .keep-made in (
+      ap₂ (λ (l : Log) (b : Account). tried 0 l b) (c .before .further .ensures)
+          (c .account-with .ensures
+          ∙ ap (λ (k : ℕ). accountWith (start .args .account) k (start .args .more)) (c .before .before .before .slot-after .ensures)),
+      at-keep-made .ensures,
+    )
 
 pub keep-step-spec : {M : Type 1} → statement M
 keep-step-spec =

@@ -21,7 +21,19 @@ tables-give-requires c κs = search needs
 -- src/lines.rt:195:5
 keep-step-requires : tie.Need-keep-step-requires
 keep-step-requires c κs =
-    (c .before .before .before .before .before .before .before .pre .0, (c .before .before .before .before .before .before .before .pre .1 .0 .0, omega (arith, c .before .tables-give .ensures, tables-most _ _ _ _ (c .before .before .before .before .before .before .before .pre .1 .1), c .before .before .before .before .before .before .before .pre .1 .0 .1, c .before .before .before .before .before .before .before .pre .1 .1 .waters .fine .few)))
+    let start = c .before .before .before .before .before .before .before in (
+      start .pre .0,
+      (
+        start .pre .1 .0 .0,
+        omega (
+          arith,
+          c .before .tables-give .ensures,
+          tables-most _ _ _ _ (start .pre .1 .1),
+          start .pre .1 .0 .1,
+          start .pre .1 .1 .waters .fine .few,
+        ),
+      ),
+    )
 
 -- src/lines.rt:176:1
 same-length : tie.Need-same-length
@@ -30,7 +42,14 @@ same-length c = search needs
 -- src/lines.rt:176:1
 returns : tie.Need-returns
 returns c =
-    (c .before .before .keep-step .ensures .0 ∙ ap (λ (m : ℕ). tried 0 (logWith (c .before .before .before .before .before .before .before .before .before .before .args .log) (c .before .before .before .before .before .before .before .before .before .before .args .run) (c .before .before .before .before .before .before .before .before .before .before .args .log .steps + 1) (c .before .before .before .before .before .before .before .before .before .before .args .log .litres)) (accountWith (c .before .before .before .before .before .before .before .before .before .before .args .account) (slotAfter (c .before .before .before .before .before .before .before .before .before .before .args .slots) (c .before .before .before .before .before .before .before .before .before .before .args .log .run .newest)) m)) (c .before .before .before .before .tables-give .ensures), c .before .before .keep-step .ensures .1)
+    let start = c .before .before .before .before .before .before .before .before .before .before in
+    let a = start .args in (
+      c .before .before .keep-step .ensures .0
+          ∙ ap
+          (λ (m : ℕ). tried 0 (logWith (a .log) (a .run) (a .log .steps + 1) (a .log .litres)) (accountWith (a .account) (slotAfter (a .slots) (a .log .run .newest)) m))
+          (c .before .before .before .before .tables-give .ensures),
+      c .before .before .keep-step .ensures .1,
+    )
 
 pub made-step-spec : {M : Type 1} → statement M
 made-step-spec = tie.close (tie.spec tables-give-requires keep-step-requires same-length returns)

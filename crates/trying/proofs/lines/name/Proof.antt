@@ -27,7 +27,11 @@ refused-requires c κs = search needs
 returns : tie.Need-returns
 unfolding nameTried
 returns c =
-    unless-refused _ _ _ _ (c .refused .ensures) (refusal-here 12 _ (fails-by (c .before .before .hatch-line-fine .ensures (c .before .before .before .before .before .args .rules) (c .before .before .before .before .before .args .row) (c .before .before .before .before .before .args .column)) (c .before .if1 .taken))) (λ z. omega arith)
+    let start = c .before .before .before .before .before in
+    let a = start .args in
+    unless-refused _ _ _ _ (c .refused .ensures)
+    (refusal-here 12 _ (fails-by (c .before .before .hatch-line-fine .ensures (a .rules) (a .row) (a .column)) (c .before .if1 .taken)))
+    (λ z. omega arith)
 
 -- src/lines.rt:93:9
 hatch-draw-fine-requires : tie.Need-hatch-draw-fine-requires
@@ -41,18 +45,34 @@ refused-requires-2 c κs = search needs
 returns-2 : tie.Need-returns-2
 unfolding nameTried
 returns-2 c =
-    unless-refused _ _ _ _ (c .refused2 .ensures) (refusal-later 12 _ (holds-by (c .before .before .before .before .hatch-line-fine .ensures (c .before .before .before .before .before .before .before .args .rules) (c .before .before .before .before .before .before .before .args .row) (c .before .before .before .before .before .before .before .args .column)) (c .before .before .before .if1 .left)) ∙ refusal-here 4 _ (fails-by (c .before .before .hatch-draw-fine .ensures (c .before .before .before .before .before .before .before .args .number)) (c .before .if2 .taken))) (λ z. omega arith)
+    let start = c .before .before .before .before .before .before .before in
+    let a = start .args in
+    unless-refused _ _ _ _ (c .refused2 .ensures)
+    (refusal-later 12 _
+    (holds-by (c .before .before .before .before .hatch-line-fine .ensures (a .rules) (a .row) (a .column))
+    (c .before .before .before .if1 .left))
+    ∙ refusal-here 4 _ (fails-by (c .before .before .hatch-draw-fine .ensures (a .number)) (c .before .if2 .taken))) (λ z. omega arith)
 
 -- src/lines.rt:98:14
 name-hatch-requires : tie.Need-name-hatch-requires
 name-hatch-requires c κs =
-    hatch-number (c .before .before .before .before .before .before .args .rules) (c .before .before .before .before .before .before .args .log) (c .before .before .before .before .before .before .args .number) (c .before .before .before .before .before .before .args .row) (c .before .before .before .before .before .before .args .column) (holds-by (c .before .before .before .hatch-line-fine .ensures (c .before .before .before .before .before .before .args .rules) (c .before .before .before .before .before .before .args .row) (c .before .before .before .before .before .before .args .column)) (c .before .before .if1 .left))
+    let start = c .before .before .before .before .before .before in
+    let a = start .args in
+    hatch-number (a .rules) (a .log) (a .number) (a .row) (a .column)
+    (holds-by (c .before .before .before .hatch-line-fine .ensures (a .rules) (a .row) (a .column)) (c .before .before .if1 .left))
 
 -- src/lines.rt:76:1
 returns-3 : tie.Need-returns-3
 unfolding nameTried
 returns-3 c =
-    unless-none _ _ _ _ (c .name-hatch .ensures) (passed-refusal _ (holds-by (c .before .before .before .before .hatch-line-fine .ensures (c .before .before .before .before .before .before .before .args .rules) (c .before .before .before .before .before .before .before .args .row) (c .before .before .before .before .before .before .before .args .column)) (c .before .before .before .if1 .left), (holds-by (c .before .before .hatch-draw-fine .ensures (c .before .before .before .before .before .before .before .args .number)) (c .before .if2 .left), tt)))
+    let start = c .before .before .before .before .before .before .before in
+    let a = start .args in
+    unless-none _ _ _ _ (c .name-hatch .ensures)
+    (passed-refusal _ (
+      holds-by (c .before .before .before .before .hatch-line-fine .ensures (a .rules) (a .row) (a .column))
+          (c .before .before .before .if1 .left),
+      (holds-by (c .before .before .hatch-draw-fine .ensures (a .number)) (c .before .if2 .left), tt),
+    ))
 
 pub name-spec : {M : Type 1} → statement M
 name-spec =

@@ -30,19 +30,34 @@ standing-fine-requires c κs = search needs
 returns-2 : tie.Need-returns-2
 unfolding tryRefusals
 returns-2 c =
-    λ t e. sym (refusal-later 4 _ (holds-by (table-fits-as t (c .before .before .before .before .args .log) e (c .before .before .before .table-fits .ensures)) (c .before .before .if1 .left)) ∙ refusal-here 6 _ (fails-by (c .before .standing-fine .ensures) (c .if2 .taken)))
+    λ t e. sym
+    (refusal-later 4 _
+    (holds-by (table-fits-as t (c .before .before .before .before .args .log) e (c .before .before .before .table-fits .ensures))
+    (c .before .before .if1 .left))
+    ∙ refusal-here 6 _ (fails-by (c .before .standing-fine .ensures) (c .if2 .taken)))
 
 -- src/lines.rt:142:9
 returns-3 : tie.Need-returns-3
 unfolding tryRefusals
 returns-3 c =
-    λ t e. sym (refusal-later 4 _ (holds-by (table-fits-as t (c .before .before .before .before .before .before .args .log) e (c .before .before .before .before .before .table-fits .ensures)) (c .before .before .before .before .if1 .left)) ∙ (refusal-later 6 _ (holds-by (c .before .before .before .standing-fine .ensures) (c .before .before .if2 .left)) ∙ refusal-here 6 _ (lt-leb _ _ (c .if3 .taken))))
+    let start = c .before .before .before .before .before .before in
+    let at-table-fits = c .before .before .before .before .before .table-fits in
+    λ t e. sym
+    (refusal-later 4 _ (holds-by (table-fits-as t (start .args .log) e (at-table-fits .ensures)) (c .before .before .before .before .if1 .left))
+    ∙ (refusal-later 6 _ (holds-by (c .before .before .before .standing-fine .ensures) (c .before .before .if2 .left))
+    ∙ refusal-here 6 _ (lt-leb _ _ (c .if3 .taken))))
 
 -- src/lines.rt:132:1
 returns-4 : tie.Need-returns-4
 unfolding tryRefusals
 returns-4 c =
-    λ t e. sym (passed-refusal _ (holds-by (table-fits-as t (c .before .before .before .before .before .before .args .log) e (c .before .before .before .before .before .table-fits .ensures)) (c .before .before .before .before .if1 .left), (holds-by (c .before .before .before .standing-fine .ensures) (c .before .before .if2 .left), (le-leb _ _ (c .if3 .left), tt))))
+    let start = c .before .before .before .before .before .before in
+    let at-table-fits = c .before .before .before .before .before .table-fits in
+    λ t e. sym
+    (passed-refusal _ (
+      holds-by (table-fits-as t (start .args .log) e (at-table-fits .ensures)) (c .before .before .before .before .if1 .left),
+      (holds-by (c .before .before .before .standing-fine .ensures) (c .before .before .if2 .left), (le-leb _ _ (c .if3 .left), tt)),
+    ))
 
 pub try-number-spec : {M : Type 1} → statement M
 try-number-spec =

@@ -1,0 +1,2 @@
+pub mod SeveralLaws
+pub mod SingleLaws
