@@ -120,14 +120,15 @@ def hold_field(hold, specs, records, function):
 
 
 def hold_tied(hold, functions, calls):
-    """Each entry point has its function above the demands, whose whole body is that call; every other function there makes several of these calls."""
+    """Each entry point has its function above the demands, whose whole body is that call; every other function there makes several calls of the
+    libraries, one of them an entry point."""
     wanted = {f"after_{function.name}": function for function in functions if function.is_entry}
     for name, function in wanted.items():
         hold(re.fullmatch(rf"{function.name}\((?:[\w\s,]|\.len\(\))*\)", calls.get(name, "")), f"no function above the demands makes the call {function.crate}::{function.path}")
-    entries = {function.name for function in wanted.values()}
+    entries, public = ({function.name for function in each} for each in (wanted.values(), functions))
     for name in sorted(set(calls) - set(wanted)):
-        made = [word for word in re.findall(r"(\w+)\(", calls[name]) if word in entries]
-        hold(len(made) > 1, f"{name}, above the demands, makes fewer than two calls of entry points")
+        made = [word for word in re.findall(r"(\w+)\(", calls[name]) if word in public]
+        hold(len(made) > 1 and entries & set(made), f"{name}, above the demands, makes fewer than two calls, or none of an entry point")
 
 
 def bodies(top):

@@ -24,7 +24,7 @@ use Rattle.demands.proofs.DeskGoesOn.{desk-goes-on}
 use Rattle.demands.proofs.DeskWalls.{desk-walls}
 use Rattle.demands.proofs.SavedCalls.{stand-read-back}
 use Rattle.desk_calls.specs.Single.{leftWith}
-use Rattle.desk_calls.specs.Several.{WallsAsk, AfterBoth, AfterTurns, AfterStepBack, AfterSaved}
+use Rattle.desk_calls.specs.Several.{WallsAsk, AfterBoth, AfterFurther, AfterTurns, AfterStepBack, AfterSaved}
 use Rattle.desk_calls.proofs.SingleLaws.{command-told, command-left, step-left}
 
 -- ---- one call at two desks
@@ -97,6 +97,12 @@ after-turns d r line text d′ r′ line′ text′ {a} {a′} {b} {after} {late
 
     other : leftWith b there last ≡ commandLeft d′ r′ text′ (order line′)
     other = command-left d′ r′ text′ (order line′) w
+
+-- ---- a further step
+
+pub after-further : (d : Desk) (r : Stores) {a b : Desk} {after later : Stores} {old new next : List ℕ} → Leaves (stepLeft d r) a after old new →
+    Leaves (stepLeft a after) b later new next → AfterFurther d r (leftWith b later next)
+after-further d r {a} {b} {after} v w = record { is-call = step-left a after w ∙ ap₂ stepLeft (v .desk-is) (v .rooms-are) }
 
 -- ---- a step taken back
 

@@ -17,7 +17,7 @@ use Rattle.desks.specs.declared.orders.Order.the-variants.{Entered, Stand, Lay}
 use Rattle.desks.specs.declared.state.Desk.{Desk}
 use Rattle.demands.specs.Desk.{AllWithin}
 use Rattle.demands.specs.DeskLines.{laysDown, OnDesk, groundOn}
-use Rattle.demands.specs.DeskCalls.{Call, aLine, goingOn, AllTry, afterCalls, deedsIn, BeginsOn, startsAs, StepMade, AsBefore}
+use Rattle.demands.specs.DeskCalls.{Call, aLine, goingOn, called, AllTry, afterCalls, deedsIn, BeginsOn, startsAs, StepMade, AsBefore}
 use Rattle.demands.specs.DeskWalls.{SameDesks, SameLeft}
 use Rattle.demands.specs.DeskSavedCalls.{callOne, callOther, callsInTurn, standOn, frameKeeping, SameSheet, LaidAgain, ReadAgain, StandReadBack, laidOn}
 use Rattle.demands.specs.DeskGoesOn.{AnswersAlike, NeverArrows}
@@ -50,6 +50,10 @@ pub record AfterTurns (d : Desk) (r : Stores) (line text : List ℕ) (d′ : Des
   -- each is left as by its own calls alone
   pub one-alone : (l .desk, l .rooms) ≡ afterCalls (aLine line text ∷ goingOn ∷ []) d r
   pub other-alone : (m .desk, m .rooms) ≡ afterCalls (aLine line′ text′ ∷ []) d′ r′
+
+-- The steps of a line `step` as the program makes them: the second goes by the first, and is the next call of an evening, of which `DeskCalls` speaks.
+pub record AfterFurther (d : Desk) (r : Stores) (l : Left) : Type 0 where
+  pub is-call : let first = called goingOn d r in l ≡ called goingOn (first .desk) (first .rooms)
 
 -- A trial taken back was never made: the next step of a line `step`, and the line `back 1`, wherever an evening has come to.
 pub record AfterStepBack (d : Desk) (r : Stores) (line text : List ℕ) (l : Left) : Type 0 where

@@ -2,6 +2,6 @@
 // them is refused here.
 //
 //   single    after_command, after_make_next: each call, made once
-//   several   a line or a step at two desks, two desks in turn, a step taken back, a state saved and laid again
+//   several   a line or a step at two desks, two desks in turn, a further step, a step taken back, a state saved and laid again
 pub mod several;
 pub mod single;

@@ -1,5 +1,6 @@
 // Several calls of the desk one after the other, with contracts in the words of its theorems: what specs/Several.antt says that their caller has.
 use desks::command::command;
+use desks::command::make_further;
 use desks::command::make_next;
 use desks::state::DESK_NUMBERS;
 use desks::state::DESK_OUT;
@@ -17,7 +18,7 @@ ghost use Rattle.desks.specs.Orders.{order};
 ghost use Rattle.desks.specs.Command.{Leaves, commandLeft};
 ghost use Rattle.demands.specs.DeskCalls.{aLine, goingOn};
 ghost use Rattle.desk_calls.specs.Single.{leftWith};
-ghost use Rattle.desk_calls.specs.Several.{AfterBoth, AfterSaved, AfterStepBack, AfterTurns};
+ghost use Rattle.desk_calls.specs.Several.{AfterBoth, AfterFurther, AfterSaved, AfterStepBack, AfterTurns};
 
 // Two desks.
 pub struct Desks {
@@ -243,6 +244,53 @@ pub fn in_turn(
         one: one,
         other: other,
     }
+}
+
+// The next step of a line `step`, and the one after it, as the program makes them: it goes by the first and is not checked.
+pub fn next_and_further(
+    desk: Desk,
+    marks: &[u8; DESK_SQUARES],
+    beds: &[u32; DESK_SQUARES],
+    roughness: &[u32; DESK_SQUARES],
+    rates: &[u32; DESK_SQUARES],
+    rain: &[u32; RAIN_ROOM],
+    inflow: &[u32; INFLOW_ROOM],
+    depths: &mut [u32; DESK_SQUARES],
+    lasts: &mut [u32; DESK_SQUARES],
+    records: &mut [u32; DESK_NUMBERS],
+    began: &mut [u32; DESK_RATES],
+    out: &mut [u8; DESK_OUT],
+) -> Desk
+    ensures { λ r. ⌜ AfterFurther desk (stores (rooms (now (marks .entry)) (now (beds .entry)) (now (roughness .entry)) (now (rates .entry)) (now (depths .entry)) (now (rain .entry)) (now (inflow .entry))) (now (lasts .entry)) (now (records .entry)) (now (began .entry))) (leftWith r (stores (rooms (now (marks .entry)) (now (beds .entry)) (now (roughness .entry)) (now (rates .entry)) (now (depths .exit)) (now (rain .entry)) (now (inflow .entry))) (now (lasts .exit)) (now (records .exit)) (now (began .exit))) (now (out .exit))) ⌝ }
+{
+    let first = make_next(
+        desk,
+        marks,
+        beds,
+        roughness,
+        rates,
+        rain,
+        inflow,
+        depths,
+        lasts,
+        records,
+        began,
+        out,
+    );
+    make_further(
+        first,
+        marks,
+        beds,
+        roughness,
+        rates,
+        rain,
+        inflow,
+        depths,
+        lasts,
+        records,
+        began,
+        out,
+    )
 }
 
 // The next step of a line `step`, and a line.
