@@ -130,14 +130,7 @@ fn row_first(inflow: &[u32], apart: bool, j: usize) -> bool
 }
 
 // What inflow adds to the square of inflow row j, each square counted once: nothing where a row before it is for the same square.
-pub fn poured_once(
-    inflow: &[u32],
-    apart: bool,
-    j: usize,
-    side: u64,
-    start: u64,
-    end: u64,
-) -> u64
+pub fn poured_once(inflow: &[u32], apart: bool, j: usize, side: u64, start: u64, end: u64) -> u64
     requires { ⌜ (apart ≡ rowsApart (now inflow)) × (j < length (now inflow) / inflowWords) ⌝ }
     requires { ⌜ (Fits inflowKind (now inflow) end) × (start ≤ end) × (0 < side) × (side ≤ mostSide) ⌝ }
     ensures { λ r. ⌜ r ≡ pouredOnce (now (inflow .entry)) side start end j ⌝ }

@@ -128,8 +128,7 @@ step-checked-requires : tie.Need-step-checked-requires
 step-checked-requires c κs =
     let apart = told (counted (c .before .before .before .before .before .before .before)) in
     let f = filled apart in
-    let s = begun f in
-    (
+    let s = begun f in (
       (s .pre .0 .1, apart .rows-apart .ensures),
       λ y. used-passes (p s) (g s) (e s) (a s) (number-is (fit f .before)) (fit f .if1 .left) (f .fill-table .ensures) (s .pre .1 y),
     )
