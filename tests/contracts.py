@@ -15,7 +15,14 @@ from rattle.specs import Specs
 EXPORTED = "flood_"
 # Rooms of which a contract promises nothing, because nobody reads what is left in them (docs/CONTRACTS.md says why), and slices that a
 # `requires` asks to say only what the record says already, so that nothing depends on them.
-NOT_SAID = {(crate, name, slice) for crate, name in (("settling", "settle::settle"), ("flood", "step::step_on")) for slice in ("room", "left", "worked", "senders")}
+IN_ROOMS = (
+    ("settling", "settle::settle"),
+    ("flood", "step::step_on"),
+    ("flood", "step::step_checked"),
+    ("trying", "lines::step_once"),
+    ("desks", "command::make_further"),
+)
+NOT_SAID = {(*function, slice) for function in IN_ROOMS for slice in ("room", "left", "worked", "senders")}
 # what becomes of a text that is written to a file is the system's to say
 NOT_SAID.add(("files", "write_named", "text"))
 

@@ -1,48 +1,69 @@
--- Laws of what the tables give: the most that one square can get, so that the sum of all squares stays below 64 bits.
+-- Laws of what the tables give: it is the rain on so many squares, and inflow by its rows; and the most of it, so that the sums stay below 64 bits.
 -- Assumes nothing.
-use mathlib.Core.Path.{_≡_, refl, sym, ap, _∙_}
+use mathlib.Core.Path.{_≡_, refl, sym, ap, ap₂, _∙_}
 use mathlib.Core.Bool.{Bool, true, false}
 use mathlib.Core.List.{List}
-use Prim.Native.Nat.{ℕ, _+_, _*_, _/_, _%_, _^_, _≤_, _<_}
-use native.Mathlib.Nat.{le-refl, le-trans}
+use Prim.Native.Nat.{ℕ, zero, suc, _+_, _*_, _/_, _%_, _^_, _≤_, _<_}
+use native.Mathlib.Nat.{le-refl, le-trans, zero-mul, suc-mul, mul-le-mul}
+use native.Mathlib.Numerals.{add-one}
 use native.Mathlib.Omega.{arith}
-use lib.ListN.{length, getD}
+use lib.ListN.{length}
 use Rattle.reckon.specs.Tests.{pick}
 use Rattle.reckon.specs.Ranges.{mostRain, lastClock}
 use Rattle.reckon.specs.Tables.{rainKind, inflowKind, hour, tableGives, rainBy, rainAdded, inflowAdded}
 use Rattle.reckon.specs.inner.Fits.{Fits}
 use Rattle.reckon.proofs.QuotientLaws.{div-mono}
-use Rattle.reckon.proofs.TestLaws.{pick-true, pick-false}
-use Rattle.reckon.proofs.ListLaws.{sum-ext}
+use Rattle.reckon.proofs.TestLaws.{pick-both}
+use Rattle.reckon.proofs.ListLaws.{sum-le}
 use Rattle.reckon.proofs.TableLaws.{terms-le, inflow-le, fine-fits}
-use Rattle.grid.specs.Squares.{squares}
+use Rattle.grid.specs.Squares.{mostSquares, squares}
+use Rattle.grid.specs.Marks.{inflowWords, inflowRow, inflowColumn}
 use Rattle.ledger.specs.Runs.{Plan}
 use Rattle.ledger.specs.Flows.{shut}
-use Rattle.ledger.specs.Account.{overOpen, water}
+use Rattle.ledger.specs.Account.{overOpen}
+use Rattle.ledger.proofs.Account.{open-add, open-zero}
 use Rattle.checks.specs.Given.{Given}
 use Rattle.adding.specs.Added.{addedFor}
 use Rattle.adding.specs.Account.{tablesGive}
-use Rattle.adding.specs.inner.Added.{Between, WaterAdded}
-use Rattle.account.specs.inner.Given.{GivenTo}
-
--- what a step would add, summed as if it lay there
-pub given-summed :
-    (p : Plan) (g : Given) (start end : ℕ) (old : List ℕ) {done : Bool} {room : List ℕ} {r : ℕ} → WaterAdded p g start end old done room → done ≡ true →
-    r ≡ water p room → r ≡ tablesGive p g start end
-unfolding water tablesGive overOpen
-given-summed p g start end old {room = room} added done e =
-    e
-    ∙ sum-ext (squares (p .shape)) (λ i. pick (shut p i) 0 (getD room i 0)) (λ i. pick (shut p i) 0 (addedFor p g start end i)) (λ i h. at i h (shut p i) refl)
-  where
-    at : (i : ℕ) → i < squares (p .shape) → (c : Bool) → shut p i ≡ c → pick (shut p i) 0 (getD room i 0) ≡ pick (shut p i) 0 (addedFor p g start end i)
-    at i h true c = pick-true _ _ c ∙ sym (pick-true _ _ c)
-    at i h false c = ap (pick (shut p i) 0) (added .stored done i h c)
+use Rattle.adding.specs.inner.Added.{Between, rowAlone, pouredOnce}
+use Rattle.adding.proofs.OnceLaws.{inflow-by-rows}
+use Rattle.account.specs.inner.Given.{openSquares, inflowGives, mostFallen, mostPoured}
 
 -- a square's water is a 32-bit number, or 0
 pub water-small : (closed : Bool) {depth : ℕ} → depth < 2 ^ 32 → pick closed 0 depth < 2 ^ 32
 unfolding pick
 water-small true h = omega arith
 water-small false h = h
+
+-- a square counts for 1 at most
+pub one-small : (closed : Bool) → pick closed 0 1 ≤ 1
+one-small closed = pick-both (λ (n : ℕ). n ≤ 1) closed (omega arith) (omega arith)
+
+-- not more squares are open than there are
+pub open-few : (p : Plan) → openSquares p ≤ squares (p .shape)
+unfolding openSquares overOpen
+open-few p = omega (arith, sum-le (squares (p .shape)) 1 (λ i. pick (shut p i) 0 1) (λ i l. one-small (shut p i)))
+
+-- the same number on each square not closed
+pub open-same : (p : Plan) (n : ℕ) → overOpen p (λ i. n) ≡ n * openSquares p
+unfolding openSquares
+open-same p zero = open-zero p (λ i. 0) (λ i l c. refl) ∙ sym (zero-mul (overOpen p (λ i. 1)))
+open-same p (suc n) =
+    ap (λ (k : ℕ). overOpen p (λ i. k)) (sym (add-one n))
+    ∙ (open-add p (λ i. n) (λ i. 1) ∙ (ap (λ (x : ℕ). x + overOpen p (λ i. 1)) (open-same p n) ∙ sym (suc-mul n (overOpen p (λ i. 1)))))
+
+-- what a row counts for
+pub once-small :
+    (inflow : List ℕ) (side start : ℕ) {end : ℕ} → Fits inflowKind inflow end → (j : ℕ) → pouredOnce inflow side start end j ≤ mostPoured
+unfolding pouredOnce
+once-small inflow side start f j =
+    pick-both (λ (n : ℕ). n ≤ mostPoured) (rowAlone inflow j)
+    (omega (arith, inflow-le inflow (inflowRow inflow j) (inflowColumn inflow j) side f)) (omega arith)
+
+pub inflow-small : (inflow : List ℕ) (side start : ℕ) {end : ℕ} → Fits inflowKind inflow end → inflowGives inflow side start end ≤ 64 * mostPoured
+unfolding inflowGives
+inflow-small inflow side start f =
+    let sum = sum-le (length inflow / inflowWords) mostPoured _ (λ j h. once-small inflow side start f j) in omega (arith, sum, f .few)
 
 module _ (p : Plan) (g : Given) (start end : ℕ) (b : Between p g start end) where
   pub rain-asked : Fits rainKind (g .rain) end
@@ -52,27 +73,27 @@ module _ (p : Plan) (g : Given) (start end : ℕ) (b : Between p g start end) wh
   inflow-asked = fine-fits inflowKind (g .inflow) end (b .waters .inflow) (b .end-to)
 
   -- rain of a whole week, 64 rows at the most
-  rain-most : rainBy (g .rain) end ≤ 10_752_000_000
+  rain-most : rainBy (g .rain) end ≤ mostFallen
   unfolding rainBy tableGives
   rain-most =
       let sum = terms-le rainKind (λ j. true) (g .rain) rain-asked (length (g .rain) / rainKind .width) (le-refl _) in
       le-trans (div-mono hour {b = 64 * (mostRain * lastClock)} (omega (arith, sum, rain-asked .few))) (omega arith)
 
-  module _ (i : ℕ) where
-    pub given-closed : shut p i ≡ true → GivenTo p g start end i 0
-    given-closed c = record { is = sym (pick-true _ _ c); to = omega arith }
+  pub fallen-small : rainAdded (g .rain) start end ≤ mostFallen
+  fallen-small = omega (arith, rain-most)
 
-    pub given-open :
-        {fallen poured : ℕ} → shut p i ≡ false → fallen ≡ rainAdded (g .rain) start end →
-        poured ≡ inflowAdded (g .inflow) (i / p .shape .columns) (i % p .shape .columns) (g .lie .rules .«square_side») start end →
-        GivenTo p g start end i (fallen + poured)
-    unfolding addedFor
-    given-open c e q =
-        record {
-          is = (λ k. e k + q k) ∙ sym (pick-false _ _ c);
-          to = omega (
-            arith,
-            rain-most,
-            inflow-le (g .inflow) (i / p .shape .columns) (i % p .shape .columns) (g .lie .rules .«square_side») inflow-asked,
-          );
-        }
+  abbrev side : ℕ
+  side = g .lie .rules .«square_side»
+
+  -- rain and inflow apart
+  pub gives-is : tablesGive p g start end ≡ rainAdded (g .rain) start end * openSquares p + inflowGives (g .inflow) side start end
+  unfolding tablesGive addedFor inflowGives
+  gives-is =
+      open-add p (λ i. rainAdded (g .rain) start end) (λ i. inflowAdded (g .inflow) (i / p .shape .columns) (i % p .shape .columns) side start end)
+      ∙ ap₂ _+_ (open-same p (rainAdded (g .rain) start end)) (inflow-by-rows p (g .inflow) side start end (b .waters .inflow-squares))
+
+  -- below 2^58
+  pub tables-most : tablesGive p g start end ≤ mostSquares * mostFallen + 64 * mostPoured
+  tables-most =
+      let most = mul-le-mul fallen-small (open-few p) in
+      omega (arith, gives-is, most, b .waters .fine .few, inflow-small (g .inflow) side start inflow-asked)

@@ -210,6 +210,16 @@ module _ (s : Shape) (inflow : List ℕ) (j : ℕ) where
       (eq-eqb _ _ (sym (ap (λ (x : ℕ). x / s .columns) e ∙ row-of s (inflowRow inflow j) h)))
       (eq-eqb _ _ (sym (ap (λ (x : ℕ). x % s .columns) e ∙ column-of s (inflowRow inflow j) h)))
 
+-- each row of a fine table is for a square of the grid that is not closed
+pub rows-fine :
+    (p : Plan) (inflow : List ℕ) → inflowSquaresFine (p .shape) (p .marks) inflow ≡ true → (j : ℕ) → j < length inflow / inflowWords →
+    (inflowRow inflow j < p .shape .rows) × (inflowColumn inflow j < p .shape .columns)
+    × (shut p (squareAt (p .shape) (inflowRow inflow j) (inflowColumn inflow j)) ≡ false)
+unfolding inflowSquaresFine inflowSquareFine
+rows-fine p inflow fine j h =
+    let e = every-each _ (all-at (length inflow / inflowWords) _ fine j h) in
+    (ltb-true _ _ (e .0), ltb-true _ _ (e .1 .0), not-true _ (e .1 .1 .0))
+
 -- ---- the rows worked so far
 
 module _ (s : Shape) (r : Rules) (inflow : List ℕ) (start end rain : ℕ) where
@@ -322,13 +332,10 @@ module _ (p : Plan) (r : Rules) (rain inflow : List ℕ) (start end : ℕ) (b : 
   unfolding amountAt addedFor
   is-amount i = refl
 
-  row-fine :
+  abbrev row-fine :
       (j : ℕ) → j < rows →
       (inflowRow inflow j < s .rows) × (inflowColumn inflow j < s .columns) × (shut p (squareAt s (inflowRow inflow j) (inflowColumn inflow j)) ≡ false)
-  unfolding inflowSquaresFine inflowSquareFine
-  row-fine j h =
-      let e = every-each _ (all-at rows _ (b .waters .inflow-squares) j h) in
-      (ltb-true _ _ (e .0), ltb-true _ _ (e .1 .0), not-true _ (e .1 .1 .0))
+  row-fine = rows-fine p inflow (b .waters .inflow-squares)
 
   rain-fits : Fits rainKind rain end
   rain-fits = fine-fits rainKind rain end (b .waters .rain) (b .end-to)

@@ -8,6 +8,7 @@ pub adding-determined : AddingDetermined
 adding-determined =
     record {
       rows-apart = λ inflow. exactly;
+      poured-once = λ inflow side start end j. exactly;
       add-water =
           λ p g start end old a b x y.
           let same = x .fits-is ∙ sym (y .fits-is) in

@@ -1,3 +1,4 @@
 pub mod AccountLaws
 pub mod AddedLaws
 pub mod Determined
+pub mod OnceLaws

@@ -20,7 +20,7 @@ ghost use Rattle.reckon.specs.inner.Fits.{Fits};
 ghost use Rattle.grid.specs.Squares.{squares};
 ghost use Rattle.grid.specs.Marks.{closed, inflowWords};
 ghost use Rattle.ledger.specs.Runs.{plan};
-ghost use Rattle.adding.specs.inner.Added.{Between, PouredAll, PouredRow, Pours, RainedAll, WaterAdded, rowAlone, rowsApart, tables};
+ghost use Rattle.adding.specs.inner.Added.{Between, PouredAll, PouredRow, Pours, RainedAll, WaterAdded, pouredOnce, rowAlone, rowsApart, tables};
 
 // Whether every square is closed.
 fn all_closed(marks: &[u8]) -> bool
@@ -116,6 +116,31 @@ fn poured(
     let past = at + INFLOW_WIDTH;
     let alone = &inflow[at..past];
     inflow_added(alone, row, column, side, start, end)
+}
+
+// Whether no row before inflow row j is for the same square, which is known where the rows stand apart.
+fn row_first(inflow: &[u32], apart: bool, j: usize) -> bool
+    requires { ⌜ (apart ≡ rowsApart (now inflow)) × (j < length (now inflow) / inflowWords) ⌝ }
+    ensures { λ r. ⌜ r ≡ rowAlone (now (inflow .entry)) j ⌝ }
+{
+    if apart {
+        return true;
+    }
+    row_alone(inflow, j)
+}
+
+// What inflow adds to the square of inflow row j, each square counted once: nothing where a row before it is for the same square.
+pub fn poured_once(inflow: &[u32], apart: bool, j: usize, side: u64, start: u64, end: u64) -> u64
+    requires { ⌜ (apart ≡ rowsApart (now inflow)) × (j < length (now inflow) / inflowWords) ⌝ }
+    requires { ⌜ (Fits inflowKind (now inflow) end) × (start ≤ end) × (0 < side) × (side ≤ mostSide) ⌝ }
+    ensures { λ r. ⌜ r ≡ pouredOnce (now (inflow .entry)) side start end j ⌝ }
+{
+    if !row_first(inflow, apart, j) {
+        return 0;
+    }
+    let row = number(inflow, INFLOW_WIDTH * j);
+    let column = number(inflow, INFLOW_WIDTH * j + 1);
+    poured(inflow, apart, j, row, column, side, start, end)
 }
 
 // Stores what is added to the square of inflow row j, unless that could not hold it.

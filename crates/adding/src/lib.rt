@@ -2,5 +2,6 @@
 //   way::Way            how a step goes about its work
 //   added::rows_apart   whether no two inflow rows are for the same square
 //   added::add_water    what a step adds to each square
+//   added::poured_once  what inflow adds to the square of a row, each square counted once
 pub mod added;
 pub mod way;

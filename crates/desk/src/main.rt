@@ -3,6 +3,7 @@ use desks::command::command;
 use desks::command::make_further;
 use desks::command::make_next;
 use desks::command::wanted;
+use desks::state::DESK_ALONG;
 use desks::state::DESK_NUMBERS;
 use desks::state::DESK_OUT;
 use desks::state::DESK_RATES;
@@ -113,7 +114,7 @@ fn tell(out: &[u8], bytes: usize) {
     }
 }
 
-// The steps of a line `step` after its first, each with its frame.
+// The steps of a line `step` after its first, each with its frame, all in the same working rooms.
 fn further_steps(
     begun: Desk,
     marks: &[u8; DESK_SQUARES],
@@ -130,6 +131,10 @@ fn further_steps(
 ) -> Desk
     requires { ⌜ FurtherSteps begun (stores (rooms (now marks) (now beds) (now roughness) (now rates) (now depths) (now rain) (now inflow)) (now lasts) (now records) (now began)) ⌝ }
 {
+    let mut left = [0u32; DESK_SQUARES];
+    let mut worked = [0u64; DESK_ALONG];
+    let mut senders = [0u64; DESK_ALONG];
+    let mut room = [0u32; DESK_SQUARES];
     let mut desk = begun;
     let mut calls: u32 = 1;
     while calls < MOST_CALLS {
@@ -150,6 +155,10 @@ fn further_steps(
             records,
             began,
             out,
+            &mut left,
+            &mut worked,
+            &mut senders,
+            &mut room,
         );
         tell(out, desk.length);
         calls += 1;

@@ -2,6 +2,7 @@
 use desks::command::command;
 use desks::command::make_further;
 use desks::command::make_next;
+use desks::state::DESK_ALONG;
 use desks::state::DESK_NUMBERS;
 use desks::state::DESK_OUT;
 use desks::state::DESK_RATES;
@@ -277,6 +278,10 @@ pub fn next_and_further(
         began,
         out,
     );
+    let mut left = [0u32; DESK_SQUARES];
+    let mut worked = [0u64; DESK_ALONG];
+    let mut senders = [0u64; DESK_ALONG];
+    let mut room = [0u32; DESK_SQUARES];
     make_further(
         first,
         marks,
@@ -290,6 +295,10 @@ pub fn next_and_further(
         records,
         began,
         out,
+        &mut left,
+        &mut worked,
+        &mut senders,
+        &mut room,
     )
 }
 

@@ -16,6 +16,7 @@ use Rattle.grid.specs.Squares.{squares}
 use Rattle.ledger.specs.Runs.{plan}
 use Rattle.ledger.specs.Record.{recordSize, roomSlots}
 use Rattle.checks.specs.Given.{given, ground}
+use Rattle.flood.specs.inner.Step.{RoomsLent}
 use Rattle.sheet.specs.Sheet.{rooms}
 use Rattle.sheet.specs.declared.reading.Heading.{Heading}
 use Rattle.hatches.specs.Log.{evening, mostHatches}
@@ -26,7 +27,7 @@ use Rattle.desks.specs.Lines.{Told, orderTold, nextTold}
 use Rattle.desks.specs.Command.{Leaves, planOn, eveningOn, inflowOn, readyNumber, storesWith, toldOn}
 use Rattle.desks.specs.inner.Further.{StepPassesOn}
 use Rattle.desks.specs.inner.Lent.{Lends, Answers}
-use Rattle.desks.specs.inner.Rooms.{RoomsLong}
+use Rattle.desks.specs.inner.Rooms.{RoomsLong, WorkLong}
 use Rattle.desks.specs.inner.Sizes.{SizesAre}
 use Rattle.desks.specs.declared.orders.Order.{Order}
 use Rattle.desks.specs.declared.sizes.Sizes.{Sizes}
@@ -44,6 +45,18 @@ placed-first part old l = ap (λ (k : ℕ). part ++ drop k old) (sym l)
 -- a part that stayed
 placed-same : (n : ℕ) (old : List ℕ) → n ≤ length old → old ≡ placed old 0 (take n old)
 placed-same n old h = sym (take-append-drop n old) ∙ placed-first (take n old) old (length-take-le n old h)
+
+-- working rooms, as far as they belong to a sheet
+pub work-lent :
+    (h : Heading) {sizes : Sizes} {left worked senders room : List ℕ} → SizesAre h sizes → WorkLong left worked senders room →
+    RoomsLent (h .shape) (take (sizes .squares) left) (take (h .shape .rows) worked) (take (h .shape .rows) senders) (take (sizes .squares) room)
+work-lent h {left = left} {worked} {senders} {room} z w =
+    record {
+      left-long = sym (part-long _ left (omega (arith, z .squares-fit, w .left-long))) ∙ z .squares-are;
+      worked-long = sym (part-long _ worked (omega (arith, z .fine .rows-high, w .worked-long)));
+      senders-long = sym (part-long _ senders (omega (arith, z .fine .rows-high, w .senders-long)));
+      room-long = sym (part-long _ room (omega (arith, z .squares-fit, w .room-long))) ∙ z .squares-are;
+    }
 
 -- ---- a desk that is ready
 

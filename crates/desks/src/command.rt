@@ -8,6 +8,7 @@ use crate::orders::Order;
 use crate::orders::order_of;
 use crate::sizes::heading_fine;
 use crate::sizes::sizes_of;
+use crate::state::DESK_ALONG;
 use crate::state::DESK_NUMBERS;
 use crate::state::DESK_OUT;
 use crate::state::DESK_RATES;
@@ -40,7 +41,7 @@ ghost use Rattle.desks.specs.State.{deskSquares, deskOut, deskText};
 ghost use Rattle.desks.specs.Lines.{endingText, nextTold, orderTold};
 ghost use Rattle.desks.specs.Command.{Leaves, Wanted, commandLeft, eveningOn, inflowOn, isSheet, otherLeft, planOn, readyNumber, sheetLeft, stepLeft, toldOn, untouched, wantedBy};
 ghost use Rattle.desks.specs.inner.Further.{FurtherSteps, StepPassesOn};
-ghost use Rattle.desks.specs.inner.Rooms.{GroundLong, RoomsLong, SheetLaid, SheetRooms};
+ghost use Rattle.desks.specs.inner.Rooms.{GroundLong, RoomsLong, SheetLaid, SheetRooms, WorkLong};
 
 // How many bytes of text come after a line.
 fn wanted_by(order: Order) -> usize
@@ -285,7 +286,7 @@ pub fn command(
     )
 }
 
-// A step over the sheet on the desk.
+// A step over the sheet on the desk: each room is lent as far as it belongs to the sheet.
 fn step_held(
     checked: bool,
     desk: Desk,
@@ -300,7 +301,12 @@ fn step_held(
     records: &mut [u32],
     began: &mut [u32],
     out: &mut [u8],
+    left: &mut [u32],
+    worked: &mut [u64],
+    senders: &mut [u64],
+    room: &mut [u32],
 ) -> Desk
+    requires { ⌜ WorkLong (now left) (now worked) (now senders) (now room) ⌝ }
     requires { ⌜ (readyNumber desk ≡ 0) × (RoomsLong (now marks) (now inflow) (now depths) (now lasts) (now records) (now began) (now out)) × (GroundLong (now beds) (now roughness) (now rates) (now rain)) × (checked ≡ true → StepPassesOn desk (stores (rooms (now marks) (now beds) (now roughness) (now rates) (now depths) (now rain) (now inflow)) (now lasts) (now records) (now began))) ⌝ }
     ensures { λ r. ⌜ Leaves (toldOn desk (stores (rooms (now (marks .entry)) (now (beds .entry)) (now (roughness .entry)) (now (rates .entry)) (now (depths .entry)) (now (rain .entry)) (now (inflow .entry))) (now (lasts .entry)) (now (records .entry)) (now (began .entry))) (nextTold (planOn desk (stores (rooms (now (marks .entry)) (now (beds .entry)) (now (roughness .entry)) (now (rates .entry)) (now (depths .entry)) (now (rain .entry)) (now (inflow .entry))) (now (lasts .entry)) (now (records .entry)) (now (began .entry)))) (givenHeld (desk .heading) (stores (rooms (now (marks .entry)) (now (beds .entry)) (now (roughness .entry)) (now (rates .entry)) (now (depths .entry)) (now (rain .entry)) (now (inflow .entry))) (now (lasts .entry)) (now (records .entry)) (now (began .entry)))) (eveningOn (desk .heading) (stores (rooms (now (marks .entry)) (now (beds .entry)) (now (roughness .entry)) (now (rates .entry)) (now (depths .entry)) (now (rain .entry)) (now (inflow .entry))) (now (lasts .entry)) (now (records .entry)) (now (began .entry))) (desk .log)) (desk .account) (desk .series))) r (stores (rooms (now (marks .entry)) (now (beds .entry)) (now (roughness .entry)) (now (rates .entry)) (now (depths .exit)) (now (rain .entry)) (now (inflow .entry))) (now (lasts .exit)) (now (records .exit)) (now (began .exit))) (now (out .entry)) (now (out .exit)) ⌝ }
 {
@@ -310,6 +316,8 @@ fn step_held(
     let inflow_end = sizes.inflow;
     let records_end = sizes.records;
     let began_end = sizes.began;
+    let shape = desk.heading.shape;
+    let rows = shape.rows;
     next_step(
         checked,
         desk,
@@ -324,6 +332,10 @@ fn step_held(
         &mut records[..records_end],
         &mut began[..began_end],
         out,
+        &mut left[..squares],
+        &mut worked[..rows],
+        &mut senders[..rows],
+        &mut room[..squares],
     )
 }
 
@@ -342,6 +354,10 @@ fn make_step(
     records: &mut [u32; DESK_NUMBERS],
     began: &mut [u32; DESK_RATES],
     out: &mut [u8; DESK_OUT],
+    left: &mut [u32; DESK_SQUARES],
+    worked: &mut [u64; DESK_ALONG],
+    senders: &mut [u64; DESK_ALONG],
+    room: &mut [u32; DESK_SQUARES],
 ) -> Desk
     requires { ⌜ (checked ≡ true → FurtherSteps desk (stores (rooms (now marks) (now beds) (now roughness) (now rates) (now depths) (now rain) (now inflow)) (now lasts) (now records) (now began))) ⌝ }
     ensures { λ r. ⌜ Leaves (stepLeft desk (stores (rooms (now (marks .entry)) (now (beds .entry)) (now (roughness .entry)) (now (rates .entry)) (now (depths .entry)) (now (rain .entry)) (now (inflow .entry))) (now (lasts .entry)) (now (records .entry)) (now (began .entry)))) r (stores (rooms (now (marks .entry)) (now (beds .entry)) (now (roughness .entry)) (now (rates .entry)) (now (depths .exit)) (now (rain .entry)) (now (inflow .entry))) (now (lasts .exit)) (now (records .exit)) (now (began .exit))) (now (out .entry)) (now (out .exit)) ⌝ }
@@ -368,6 +384,10 @@ fn make_step(
         records,
         began,
         out,
+        left,
+        worked,
+        senders,
+        room,
     )
 }
 
@@ -388,6 +408,10 @@ pub fn make_next(
 ) -> Desk
     ensures { λ r. ⌜ Leaves (stepLeft desk (stores (rooms (now (marks .entry)) (now (beds .entry)) (now (roughness .entry)) (now (rates .entry)) (now (depths .entry)) (now (rain .entry)) (now (inflow .entry))) (now (lasts .entry)) (now (records .entry)) (now (began .entry)))) r (stores (rooms (now (marks .entry)) (now (beds .entry)) (now (roughness .entry)) (now (rates .entry)) (now (depths .exit)) (now (rain .entry)) (now (inflow .entry))) (now (lasts .exit)) (now (records .exit)) (now (began .exit))) (now (out .entry)) (now (out .exit)) ⌝ }
 {
+    let mut left = [0u32; DESK_SQUARES];
+    let mut worked = [0u64; DESK_ALONG];
+    let mut senders = [0u64; DESK_ALONG];
+    let mut room = [0u32; DESK_SQUARES];
     make_step(
         false,
         desk,
@@ -402,10 +426,15 @@ pub fn make_next(
         records,
         began,
         out,
+        &mut left,
+        &mut worked,
+        &mut senders,
+        &mut room,
     )
 }
 
-// The same after a step that was made: what passes the checks 1 to 6 still does, and they are not made again.
+// The same after a step that was made: what passes the checks 1 to 6 still does, and they are not made again. The working rooms are lent, once for
+// all steps of a line.
 pub fn make_further(
     desk: Desk,
     marks: &[u8; DESK_SQUARES],
@@ -419,6 +448,10 @@ pub fn make_further(
     records: &mut [u32; DESK_NUMBERS],
     began: &mut [u32; DESK_RATES],
     out: &mut [u8; DESK_OUT],
+    left: &mut [u32; DESK_SQUARES],
+    worked: &mut [u64; DESK_ALONG],
+    senders: &mut [u64; DESK_ALONG],
+    room: &mut [u32; DESK_SQUARES],
 ) -> Desk
     requires { ⌜ FurtherSteps desk (stores (rooms (now marks) (now beds) (now roughness) (now rates) (now depths) (now rain) (now inflow)) (now lasts) (now records) (now began)) ⌝ }
     ensures { λ r. ⌜ Leaves (stepLeft desk (stores (rooms (now (marks .entry)) (now (beds .entry)) (now (roughness .entry)) (now (rates .entry)) (now (depths .entry)) (now (rain .entry)) (now (inflow .entry))) (now (lasts .entry)) (now (records .entry)) (now (began .entry)))) r (stores (rooms (now (marks .entry)) (now (beds .entry)) (now (roughness .entry)) (now (rates .entry)) (now (depths .exit)) (now (rain .entry)) (now (inflow .entry))) (now (lasts .exit)) (now (records .exit)) (now (began .exit))) (now (out .entry)) (now (out .exit)) ⌝ }
@@ -437,5 +470,9 @@ pub fn make_further(
         records,
         began,
         out,
+        left,
+        worked,
+        senders,
+        room,
     )
 }

@@ -34,6 +34,7 @@ ghost use lib.ListN.{length};
 ghost use Rattle.grid.specs.Squares.{ShapeInRange, squares};
 ghost use Rattle.ledger.specs.Runs.{Plan, plan};
 ghost use Rattle.checks.specs.Given.{given, ground};
+ghost use Rattle.flood.specs.inner.Step.{RoomsLent};
 ghost use Rattle.hatches.specs.Log.{evening};
 ghost use Rattle.trying.specs.Given.{accountOpened};
 ghost use Rattle.trying.specs.Lines.{came, drawTried, nameTried};
@@ -220,7 +221,7 @@ fn steps_left(series: Series, clock: u64) -> bool
     clock < series.end
 }
 
-// The next step of a line `step`, or its end. Where the step before it was made, the checks 1 to 6 are known to pass.
+// The next step of a line `step`, or its end, in working rooms that are lent. Where the step before it was made, the checks 1 to 6 are known to pass.
 pub(crate) fn next_step(
     checked: bool,
     desk: Desk,
@@ -235,7 +236,12 @@ pub(crate) fn next_step(
     records: &mut [u32],
     began: &mut [u32],
     out: &mut [u8],
+    left: &mut [u32],
+    worked: &mut [u64],
+    senders: &mut [u64],
+    room: &mut [u32],
 ) -> Desk
+    requires { ⌜ RoomsLent (desk .heading .shape) (now left) (now worked) (now senders) (now room) ⌝ }
     requires { ⌜ (Lends (plan (desk .heading .shape) (now marks)) (now depths) (now lasts) (now records) (now began) (now out)) × (checked ≡ true → StepPasses (plan (desk .heading .shape) (now marks)) (given (ground (desk .heading .rules) (now beds) (now roughness) (now rates)) (now rain) (now inflow)) (evening (now depths) (now lasts) (now records) (now began) (desk .log)) (desk .account)) ⌝ }
     ensures { λ r. ⌜ Answers (nextTold (plan (desk .heading .shape) (now (marks .entry))) (given (ground (desk .heading .rules) (now (beds .entry)) (now (roughness .entry)) (now (rates .entry))) (now (rain .entry)) (now (inflow .entry))) (evening (now (depths .entry)) (now (lasts .entry)) (now (records .entry)) (now (began .entry)) (desk .log)) (desk .account) (desk .series)) desk r (evening (now (depths .exit)) (now (lasts .exit)) (now (records .exit)) (now (began .exit)) (r .log)) (now (out .entry)) (now (out .exit)) ⌝ }
 {
@@ -268,6 +274,10 @@ pub(crate) fn next_step(
         lasts,
         records,
         began,
+        left,
+        worked,
+        senders,
+        room,
     );
     if tried.number != 0 {
         return last_line(desk, tried, series.every, marks, depths, out);

@@ -13,8 +13,10 @@ ghost use mathlib.Core.Path.{_≡_};
 ghost use Rattle.grid.specs.Squares.{ShapeInRange};
 ghost use Rattle.desks.specs.State.{DeskEmpty, KeptSlots, deskWith, freshDesk, noSeries};
 
-// The most squares, the most bytes of a text, and the numbers of the room of records.
+// The most squares, and rows of them, the most bytes of a text, and the numbers of the room of records.
 pub const DESK_SQUARES: usize = 4_096;
+
+pub const DESK_ALONG: usize = 64;
 
 pub const DESK_TEXT: usize = 262_144;
 

@@ -326,10 +326,75 @@ fn first_number(
     )
 }
 
-// One step by either walk, or a refusal with everything as it was. A caller who knows that the checks 1 to 6 pass says so, and they are not
-// made again.
+// One step in working rooms that are lent, or a refusal with everything as it was. A caller who knows that the checks 1 to 6 pass says so, and they
+// are not made again.
 pub fn step_checked(
     checked: bool,
+    way: Way,
+    run: Run,
+    marks: &[u8],
+    beds: &[u32],
+    roughness: &[u32],
+    rates: &[u32],
+    rain: &[u32],
+    inflow: &[u32],
+    depths: &mut [u32],
+    lasts: &mut [u32],
+    records: &mut [u32],
+    left: &mut [u32],
+    worked: &mut [u64],
+    senders: &mut [u64],
+    room: &mut [u32],
+) -> Answer
+    requires { ⌜ (RoomsLent (way .shape) (now left) (now worked) (now senders) (now room)) × (way .apart ≡ rowsApart (now inflow)) ⌝ }
+    requires { ⌜ (checked ≡ true → Passes (plan (way .shape) (now marks)) (given (ground (way .rules) (now beds) (now roughness) (now rates)) (now rain) (now inflow)) (world (now depths) (now lasts) (now records) run)) ⌝ }
+    ensures { λ r. ⌜ Steps (plan (way .shape) (now (marks .entry))) (given (ground (way .rules) (now (beds .entry)) (now (roughness .entry)) (now (rates .entry))) (now (rain .entry)) (now (inflow .entry))) (world (now (depths .entry)) (now (lasts .entry)) (now (records .entry)) run) r (now (depths .exit)) (now (lasts .exit)) (now (records .exit)) ⌝ }
+{
+    let number = first_number(
+        checked,
+        way.shape,
+        way.rules,
+        run,
+        marks,
+        beds,
+        roughness,
+        rates,
+        rain,
+        inflow,
+        depths,
+        lasts,
+        records.len(),
+    );
+    if number != 0 {
+        return Answer::Refused(number);
+    }
+    let made = step_on(
+        way,
+        run,
+        marks,
+        beds,
+        roughness,
+        rates,
+        rain,
+        inflow,
+        depths,
+        lasts,
+        records,
+        left,
+        worked,
+        senders,
+        room,
+    );
+    let refused = made.refused;
+    let after = made.run;
+    if refused != 0 {
+        return Answer::Refused(refused);
+    }
+    Answer::Done(after)
+}
+
+// One step by either walk, or a refusal with everything as it was.
+pub fn step(
     walk: Walk,
     shape: Shape,
     rules: Rules,
@@ -344,11 +409,9 @@ pub fn step_checked(
     lasts: &mut [u32],
     records: &mut [u32],
 ) -> Answer
-    requires { ⌜ (checked ≡ true → Passes (plan shape (now marks)) (given (ground rules (now beds) (now roughness) (now rates)) (now rain) (now inflow)) (world (now depths) (now lasts) (now records) run)) ⌝ }
     ensures { λ r. ⌜ Steps (plan shape (now (marks .entry))) (given (ground rules (now (beds .entry)) (now (roughness .entry)) (now (rates .entry))) (now (rain .entry)) (now (inflow .entry))) (world (now (depths .entry)) (now (lasts .entry)) (now (records .entry)) run) r (now (depths .exit)) (now (lasts .exit)) (now (records .exit)) ⌝ }
 {
-    let number = first_number(
-        checked,
+    let number = check_step(
         shape,
         rules,
         run,
@@ -377,7 +440,8 @@ pub fn step_checked(
     let mut worked = [0u64; MOST_ALONG];
     let mut senders = [0u64; MOST_ALONG];
     let mut room = [0u32; MOST_SQUARES];
-    let made = step_on(
+    step_checked(
+        true,
         way,
         run,
         marks,
@@ -393,47 +457,5 @@ pub fn step_checked(
         &mut worked[..rows],
         &mut senders[..rows],
         &mut room[..squares],
-    );
-    let refused = made.refused;
-    let after = made.run;
-    if refused != 0 {
-        return Answer::Refused(refused);
-    }
-    Answer::Done(after)
-}
-
-// One step by either walk, or a refusal with everything as it was.
-pub fn step(
-    walk: Walk,
-    shape: Shape,
-    rules: Rules,
-    run: Run,
-    marks: &[u8],
-    beds: &[u32],
-    roughness: &[u32],
-    rates: &[u32],
-    rain: &[u32],
-    inflow: &[u32],
-    depths: &mut [u32],
-    lasts: &mut [u32],
-    records: &mut [u32],
-) -> Answer
-    ensures { λ r. ⌜ Steps (plan shape (now (marks .entry))) (given (ground rules (now (beds .entry)) (now (roughness .entry)) (now (rates .entry))) (now (rain .entry)) (now (inflow .entry))) (world (now (depths .entry)) (now (lasts .entry)) (now (records .entry)) run) r (now (depths .exit)) (now (lasts .exit)) (now (records .exit)) ⌝ }
-{
-    step_checked(
-        false,
-        walk,
-        shape,
-        rules,
-        run,
-        marks,
-        beds,
-        roughness,
-        rates,
-        rain,
-        inflow,
-        depths,
-        lasts,
-        records,
     )
 }

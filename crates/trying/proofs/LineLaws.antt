@@ -30,7 +30,6 @@ use Rattle.checks.proofs.CheckLaws.{ring-is, ready}
 use Rattle.adding.specs.Added.{addedFor}
 use Rattle.adding.specs.Account.{tablesGive}
 use Rattle.adding.specs.inner.Added.{Between, tables}
-use Rattle.account.proofs.GivenLaws.{given-open}
 use Rattle.flood.specs.Step.{stepNumber, stepped, Steps, Passes}
 use Rattle.flood.proofs.RunToLaws.{checks-passed, still-valid, clock-on}
 use Rattle.hatches.specs.Log.{Evening, evening, mostHatches, isNamed, hatchRows, tableWith, logWith, ratesKept, keptFine}
@@ -49,21 +48,6 @@ use Rattle.trying.specs.Lines.{Came, came, tried, unlessRefused, tryRefu
 use Rattle.trying.specs.inner.Passing.{StepPasses}
 use Rattle.trying.specs.declared.given.Account.{Account}
 use Rattle.trying.specs.declared.lines.Tried.{Tried}
-use Rattle.account.specs.inner.Given as Most
-
--- ---- the most that the tables give
-
-module _ (p : Plan) (g : Given) (start end : ℕ) (b : Between p g start end) where
-  square-most : (i : ℕ) → pick (shut p i) 0 (addedFor p g start end i) ≤ Most.mostGiven
-  square-most i = go (shut p i) refl
-    where
-      go : (c : Bool) → shut p i ≡ c → pick (shut p i) 0 (addedFor p g start end i) ≤ Most.mostGiven
-      go true e = omega (arith, pick-true 0 (addedFor p g start end i) e)
-      go false e = let m = given-open p g start end b i e refl refl in omega (arith, m .is, m .to)
-
-  pub tables-most : tablesGive p g start end ≤ squares (p .shape) * Most.mostGiven
-  unfolding tablesGive overOpen
-  tables-most = sum-le (squares (p .shape)) Most.mostGiven _ (λ i h. square-most i)
 
 -- ---- a step that was made
 

@@ -3,6 +3,8 @@ use crate::given::Account;
 use crate::given::account_back;
 use crate::given::account_with;
 use account::tables_give;
+use adding::added::rows_apart;
+use adding::way::Way;
 use evenings::taking::back_line;
 use evenings::taking::further;
 use evenings::taking::name_hatch;
@@ -36,7 +38,8 @@ ghost use Rattle.grid.specs.Squares.{ShapeInRange, squares};
 ghost use Rattle.ledger.specs.Runs.{plan};
 ghost use Rattle.checks.specs.Given.{given, ground};
 ghost use Rattle.adding.specs.Account.{tablesGive};
-ghost use Rattle.adding.specs.inner.Added.{Between, tables};
+ghost use Rattle.adding.specs.inner.Added.{Between, rowsApart, tables};
+ghost use Rattle.flood.specs.inner.Step.{RoomsLent};
 ghost use Rattle.hatches.specs.Log.{evening, logWith, mostHatches, ratesKept};
 ghost use Rattle.stands.specs.Laying.{mostGiven};
 ghost use Rattle.trying.specs.Given.{accountWith, mostSlots};
@@ -179,8 +182,7 @@ fn made_step(
     log: Log,
     account: Account,
     run: Run,
-    shape: Shape,
-    rules: Rules,
+    way: Way,
     marks: &[u8],
     rain: &[u32],
     table: &[u32],
@@ -189,15 +191,16 @@ fn made_step(
 ) -> Tried
     requires { ⌜ (log .run .newest < slots) × (slots ≤ mostSlots) × (slots ≤ slotsIn mostHatches (length (now began))) ⌝ }
     requires { ⌜ (log .steps + 1 < 18_446_744_073_709_551_616) × (account .given ≤ mostGiven) ⌝ }
-    requires { ⌜ Between (plan shape (now marks)) (tables rules (now rain) (now table)) (log .run .clock) (run .clock) ⌝ }
-    ensures { λ r. ⌜ (r ≡ tried 0 (logWith log run (log .steps + 1) (log .litres)) (accountWith account (slotAfter slots (log .run .newest)) (tablesGive (plan shape (now (marks .entry))) (tables rules (now (rain .entry)) (now (table .entry))) (log .run .clock) (run .clock)))) × (now (began .exit) ≡ ratesKept slots 1 (log .run .newest) (log .litres) (now (began .entry))) ⌝ }
+    requires { ⌜ way .apart ≡ rowsApart (now table) ⌝ }
+    requires { ⌜ Between (plan (way .shape) (now marks)) (tables (way .rules) (now rain) (now table)) (log .run .clock) (run .clock) ⌝ }
+    ensures { λ r. ⌜ (r ≡ tried 0 (logWith log run (log .steps + 1) (log .litres)) (accountWith account (slotAfter slots (log .run .newest)) (tablesGive (plan (way .shape) (now (marks .entry))) (tables (way .rules) (now (rain .entry)) (now (table .entry))) (log .run .clock) (run .clock)))) × (now (began .exit) ≡ ratesKept slots 1 (log .run .newest) (log .litres) (now (began .entry))) ⌝ }
 {
     let before = log.run;
-    let more = tables_give(shape, rules, marks, rain, table, before.clock, run.clock);
+    let more = tables_give(way, marks, rain, table, before.clock, run.clock);
     keep_step(log, account, run, slots, more, began)
 }
 
-// One step at the rates that the hatches run at. A caller who knows that the checks 1 to 6 pass says so.
+// One step at the rates that the hatches run at, in working rooms that are lent. A caller who knows that the checks 1 to 6 pass says so.
 pub fn step_once(
     checked: bool,
     log: Log,
@@ -214,8 +217,12 @@ pub fn step_once(
     lasts: &mut [u32],
     records: &mut [u32],
     began: &mut [u32],
+    left: &mut [u32],
+    worked: &mut [u64],
+    senders: &mut [u64],
+    room: &mut [u32],
 ) -> Tried
-    requires { ⌜ TrialLent (plan shape (now marks)) (now records) (now began) ⌝ }
+    requires { ⌜ (TrialLent (plan shape (now marks)) (now records) (now began)) × (RoomsLent shape (now left) (now worked) (now senders) (now room)) ⌝ }
     requires { ⌜ (checked ≡ true → StepPasses (plan shape (now marks)) (given (ground rules (now beds) (now roughness) (now rates)) (now rain) (now inflow)) (evening (now depths) (now lasts) (now records) (now began) log) account) ⌝ }
     ensures { λ r. ⌜ MakesOne (plan shape (now (marks .entry))) (given (ground rules (now (beds .entry)) (now (roughness .entry)) (now (rates .entry))) (now (rain .entry)) (now (inflow .entry))) (evening (now (depths .entry)) (now (lasts .entry)) (now (records .entry)) (now (began .entry)) log) account (r .number) (evening (now (depths .exit)) (now (lasts .exit)) (now (records .exit)) (now (began .exit)) (r .log)) (r .account) ⌝ }
 {
@@ -226,13 +233,17 @@ pub fn step_once(
     let mut table = [0u32; INFLOW_ROOM];
     let litres = log.litres;
     let length = fill_table(inflow, log.hatches, litres, &mut table);
+    let way = Way {
+        walk: Walk::Wet,
+        shape: shape,
+        rules: rules,
+        apart: rows_apart(&table[..length]),
+    };
     let slots = trials::slots_in(record_size(shape), records.len());
     let before = log.run;
     let answer = step_checked(
         checked,
-        Walk::Wet,
-        shape,
-        rules,
+        way,
         before,
         marks,
         beds,
@@ -243,6 +254,10 @@ pub fn step_once(
         depths,
         lasts,
         records,
+        left,
+        worked,
+        senders,
+        room,
     );
     match answer {
         Answer::Refused(number) => refused(log, account, number),
@@ -250,8 +265,7 @@ pub fn step_once(
             log,
             account,
             run,
-            shape,
-            rules,
+            way,
             marks,
             rain,
             &table[..length],

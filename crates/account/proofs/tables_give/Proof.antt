@@ -1,49 +1,62 @@
--- `account::tables_give` meets its contract: the part of a room for all squares has a number a square.
+-- `account::tables_give` meets its contract: the rain on so many squares, and what the inflow rows count for.
 -- Assumes nothing.
-use mathlib.Core.Path.{_≡_, sym, _∙_}
-use Prim.Native.Nat.{ℕ, _≤_}
+use mathlib.Core.Path.{_≡_, sym, ap, ap₂, _∙_}
+use Prim.Native.Nat.{ℕ, _+_, _*_}
 use native.Mathlib.Omega.{arith}
-use lib.ListN.{length, replicate, length-replicate, take}
-use lib.Seq.{length-take-le}
-use borrow.Author.Needs.{needs}
-use Rattle.grid.specs.Squares.{mostSquares}
+use Rattle.reckon.specs.Tables.{rainAdded}
+use Rattle.ledger.specs.Runs.{Plan, plan}
+use Rattle.checks.specs.Given.{Given}
+use Rattle.adding.specs.Account.{tablesGive}
+use Rattle.adding.specs.inner.Added.{tables}
+use Rattle.account.specs.inner.Given.{openSquares}
+use Rattle.account.proofs.GivenLaws.{rain-asked, inflow-asked, fallen-small, gives-is, tables-most}
 use Rattle.account.proofs.tables_give.Statement.{statement}
 use Rattle.account.proofs.tables_give.Tie as tie
 
-part-long : {n : ℕ} → n ≤ mostSquares → length (take {A = ℕ} n (replicate mostSquares 0)) ≡ n
-part-long h = length-take-le _ (replicate mostSquares 0) (omega (arith, length-replicate {A = ℕ} mostSquares 0, h))
+-- ---- the start, and the plan and the tables that were lent
 
--- all squares have their place in a room for the most of them
-few : (c : tie.After-rows-apart) → c .before .squares-of .result ≤ mostSquares
-few c = omega (arith, c .before .squares-of .ensures, c .before .before .before .before .before .pre .waters .fine .few)
+abbrev start : tie.After-rain-gives → tie.Start
+start c = c .before .before .before .before .before .before
 
-squares-of-requires : tie.Need-squares-of-requires
-squares-of-requires c κs = search needs
+abbrev on : tie.Start → Plan
+on s = plan (s .args .way .shape) (s .args .marks .now)
 
-rows-apart-requires : tie.Need-rows-apart-requires
-rows-apart-requires c κs = search needs
+abbrev by : tie.Start → Given
+by s = tables (s .args .way .rules) (s .args .rain .now) (s .args .inflow .now)
 
-array-borrow-prefix-room : tie.Need-array-borrow-prefix-room
-array-borrow-prefix-room c = search needs
+-- ---- the needs
 
-slice-aggregate-by-room : tie.Need-slice-aggregate-by-room
-slice-aggregate-by-room c = sym (part-long (few (c .before)))
+rain-added-requires : tie.Need-rain-added-requires
+rain-added-requires c κs = let start = c .before .before .before in (rain-asked _ _ _ _ (start .pre .0), start .pre .0 .ordered)
 
-by-room-requires : tie.Need-by-room-requires
-by-room-requires c κs =
-    let at = c .before in
-    (at .before .before .before .before .before .pre, (part-long (few at) ∙ at .before .squares-of .ensures, at .rows-apart .ensures))
+inflow-gives-requires : tie.Need-inflow-gives-requires
+inflow-gives-requires c κs =
+    let start = c .before .before .before .before in
+    let asked = start .pre .0 in
+    (start .pre .1, inflow-asked _ _ _ _ asked, asked .ordered, asked .waters .rules .side-from, asked .waters .rules .side-to)
+
+rain-gives-requires : tie.Need-rain-gives-requires
+rain-gives-requires c κs =
+    let start = c .before .before .before .before .before in
+    let asked = start .pre .0 in
+    (asked .waters .fine, asked .waters .marks-long, omega (arith, c .before .rain-added .ensures, fallen-small _ _ _ _ asked))
+
+gives : (c : tie.After-rain-gives) →
+    c .rain-gives .result + c .before .inflow-gives .result ≡ tablesGive (on (start c)) (by (start c)) (start c .args .start) (start c .args .end)
+gives c =
+    ap₂ _+_
+    (c .rain-gives .ensures ∙ ap (λ (n : ℕ). n * openSquares (on (start c))) (c .before .before .rain-added .ensures))
+    (c .before .inflow-gives .ensures)
+    ∙ sym (gives-is (on (start c)) (by (start c)) (start c .args .start) (start c .args .end) (start c .pre .0))
+
+add-result : tie.Need-add-result
+add-result c =
+    omega (arith, gives c, tables-most (on (start c)) (by (start c)) (start c .args .start) (start c .args .end) (start c .pre .0))
 
 returns : tie.Need-returns
-returns c = search needs
+returns c = gives c
 
 pub tables-give-spec : {M : Type 1} → statement M
 tables-give-spec =
     tie.close
-    (tie.spec
-    squares-of-requires
-    rows-apart-requires
-    array-borrow-prefix-room
-    slice-aggregate-by-room
-    by-room-requires
-    returns)
+    (tie.spec rain-added-requires inflow-gives-requires rain-gives-requires add-result returns)

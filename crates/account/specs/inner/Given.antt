@@ -1,17 +1,25 @@
--- What the tables give one square, and that it is far below 64 bits for all squares together.
+-- What the tables give in two sums: rain by how many squares are not closed, inflow by its rows.
 -- Assumes nothing.
-use mathlib.Core.Path.{_≡_}
-use Prim.Native.Nat.{ℕ, _≤_}
-use Rattle.reckon.specs.Tests.{pick}
+use mathlib.Core.List.{List}
+use Prim.Native.Nat.{ℕ, _/_}
+use lib.ListN.{length}
+use Rattle.reckon.specs.Lists.{sumBelow}
+use Rattle.grid.specs.Marks.{inflowWords}
 use Rattle.ledger.specs.Runs.{Plan}
-use Rattle.ledger.specs.Flows.{shut}
-use Rattle.checks.specs.Given.{Given}
-use Rattle.adding.specs.Added.{addedFor}
+use Rattle.ledger.specs.Account.{overOpen}
+use Rattle.adding.specs.inner.Added.{pouredOnce}
 
--- 64 rows of rain and 64 of inflow on one square of 1 m, each at the most for a whole week
-abbrev pub mostGiven : ℕ
-mostGiven = 3_870_730_752_000_000
+-- how many squares are not closed
+unfoldable pub openSquares : Plan → ℕ
+openSquares p = overOpen p (λ i. 1)
 
-pub record GivenTo (p : Plan) (g : Given) (start end i r : ℕ) : Type 0 where
-  pub is : r ≡ pick (shut p i) 0 (addedFor p g start end i)
-  pub to : r ≤ mostGiven
+-- what each inflow row adds to its square, each square counted once
+unfoldable pub inflowGives : List ℕ → ℕ → ℕ → ℕ → ℕ
+inflowGives inflow side start end = sumBelow (length inflow / inflowWords) (pouredOnce inflow side start end)
+
+-- the most rain on one square, and the most that a row counts for: 64 rows, each at the most for a whole week
+abbrev pub mostFallen : ℕ
+mostFallen = 10_752_000_000
+
+abbrev pub mostPoured : ℕ
+mostPoured = 3_870_720_000_000_000

@@ -6,7 +6,7 @@ use mathlib.Core.List.{List, []}
 use Prim.Native.Nat.{ℕ, _+_, _/_, _%_, _≤_, _<_, _^_}
 use lib.Dec.{leb}
 use lib.ListN.{length, getD, set}
-use Rattle.reckon.specs.Tests.{allBelow}
+use Rattle.reckon.specs.Tests.{pick, allBelow}
 use Rattle.reckon.specs.Lists.{filled}
 use Rattle.reckon.specs.Ranges.{mostDepth, mostSide, lastClock}
 use Rattle.reckon.specs.Tables.{inflowKind, onSquare, inflowAdded}
@@ -74,6 +74,10 @@ module _ (s : Shape) (r : Rules) (inflow : List ℕ) (start end rain : ℕ) wher
     pub fits-is : done ≡ allBelow (length inflow / inflowWords) (λ j. leb (amountAt (rowSquare j)) mostDepth)
     pub stored : done ≡ true → new ≡ filled (squares s) (unpoured (length inflow / inflowWords)) amountAt old
     pub long : length new ≡ length old
+
+-- what inflow adds to the square of row j, so that each square is counted once: nothing where a row before it is for the same square
+unfoldable pub pouredOnce : List ℕ → ℕ → ℕ → ℕ → ℕ → ℕ
+pouredOnce inflow side start end j = pick (rowAlone inflow j) (inflowAdded inflow (inflowRow inflow j) (inflowColumn inflow j) side start end) 0
 
 -- ---- both
 

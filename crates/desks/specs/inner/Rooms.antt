@@ -5,6 +5,7 @@ use mathlib.Core.List.{List}
 use Prim.Native.Nat.{ℕ}
 use lib.ListN.{length, replicate}
 use Rattle.reckon.specs.Tables.{rainKind, inflowKind, tableRoom}
+use Rattle.grid.specs.Squares.{mostAlong}
 use Rattle.sheet.specs.Sheet.{Rooms}
 use Rattle.sheet.specs.declared.reading.Heading.{Heading}
 use Rattle.desks.specs.State.{deskSquares, deskRates, deskNumbers, deskOut, freshDesk}
@@ -26,6 +27,13 @@ pub record GroundLong (beds roughness rates rain : List ℕ) : Type 0 where
   pub roughness-long : length roughness ≡ deskSquares
   pub rates-long : length rates ≡ deskSquares
   pub rain-long : length rain ≡ tableRoom rainKind
+
+-- the working rooms of a step
+pub record WorkLong (left worked senders room : List ℕ) : Type 0 where
+  pub left-long : length left ≡ deskSquares
+  pub worked-long : length worked ≡ mostAlong
+  pub senders-long : length senders ≡ mostAlong
+  pub room-long : length room ≡ deskSquares
 
 pub record SheetRooms (r : Rooms) (out : List ℕ) : Type 0 where
   pub marks-long : length (r .cells .marks) ≡ deskSquares

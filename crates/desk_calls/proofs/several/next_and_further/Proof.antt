@@ -10,10 +10,10 @@ make-next-requires : tie.Need-make-next-requires
 make-next-requires c κs = search needs
 
 make-further-requires : tie.Need-make-further-requires
-make-further-requires c κs = further-after _ _ (c .before .before .before .before .before .make-next .ensures)
+make-further-requires c κs = further-after _ _ (c .before .before .before .before .before .before .before .before .before .make-next .ensures)
 
 returns : tie.Need-returns
-returns c = after-further _ _ (c .before .before .before .before .before .before .make-next .ensures) (c .make-further .ensures)
+returns c = after-further _ _ (c .before .before .before .before .before .before .before .before .before .before .make-next .ensures) (c .make-further .ensures)
 
 pub next-and-further-spec : {M : Type 1} → statement M
 next-and-further-spec = tie.close (tie.spec make-next-requires make-further-requires returns)

@@ -5,7 +5,7 @@ use Rattle.desks.proofs.command.make_further.Statement.{statement}
 use Rattle.desks.proofs.command.make_further.Tie as tie
 
 make-step-requires : tie.Need-make-step-requires
-make-step-requires c κs = λ y. c .before .before .before .before .before .pre
+make-step-requires c κs = λ y. c .before .before .before .before .before .before .before .before .before .pre
 
 returns : tie.Need-returns
 returns c = search needs

@@ -20,8 +20,8 @@ start c = c .before .before
 abbrev begun : tie.After-refused-at-once → tie.Start
 begun c = start (c .before .before)
 
-abbrev asked : tie.After-step-held-arg11 → tie.Else2
-asked c = c .before .before .before .before .before .before .before .before .before .before .before
+abbrev asked : tie.After-step-held-arg15 → tie.Else2
+asked c = c .before .before .before .before .before .before .before .before .before .before .before .before .before .before .before
 
 -- ---- what is known there
 
@@ -32,11 +32,11 @@ r s =
     (s .args .inflow .now))
     (s .args .lasts .now) (s .args .records .now) (s .args .began .now)
 
-ready : (c : tie.After-step-held-arg11) → readyNumber (begun (asked c .before) .args .desk) ≡ 0
+ready : (c : tie.After-step-held-arg15) → readyNumber (begun (asked c .before) .args .desk) ≡ 0
 ready c = sym (asked c .before .refused-at-once .ensures) ∙ asked c .if2 .left
 
 passes :
-    (c : tie.After-step-held-arg11) → let s = begun (asked c .before) in s .args .checked ≡ true → StepPassesOn (s .args .desk) (r s)
+    (c : tie.After-step-held-arg15) → let s = begun (asked c .before) in s .args .checked ≡ true → StepPassesOn (s .args .desk) (r s)
 passes c y = let number = asked c .before in begun number .pre y .passes (holds-by refl (number .before .if1 .left))
 
 -- ---- the answers
@@ -63,7 +63,7 @@ returns-2 c =
     step-refused (s .args .desk) (r s) (holds-by refl (number .before .if1 .left)) (number .refused-at-once .ensures) (tested .if2 .taken) (c .refuse-line .ensures)
 
 step-held-requires : tie.Need-step-held-requires
-step-held-requires c κs = (ready c, search needs, search needs, λ y. passes c y)
+step-held-requires c κs = (search needs, (ready c, search needs, search needs, λ y. passes c y))
 
 returns-3 : tie.Need-returns-3
 returns-3 c =

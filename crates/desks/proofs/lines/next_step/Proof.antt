@@ -12,16 +12,16 @@ use Rattle.desks.proofs.lines.next_step.Tie as tie
 -- ---- the places, each by one after it
 
 abbrev start : tie.After-steps-left → tie.Start
-start c = c .before .before .before .before .before .before .before .before .before .before .before .before .before .before .before .before .before
+start c = c .before .before .before .before .before .before .before .before .before .before .before .before .before .before .before .before .before .before .before .before .before
 
 abbrev left : tie.After-step-once → tie.Else1
-left c = c .before .before .before .before .before
+left c = c .before .before .before .before .before .before .before .before .before
 
 abbrev begun : tie.After-step-once → tie.Start
 begun c = start (left c .before)
 
 abbrev once : tie.After-struct-known → tie.After-step-once
-once c = c .before .before .before .before .before .before .before .before .before
+once c = c .before .before .before .before .before .before .before .before .before .before .before .before .before .before .before .before .before
 
 abbrev refused : tie.After-last-line2 → tie.Then2
 refused c = c .before .before .before
@@ -66,27 +66,41 @@ returns c =
     (told .last-line .ensures (s .args .lasts .now) (s .args .records .now) (s .args .began .now))
 
 step-once-requires : tie.Need-step-once-requires
-step-once-requires c κs = let s = start (c .before .before .before .before .before) in (trial-lent (s .pre .0), s .pre .1)
+step-once-requires c κs =
+    let s = start (c .before .before .before .before .before .before .before .before .before) in
+    ((trial-lent (s .pre .1 .0), s .pre .0), s .pre .1 .1)
 
 last-line-requires-2 : tie.Need-last-line-requires-2
 last-line-requires-2 c κs =
     let one = once (c .before .before .before) in
-    shows-on (begun one .pre .0 .shows) (one .step-once .kept .1 .1 .1 .1 .1 .1 .1 .1 .1 .1 .1 .0)
+    shows-on (begun one .pre .1 .0 .shows) (one .step-once .kept .1 .1 .1 .1 .1 .1 .1 .1 .1 .1 .1 .0)
 
 same-length-3 : tie.Need-same-length-3
 same-length-3 c = once (refused (c .before .before) .before) .step-once .kept .1 .1 .1 .1 .1 .1 .1 .1 .1 .1 .1 .0
 
 same-length-4 : tie.Need-same-length-4
-same-length-4 c = search needs
+same-length-4 c = once (refused (c .before .before) .before) .step-once .kept .1 .1 .1 .1 .1 .1 .1 .1 .1 .1 .1 .1 .0
 
 same-length-5 : tie.Need-same-length-5
-same-length-5 c = search needs
+same-length-5 c = once (refused (c .before .before) .before) .step-once .kept .1 .1 .1 .1 .1 .1 .1 .1 .1 .1 .1 .1 .1 .0
 
 same-length-6 : tie.Need-same-length-6
-same-length-6 c = search needs
+same-length-6 c = once (refused (c .before .before) .before) .step-once .kept .1 .1 .1 .1 .1 .1 .1 .1 .1 .1 .1 .1 .1 .1 .0
 
 same-length-7 : tie.Need-same-length-7
 same-length-7 c = search needs
+
+same-length-8 : tie.Need-same-length-8
+same-length-8 c = once (refused (c .before .before) .before) .step-once .kept .1 .1 .1 .1 .1 .1 .1 .1 .1 .1 .1 .1 .1 .1 .1 .0
+
+same-length-9 : tie.Need-same-length-9
+same-length-9 c = search needs
+
+same-length-10 : tie.Need-same-length-10
+same-length-10 c = search needs
+
+same-length-11 : tie.Need-same-length-11
+same-length-11 c = search needs
 
 returns-2 : tie.Need-returns-2
 returns-2 c =
@@ -102,24 +116,36 @@ made-line-requires : tie.Need-made-line-requires
 made-line-requires c κs =
     let one = once (c .before .before .before) in
     let s = begun one in (
-      shows-on (s .pre .0 .shows) (one .step-once .kept .1 .1 .1 .1 .1 .1 .1 .1 .1 .1 .1 .0),
+      shows-on (s .pre .1 .0 .shows) (one .step-once .kept .1 .1 .1 .1 .1 .1 .1 .1 .1 .1 .1 .0),
       some-left (s .args .desk .series) (s .args .desk .log .run .clock) (holds-by (left one .before .steps-left .ensures) (left one .if1 .left)),
     )
 
-same-length-8 : tie.Need-same-length-8
-same-length-8 c = once (made (c .before .before) .before) .step-once .kept .1 .1 .1 .1 .1 .1 .1 .1 .1 .1 .1 .0
-
-same-length-9 : tie.Need-same-length-9
-same-length-9 c = search needs
-
-same-length-10 : tie.Need-same-length-10
-same-length-10 c = search needs
-
-same-length-11 : tie.Need-same-length-11
-same-length-11 c = search needs
-
 same-length-12 : tie.Need-same-length-12
-same-length-12 c = search needs
+same-length-12 c = once (made (c .before .before) .before) .step-once .kept .1 .1 .1 .1 .1 .1 .1 .1 .1 .1 .1 .0
+
+same-length-13 : tie.Need-same-length-13
+same-length-13 c = once (made (c .before .before) .before) .step-once .kept .1 .1 .1 .1 .1 .1 .1 .1 .1 .1 .1 .1 .0
+
+same-length-14 : tie.Need-same-length-14
+same-length-14 c = once (made (c .before .before) .before) .step-once .kept .1 .1 .1 .1 .1 .1 .1 .1 .1 .1 .1 .1 .1 .0
+
+same-length-15 : tie.Need-same-length-15
+same-length-15 c = once (made (c .before .before) .before) .step-once .kept .1 .1 .1 .1 .1 .1 .1 .1 .1 .1 .1 .1 .1 .1 .0
+
+same-length-16 : tie.Need-same-length-16
+same-length-16 c = search needs
+
+same-length-17 : tie.Need-same-length-17
+same-length-17 c = once (made (c .before .before) .before) .step-once .kept .1 .1 .1 .1 .1 .1 .1 .1 .1 .1 .1 .1 .1 .1 .1 .0
+
+same-length-18 : tie.Need-same-length-18
+same-length-18 c = search needs
+
+same-length-19 : tie.Need-same-length-19
+same-length-19 c = search needs
+
+same-length-20 : tie.Need-same-length-20
+same-length-20 c = search needs
 
 returns-3 : tie.Need-returns-3
 returns-3 c =
@@ -147,11 +173,19 @@ next-step-spec =
     same-length-5
     same-length-6
     same-length-7
-    returns-2
-    made-line-requires
     same-length-8
     same-length-9
     same-length-10
     same-length-11
+    returns-2
+    made-line-requires
     same-length-12
+    same-length-13
+    same-length-14
+    same-length-15
+    same-length-16
+    same-length-17
+    same-length-18
+    same-length-19
+    same-length-20
     returns-3)

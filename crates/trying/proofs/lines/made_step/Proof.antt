@@ -1,3 +1,5 @@
+-- `trying::lines::made_step` meets its contract: what the table gave the step is kept with it.
+-- Assumes nothing.
 use mathlib.Core.Path.{ap, _∙_}
 use Prim.Native.Nat.{ℕ, _+_}
 use native.Mathlib.Omega.{arith}
@@ -5,20 +7,14 @@ use Rattle.trials.specs.Ring.{slotAfter}
 use Rattle.hatches.specs.Log.{logWith}
 use Rattle.trying.specs.Given.{accountWith}
 use Rattle.trying.specs.Lines.{tried}
-use Rattle.trying.proofs.LineLaws.{tables-most}
+use Rattle.account.proofs.GivenLaws.{tables-most}
 use borrow.Author.Needs.{needs}
 use Rattle.trying.proofs.lines.made_step.Statement.{statement}
 use Rattle.trying.proofs.lines.made_step.Tie as tie
-use Rattle.trying.proofs.lines.made_step.Reads as reads
-use Rattle.trying.proofs.lines.made_step.Lts as lts
-use Rattle.account.proofs.tables_give.Reads as tables-give-reads
-use Rattle.trying.proofs.lines.keep_step.Reads as keep-step-reads
 
--- src/lines.rt:194:9
 tables-give-requires : tie.Need-tables-give-requires
 tables-give-requires c κs = search needs
 
--- src/lines.rt:195:5
 keep-step-requires : tie.Need-keep-step-requires
 keep-step-requires c κs =
     let start = c .before .before .before .before .before .before .before in (
@@ -28,18 +24,15 @@ keep-step-requires c κs =
         omega (
           arith,
           c .before .tables-give .ensures,
-          tables-most _ _ _ _ (start .pre .1 .1),
+          tables-most _ _ _ _ (start .pre .1 .1 .1),
           start .pre .1 .0 .1,
-          start .pre .1 .1 .waters .fine .few,
         ),
       ),
     )
 
--- src/lines.rt:176:1
 same-length : tie.Need-same-length
 same-length c = search needs
 
--- src/lines.rt:176:1
 returns : tie.Need-returns
 returns c =
     let start = c .before .before .before .before .before .before .before .before .before .before in
