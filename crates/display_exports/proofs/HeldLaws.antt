@@ -25,7 +25,7 @@ use Rattle.display.specs.declared.boards.Shown.{Shown}
 use Rattle.display.proofs.LentLaws.{back-same, same-list, held-ends, by-value}
 use Rattle.display_exports.specs.Boards.{beforeSteps, boardsSized, ExportsBoards}
 use Rattle.display_exports.specs.inner.Held.{TellsHeld}
-use Rattle.display_exports.specs.declared.boards.Told.{Told}
+use Rattle.display_exports.specs.declared.boards.Boarded.{Boarded}
 
 -- ---- refusals before any step
 
@@ -101,12 +101,12 @@ module _ (p : Plan) (g : Given) (end : ℕ) (w : World) (boards : List Board) (r
   fits = boardsSized p g end w (length boards) boards rules old oldSteps
 
   -- the run that a call of the right sizes was
-  abbrev came : Told → Shown
+  abbrev came : Boarded → Shown
   came a =
       let e = watchedTo p g end w (given .count) (listed given) in
       record { ran = record { refused = e .number; steps = e .steps; run = e .world .run }; boards = a .boards }
 
-  module _ {a : Told} {depths lasts records run steps : List ℕ}
+  module _ {a : Boarded} {depths lasts records run steps : List ℕ}
       (f : TellsHeld p g end w given rules old oldSteps a depths lasts records run steps) where
     boards-back : (t : Bool) → fits ≡ t → backIn (a .boards) boards ≡ pick fits (boardsAfter p g end w (length boards) boards) boards
     boards-back true sized =
@@ -136,7 +136,7 @@ module _ (p : Plan) (g : Given) (end : ℕ) (w : World) (boards : List Board) (r
         }
 
   pub exported-back :
-      {held : Boards} {a : Told} {back : Boards} {number : ℕ} {depths lasts records run steps : List ℕ} {after : List Board} →
+      {held : Boards} {a : Boarded} {back : Boards} {number : ℕ} {depths lasts records run steps : List ℕ} {after : List Board} →
       held ≡ heldOf boards → TellsHeld p g end w held rules old oldSteps a depths lasts records run steps → back ≡ a .boards →
       after ≡ backIn back boards → number ≡ a .number →
       ExportsBoards p g end w (length boards) boards rules old oldSteps number depths lasts records run steps after

@@ -26,21 +26,21 @@ ghost use Rattle.display_exports.specs.Boards.{beforeSteps, ExportsBoard
 ghost use Rattle.display_exports.specs.inner.Held.{TellsHeld};
 
 // The number of a run with boards by value, and the boards after it.
-struct Told {
+struct Boarded {
     number: u32,
     boards: Boards,
 }
 
-fn number_of(told: Told) -> u32
-    ensures { λ r. ⌜ r ≡ told .number ⌝ }
+fn number_of(boarded: Boarded) -> u32
+    ensures { λ r. ⌜ r ≡ boarded .number ⌝ }
 {
-    told.number
+    boarded.number
 }
 
-fn boards_of(told: Told) -> Boards
-    ensures { λ r. ⌜ r ≡ told .boards ⌝ }
+fn boards_of(boarded: Boarded) -> Boards
+    ensures { λ r. ⌜ r ≡ boarded .boards ⌝ }
 {
-    told.boards
+    boarded.boards
 }
 
 // Whether a number is a refusal before any step.
@@ -88,23 +88,23 @@ fn run_told(
     records: &mut [u32],
     run: &mut [u64],
     steps: &mut [u64],
-) -> Told
+) -> Boarded
     ensures { λ r. ⌜ TellsHeld (plan (shapeFrom rows columns) (now (marks .entry))) (given (ground (rulesFrom (now (rules .entry))) (now (beds .entry)) (now (roughness .entry)) (now (rates .entry))) (now (rain .entry)) (now (inflow .entry))) end (world (now (depths .entry)) (now (lasts .entry)) (now (records .entry)) (runValueFrom (now (run .entry)))) held (now (rules .entry)) (now (run .entry)) (now (steps .entry)) r (now (depths .exit)) (now (lasts .exit)) (now (records .exit)) (now (run .exit)) (now (steps .exit)) ⌝ }
 {
     if rules.len() != RULES_NUMBERS {
-        return Told {
+        return Boarded {
             number: NOT_ITS_SIZE,
             boards: held,
         };
     }
     if run.len() != RUN_NUMBERS {
-        return Told {
+        return Boarded {
             number: NOT_ITS_SIZE,
             boards: held,
         };
     }
     if steps.len() != STEPS_NUMBERS {
-        return Told {
+        return Boarded {
             number: NOT_ITS_SIZE,
             boards: held,
         };
@@ -131,7 +131,7 @@ fn run_told(
     );
     let after = shown.boards;
     let number = tell_ran(shown.ran, run, steps);
-    Told {
+    Boarded {
         number: number,
         boards: after,
     }

@@ -6,7 +6,7 @@ use native.Mathlib.Nat.{not-suc-le-zero, le-of-suc-le-suc}
 use native.Mathlib.Omega.{arith}
 use lib.ListN.{length, getD}
 use Rattle.text.proofs.WritingLaws.{line-text-long, fields-text-short}
-use Rattle.slices.specs.inner.Told.{reachedWord, toldText, mostTold}
+use Rattle.slices.specs.inner.Telling.{reachedWord, toldText, mostTold}
 
 two-below : (n a b : ℕ) → a < n → b < n → (i : ℕ) → i < 2 → getD (a ∷ b ∷ []) i 0 < n
 two-below n a b h g zero l = h

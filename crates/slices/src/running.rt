@@ -11,7 +11,7 @@ ghost use lib.ListN.{length};
 ghost use Rattle.text.specs.Writing.{Wrote};
 ghost use Rattle.sheet.specs.Sheet.{checksIn, noLasts, noRecords, rooms};
 ghost use Rattle.programs.specs.Program.{RunsSheet};
-ghost use Rattle.slices.specs.inner.Told.{mostTold, toldText};
+ghost use Rattle.slices.specs.inner.Telling.{mostTold, toldText};
 
 // A run has at most so many slices, each a whole number of update times: an end between them would be refused.
 const MOST_SLICES: u64 = 100;

@@ -3,7 +3,7 @@
 use mathlib.Core.Path.{_≡_, refl, sym, ap, subst, _∙_}
 use mathlib.Core.Bool.{Bool, true, false}
 use mathlib.Core.List.{List}
-use Prim.Native.Nat.{ℕ, zero, suc, _+_, _-_, _*_, _≤_, _<_}
+use Prim.Native.Nat.{ℕ, zero, suc, _+_, _-_, _≤_, _<_}
 use native.Mathlib.Omega.{arith}
 use lib.Dec.{eqb, leb}
 use lib.ListN.{length, take, replicate, length-append, length-replicate}
@@ -13,14 +13,10 @@ use Rattle.reckon.specs.Tests.{pick, refusal, Row}
 use Rattle.reckon.specs.Ranges.{lastClock}
 use Rattle.reckon.specs.Tables.{inflowKind, tableRoom}
 use Rattle.reckon.proofs.TestLaws.{pick-true, pick-false, every-each, refusal-passed}
-use Rattle.reckon.proofs.ListLaws.{sum-le}
 use Rattle.trials.specs.Ring.{slotAfter, slotAgo}
 use Rattle.trials.proofs.RingLaws.{fine-ring}
-use Rattle.grid.specs.Squares.{squares}
 use Rattle.ledger.specs.Runs.{Plan, World, seenOf}
 use Rattle.ledger.specs.Record.{roomSlots, ringOf}
-use Rattle.ledger.specs.Flows.{shut}
-use Rattle.ledger.specs.Account.{overOpen}
 use Rattle.ledger.specs.declared.runs.Run.{Run}
 use Rattle.ledger.specs.declared.runs.Answer.{Answer}
 use Rattle.ledger.specs.declared.runs.Answer.the-variants.{Done, Refused}

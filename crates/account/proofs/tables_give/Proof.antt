@@ -3,7 +3,6 @@
 use mathlib.Core.Path.{_≡_, sym, ap, ap₂, _∙_}
 use Prim.Native.Nat.{ℕ, _+_, _*_}
 use native.Mathlib.Omega.{arith}
-use Rattle.reckon.specs.Tables.{rainAdded}
 use Rattle.ledger.specs.Runs.{Plan, plan}
 use Rattle.checks.specs.Given.{Given}
 use Rattle.adding.specs.Account.{tablesGive}

@@ -9,12 +9,12 @@ use Rattle.checks.specs.Given.{Given}
 use Rattle.display.specs.Boards.{listed}
 use Rattle.display.specs.declared.boards.Boards.{Boards}
 use Rattle.display_exports.specs.Boards.{ExportsBoards}
-use Rattle.display_exports.specs.declared.boards.Told.{Told}
+use Rattle.display_exports.specs.declared.boards.Boarded.{Boarded}
 
 -- what of the list is not counted stays
 pub record TellsHeld
     (p : Plan) (g : Given) (end : ℕ) (w : World) (before : Boards) (rules old oldSteps : List ℕ)
-    (a : Told) (depths lasts records run steps : List ℕ) : Type 0 where
+    (a : Boarded) (depths lasts records run steps : List ℕ) : Type 0 where
   pub tells :
       ExportsBoards p g end w (before .count) (listed before) rules old oldSteps (a .number) depths lasts records run steps
       (listed (a .boards))

@@ -55,9 +55,9 @@ use Rattle.display.proofs.boards.Board.Laws as laws-Board
 use Rattle.display.specs.declared.boards.Boards.{Boards}
 use Rattle.display.proofs.boards.Boards as of-Boards
 use Rattle.display.proofs.boards.Boards.Laws as laws-Boards
-use Rattle.display_exports.specs.declared.boards.Told.{Told}
-use Rattle.display_exports.proofs.boards.Told as of-Told
-use Rattle.display_exports.proofs.boards.Told.Laws as laws-Told
+use Rattle.display_exports.specs.declared.boards.Boarded.{Boarded}
+use Rattle.display_exports.proofs.boards.Boarded as of-Boarded
+use Rattle.display_exports.proofs.boards.Boarded.Laws as laws-Boarded
 use Rattle.display.proofs.LendRow.{Part, lend-row, back-row, lend-shr-row, back-shr-row}
 use Rattle.display.proofs.lent.held_of as held-of
 use Rattle.display.proofs.lent.held_of.Symbol as held-of-def
@@ -310,7 +310,7 @@ module _ {M : Type 1} (𝓤 : URA M) (H : Heap 𝓤) (A : Atoms 𝓤) (W : Given
   abbrev Post : Val → SProp 𝓤
   Post = walkOf 𝓤 H A here.ended stayed (here.clauses 𝓤 H A mem run) .post bound
 
-  exits : (r₁ : Boards) (is₁ : Is of-Boards.the-row r₁ (LL.vals of-Boards.the-type laws-Boards.the-laws r₁)) (got₁ : r₁ ≡ heldOf boards₀) (r₂ : Told) (is₂ : Is of-Told.the-row r₂ (LL.vals of-Told.the-type laws-Told.the-laws r₂)) (depths₂ : List ℕ) (long-depths₂ : length depths₂ ≡ length depths₀) (lasts₂ : List ℕ) (long-lasts₂ : length lasts₂ ≡ length lasts₀) (records₂ : List ℕ) (long-records₂ : length records₂ ≡ length records₀) (run₂ : List ℕ) (long-run₂ : length run₂ ≡ length run₀) (steps₂ : List ℕ) (long-steps₂ : length steps₂ ≡ length steps₀) (got₂ : TellsHeld (plan (shapeFrom rows₀ columns₀) (marks₀ .now)) (given (ground (rulesFrom (rules₀ .now)) (beds₀ .now) (roughness₀ .now) (rates₀ .now)) (rain₀ .now) (inflow₀ .now)) end₀ (world depths₀ lasts₀ records₀ (runValueFrom run₀)) r₁ (rules₀ .now) run₀ steps₀ r₂ depths₂ lasts₂ records₂ run₂ steps₂) (r₃ : Boards) (is₃ : Is of-Boards.the-row r₃ (LL.vals of-Boards.the-type laws-Boards.the-laws r₃)) (got₃ : r₃ ≡ r₂ .boards) (r₄ : Unit {0}) (is₄ : Is Nothing r₄ (nothing-vals r₄)) (boards₄ : List Board) (long-boards₄ : length boards₄ ≡ length boards₀) (got₄ : boards₄ ≡ backIn r₃ boards₀) (r₅ : ℕ) (is₅ : Is u32 r₅ (uint-vals w32 r₅)) (got₅ : r₅ ≡ r₂ .number) → ent 𝓤 (⋆ 𝓤 H A (‵ (fobs γ-boards (codedHoleys of-Board.the-row .code (heres of-Board.the-row boards₄))) ∷ ‵ (fbor κ-boards (Held of-Board.the-row (length boards₄) b-boards o-boards γ-boards)) ∷ ‵ (flft κ-boards q-boards) ∷ ‵ (fobs γ-steps (codedHoleys u64 .code (heres u64 steps₂))) ∷ ‵ (fbor κ-steps (Held u64 (length steps₂) b-steps o-steps γ-steps)) ∷ ‵ (flft κ-steps q-steps) ∷ ‵ (fobs γ-run (codedHoleys u64 .code (heres u64 run₂))) ∷ ‵ (fbor κ-run (Held u64 (length run₂) b-run o-run γ-run)) ∷ ‵ (flft κ-run q-run) ∷ ‵ (fobs γ-records (codedHoleys u32 .code (heres u32 records₂))) ∷ ‵ (fbor κ-records (Held u32 (length records₂) b-records o-records γ-records)) ∷ ‵ (flft κ-records q-records) ∷ ‵ (fobs γ-lasts (codedHoleys u32 .code (heres u32 lasts₂))) ∷ ‵ (fbor κ-lasts (Held u32 (length lasts₂) b-lasts o-lasts γ-lasts)) ∷ ‵ (flft κ-lasts q-lasts) ∷ ‵ (fobs γ-depths (codedHoleys u32 .code (heres u32 depths₂))) ∷ ‵ (fbor κ-depths (Held u32 (length depths₂) b-depths o-depths γ-depths)) ∷ ‵ (flft κ-depths q-depths) ∷ ‵ (flft κ-rules q-rules) ∷ ‵ D-rules ∷ ‵ (flft κ-marks q-marks) ∷ ‵ D-marks ∷ ‵ (flft κ-beds q-beds) ∷ ‵ D-beds ∷ ‵ (flft κ-roughness q-roughness) ∷ ‵ D-roughness ∷ ‵ (flft κ-rates q-rates) ∷ ‵ D-rates ∷ ‵ (flft κ-rain q-rain) ∷ ‵ D-rain ∷ ‵ (flft κ-inflow q-inflow) ∷ ‵ D-inflow ∷ [])) (Post (vint w32 r₅))
+  exits : (r₁ : Boards) (is₁ : Is of-Boards.the-row r₁ (LL.vals of-Boards.the-type laws-Boards.the-laws r₁)) (got₁ : r₁ ≡ heldOf boards₀) (r₂ : Boarded) (is₂ : Is of-Boarded.the-row r₂ (LL.vals of-Boarded.the-type laws-Boarded.the-laws r₂)) (depths₂ : List ℕ) (long-depths₂ : length depths₂ ≡ length depths₀) (lasts₂ : List ℕ) (long-lasts₂ : length lasts₂ ≡ length lasts₀) (records₂ : List ℕ) (long-records₂ : length records₂ ≡ length records₀) (run₂ : List ℕ) (long-run₂ : length run₂ ≡ length run₀) (steps₂ : List ℕ) (long-steps₂ : length steps₂ ≡ length steps₀) (got₂ : TellsHeld (plan (shapeFrom rows₀ columns₀) (marks₀ .now)) (given (ground (rulesFrom (rules₀ .now)) (beds₀ .now) (roughness₀ .now) (rates₀ .now)) (rain₀ .now) (inflow₀ .now)) end₀ (world depths₀ lasts₀ records₀ (runValueFrom run₀)) r₁ (rules₀ .now) run₀ steps₀ r₂ depths₂ lasts₂ records₂ run₂ steps₂) (r₃ : Boards) (is₃ : Is of-Boards.the-row r₃ (LL.vals of-Boards.the-type laws-Boards.the-laws r₃)) (got₃ : r₃ ≡ r₂ .boards) (r₄ : Unit {0}) (is₄ : Is Nothing r₄ (nothing-vals r₄)) (boards₄ : List Board) (long-boards₄ : length boards₄ ≡ length boards₀) (got₄ : boards₄ ≡ backIn r₃ boards₀) (r₅ : ℕ) (is₅ : Is u32 r₅ (uint-vals w32 r₅)) (got₅ : r₅ ≡ r₂ .number) → ent 𝓤 (⋆ 𝓤 H A (‵ (fobs γ-boards (codedHoleys of-Board.the-row .code (heres of-Board.the-row boards₄))) ∷ ‵ (fbor κ-boards (Held of-Board.the-row (length boards₄) b-boards o-boards γ-boards)) ∷ ‵ (flft κ-boards q-boards) ∷ ‵ (fobs γ-steps (codedHoleys u64 .code (heres u64 steps₂))) ∷ ‵ (fbor κ-steps (Held u64 (length steps₂) b-steps o-steps γ-steps)) ∷ ‵ (flft κ-steps q-steps) ∷ ‵ (fobs γ-run (codedHoleys u64 .code (heres u64 run₂))) ∷ ‵ (fbor κ-run (Held u64 (length run₂) b-run o-run γ-run)) ∷ ‵ (flft κ-run q-run) ∷ ‵ (fobs γ-records (codedHoleys u32 .code (heres u32 records₂))) ∷ ‵ (fbor κ-records (Held u32 (length records₂) b-records o-records γ-records)) ∷ ‵ (flft κ-records q-records) ∷ ‵ (fobs γ-lasts (codedHoleys u32 .code (heres u32 lasts₂))) ∷ ‵ (fbor κ-lasts (Held u32 (length lasts₂) b-lasts o-lasts γ-lasts)) ∷ ‵ (flft κ-lasts q-lasts) ∷ ‵ (fobs γ-depths (codedHoleys u32 .code (heres u32 depths₂))) ∷ ‵ (fbor κ-depths (Held u32 (length depths₂) b-depths o-depths γ-depths)) ∷ ‵ (flft κ-depths q-depths) ∷ ‵ (flft κ-rules q-rules) ∷ ‵ D-rules ∷ ‵ (flft κ-marks q-marks) ∷ ‵ D-marks ∷ ‵ (flft κ-beds q-beds) ∷ ‵ D-beds ∷ ‵ (flft κ-roughness q-roughness) ∷ ‵ D-roughness ∷ ‵ (flft κ-rates q-rates) ∷ ‵ D-rates ∷ ‵ (flft κ-rain q-rain) ∷ ‵ D-rain ∷ ‵ (flft κ-inflow q-inflow) ∷ ‵ D-inflow ∷ [])) (Post (vint w32 r₅))
   exits r₁ is₁ got₁ r₂ is₂ depths₂ long-depths₂ lasts₂ long-lasts₂ records₂ long-records₂ run₂ long-run₂ steps₂ long-steps₂ got₂ r₃ is₃ got₃ r₄ is₄ boards₄ long-boards₄ got₄ r₅ is₅ got₅ =
       qed W (‵ (fobs γ-boards (codedHoleys of-Board.the-row .code (heres of-Board.the-row boards₄))) ∷ ‵ (fbor κ-boards (Held of-Board.the-row (length boards₄) b-boards o-boards γ-boards)) ∷ ‵ (flft κ-boards q-boards) ∷ ‵ (fobs γ-steps (codedHoleys u64 .code (heres u64 steps₂))) ∷ ‵ (fbor κ-steps (Held u64 (length steps₂) b-steps o-steps γ-steps)) ∷ ‵ (flft κ-steps q-steps) ∷ ‵ (fobs γ-run (codedHoleys u64 .code (heres u64 run₂))) ∷ ‵ (fbor κ-run (Held u64 (length run₂) b-run o-run γ-run)) ∷ ‵ (flft κ-run q-run) ∷ ‵ (fobs γ-records (codedHoleys u32 .code (heres u32 records₂))) ∷ ‵ (fbor κ-records (Held u32 (length records₂) b-records o-records γ-records)) ∷ ‵ (flft κ-records q-records) ∷ ‵ (fobs γ-lasts (codedHoleys u32 .code (heres u32 lasts₂))) ∷ ‵ (fbor κ-lasts (Held u32 (length lasts₂) b-lasts o-lasts γ-lasts)) ∷ ‵ (flft κ-lasts q-lasts) ∷ ‵ (fobs γ-depths (codedHoleys u32 .code (heres u32 depths₂))) ∷ ‵ (fbor κ-depths (Held u32 (length depths₂) b-depths o-depths γ-depths)) ∷ ‵ (flft κ-depths q-depths) ∷ ‵ (flft κ-rules q-rules) ∷ ‵ D-rules ∷ ‵ (flft κ-marks q-marks) ∷ ‵ D-marks ∷ ‵ (flft κ-beds q-beds) ∷ ‵ D-beds ∷ ‵ (flft κ-roughness q-roughness) ∷ ‵ D-roughness ∷ ‵ (flft κ-rates q-rates) ∷ ‵ D-rates ∷ ‵ (flft κ-rain q-rain) ∷ ‵ D-rain ∷ ‵ (flft κ-inflow q-inflow) ∷ ‵ D-inflow ∷ []) ∵
       suffices ! _ (ends-at 𝓤 H A here.ended stayed (here.clauses 𝓤 H A mem run) W bound (vint w32 r₅) r₅ (tt, (tt, (tt, (tt, (tt, (tt, (tt, (tt, (tt, (tt, (depths₂, (lasts₂, (records₂, (run₂, (steps₂, (boards₄, tt)))))))))))))))) (tt, (tt, (tt, (tt, (tt, (tt, (tt, (tt, (tt, (tt, (long-depths₂, (long-lasts₂, (long-records₂, (long-run₂, (long-steps₂, (long-boards₄, tt))))))))))))))))) $
@@ -471,22 +471,22 @@ module _ {M : Type 1} (𝓤 : URA M) (H : Heap 𝓤) (A : Atoms 𝓤) (W : Given
       join ! $
       join ! $ frame ! $ done !
 
-  abbrev to-3 : (r₁ : Boards) (is₁ : Is of-Boards.the-row r₁ (LL.vals of-Boards.the-type laws-Boards.the-laws r₁)) (got₁ : r₁ ≡ heldOf boards₀) (r₂ : Told) (is₂ : Is of-Told.the-row r₂ (LL.vals of-Told.the-type laws-Told.the-laws r₂)) (depths₂ : List ℕ) (long-depths₂ : length depths₂ ≡ length depths₀) (lasts₂ : List ℕ) (long-lasts₂ : length lasts₂ ≡ length lasts₀) (records₂ : List ℕ) (long-records₂ : length records₂ ≡ length records₀) (run₂ : List ℕ) (long-run₂ : length run₂ ≡ length run₀) (steps₂ : List ℕ) (long-steps₂ : length steps₂ ≡ length steps₀) (got₂ : TellsHeld (plan (shapeFrom rows₀ columns₀) (marks₀ .now)) (given (ground (rulesFrom (rules₀ .now)) (beds₀ .now) (roughness₀ .now) (rates₀ .now)) (rain₀ .now) (inflow₀ .now)) end₀ (world depths₀ lasts₀ records₀ (runValueFrom run₀)) r₁ (rules₀ .now) run₀ steps₀ r₂ depths₂ lasts₂ records₂ run₂ steps₂) → Of-boards-of 𝓤 H A mem run .Ghost
-  to-3 r₁ is₁ got₁ r₂ is₂ depths₂ long-depths₂ lasts₂ long-lasts₂ records₂ long-records₂ run₂ long-run₂ steps₂ long-steps₂ got₂ = ((tt, tt, tt, (r₂, tt), ((LL.vals of-Told.the-type laws-Told.the-laws r₂), tt)), tt)
+  abbrev to-3 : (r₁ : Boards) (is₁ : Is of-Boards.the-row r₁ (LL.vals of-Boards.the-type laws-Boards.the-laws r₁)) (got₁ : r₁ ≡ heldOf boards₀) (r₂ : Boarded) (is₂ : Is of-Boarded.the-row r₂ (LL.vals of-Boarded.the-type laws-Boarded.the-laws r₂)) (depths₂ : List ℕ) (long-depths₂ : length depths₂ ≡ length depths₀) (lasts₂ : List ℕ) (long-lasts₂ : length lasts₂ ≡ length lasts₀) (records₂ : List ℕ) (long-records₂ : length records₂ ≡ length records₀) (run₂ : List ℕ) (long-run₂ : length run₂ ≡ length run₀) (steps₂ : List ℕ) (long-steps₂ : length steps₂ ≡ length steps₀) (got₂ : TellsHeld (plan (shapeFrom rows₀ columns₀) (marks₀ .now)) (given (ground (rulesFrom (rules₀ .now)) (beds₀ .now) (roughness₀ .now) (rates₀ .now)) (rain₀ .now) (inflow₀ .now)) end₀ (world depths₀ lasts₀ records₀ (runValueFrom run₀)) r₁ (rules₀ .now) run₀ steps₀ r₂ depths₂ lasts₂ records₂ run₂ steps₂) → Of-boards-of 𝓤 H A mem run .Ghost
+  to-3 r₁ is₁ got₁ r₂ is₂ depths₂ long-depths₂ lasts₂ long-lasts₂ records₂ long-records₂ run₂ long-run₂ steps₂ long-steps₂ got₂ = ((tt, tt, tt, (r₂, tt), ((LL.vals of-Boarded.the-type laws-Boarded.the-laws r₂), tt)), tt)
 
-  goes-3 : (r₁ : Boards) (is₁ : Is of-Boards.the-row r₁ (LL.vals of-Boards.the-type laws-Boards.the-laws r₁)) (got₁ : r₁ ≡ heldOf boards₀) (r₂ : Told) (is₂ : Is of-Told.the-row r₂ (LL.vals of-Told.the-type laws-Told.the-laws r₂)) (depths₂ : List ℕ) (long-depths₂ : length depths₂ ≡ length depths₀) (lasts₂ : List ℕ) (long-lasts₂ : length lasts₂ ≡ length lasts₀) (records₂ : List ℕ) (long-records₂ : length records₂ ≡ length records₀) (run₂ : List ℕ) (long-run₂ : length run₂ ≡ length run₀) (steps₂ : List ℕ) (long-steps₂ : length steps₂ ≡ length steps₀) (got₂ : TellsHeld (plan (shapeFrom rows₀ columns₀) (marks₀ .now)) (given (ground (rulesFrom (rules₀ .now)) (beds₀ .now) (roughness₀ .now) (rates₀ .now)) (rain₀ .now) (inflow₀ .now)) end₀ (world depths₀ lasts₀ records₀ (runValueFrom run₀)) r₁ (rules₀ .now) run₀ steps₀ r₂ depths₂ lasts₂ records₂ run₂ steps₂) → ent 𝓤 (emp 𝓤) (Of-boards-of 𝓤 H A mem run .pre (to-3 r₁ is₁ got₁ r₂ is₂ depths₂ long-depths₂ lasts₂ long-lasts₂ records₂ long-records₂ run₂ long-run₂ steps₂ long-steps₂ got₂))
+  goes-3 : (r₁ : Boards) (is₁ : Is of-Boards.the-row r₁ (LL.vals of-Boards.the-type laws-Boards.the-laws r₁)) (got₁ : r₁ ≡ heldOf boards₀) (r₂ : Boarded) (is₂ : Is of-Boarded.the-row r₂ (LL.vals of-Boarded.the-type laws-Boarded.the-laws r₂)) (depths₂ : List ℕ) (long-depths₂ : length depths₂ ≡ length depths₀) (lasts₂ : List ℕ) (long-lasts₂ : length lasts₂ ≡ length lasts₀) (records₂ : List ℕ) (long-records₂ : length records₂ ≡ length records₀) (run₂ : List ℕ) (long-run₂ : length run₂ ≡ length run₀) (steps₂ : List ℕ) (long-steps₂ : length steps₂ ≡ length steps₀) (got₂ : TellsHeld (plan (shapeFrom rows₀ columns₀) (marks₀ .now)) (given (ground (rulesFrom (rules₀ .now)) (beds₀ .now) (roughness₀ .now) (rates₀ .now)) (rain₀ .now) (inflow₀ .now)) end₀ (world depths₀ lasts₀ records₀ (runValueFrom run₀)) r₁ (rules₀ .now) run₀ steps₀ r₂ depths₂ lasts₂ records₂ run₂ steps₂) → ent 𝓤 (emp 𝓤) (Of-boards-of 𝓤 H A mem run .pre (to-3 r₁ is₁ got₁ r₂ is₂ depths₂ long-depths₂ lasts₂ long-lasts₂ records₂ long-records₂ run₂ long-run₂ steps₂ long-steps₂ got₂))
   goes-3 r₁ is₁ got₁ r₂ is₂ depths₂ long-depths₂ lasts₂ long-lasts₂ records₂ long-records₂ run₂ long-run₂ steps₂ long-steps₂ got₂ =
       qed W ([]) ∵
       nothing ! $
-      owned ! of-Told.the-row (Is of-Told.the-row) (LL.makes of-Told.the-type laws-Told.the-plain 𝓤 H A) r₂ _ is₂ $
+      owned ! of-Boarded.the-row (Is of-Boarded.the-row) (LL.makes of-Boarded.the-type laws-Boarded.the-plain 𝓤 H A) r₂ _ is₂ $
       fjoin ! $
       nothing ! $
       join ! $ frame ! $ done !
 
-  abbrev to-4 : (r₁ : Boards) (is₁ : Is of-Boards.the-row r₁ (LL.vals of-Boards.the-type laws-Boards.the-laws r₁)) (got₁ : r₁ ≡ heldOf boards₀) (r₂ : Told) (is₂ : Is of-Told.the-row r₂ (LL.vals of-Told.the-type laws-Told.the-laws r₂)) (depths₂ : List ℕ) (long-depths₂ : length depths₂ ≡ length depths₀) (lasts₂ : List ℕ) (long-lasts₂ : length lasts₂ ≡ length lasts₀) (records₂ : List ℕ) (long-records₂ : length records₂ ≡ length records₀) (run₂ : List ℕ) (long-run₂ : length run₂ ≡ length run₀) (steps₂ : List ℕ) (long-steps₂ : length steps₂ ≡ length steps₀) (got₂ : TellsHeld (plan (shapeFrom rows₀ columns₀) (marks₀ .now)) (given (ground (rulesFrom (rules₀ .now)) (beds₀ .now) (roughness₀ .now) (rates₀ .now)) (rain₀ .now) (inflow₀ .now)) end₀ (world depths₀ lasts₀ records₀ (runValueFrom run₀)) r₁ (rules₀ .now) run₀ steps₀ r₂ depths₂ lasts₂ records₂ run₂ steps₂) (r₃ : Boards) (is₃ : Is of-Boards.the-row r₃ (LL.vals of-Boards.the-type laws-Boards.the-laws r₃)) (got₃ : r₃ ≡ r₂ .boards) (ν-boards : ℕ) (δ-boards : GName) → Of-put-back 𝓤 H A mem run .Ghost
+  abbrev to-4 : (r₁ : Boards) (is₁ : Is of-Boards.the-row r₁ (LL.vals of-Boards.the-type laws-Boards.the-laws r₁)) (got₁ : r₁ ≡ heldOf boards₀) (r₂ : Boarded) (is₂ : Is of-Boarded.the-row r₂ (LL.vals of-Boarded.the-type laws-Boarded.the-laws r₂)) (depths₂ : List ℕ) (long-depths₂ : length depths₂ ≡ length depths₀) (lasts₂ : List ℕ) (long-lasts₂ : length lasts₂ ≡ length lasts₀) (records₂ : List ℕ) (long-records₂ : length records₂ ≡ length records₀) (run₂ : List ℕ) (long-run₂ : length run₂ ≡ length run₀) (steps₂ : List ℕ) (long-steps₂ : length steps₂ ≡ length steps₀) (got₂ : TellsHeld (plan (shapeFrom rows₀ columns₀) (marks₀ .now)) (given (ground (rulesFrom (rules₀ .now)) (beds₀ .now) (roughness₀ .now) (rates₀ .now)) (rain₀ .now) (inflow₀ .now)) end₀ (world depths₀ lasts₀ records₀ (runValueFrom run₀)) r₁ (rules₀ .now) run₀ steps₀ r₂ depths₂ lasts₂ records₂ run₂ steps₂) (r₃ : Boards) (is₃ : Is of-Boards.the-row r₃ (LL.vals of-Boards.the-type laws-Boards.the-laws r₃)) (got₃ : r₃ ≡ r₂ .boards) (ν-boards : ℕ) (δ-boards : GName) → Of-put-back 𝓤 H A mem run .Ghost
   to-4 r₁ is₁ got₁ r₂ is₂ depths₂ long-depths₂ lasts₂ long-lasts₂ records₂ long-records₂ run₂ long-run₂ steps₂ long-steps₂ got₂ r₃ is₃ got₃ ν-boards δ-boards = (((ν-boards ∷ [], tt), (fullShare, tt), tt, (at-boards δ-boards boards₀, (r₃, tt)), ((s-boards ∷ []), ((LL.vals of-Boards.the-type laws-Boards.the-laws r₃), tt))), tt)
 
-  goes-4 : (r₁ : Boards) (is₁ : Is of-Boards.the-row r₁ (LL.vals of-Boards.the-type laws-Boards.the-laws r₁)) (got₁ : r₁ ≡ heldOf boards₀) (r₂ : Told) (is₂ : Is of-Told.the-row r₂ (LL.vals of-Told.the-type laws-Told.the-laws r₂)) (depths₂ : List ℕ) (long-depths₂ : length depths₂ ≡ length depths₀) (lasts₂ : List ℕ) (long-lasts₂ : length lasts₂ ≡ length lasts₀) (records₂ : List ℕ) (long-records₂ : length records₂ ≡ length records₀) (run₂ : List ℕ) (long-run₂ : length run₂ ≡ length run₀) (steps₂ : List ℕ) (long-steps₂ : length steps₂ ≡ length steps₀) (got₂ : TellsHeld (plan (shapeFrom rows₀ columns₀) (marks₀ .now)) (given (ground (rulesFrom (rules₀ .now)) (beds₀ .now) (roughness₀ .now) (rates₀ .now)) (rain₀ .now) (inflow₀ .now)) end₀ (world depths₀ lasts₀ records₀ (runValueFrom run₀)) r₁ (rules₀ .now) run₀ steps₀ r₂ depths₂ lasts₂ records₂ run₂ steps₂) (r₃ : Boards) (is₃ : Is of-Boards.the-row r₃ (LL.vals of-Boards.the-type laws-Boards.the-laws r₃)) (got₃ : r₃ ≡ r₂ .boards) (ν-boards : ℕ) (δ-boards : GName) → ent 𝓤 (⋆ 𝓤 H A (‵ (flft (ν-boards ∷ []) fullShare) ∷ ‵ (MutSlice (named 0) (ν-boards ∷ []) of-Board.the-row .own (at-boards δ-boards boards₀) (s-boards ∷ [])) ∷ [])) (Of-put-back 𝓤 H A mem run .pre (to-4 r₁ is₁ got₁ r₂ is₂ depths₂ long-depths₂ lasts₂ long-lasts₂ records₂ long-records₂ run₂ long-run₂ steps₂ long-steps₂ got₂ r₃ is₃ got₃ ν-boards δ-boards))
+  goes-4 : (r₁ : Boards) (is₁ : Is of-Boards.the-row r₁ (LL.vals of-Boards.the-type laws-Boards.the-laws r₁)) (got₁ : r₁ ≡ heldOf boards₀) (r₂ : Boarded) (is₂ : Is of-Boarded.the-row r₂ (LL.vals of-Boarded.the-type laws-Boarded.the-laws r₂)) (depths₂ : List ℕ) (long-depths₂ : length depths₂ ≡ length depths₀) (lasts₂ : List ℕ) (long-lasts₂ : length lasts₂ ≡ length lasts₀) (records₂ : List ℕ) (long-records₂ : length records₂ ≡ length records₀) (run₂ : List ℕ) (long-run₂ : length run₂ ≡ length run₀) (steps₂ : List ℕ) (long-steps₂ : length steps₂ ≡ length steps₀) (got₂ : TellsHeld (plan (shapeFrom rows₀ columns₀) (marks₀ .now)) (given (ground (rulesFrom (rules₀ .now)) (beds₀ .now) (roughness₀ .now) (rates₀ .now)) (rain₀ .now) (inflow₀ .now)) end₀ (world depths₀ lasts₀ records₀ (runValueFrom run₀)) r₁ (rules₀ .now) run₀ steps₀ r₂ depths₂ lasts₂ records₂ run₂ steps₂) (r₃ : Boards) (is₃ : Is of-Boards.the-row r₃ (LL.vals of-Boards.the-type laws-Boards.the-laws r₃)) (got₃ : r₃ ≡ r₂ .boards) (ν-boards : ℕ) (δ-boards : GName) → ent 𝓤 (⋆ 𝓤 H A (‵ (flft (ν-boards ∷ []) fullShare) ∷ ‵ (MutSlice (named 0) (ν-boards ∷ []) of-Board.the-row .own (at-boards δ-boards boards₀) (s-boards ∷ [])) ∷ [])) (Of-put-back 𝓤 H A mem run .pre (to-4 r₁ is₁ got₁ r₂ is₂ depths₂ long-depths₂ lasts₂ long-lasts₂ records₂ long-records₂ run₂ long-run₂ steps₂ long-steps₂ got₂ r₃ is₃ got₃ ν-boards δ-boards))
   goes-4 r₁ is₁ got₁ r₂ is₂ depths₂ long-depths₂ lasts₂ long-lasts₂ records₂ long-records₂ run₂ long-run₂ steps₂ long-steps₂ got₂ r₃ is₃ got₃ ν-boards δ-boards =
       qed W (‵ (flft (ν-boards ∷ []) fullShare) ∷ ‵ (MutSlice (named 0) (ν-boards ∷ []) of-Board.the-row .own (at-boards δ-boards boards₀) (s-boards ∷ [])) ∷ []) ∵
       nothing ! $
@@ -499,14 +499,14 @@ module _ {M : Type 1} (𝓤 : URA M) (H : Heap 𝓤) (A : Atoms 𝓤) (W : Given
       join ! $
       join ! $ frame ! $ done !
 
-  abbrev to-5 : (r₁ : Boards) (is₁ : Is of-Boards.the-row r₁ (LL.vals of-Boards.the-type laws-Boards.the-laws r₁)) (got₁ : r₁ ≡ heldOf boards₀) (r₂ : Told) (is₂ : Is of-Told.the-row r₂ (LL.vals of-Told.the-type laws-Told.the-laws r₂)) (depths₂ : List ℕ) (long-depths₂ : length depths₂ ≡ length depths₀) (lasts₂ : List ℕ) (long-lasts₂ : length lasts₂ ≡ length lasts₀) (records₂ : List ℕ) (long-records₂ : length records₂ ≡ length records₀) (run₂ : List ℕ) (long-run₂ : length run₂ ≡ length run₀) (steps₂ : List ℕ) (long-steps₂ : length steps₂ ≡ length steps₀) (got₂ : TellsHeld (plan (shapeFrom rows₀ columns₀) (marks₀ .now)) (given (ground (rulesFrom (rules₀ .now)) (beds₀ .now) (roughness₀ .now) (rates₀ .now)) (rain₀ .now) (inflow₀ .now)) end₀ (world depths₀ lasts₀ records₀ (runValueFrom run₀)) r₁ (rules₀ .now) run₀ steps₀ r₂ depths₂ lasts₂ records₂ run₂ steps₂) (r₃ : Boards) (is₃ : Is of-Boards.the-row r₃ (LL.vals of-Boards.the-type laws-Boards.the-laws r₃)) (got₃ : r₃ ≡ r₂ .boards) (r₄ : Unit {0}) (is₄ : Is Nothing r₄ (nothing-vals r₄)) (boards₄ : List Board) (long-boards₄ : length boards₄ ≡ length boards₀) (got₄ : boards₄ ≡ backIn r₃ boards₀) → Of-number-of 𝓤 H A mem run .Ghost
-  to-5 r₁ is₁ got₁ r₂ is₂ depths₂ long-depths₂ lasts₂ long-lasts₂ records₂ long-records₂ run₂ long-run₂ steps₂ long-steps₂ got₂ r₃ is₃ got₃ r₄ is₄ boards₄ long-boards₄ got₄ = ((tt, tt, tt, (r₂, tt), ((LL.vals of-Told.the-type laws-Told.the-laws r₂), tt)), tt)
+  abbrev to-5 : (r₁ : Boards) (is₁ : Is of-Boards.the-row r₁ (LL.vals of-Boards.the-type laws-Boards.the-laws r₁)) (got₁ : r₁ ≡ heldOf boards₀) (r₂ : Boarded) (is₂ : Is of-Boarded.the-row r₂ (LL.vals of-Boarded.the-type laws-Boarded.the-laws r₂)) (depths₂ : List ℕ) (long-depths₂ : length depths₂ ≡ length depths₀) (lasts₂ : List ℕ) (long-lasts₂ : length lasts₂ ≡ length lasts₀) (records₂ : List ℕ) (long-records₂ : length records₂ ≡ length records₀) (run₂ : List ℕ) (long-run₂ : length run₂ ≡ length run₀) (steps₂ : List ℕ) (long-steps₂ : length steps₂ ≡ length steps₀) (got₂ : TellsHeld (plan (shapeFrom rows₀ columns₀) (marks₀ .now)) (given (ground (rulesFrom (rules₀ .now)) (beds₀ .now) (roughness₀ .now) (rates₀ .now)) (rain₀ .now) (inflow₀ .now)) end₀ (world depths₀ lasts₀ records₀ (runValueFrom run₀)) r₁ (rules₀ .now) run₀ steps₀ r₂ depths₂ lasts₂ records₂ run₂ steps₂) (r₃ : Boards) (is₃ : Is of-Boards.the-row r₃ (LL.vals of-Boards.the-type laws-Boards.the-laws r₃)) (got₃ : r₃ ≡ r₂ .boards) (r₄ : Unit {0}) (is₄ : Is Nothing r₄ (nothing-vals r₄)) (boards₄ : List Board) (long-boards₄ : length boards₄ ≡ length boards₀) (got₄ : boards₄ ≡ backIn r₃ boards₀) → Of-number-of 𝓤 H A mem run .Ghost
+  to-5 r₁ is₁ got₁ r₂ is₂ depths₂ long-depths₂ lasts₂ long-lasts₂ records₂ long-records₂ run₂ long-run₂ steps₂ long-steps₂ got₂ r₃ is₃ got₃ r₄ is₄ boards₄ long-boards₄ got₄ = ((tt, tt, tt, (r₂, tt), ((LL.vals of-Boarded.the-type laws-Boarded.the-laws r₂), tt)), tt)
 
-  goes-5 : (r₁ : Boards) (is₁ : Is of-Boards.the-row r₁ (LL.vals of-Boards.the-type laws-Boards.the-laws r₁)) (got₁ : r₁ ≡ heldOf boards₀) (r₂ : Told) (is₂ : Is of-Told.the-row r₂ (LL.vals of-Told.the-type laws-Told.the-laws r₂)) (depths₂ : List ℕ) (long-depths₂ : length depths₂ ≡ length depths₀) (lasts₂ : List ℕ) (long-lasts₂ : length lasts₂ ≡ length lasts₀) (records₂ : List ℕ) (long-records₂ : length records₂ ≡ length records₀) (run₂ : List ℕ) (long-run₂ : length run₂ ≡ length run₀) (steps₂ : List ℕ) (long-steps₂ : length steps₂ ≡ length steps₀) (got₂ : TellsHeld (plan (shapeFrom rows₀ columns₀) (marks₀ .now)) (given (ground (rulesFrom (rules₀ .now)) (beds₀ .now) (roughness₀ .now) (rates₀ .now)) (rain₀ .now) (inflow₀ .now)) end₀ (world depths₀ lasts₀ records₀ (runValueFrom run₀)) r₁ (rules₀ .now) run₀ steps₀ r₂ depths₂ lasts₂ records₂ run₂ steps₂) (r₃ : Boards) (is₃ : Is of-Boards.the-row r₃ (LL.vals of-Boards.the-type laws-Boards.the-laws r₃)) (got₃ : r₃ ≡ r₂ .boards) (r₄ : Unit {0}) (is₄ : Is Nothing r₄ (nothing-vals r₄)) (boards₄ : List Board) (long-boards₄ : length boards₄ ≡ length boards₀) (got₄ : boards₄ ≡ backIn r₃ boards₀) → ent 𝓤 (emp 𝓤) (Of-number-of 𝓤 H A mem run .pre (to-5 r₁ is₁ got₁ r₂ is₂ depths₂ long-depths₂ lasts₂ long-lasts₂ records₂ long-records₂ run₂ long-run₂ steps₂ long-steps₂ got₂ r₃ is₃ got₃ r₄ is₄ boards₄ long-boards₄ got₄))
+  goes-5 : (r₁ : Boards) (is₁ : Is of-Boards.the-row r₁ (LL.vals of-Boards.the-type laws-Boards.the-laws r₁)) (got₁ : r₁ ≡ heldOf boards₀) (r₂ : Boarded) (is₂ : Is of-Boarded.the-row r₂ (LL.vals of-Boarded.the-type laws-Boarded.the-laws r₂)) (depths₂ : List ℕ) (long-depths₂ : length depths₂ ≡ length depths₀) (lasts₂ : List ℕ) (long-lasts₂ : length lasts₂ ≡ length lasts₀) (records₂ : List ℕ) (long-records₂ : length records₂ ≡ length records₀) (run₂ : List ℕ) (long-run₂ : length run₂ ≡ length run₀) (steps₂ : List ℕ) (long-steps₂ : length steps₂ ≡ length steps₀) (got₂ : TellsHeld (plan (shapeFrom rows₀ columns₀) (marks₀ .now)) (given (ground (rulesFrom (rules₀ .now)) (beds₀ .now) (roughness₀ .now) (rates₀ .now)) (rain₀ .now) (inflow₀ .now)) end₀ (world depths₀ lasts₀ records₀ (runValueFrom run₀)) r₁ (rules₀ .now) run₀ steps₀ r₂ depths₂ lasts₂ records₂ run₂ steps₂) (r₃ : Boards) (is₃ : Is of-Boards.the-row r₃ (LL.vals of-Boards.the-type laws-Boards.the-laws r₃)) (got₃ : r₃ ≡ r₂ .boards) (r₄ : Unit {0}) (is₄ : Is Nothing r₄ (nothing-vals r₄)) (boards₄ : List Board) (long-boards₄ : length boards₄ ≡ length boards₀) (got₄ : boards₄ ≡ backIn r₃ boards₀) → ent 𝓤 (emp 𝓤) (Of-number-of 𝓤 H A mem run .pre (to-5 r₁ is₁ got₁ r₂ is₂ depths₂ long-depths₂ lasts₂ long-lasts₂ records₂ long-records₂ run₂ long-run₂ steps₂ long-steps₂ got₂ r₃ is₃ got₃ r₄ is₄ boards₄ long-boards₄ got₄))
   goes-5 r₁ is₁ got₁ r₂ is₂ depths₂ long-depths₂ lasts₂ long-lasts₂ records₂ long-records₂ run₂ long-run₂ steps₂ long-steps₂ got₂ r₃ is₃ got₃ r₄ is₄ boards₄ long-boards₄ got₄ =
       qed W ([]) ∵
       nothing ! $
-      owned ! of-Told.the-row (Is of-Told.the-row) (LL.makes of-Told.the-type laws-Told.the-plain 𝓤 H A) r₂ _ is₂ $
+      owned ! of-Boarded.the-row (Is of-Boarded.the-row) (LL.makes of-Boarded.the-type laws-Boarded.the-plain 𝓤 H A) r₂ _ is₂ $
       fjoin ! $
       nothing ! $
       join ! $ frame ! $ done !
@@ -519,9 +519,9 @@ module _ {M : Type 1} (𝓤 : URA M) (H : Heap 𝓤) (A : Atoms 𝓤) (W : Given
     Λ = 𝓣 .Λ
 
     abbrev En : Env 𝓤 H
-    En = ((tyInt w32), l₀) ∷ ((tyInt w64), l₁) ∷ ((tyInt w64), l₂) ∷ (ty-rules, l₃) ∷ ((tyInt w64), l₄) ∷ (ty-marks, l₅) ∷ (ty-beds, l₆) ∷ (ty-roughness, l₇) ∷ (ty-rates, l₈) ∷ (ty-rain, l₉) ∷ (ty-inflow, l₁₀) ∷ (ty-depths, l₁₁) ∷ (ty-lasts, l₁₂) ∷ (ty-records, l₁₃) ∷ (ty-run, l₁₄) ∷ (ty-steps, l₁₅) ∷ (ty-boards, l₁₆) ∷ (laws-Boards.mir, l₁₇) ∷ (laws-Told.mir, l₁₈) ∷ (laws-Boards.mir, l₁₉) ∷ ((tyRef erased imm (pointee (of-Board.the-row .written))), l₂₀) ∷ ((sliceTy (tyRef erased imm (pointee (of-Board.the-row .written)))), l₂₁) ∷ ((tyRef erased mut (tyInt w32)), l₂₂) ∷ ((sliceTy (tyRef erased mut (tyInt w32))), l₂₃) ∷ ((tyRef erased mut (tyInt w32)), l₂₄) ∷ ((sliceTy (tyRef erased mut (tyInt w32))), l₂₅) ∷ ((tyRef erased mut (tyInt w32)), l₂₆) ∷ ((sliceTy (tyRef erased mut (tyInt w32))), l₂₇) ∷ ((tyRef erased mut (tyInt w64)), l₂₈) ∷ ((sliceTy (tyRef erased mut (tyInt w64))), l₂₉) ∷ ((tyRef erased mut (tyInt w64)), l₃₀) ∷ ((sliceTy (tyRef erased mut (tyInt w64))), l₃₁) ∷ (tyUnit, l₃₂) ∷ ((tyRef erased mut (pointee (of-Board.the-row .written))), l₃₃) ∷ ((sliceTy (tyRef erased mut (pointee (of-Board.the-row .written)))), l₃₄) ∷ []
+    En = ((tyInt w32), l₀) ∷ ((tyInt w64), l₁) ∷ ((tyInt w64), l₂) ∷ (ty-rules, l₃) ∷ ((tyInt w64), l₄) ∷ (ty-marks, l₅) ∷ (ty-beds, l₆) ∷ (ty-roughness, l₇) ∷ (ty-rates, l₈) ∷ (ty-rain, l₉) ∷ (ty-inflow, l₁₀) ∷ (ty-depths, l₁₁) ∷ (ty-lasts, l₁₂) ∷ (ty-records, l₁₃) ∷ (ty-run, l₁₄) ∷ (ty-steps, l₁₅) ∷ (ty-boards, l₁₆) ∷ (laws-Boards.mir, l₁₇) ∷ (laws-Boarded.mir, l₁₈) ∷ (laws-Boards.mir, l₁₉) ∷ ((tyRef erased imm (pointee (of-Board.the-row .written))), l₂₀) ∷ ((sliceTy (tyRef erased imm (pointee (of-Board.the-row .written)))), l₂₁) ∷ ((tyRef erased mut (tyInt w32)), l₂₂) ∷ ((sliceTy (tyRef erased mut (tyInt w32))), l₂₃) ∷ ((tyRef erased mut (tyInt w32)), l₂₄) ∷ ((sliceTy (tyRef erased mut (tyInt w32))), l₂₅) ∷ ((tyRef erased mut (tyInt w32)), l₂₆) ∷ ((sliceTy (tyRef erased mut (tyInt w32))), l₂₇) ∷ ((tyRef erased mut (tyInt w64)), l₂₈) ∷ ((sliceTy (tyRef erased mut (tyInt w64))), l₂₉) ∷ ((tyRef erased mut (tyInt w64)), l₃₀) ∷ ((sliceTy (tyRef erased mut (tyInt w64))), l₃₁) ∷ (tyUnit, l₃₂) ∷ ((tyRef erased mut (pointee (of-Board.the-row .written))), l₃₃) ∷ ((sliceTy (tyRef erased mut (pointee (of-Board.the-row .written)))), l₃₄) ∷ []
 
-    from-5 : (r₁ : Boards) (is₁ : Is of-Boards.the-row r₁ (LL.vals of-Boards.the-type laws-Boards.the-laws r₁)) (got₁ : r₁ ≡ heldOf boards₀) (r₂ : Told) (is₂ : Is of-Told.the-row r₂ (LL.vals of-Told.the-type laws-Told.the-laws r₂)) (depths₂ : List ℕ) (long-depths₂ : length depths₂ ≡ length depths₀) (lasts₂ : List ℕ) (long-lasts₂ : length lasts₂ ≡ length lasts₀) (records₂ : List ℕ) (long-records₂ : length records₂ ≡ length records₀) (run₂ : List ℕ) (long-run₂ : length run₂ ≡ length run₀) (steps₂ : List ℕ) (long-steps₂ : length steps₂ ≡ length steps₀) (got₂ : TellsHeld (plan (shapeFrom rows₀ columns₀) (marks₀ .now)) (given (ground (rulesFrom (rules₀ .now)) (beds₀ .now) (roughness₀ .now) (rates₀ .now)) (rain₀ .now) (inflow₀ .now)) end₀ (world depths₀ lasts₀ records₀ (runValueFrom run₀)) r₁ (rules₀ .now) run₀ steps₀ r₂ depths₂ lasts₂ records₂ run₂ steps₂) (r₃ : Boards) (is₃ : Is of-Boards.the-row r₃ (LL.vals of-Boards.the-type laws-Boards.the-laws r₃)) (got₃ : r₃ ≡ r₂ .boards) (r₄ : Unit {0}) (is₄ : Is Nothing r₄ (nothing-vals r₄)) (boards₄ : List Board) (long-boards₄ : length boards₄ ≡ length boards₀) (got₄ : boards₄ ≡ backIn r₃ boards₀) → Sq W (‵ (row of-Board.the-row fullShare boards₄ b-boards o-boards) ∷ ‵ (fobor κ-boards q-boards (Held of-Board.the-row (length boards₀) b-boards o-boards γ-boards)) ∷ ‵ (fobs γ-boards (codedHoleys of-Board.the-row .code (heres of-Board.the-row boards₀))) ∷ ‵ (fauth γ-boards (codedHoleys of-Board.the-row .code (heres of-Board.the-row boards₀))) ∷ ‵ (row u64 fullShare steps₂ b-steps o-steps) ∷ ‵ (fobor κ-steps q-steps (Held u64 (length steps₀) b-steps o-steps γ-steps)) ∷ ‵ (fobs γ-steps (codedHoleys u64 .code (heres u64 steps₀))) ∷ ‵ (fauth γ-steps (codedHoleys u64 .code (heres u64 steps₀))) ∷ ‵ (row u64 fullShare run₂ b-run o-run) ∷ ‵ (fobor κ-run q-run (Held u64 (length run₀) b-run o-run γ-run)) ∷ ‵ (fobs γ-run (codedHoleys u64 .code (heres u64 run₀))) ∷ ‵ (fauth γ-run (codedHoleys u64 .code (heres u64 run₀))) ∷ ‵ (row u32 fullShare records₂ b-records o-records) ∷ ‵ (fobor κ-records q-records (Held u32 (length records₀) b-records o-records γ-records)) ∷ ‵ (fobs γ-records (codedHoleys u32 .code (heres u32 records₀))) ∷ ‵ (fauth γ-records (codedHoleys u32 .code (heres u32 records₀))) ∷ ‵ (row u32 fullShare lasts₂ b-lasts o-lasts) ∷ ‵ (fobor κ-lasts q-lasts (Held u32 (length lasts₀) b-lasts o-lasts γ-lasts)) ∷ ‵ (fobs γ-lasts (codedHoleys u32 .code (heres u32 lasts₀))) ∷ ‵ (fauth γ-lasts (codedHoleys u32 .code (heres u32 lasts₀))) ∷ ‵ (row u32 fullShare depths₂ b-depths o-depths) ∷ ‵ (fobor κ-depths q-depths (Held u32 (length depths₀) b-depths o-depths γ-depths)) ∷ ‵ (fobs γ-depths (codedHoleys u32 .code (heres u32 depths₀))) ∷ ‵ (fauth γ-depths (codedHoleys u32 .code (heres u32 depths₀))) ∷ ‵ (flft κ-inflow q-inflow) ∷ ‵ (flft κ-rain q-rain) ∷ ‵ (flft κ-rates q-rates) ∷ ‵ (flft κ-roughness q-roughness) ∷ ‵ (flft κ-beds q-beds) ∷ ‵ (flft κ-marks q-marks) ∷ ‵ (flft κ-rules q-rules) ∷ ‵ D-inflow ∷ ‵ D-rain ∷ ‵ D-rates ∷ ‵ D-roughness ∷ ‵ D-beds ∷ ‵ D-marks ∷ ‵ D-rules ∷ ‵ (fat fullShare (sliceTy (tyRef erased mut (pointee (of-Board.the-row .written)))) l₃₄ 0 s-boards) ∷ ‵ (fdies (sliceTy (tyRef erased mut (pointee (of-Board.the-row .written)))) l₃₄) ∷ ‵ (fat fullShare (tyRef erased mut (pointee (of-Board.the-row .written))) l₃₃ 0 (vptr b-boards o-boards)) ∷ ‵ (fdies (tyRef erased mut (pointee (of-Board.the-row .written))) l₃₃) ∷ ‵ (fat fullShare tyUnit l₃₂ 0 (vunit)) ∷ ‵ (fdies tyUnit l₃₂) ∷ ‵ (fat fullShare (sliceTy (tyRef erased mut (tyInt w64))) l₃₁ 0 s-steps) ∷ ‵ (fdies (sliceTy (tyRef erased mut (tyInt w64))) l₃₁) ∷ ‵ (fat fullShare (tyRef erased mut (tyInt w64)) l₃₀ 0 (vptr b-steps o-steps)) ∷ ‵ (fdies (tyRef erased mut (tyInt w64)) l₃₀) ∷ ‵ (fat fullShare (sliceTy (tyRef erased mut (tyInt w64))) l₂₉ 0 s-run) ∷ ‵ (fdies (sliceTy (tyRef erased mut (tyInt w64))) l₂₉) ∷ ‵ (fat fullShare (tyRef erased mut (tyInt w64)) l₂₈ 0 (vptr b-run o-run)) ∷ ‵ (fdies (tyRef erased mut (tyInt w64)) l₂₈) ∷ ‵ (fat fullShare (sliceTy (tyRef erased mut (tyInt w32))) l₂₇ 0 s-records) ∷ ‵ (fdies (sliceTy (tyRef erased mut (tyInt w32))) l₂₇) ∷ ‵ (fat fullShare (tyRef erased mut (tyInt w32)) l₂₆ 0 (vptr b-records o-records)) ∷ ‵ (fdies (tyRef erased mut (tyInt w32)) l₂₆) ∷ ‵ (fat fullShare (sliceTy (tyRef erased mut (tyInt w32))) l₂₅ 0 s-lasts) ∷ ‵ (fdies (sliceTy (tyRef erased mut (tyInt w32))) l₂₅) ∷ ‵ (fat fullShare (tyRef erased mut (tyInt w32)) l₂₄ 0 (vptr b-lasts o-lasts)) ∷ ‵ (fdies (tyRef erased mut (tyInt w32)) l₂₄) ∷ ‵ (fat fullShare (sliceTy (tyRef erased mut (tyInt w32))) l₂₃ 0 s-depths) ∷ ‵ (fdies (sliceTy (tyRef erased mut (tyInt w32))) l₂₃) ∷ ‵ (fat fullShare (tyRef erased mut (tyInt w32)) l₂₂ 0 (vptr b-depths o-depths)) ∷ ‵ (fdies (tyRef erased mut (tyInt w32)) l₂₂) ∷ ‵ (fat fullShare (sliceTy (tyRef erased imm (pointee (of-Board.the-row .written)))) l₂₁ 0 s-boards) ∷ ‵ (fdies (sliceTy (tyRef erased imm (pointee (of-Board.the-row .written)))) l₂₁) ∷ ‵ (fat fullShare (tyRef erased imm (pointee (of-Board.the-row .written))) l₂₀ 0 (vptr b-boards o-boards)) ∷ ‵ (fdies (tyRef erased imm (pointee (of-Board.the-row .written))) l₂₀) ∷ ‵ (fat fullShare laws-Boards.mir l₁₉ 0 (LL.val of-Boards.the-type laws-Boards.the-laws r₃)) ∷ ‵ (fdies laws-Boards.mir l₁₉) ∷ ‵ (fat fullShare laws-Told.mir l₁₈ 0 (LL.val of-Told.the-type laws-Told.the-laws r₂)) ∷ ‵ (fdies laws-Told.mir l₁₈) ∷ ‵ (fat fullShare laws-Boards.mir l₁₇ 0 (LL.val of-Boards.the-type laws-Boards.the-laws r₁)) ∷ ‵ (fdies laws-Boards.mir l₁₇) ∷ ‵ (fat fullShare ty-boards l₁₆ 0 s-boards) ∷ ‵ (fdies ty-boards l₁₆) ∷ ‵ (fat fullShare ty-steps l₁₅ 0 s-steps) ∷ ‵ (fdies ty-steps l₁₅) ∷ ‵ (fat fullShare ty-run l₁₄ 0 s-run) ∷ ‵ (fdies ty-run l₁₄) ∷ ‵ (fat fullShare ty-records l₁₃ 0 s-records) ∷ ‵ (fdies ty-records l₁₃) ∷ ‵ (fat fullShare ty-lasts l₁₂ 0 s-lasts) ∷ ‵ (fdies ty-lasts l₁₂) ∷ ‵ (fat fullShare ty-depths l₁₁ 0 s-depths) ∷ ‵ (fdies ty-depths l₁₁) ∷ ‵ (fat fullShare ty-inflow l₁₀ 0 s-inflow) ∷ ‵ (fdies ty-inflow l₁₀) ∷ ‵ (fat fullShare ty-rain l₉ 0 s-rain) ∷ ‵ (fdies ty-rain l₉) ∷ ‵ (fat fullShare ty-rates l₈ 0 s-rates) ∷ ‵ (fdies ty-rates l₈) ∷ ‵ (fat fullShare ty-roughness l₇ 0 s-roughness) ∷ ‵ (fdies ty-roughness l₇) ∷ ‵ (fat fullShare ty-beds l₆ 0 s-beds) ∷ ‵ (fdies ty-beds l₆) ∷ ‵ (fat fullShare ty-marks l₅ 0 s-marks) ∷ ‵ (fdies ty-marks l₅) ∷ ‵ (fat fullShare (tyInt w64) l₄ 0 (vint w64 end₀)) ∷ ‵ (fdies (tyInt w64) l₄) ∷ ‵ (fat fullShare ty-rules l₃ 0 s-rules) ∷ ‵ (fdies ty-rules l₃) ∷ ‵ (fat fullShare (tyInt w64) l₂ 0 (vint w64 columns₀)) ∷ ‵ (fdies (tyInt w64) l₂) ∷ ‵ (fat fullShare (tyInt w64) l₁ 0 (vint w64 rows₀)) ∷ ‵ (fdies (tyInt w64) l₁) ∷ ‵ (froom (tyInt w32) l₀ 0) ∷ ‵ (fdies (tyInt w32) l₀) ∷ []) (runs C Λ En mir′.t-19 (atRet En Post))
+    from-5 : (r₁ : Boards) (is₁ : Is of-Boards.the-row r₁ (LL.vals of-Boards.the-type laws-Boards.the-laws r₁)) (got₁ : r₁ ≡ heldOf boards₀) (r₂ : Boarded) (is₂ : Is of-Boarded.the-row r₂ (LL.vals of-Boarded.the-type laws-Boarded.the-laws r₂)) (depths₂ : List ℕ) (long-depths₂ : length depths₂ ≡ length depths₀) (lasts₂ : List ℕ) (long-lasts₂ : length lasts₂ ≡ length lasts₀) (records₂ : List ℕ) (long-records₂ : length records₂ ≡ length records₀) (run₂ : List ℕ) (long-run₂ : length run₂ ≡ length run₀) (steps₂ : List ℕ) (long-steps₂ : length steps₂ ≡ length steps₀) (got₂ : TellsHeld (plan (shapeFrom rows₀ columns₀) (marks₀ .now)) (given (ground (rulesFrom (rules₀ .now)) (beds₀ .now) (roughness₀ .now) (rates₀ .now)) (rain₀ .now) (inflow₀ .now)) end₀ (world depths₀ lasts₀ records₀ (runValueFrom run₀)) r₁ (rules₀ .now) run₀ steps₀ r₂ depths₂ lasts₂ records₂ run₂ steps₂) (r₃ : Boards) (is₃ : Is of-Boards.the-row r₃ (LL.vals of-Boards.the-type laws-Boards.the-laws r₃)) (got₃ : r₃ ≡ r₂ .boards) (r₄ : Unit {0}) (is₄ : Is Nothing r₄ (nothing-vals r₄)) (boards₄ : List Board) (long-boards₄ : length boards₄ ≡ length boards₀) (got₄ : boards₄ ≡ backIn r₃ boards₀) → Sq W (‵ (row of-Board.the-row fullShare boards₄ b-boards o-boards) ∷ ‵ (fobor κ-boards q-boards (Held of-Board.the-row (length boards₀) b-boards o-boards γ-boards)) ∷ ‵ (fobs γ-boards (codedHoleys of-Board.the-row .code (heres of-Board.the-row boards₀))) ∷ ‵ (fauth γ-boards (codedHoleys of-Board.the-row .code (heres of-Board.the-row boards₀))) ∷ ‵ (row u64 fullShare steps₂ b-steps o-steps) ∷ ‵ (fobor κ-steps q-steps (Held u64 (length steps₀) b-steps o-steps γ-steps)) ∷ ‵ (fobs γ-steps (codedHoleys u64 .code (heres u64 steps₀))) ∷ ‵ (fauth γ-steps (codedHoleys u64 .code (heres u64 steps₀))) ∷ ‵ (row u64 fullShare run₂ b-run o-run) ∷ ‵ (fobor κ-run q-run (Held u64 (length run₀) b-run o-run γ-run)) ∷ ‵ (fobs γ-run (codedHoleys u64 .code (heres u64 run₀))) ∷ ‵ (fauth γ-run (codedHoleys u64 .code (heres u64 run₀))) ∷ ‵ (row u32 fullShare records₂ b-records o-records) ∷ ‵ (fobor κ-records q-records (Held u32 (length records₀) b-records o-records γ-records)) ∷ ‵ (fobs γ-records (codedHoleys u32 .code (heres u32 records₀))) ∷ ‵ (fauth γ-records (codedHoleys u32 .code (heres u32 records₀))) ∷ ‵ (row u32 fullShare lasts₂ b-lasts o-lasts) ∷ ‵ (fobor κ-lasts q-lasts (Held u32 (length lasts₀) b-lasts o-lasts γ-lasts)) ∷ ‵ (fobs γ-lasts (codedHoleys u32 .code (heres u32 lasts₀))) ∷ ‵ (fauth γ-lasts (codedHoleys u32 .code (heres u32 lasts₀))) ∷ ‵ (row u32 fullShare depths₂ b-depths o-depths) ∷ ‵ (fobor κ-depths q-depths (Held u32 (length depths₀) b-depths o-depths γ-depths)) ∷ ‵ (fobs γ-depths (codedHoleys u32 .code (heres u32 depths₀))) ∷ ‵ (fauth γ-depths (codedHoleys u32 .code (heres u32 depths₀))) ∷ ‵ (flft κ-inflow q-inflow) ∷ ‵ (flft κ-rain q-rain) ∷ ‵ (flft κ-rates q-rates) ∷ ‵ (flft κ-roughness q-roughness) ∷ ‵ (flft κ-beds q-beds) ∷ ‵ (flft κ-marks q-marks) ∷ ‵ (flft κ-rules q-rules) ∷ ‵ D-inflow ∷ ‵ D-rain ∷ ‵ D-rates ∷ ‵ D-roughness ∷ ‵ D-beds ∷ ‵ D-marks ∷ ‵ D-rules ∷ ‵ (fat fullShare (sliceTy (tyRef erased mut (pointee (of-Board.the-row .written)))) l₃₄ 0 s-boards) ∷ ‵ (fdies (sliceTy (tyRef erased mut (pointee (of-Board.the-row .written)))) l₃₄) ∷ ‵ (fat fullShare (tyRef erased mut (pointee (of-Board.the-row .written))) l₃₃ 0 (vptr b-boards o-boards)) ∷ ‵ (fdies (tyRef erased mut (pointee (of-Board.the-row .written))) l₃₃) ∷ ‵ (fat fullShare tyUnit l₃₂ 0 (vunit)) ∷ ‵ (fdies tyUnit l₃₂) ∷ ‵ (fat fullShare (sliceTy (tyRef erased mut (tyInt w64))) l₃₁ 0 s-steps) ∷ ‵ (fdies (sliceTy (tyRef erased mut (tyInt w64))) l₃₁) ∷ ‵ (fat fullShare (tyRef erased mut (tyInt w64)) l₃₀ 0 (vptr b-steps o-steps)) ∷ ‵ (fdies (tyRef erased mut (tyInt w64)) l₃₀) ∷ ‵ (fat fullShare (sliceTy (tyRef erased mut (tyInt w64))) l₂₉ 0 s-run) ∷ ‵ (fdies (sliceTy (tyRef erased mut (tyInt w64))) l₂₉) ∷ ‵ (fat fullShare (tyRef erased mut (tyInt w64)) l₂₈ 0 (vptr b-run o-run)) ∷ ‵ (fdies (tyRef erased mut (tyInt w64)) l₂₈) ∷ ‵ (fat fullShare (sliceTy (tyRef erased mut (tyInt w32))) l₂₇ 0 s-records) ∷ ‵ (fdies (sliceTy (tyRef erased mut (tyInt w32))) l₂₇) ∷ ‵ (fat fullShare (tyRef erased mut (tyInt w32)) l₂₆ 0 (vptr b-records o-records)) ∷ ‵ (fdies (tyRef erased mut (tyInt w32)) l₂₆) ∷ ‵ (fat fullShare (sliceTy (tyRef erased mut (tyInt w32))) l₂₅ 0 s-lasts) ∷ ‵ (fdies (sliceTy (tyRef erased mut (tyInt w32))) l₂₅) ∷ ‵ (fat fullShare (tyRef erased mut (tyInt w32)) l₂₄ 0 (vptr b-lasts o-lasts)) ∷ ‵ (fdies (tyRef erased mut (tyInt w32)) l₂₄) ∷ ‵ (fat fullShare (sliceTy (tyRef erased mut (tyInt w32))) l₂₃ 0 s-depths) ∷ ‵ (fdies (sliceTy (tyRef erased mut (tyInt w32))) l₂₃) ∷ ‵ (fat fullShare (tyRef erased mut (tyInt w32)) l₂₂ 0 (vptr b-depths o-depths)) ∷ ‵ (fdies (tyRef erased mut (tyInt w32)) l₂₂) ∷ ‵ (fat fullShare (sliceTy (tyRef erased imm (pointee (of-Board.the-row .written)))) l₂₁ 0 s-boards) ∷ ‵ (fdies (sliceTy (tyRef erased imm (pointee (of-Board.the-row .written)))) l₂₁) ∷ ‵ (fat fullShare (tyRef erased imm (pointee (of-Board.the-row .written))) l₂₀ 0 (vptr b-boards o-boards)) ∷ ‵ (fdies (tyRef erased imm (pointee (of-Board.the-row .written))) l₂₀) ∷ ‵ (fat fullShare laws-Boards.mir l₁₉ 0 (LL.val of-Boards.the-type laws-Boards.the-laws r₃)) ∷ ‵ (fdies laws-Boards.mir l₁₉) ∷ ‵ (fat fullShare laws-Boarded.mir l₁₈ 0 (LL.val of-Boarded.the-type laws-Boarded.the-laws r₂)) ∷ ‵ (fdies laws-Boarded.mir l₁₈) ∷ ‵ (fat fullShare laws-Boards.mir l₁₇ 0 (LL.val of-Boards.the-type laws-Boards.the-laws r₁)) ∷ ‵ (fdies laws-Boards.mir l₁₇) ∷ ‵ (fat fullShare ty-boards l₁₆ 0 s-boards) ∷ ‵ (fdies ty-boards l₁₆) ∷ ‵ (fat fullShare ty-steps l₁₅ 0 s-steps) ∷ ‵ (fdies ty-steps l₁₅) ∷ ‵ (fat fullShare ty-run l₁₄ 0 s-run) ∷ ‵ (fdies ty-run l₁₄) ∷ ‵ (fat fullShare ty-records l₁₃ 0 s-records) ∷ ‵ (fdies ty-records l₁₃) ∷ ‵ (fat fullShare ty-lasts l₁₂ 0 s-lasts) ∷ ‵ (fdies ty-lasts l₁₂) ∷ ‵ (fat fullShare ty-depths l₁₁ 0 s-depths) ∷ ‵ (fdies ty-depths l₁₁) ∷ ‵ (fat fullShare ty-inflow l₁₀ 0 s-inflow) ∷ ‵ (fdies ty-inflow l₁₀) ∷ ‵ (fat fullShare ty-rain l₉ 0 s-rain) ∷ ‵ (fdies ty-rain l₉) ∷ ‵ (fat fullShare ty-rates l₈ 0 s-rates) ∷ ‵ (fdies ty-rates l₈) ∷ ‵ (fat fullShare ty-roughness l₇ 0 s-roughness) ∷ ‵ (fdies ty-roughness l₇) ∷ ‵ (fat fullShare ty-beds l₆ 0 s-beds) ∷ ‵ (fdies ty-beds l₆) ∷ ‵ (fat fullShare ty-marks l₅ 0 s-marks) ∷ ‵ (fdies ty-marks l₅) ∷ ‵ (fat fullShare (tyInt w64) l₄ 0 (vint w64 end₀)) ∷ ‵ (fdies (tyInt w64) l₄) ∷ ‵ (fat fullShare ty-rules l₃ 0 s-rules) ∷ ‵ (fdies ty-rules l₃) ∷ ‵ (fat fullShare (tyInt w64) l₂ 0 (vint w64 columns₀)) ∷ ‵ (fdies (tyInt w64) l₂) ∷ ‵ (fat fullShare (tyInt w64) l₁ 0 (vint w64 rows₀)) ∷ ‵ (fdies (tyInt w64) l₁) ∷ ‵ (froom (tyInt w32) l₀ 0) ∷ ‵ (fdies (tyInt w32) l₀) ∷ []) (runs C Λ En mir′.t-19 (atRet En Post))
     from-5 r₁ is₁ got₁ r₂ is₂ depths₂ long-depths₂ lasts₂ long-lasts₂ records₂ long-records₂ run₂ long-run₂ steps₂ long-steps₂ got₂ r₃ is₃ got₃ r₄ is₄ boards₄ long-boards₄ got₄ =
         use0 W (raw (Of-number-of 𝓤 H A mem run .pre (to-5 r₁ is₁ got₁ r₂ is₂ depths₂ long-depths₂ lasts₂ long-lasts₂ records₂ long-records₂ run₂ long-run₂ steps₂ long-steps₂ got₂ r₃ is₃ got₃ r₄ is₄ boards₄ long-boards₄ got₄))) (goes-5 r₁ is₁ got₁ r₂ is₂ depths₂ long-depths₂ lasts₂ long-lasts₂ records₂ long-records₂ run₂ long-run₂ steps₂ long-steps₂ got₂ r₃ is₃ got₃ r₄ is₄ boards₄ long-boards₄ got₄) $
         calls-at ! fm (Of-number-of 𝓤 H A mem run) k-number-of (to-5 r₁ is₁ got₁ r₂ is₂ depths₂ long-depths₂ lasts₂ long-lasts₂ records₂ long-records₂ run₂ long-run₂ steps₂ long-steps₂ got₂ r₃ is₃ got₃ r₄ is₄ boards₄ long-boards₄ got₄) (and-then ! (load ! (from ! (stop !)) (look ! 71 refl)) (no-more !)) (λ w.
@@ -661,7 +661,7 @@ module _ {M : Type 1} (𝓤 : URA M) (H : Heap 𝓤) (A : Atoms 𝓤) (W : Given
         move ! (0 ∷ 1 ∷ 2 ∷ 3 ∷ 4 ∷ 5 ∷ 6 ∷ 7 ∷ 8 ∷ 9 ∷ 10 ∷ 11 ∷ 12 ∷ 13 ∷ 14 ∷ 15 ∷ 16 ∷ 17 ∷ 24 ∷ 31 ∷ 23 ∷ 30 ∷ 22 ∷ 29 ∷ 21 ∷ 28 ∷ 20 ∷ 27 ∷ 19 ∷ 26 ∷ 18 ∷ 25 ∷ []) $
         by ! (exits r₁ is₁ got₁ r₂ is₂ depths₂ long-depths₂ lasts₂ long-lasts₂ records₂ long-records₂ run₂ long-run₂ steps₂ long-steps₂ got₂ r₃ is₃ got₃ r₄ is₄ boards₄ long-boards₄ got₄ r₅ (subst (Is u32 r₅) (uint-tells w32 r₅ (w ∷ []) is) is) got₅))))))
 
-    from-4 : (r₁ : Boards) (is₁ : Is of-Boards.the-row r₁ (LL.vals of-Boards.the-type laws-Boards.the-laws r₁)) (got₁ : r₁ ≡ heldOf boards₀) (r₂ : Told) (is₂ : Is of-Told.the-row r₂ (LL.vals of-Told.the-type laws-Told.the-laws r₂)) (depths₂ : List ℕ) (long-depths₂ : length depths₂ ≡ length depths₀) (lasts₂ : List ℕ) (long-lasts₂ : length lasts₂ ≡ length lasts₀) (records₂ : List ℕ) (long-records₂ : length records₂ ≡ length records₀) (run₂ : List ℕ) (long-run₂ : length run₂ ≡ length run₀) (steps₂ : List ℕ) (long-steps₂ : length steps₂ ≡ length steps₀) (got₂ : TellsHeld (plan (shapeFrom rows₀ columns₀) (marks₀ .now)) (given (ground (rulesFrom (rules₀ .now)) (beds₀ .now) (roughness₀ .now) (rates₀ .now)) (rain₀ .now) (inflow₀ .now)) end₀ (world depths₀ lasts₀ records₀ (runValueFrom run₀)) r₁ (rules₀ .now) run₀ steps₀ r₂ depths₂ lasts₂ records₂ run₂ steps₂) (r₃ : Boards) (is₃ : Is of-Boards.the-row r₃ (LL.vals of-Boards.the-type laws-Boards.the-laws r₃)) (got₃ : r₃ ≡ r₂ .boards) → Sq W (‵ (row of-Board.the-row fullShare boards₀ b-boards o-boards) ∷ ‵ (fobor κ-boards q-boards (Held of-Board.the-row (length boards₀) b-boards o-boards γ-boards)) ∷ ‵ (fobs γ-boards (codedHoleys of-Board.the-row .code (heres of-Board.the-row boards₀))) ∷ ‵ (fauth γ-boards (codedHoleys of-Board.the-row .code (heres of-Board.the-row boards₀))) ∷ ‵ (row u64 fullShare steps₂ b-steps o-steps) ∷ ‵ (fobor κ-steps q-steps (Held u64 (length steps₀) b-steps o-steps γ-steps)) ∷ ‵ (fobs γ-steps (codedHoleys u64 .code (heres u64 steps₀))) ∷ ‵ (fauth γ-steps (codedHoleys u64 .code (heres u64 steps₀))) ∷ ‵ (row u64 fullShare run₂ b-run o-run) ∷ ‵ (fobor κ-run q-run (Held u64 (length run₀) b-run o-run γ-run)) ∷ ‵ (fobs γ-run (codedHoleys u64 .code (heres u64 run₀))) ∷ ‵ (fauth γ-run (codedHoleys u64 .code (heres u64 run₀))) ∷ ‵ (row u32 fullShare records₂ b-records o-records) ∷ ‵ (fobor κ-records q-records (Held u32 (length records₀) b-records o-records γ-records)) ∷ ‵ (fobs γ-records (codedHoleys u32 .code (heres u32 records₀))) ∷ ‵ (fauth γ-records (codedHoleys u32 .code (heres u32 records₀))) ∷ ‵ (row u32 fullShare lasts₂ b-lasts o-lasts) ∷ ‵ (fobor κ-lasts q-lasts (Held u32 (length lasts₀) b-lasts o-lasts γ-lasts)) ∷ ‵ (fobs γ-lasts (codedHoleys u32 .code (heres u32 lasts₀))) ∷ ‵ (fauth γ-lasts (codedHoleys u32 .code (heres u32 lasts₀))) ∷ ‵ (row u32 fullShare depths₂ b-depths o-depths) ∷ ‵ (fobor κ-depths q-depths (Held u32 (length depths₀) b-depths o-depths γ-depths)) ∷ ‵ (fobs γ-depths (codedHoleys u32 .code (heres u32 depths₀))) ∷ ‵ (fauth γ-depths (codedHoleys u32 .code (heres u32 depths₀))) ∷ ‵ (flft κ-inflow q-inflow) ∷ ‵ (flft κ-rain q-rain) ∷ ‵ (flft κ-rates q-rates) ∷ ‵ (flft κ-roughness q-roughness) ∷ ‵ (flft κ-beds q-beds) ∷ ‵ (flft κ-marks q-marks) ∷ ‵ (flft κ-rules q-rules) ∷ ‵ D-inflow ∷ ‵ D-rain ∷ ‵ D-rates ∷ ‵ D-roughness ∷ ‵ D-beds ∷ ‵ D-marks ∷ ‵ D-rules ∷ ‵ (froom (sliceTy (tyRef erased mut (pointee (of-Board.the-row .written)))) l₃₄ 0) ∷ ‵ (fdies (sliceTy (tyRef erased mut (pointee (of-Board.the-row .written)))) l₃₄) ∷ ‵ (froom (tyRef erased mut (pointee (of-Board.the-row .written))) l₃₃ 0) ∷ ‵ (fdies (tyRef erased mut (pointee (of-Board.the-row .written))) l₃₃) ∷ ‵ (froom tyUnit l₃₂ 0) ∷ ‵ (fdies tyUnit l₃₂) ∷ ‵ (fat fullShare (sliceTy (tyRef erased mut (tyInt w64))) l₃₁ 0 s-steps) ∷ ‵ (fdies (sliceTy (tyRef erased mut (tyInt w64))) l₃₁) ∷ ‵ (fat fullShare (tyRef erased mut (tyInt w64)) l₃₀ 0 (vptr b-steps o-steps)) ∷ ‵ (fdies (tyRef erased mut (tyInt w64)) l₃₀) ∷ ‵ (fat fullShare (sliceTy (tyRef erased mut (tyInt w64))) l₂₉ 0 s-run) ∷ ‵ (fdies (sliceTy (tyRef erased mut (tyInt w64))) l₂₉) ∷ ‵ (fat fullShare (tyRef erased mut (tyInt w64)) l₂₈ 0 (vptr b-run o-run)) ∷ ‵ (fdies (tyRef erased mut (tyInt w64)) l₂₈) ∷ ‵ (fat fullShare (sliceTy (tyRef erased mut (tyInt w32))) l₂₇ 0 s-records) ∷ ‵ (fdies (sliceTy (tyRef erased mut (tyInt w32))) l₂₇) ∷ ‵ (fat fullShare (tyRef erased mut (tyInt w32)) l₂₆ 0 (vptr b-records o-records)) ∷ ‵ (fdies (tyRef erased mut (tyInt w32)) l₂₆) ∷ ‵ (fat fullShare (sliceTy (tyRef erased mut (tyInt w32))) l₂₅ 0 s-lasts) ∷ ‵ (fdies (sliceTy (tyRef erased mut (tyInt w32))) l₂₅) ∷ ‵ (fat fullShare (tyRef erased mut (tyInt w32)) l₂₄ 0 (vptr b-lasts o-lasts)) ∷ ‵ (fdies (tyRef erased mut (tyInt w32)) l₂₄) ∷ ‵ (fat fullShare (sliceTy (tyRef erased mut (tyInt w32))) l₂₃ 0 s-depths) ∷ ‵ (fdies (sliceTy (tyRef erased mut (tyInt w32))) l₂₃) ∷ ‵ (fat fullShare (tyRef erased mut (tyInt w32)) l₂₂ 0 (vptr b-depths o-depths)) ∷ ‵ (fdies (tyRef erased mut (tyInt w32)) l₂₂) ∷ ‵ (fat fullShare (sliceTy (tyRef erased imm (pointee (of-Board.the-row .written)))) l₂₁ 0 s-boards) ∷ ‵ (fdies (sliceTy (tyRef erased imm (pointee (of-Board.the-row .written)))) l₂₁) ∷ ‵ (fat fullShare (tyRef erased imm (pointee (of-Board.the-row .written))) l₂₀ 0 (vptr b-boards o-boards)) ∷ ‵ (fdies (tyRef erased imm (pointee (of-Board.the-row .written))) l₂₀) ∷ ‵ (fat fullShare laws-Boards.mir l₁₉ 0 (LL.val of-Boards.the-type laws-Boards.the-laws r₃)) ∷ ‵ (fdies laws-Boards.mir l₁₉) ∷ ‵ (fat fullShare laws-Told.mir l₁₈ 0 (LL.val of-Told.the-type laws-Told.the-laws r₂)) ∷ ‵ (fdies laws-Told.mir l₁₈) ∷ ‵ (fat fullShare laws-Boards.mir l₁₇ 0 (LL.val of-Boards.the-type laws-Boards.the-laws r₁)) ∷ ‵ (fdies laws-Boards.mir l₁₇) ∷ ‵ (fat fullShare ty-boards l₁₆ 0 s-boards) ∷ ‵ (fdies ty-boards l₁₆) ∷ ‵ (fat fullShare ty-steps l₁₅ 0 s-steps) ∷ ‵ (fdies ty-steps l₁₅) ∷ ‵ (fat fullShare ty-run l₁₄ 0 s-run) ∷ ‵ (fdies ty-run l₁₄) ∷ ‵ (fat fullShare ty-records l₁₃ 0 s-records) ∷ ‵ (fdies ty-records l₁₃) ∷ ‵ (fat fullShare ty-lasts l₁₂ 0 s-lasts) ∷ ‵ (fdies ty-lasts l₁₂) ∷ ‵ (fat fullShare ty-depths l₁₁ 0 s-depths) ∷ ‵ (fdies ty-depths l₁₁) ∷ ‵ (fat fullShare ty-inflow l₁₀ 0 s-inflow) ∷ ‵ (fdies ty-inflow l₁₀) ∷ ‵ (fat fullShare ty-rain l₉ 0 s-rain) ∷ ‵ (fdies ty-rain l₉) ∷ ‵ (fat fullShare ty-rates l₈ 0 s-rates) ∷ ‵ (fdies ty-rates l₈) ∷ ‵ (fat fullShare ty-roughness l₇ 0 s-roughness) ∷ ‵ (fdies ty-roughness l₇) ∷ ‵ (fat fullShare ty-beds l₆ 0 s-beds) ∷ ‵ (fdies ty-beds l₆) ∷ ‵ (fat fullShare ty-marks l₅ 0 s-marks) ∷ ‵ (fdies ty-marks l₅) ∷ ‵ (fat fullShare (tyInt w64) l₄ 0 (vint w64 end₀)) ∷ ‵ (fdies (tyInt w64) l₄) ∷ ‵ (fat fullShare ty-rules l₃ 0 s-rules) ∷ ‵ (fdies ty-rules l₃) ∷ ‵ (fat fullShare (tyInt w64) l₂ 0 (vint w64 columns₀)) ∷ ‵ (fdies (tyInt w64) l₂) ∷ ‵ (fat fullShare (tyInt w64) l₁ 0 (vint w64 rows₀)) ∷ ‵ (fdies (tyInt w64) l₁) ∷ ‵ (froom (tyInt w32) l₀ 0) ∷ ‵ (fdies (tyInt w32) l₀) ∷ []) (runs C Λ En mir′.t-16 (atRet En Post))
+    from-4 : (r₁ : Boards) (is₁ : Is of-Boards.the-row r₁ (LL.vals of-Boards.the-type laws-Boards.the-laws r₁)) (got₁ : r₁ ≡ heldOf boards₀) (r₂ : Boarded) (is₂ : Is of-Boarded.the-row r₂ (LL.vals of-Boarded.the-type laws-Boarded.the-laws r₂)) (depths₂ : List ℕ) (long-depths₂ : length depths₂ ≡ length depths₀) (lasts₂ : List ℕ) (long-lasts₂ : length lasts₂ ≡ length lasts₀) (records₂ : List ℕ) (long-records₂ : length records₂ ≡ length records₀) (run₂ : List ℕ) (long-run₂ : length run₂ ≡ length run₀) (steps₂ : List ℕ) (long-steps₂ : length steps₂ ≡ length steps₀) (got₂ : TellsHeld (plan (shapeFrom rows₀ columns₀) (marks₀ .now)) (given (ground (rulesFrom (rules₀ .now)) (beds₀ .now) (roughness₀ .now) (rates₀ .now)) (rain₀ .now) (inflow₀ .now)) end₀ (world depths₀ lasts₀ records₀ (runValueFrom run₀)) r₁ (rules₀ .now) run₀ steps₀ r₂ depths₂ lasts₂ records₂ run₂ steps₂) (r₃ : Boards) (is₃ : Is of-Boards.the-row r₃ (LL.vals of-Boards.the-type laws-Boards.the-laws r₃)) (got₃ : r₃ ≡ r₂ .boards) → Sq W (‵ (row of-Board.the-row fullShare boards₀ b-boards o-boards) ∷ ‵ (fobor κ-boards q-boards (Held of-Board.the-row (length boards₀) b-boards o-boards γ-boards)) ∷ ‵ (fobs γ-boards (codedHoleys of-Board.the-row .code (heres of-Board.the-row boards₀))) ∷ ‵ (fauth γ-boards (codedHoleys of-Board.the-row .code (heres of-Board.the-row boards₀))) ∷ ‵ (row u64 fullShare steps₂ b-steps o-steps) ∷ ‵ (fobor κ-steps q-steps (Held u64 (length steps₀) b-steps o-steps γ-steps)) ∷ ‵ (fobs γ-steps (codedHoleys u64 .code (heres u64 steps₀))) ∷ ‵ (fauth γ-steps (codedHoleys u64 .code (heres u64 steps₀))) ∷ ‵ (row u64 fullShare run₂ b-run o-run) ∷ ‵ (fobor κ-run q-run (Held u64 (length run₀) b-run o-run γ-run)) ∷ ‵ (fobs γ-run (codedHoleys u64 .code (heres u64 run₀))) ∷ ‵ (fauth γ-run (codedHoleys u64 .code (heres u64 run₀))) ∷ ‵ (row u32 fullShare records₂ b-records o-records) ∷ ‵ (fobor κ-records q-records (Held u32 (length records₀) b-records o-records γ-records)) ∷ ‵ (fobs γ-records (codedHoleys u32 .code (heres u32 records₀))) ∷ ‵ (fauth γ-records (codedHoleys u32 .code (heres u32 records₀))) ∷ ‵ (row u32 fullShare lasts₂ b-lasts o-lasts) ∷ ‵ (fobor κ-lasts q-lasts (Held u32 (length lasts₀) b-lasts o-lasts γ-lasts)) ∷ ‵ (fobs γ-lasts (codedHoleys u32 .code (heres u32 lasts₀))) ∷ ‵ (fauth γ-lasts (codedHoleys u32 .code (heres u32 lasts₀))) ∷ ‵ (row u32 fullShare depths₂ b-depths o-depths) ∷ ‵ (fobor κ-depths q-depths (Held u32 (length depths₀) b-depths o-depths γ-depths)) ∷ ‵ (fobs γ-depths (codedHoleys u32 .code (heres u32 depths₀))) ∷ ‵ (fauth γ-depths (codedHoleys u32 .code (heres u32 depths₀))) ∷ ‵ (flft κ-inflow q-inflow) ∷ ‵ (flft κ-rain q-rain) ∷ ‵ (flft κ-rates q-rates) ∷ ‵ (flft κ-roughness q-roughness) ∷ ‵ (flft κ-beds q-beds) ∷ ‵ (flft κ-marks q-marks) ∷ ‵ (flft κ-rules q-rules) ∷ ‵ D-inflow ∷ ‵ D-rain ∷ ‵ D-rates ∷ ‵ D-roughness ∷ ‵ D-beds ∷ ‵ D-marks ∷ ‵ D-rules ∷ ‵ (froom (sliceTy (tyRef erased mut (pointee (of-Board.the-row .written)))) l₃₄ 0) ∷ ‵ (fdies (sliceTy (tyRef erased mut (pointee (of-Board.the-row .written)))) l₃₄) ∷ ‵ (froom (tyRef erased mut (pointee (of-Board.the-row .written))) l₃₃ 0) ∷ ‵ (fdies (tyRef erased mut (pointee (of-Board.the-row .written))) l₃₃) ∷ ‵ (froom tyUnit l₃₂ 0) ∷ ‵ (fdies tyUnit l₃₂) ∷ ‵ (fat fullShare (sliceTy (tyRef erased mut (tyInt w64))) l₃₁ 0 s-steps) ∷ ‵ (fdies (sliceTy (tyRef erased mut (tyInt w64))) l₃₁) ∷ ‵ (fat fullShare (tyRef erased mut (tyInt w64)) l₃₀ 0 (vptr b-steps o-steps)) ∷ ‵ (fdies (tyRef erased mut (tyInt w64)) l₃₀) ∷ ‵ (fat fullShare (sliceTy (tyRef erased mut (tyInt w64))) l₂₉ 0 s-run) ∷ ‵ (fdies (sliceTy (tyRef erased mut (tyInt w64))) l₂₉) ∷ ‵ (fat fullShare (tyRef erased mut (tyInt w64)) l₂₈ 0 (vptr b-run o-run)) ∷ ‵ (fdies (tyRef erased mut (tyInt w64)) l₂₈) ∷ ‵ (fat fullShare (sliceTy (tyRef erased mut (tyInt w32))) l₂₇ 0 s-records) ∷ ‵ (fdies (sliceTy (tyRef erased mut (tyInt w32))) l₂₇) ∷ ‵ (fat fullShare (tyRef erased mut (tyInt w32)) l₂₆ 0 (vptr b-records o-records)) ∷ ‵ (fdies (tyRef erased mut (tyInt w32)) l₂₆) ∷ ‵ (fat fullShare (sliceTy (tyRef erased mut (tyInt w32))) l₂₅ 0 s-lasts) ∷ ‵ (fdies (sliceTy (tyRef erased mut (tyInt w32))) l₂₅) ∷ ‵ (fat fullShare (tyRef erased mut (tyInt w32)) l₂₄ 0 (vptr b-lasts o-lasts)) ∷ ‵ (fdies (tyRef erased mut (tyInt w32)) l₂₄) ∷ ‵ (fat fullShare (sliceTy (tyRef erased mut (tyInt w32))) l₂₃ 0 s-depths) ∷ ‵ (fdies (sliceTy (tyRef erased mut (tyInt w32))) l₂₃) ∷ ‵ (fat fullShare (tyRef erased mut (tyInt w32)) l₂₂ 0 (vptr b-depths o-depths)) ∷ ‵ (fdies (tyRef erased mut (tyInt w32)) l₂₂) ∷ ‵ (fat fullShare (sliceTy (tyRef erased imm (pointee (of-Board.the-row .written)))) l₂₁ 0 s-boards) ∷ ‵ (fdies (sliceTy (tyRef erased imm (pointee (of-Board.the-row .written)))) l₂₁) ∷ ‵ (fat fullShare (tyRef erased imm (pointee (of-Board.the-row .written))) l₂₀ 0 (vptr b-boards o-boards)) ∷ ‵ (fdies (tyRef erased imm (pointee (of-Board.the-row .written))) l₂₀) ∷ ‵ (fat fullShare laws-Boards.mir l₁₉ 0 (LL.val of-Boards.the-type laws-Boards.the-laws r₃)) ∷ ‵ (fdies laws-Boards.mir l₁₉) ∷ ‵ (fat fullShare laws-Boarded.mir l₁₈ 0 (LL.val of-Boarded.the-type laws-Boarded.the-laws r₂)) ∷ ‵ (fdies laws-Boarded.mir l₁₈) ∷ ‵ (fat fullShare laws-Boards.mir l₁₇ 0 (LL.val of-Boards.the-type laws-Boards.the-laws r₁)) ∷ ‵ (fdies laws-Boards.mir l₁₇) ∷ ‵ (fat fullShare ty-boards l₁₆ 0 s-boards) ∷ ‵ (fdies ty-boards l₁₆) ∷ ‵ (fat fullShare ty-steps l₁₅ 0 s-steps) ∷ ‵ (fdies ty-steps l₁₅) ∷ ‵ (fat fullShare ty-run l₁₄ 0 s-run) ∷ ‵ (fdies ty-run l₁₄) ∷ ‵ (fat fullShare ty-records l₁₃ 0 s-records) ∷ ‵ (fdies ty-records l₁₃) ∷ ‵ (fat fullShare ty-lasts l₁₂ 0 s-lasts) ∷ ‵ (fdies ty-lasts l₁₂) ∷ ‵ (fat fullShare ty-depths l₁₁ 0 s-depths) ∷ ‵ (fdies ty-depths l₁₁) ∷ ‵ (fat fullShare ty-inflow l₁₀ 0 s-inflow) ∷ ‵ (fdies ty-inflow l₁₀) ∷ ‵ (fat fullShare ty-rain l₉ 0 s-rain) ∷ ‵ (fdies ty-rain l₉) ∷ ‵ (fat fullShare ty-rates l₈ 0 s-rates) ∷ ‵ (fdies ty-rates l₈) ∷ ‵ (fat fullShare ty-roughness l₇ 0 s-roughness) ∷ ‵ (fdies ty-roughness l₇) ∷ ‵ (fat fullShare ty-beds l₆ 0 s-beds) ∷ ‵ (fdies ty-beds l₆) ∷ ‵ (fat fullShare ty-marks l₅ 0 s-marks) ∷ ‵ (fdies ty-marks l₅) ∷ ‵ (fat fullShare (tyInt w64) l₄ 0 (vint w64 end₀)) ∷ ‵ (fdies (tyInt w64) l₄) ∷ ‵ (fat fullShare ty-rules l₃ 0 s-rules) ∷ ‵ (fdies ty-rules l₃) ∷ ‵ (fat fullShare (tyInt w64) l₂ 0 (vint w64 columns₀)) ∷ ‵ (fdies (tyInt w64) l₂) ∷ ‵ (fat fullShare (tyInt w64) l₁ 0 (vint w64 rows₀)) ∷ ‵ (fdies (tyInt w64) l₁) ∷ ‵ (froom (tyInt w32) l₀ 0) ∷ ‵ (fdies (tyInt w32) l₀) ∷ []) (runs C Λ En mir′.t-16 (atRet En Post))
     from-4 r₁ is₁ got₁ r₂ is₂ depths₂ long-depths₂ lasts₂ long-lasts₂ records₂ long-records₂ run₂ long-run₂ steps₂ long-steps₂ got₂ r₃ is₃ got₃ =
         assigns ! (addr ! (from ! (fld ! refl (hop ! (look-in ! 74 (sub ! 0 refl (whole !))) (stop !))))) (from ! (stop !)) (init ! 40 refl (tt, tt)) $
         assigns ! (agg ! (and-then ! (load ! (from ! (stop !)) (look ! 40 refl)) (and-then ! (load ! (from ! (fld ! refl (stop !))) (look-in ! 74 (sub ! 1 refl (whole !)))) (no-more !)))) (from ! (stop !)) (init ! 38 refl (tt, (tt, (record { fits = room-boards .0 }, tt)))) $
@@ -698,7 +698,7 @@ module _ {M : Type 1} (𝓤 : URA M) (H : Heap 𝓤) (A : Atoms 𝓤) (W : Given
         use3 W (later (‵ (row of-Board.the-row fullShare (zs .0) b-boards o-boards))) (back-row 𝓤 H A W of-Board.the-row (named 0) (ν-boards ∷ []) b-boards o-boards (zs .0) (length boards₀) δ-boards) $ await ! tt $
         from-5 r₁ is₁ got₁ r₂ is₂ depths₂ long-depths₂ lasts₂ long-lasts₂ records₂ long-records₂ run₂ long-run₂ steps₂ long-steps₂ got₂ r₃ is₃ got₃ r₄ (subst (Is Nothing r₄) (nothing-tells r₄ (w ∷ []) is) is) (zs .0) now-boards got₄))))))))
 
-    from-3 : (r₁ : Boards) (is₁ : Is of-Boards.the-row r₁ (LL.vals of-Boards.the-type laws-Boards.the-laws r₁)) (got₁ : r₁ ≡ heldOf boards₀) (r₂ : Told) (is₂ : Is of-Told.the-row r₂ (LL.vals of-Told.the-type laws-Told.the-laws r₂)) (depths₂ : List ℕ) (long-depths₂ : length depths₂ ≡ length depths₀) (lasts₂ : List ℕ) (long-lasts₂ : length lasts₂ ≡ length lasts₀) (records₂ : List ℕ) (long-records₂ : length records₂ ≡ length records₀) (run₂ : List ℕ) (long-run₂ : length run₂ ≡ length run₀) (steps₂ : List ℕ) (long-steps₂ : length steps₂ ≡ length steps₀) (got₂ : TellsHeld (plan (shapeFrom rows₀ columns₀) (marks₀ .now)) (given (ground (rulesFrom (rules₀ .now)) (beds₀ .now) (roughness₀ .now) (rates₀ .now)) (rain₀ .now) (inflow₀ .now)) end₀ (world depths₀ lasts₀ records₀ (runValueFrom run₀)) r₁ (rules₀ .now) run₀ steps₀ r₂ depths₂ lasts₂ records₂ run₂ steps₂) → Sq W (‵ (row of-Board.the-row fullShare boards₀ b-boards o-boards) ∷ ‵ (fobor κ-boards q-boards (Held of-Board.the-row (length boards₀) b-boards o-boards γ-boards)) ∷ ‵ (fobs γ-boards (codedHoleys of-Board.the-row .code (heres of-Board.the-row boards₀))) ∷ ‵ (fauth γ-boards (codedHoleys of-Board.the-row .code (heres of-Board.the-row boards₀))) ∷ ‵ (row u64 fullShare steps₂ b-steps o-steps) ∷ ‵ (fobor κ-steps q-steps (Held u64 (length steps₀) b-steps o-steps γ-steps)) ∷ ‵ (fobs γ-steps (codedHoleys u64 .code (heres u64 steps₀))) ∷ ‵ (fauth γ-steps (codedHoleys u64 .code (heres u64 steps₀))) ∷ ‵ (row u64 fullShare run₂ b-run o-run) ∷ ‵ (fobor κ-run q-run (Held u64 (length run₀) b-run o-run γ-run)) ∷ ‵ (fobs γ-run (codedHoleys u64 .code (heres u64 run₀))) ∷ ‵ (fauth γ-run (codedHoleys u64 .code (heres u64 run₀))) ∷ ‵ (row u32 fullShare records₂ b-records o-records) ∷ ‵ (fobor κ-records q-records (Held u32 (length records₀) b-records o-records γ-records)) ∷ ‵ (fobs γ-records (codedHoleys u32 .code (heres u32 records₀))) ∷ ‵ (fauth γ-records (codedHoleys u32 .code (heres u32 records₀))) ∷ ‵ (row u32 fullShare lasts₂ b-lasts o-lasts) ∷ ‵ (fobor κ-lasts q-lasts (Held u32 (length lasts₀) b-lasts o-lasts γ-lasts)) ∷ ‵ (fobs γ-lasts (codedHoleys u32 .code (heres u32 lasts₀))) ∷ ‵ (fauth γ-lasts (codedHoleys u32 .code (heres u32 lasts₀))) ∷ ‵ (row u32 fullShare depths₂ b-depths o-depths) ∷ ‵ (fobor κ-depths q-depths (Held u32 (length depths₀) b-depths o-depths γ-depths)) ∷ ‵ (fobs γ-depths (codedHoleys u32 .code (heres u32 depths₀))) ∷ ‵ (fauth γ-depths (codedHoleys u32 .code (heres u32 depths₀))) ∷ ‵ (flft κ-inflow q-inflow) ∷ ‵ (flft κ-rain q-rain) ∷ ‵ (flft κ-rates q-rates) ∷ ‵ (flft κ-roughness q-roughness) ∷ ‵ (flft κ-beds q-beds) ∷ ‵ (flft κ-marks q-marks) ∷ ‵ (flft κ-rules q-rules) ∷ ‵ D-inflow ∷ ‵ D-rain ∷ ‵ D-rates ∷ ‵ D-roughness ∷ ‵ D-beds ∷ ‵ D-marks ∷ ‵ D-rules ∷ ‵ (froom (sliceTy (tyRef erased mut (pointee (of-Board.the-row .written)))) l₃₄ 0) ∷ ‵ (fdies (sliceTy (tyRef erased mut (pointee (of-Board.the-row .written)))) l₃₄) ∷ ‵ (froom (tyRef erased mut (pointee (of-Board.the-row .written))) l₃₃ 0) ∷ ‵ (fdies (tyRef erased mut (pointee (of-Board.the-row .written))) l₃₃) ∷ ‵ (froom tyUnit l₃₂ 0) ∷ ‵ (fdies tyUnit l₃₂) ∷ ‵ (fat fullShare (sliceTy (tyRef erased mut (tyInt w64))) l₃₁ 0 s-steps) ∷ ‵ (fdies (sliceTy (tyRef erased mut (tyInt w64))) l₃₁) ∷ ‵ (fat fullShare (tyRef erased mut (tyInt w64)) l₃₀ 0 (vptr b-steps o-steps)) ∷ ‵ (fdies (tyRef erased mut (tyInt w64)) l₃₀) ∷ ‵ (fat fullShare (sliceTy (tyRef erased mut (tyInt w64))) l₂₉ 0 s-run) ∷ ‵ (fdies (sliceTy (tyRef erased mut (tyInt w64))) l₂₉) ∷ ‵ (fat fullShare (tyRef erased mut (tyInt w64)) l₂₈ 0 (vptr b-run o-run)) ∷ ‵ (fdies (tyRef erased mut (tyInt w64)) l₂₈) ∷ ‵ (fat fullShare (sliceTy (tyRef erased mut (tyInt w32))) l₂₇ 0 s-records) ∷ ‵ (fdies (sliceTy (tyRef erased mut (tyInt w32))) l₂₇) ∷ ‵ (fat fullShare (tyRef erased mut (tyInt w32)) l₂₆ 0 (vptr b-records o-records)) ∷ ‵ (fdies (tyRef erased mut (tyInt w32)) l₂₆) ∷ ‵ (fat fullShare (sliceTy (tyRef erased mut (tyInt w32))) l₂₅ 0 s-lasts) ∷ ‵ (fdies (sliceTy (tyRef erased mut (tyInt w32))) l₂₅) ∷ ‵ (fat fullShare (tyRef erased mut (tyInt w32)) l₂₄ 0 (vptr b-lasts o-lasts)) ∷ ‵ (fdies (tyRef erased mut (tyInt w32)) l₂₄) ∷ ‵ (fat fullShare (sliceTy (tyRef erased mut (tyInt w32))) l₂₃ 0 s-depths) ∷ ‵ (fdies (sliceTy (tyRef erased mut (tyInt w32))) l₂₃) ∷ ‵ (fat fullShare (tyRef erased mut (tyInt w32)) l₂₂ 0 (vptr b-depths o-depths)) ∷ ‵ (fdies (tyRef erased mut (tyInt w32)) l₂₂) ∷ ‵ (fat fullShare (sliceTy (tyRef erased imm (pointee (of-Board.the-row .written)))) l₂₁ 0 s-boards) ∷ ‵ (fdies (sliceTy (tyRef erased imm (pointee (of-Board.the-row .written)))) l₂₁) ∷ ‵ (fat fullShare (tyRef erased imm (pointee (of-Board.the-row .written))) l₂₀ 0 (vptr b-boards o-boards)) ∷ ‵ (fdies (tyRef erased imm (pointee (of-Board.the-row .written))) l₂₀) ∷ ‵ (froom laws-Boards.mir l₁₉ 0) ∷ ‵ (fdies laws-Boards.mir l₁₉) ∷ ‵ (fat fullShare laws-Told.mir l₁₈ 0 (LL.val of-Told.the-type laws-Told.the-laws r₂)) ∷ ‵ (fdies laws-Told.mir l₁₈) ∷ ‵ (fat fullShare laws-Boards.mir l₁₇ 0 (LL.val of-Boards.the-type laws-Boards.the-laws r₁)) ∷ ‵ (fdies laws-Boards.mir l₁₇) ∷ ‵ (fat fullShare ty-boards l₁₆ 0 s-boards) ∷ ‵ (fdies ty-boards l₁₆) ∷ ‵ (fat fullShare ty-steps l₁₅ 0 s-steps) ∷ ‵ (fdies ty-steps l₁₅) ∷ ‵ (fat fullShare ty-run l₁₄ 0 s-run) ∷ ‵ (fdies ty-run l₁₄) ∷ ‵ (fat fullShare ty-records l₁₃ 0 s-records) ∷ ‵ (fdies ty-records l₁₃) ∷ ‵ (fat fullShare ty-lasts l₁₂ 0 s-lasts) ∷ ‵ (fdies ty-lasts l₁₂) ∷ ‵ (fat fullShare ty-depths l₁₁ 0 s-depths) ∷ ‵ (fdies ty-depths l₁₁) ∷ ‵ (fat fullShare ty-inflow l₁₀ 0 s-inflow) ∷ ‵ (fdies ty-inflow l₁₀) ∷ ‵ (fat fullShare ty-rain l₉ 0 s-rain) ∷ ‵ (fdies ty-rain l₉) ∷ ‵ (fat fullShare ty-rates l₈ 0 s-rates) ∷ ‵ (fdies ty-rates l₈) ∷ ‵ (fat fullShare ty-roughness l₇ 0 s-roughness) ∷ ‵ (fdies ty-roughness l₇) ∷ ‵ (fat fullShare ty-beds l₆ 0 s-beds) ∷ ‵ (fdies ty-beds l₆) ∷ ‵ (fat fullShare ty-marks l₅ 0 s-marks) ∷ ‵ (fdies ty-marks l₅) ∷ ‵ (fat fullShare (tyInt w64) l₄ 0 (vint w64 end₀)) ∷ ‵ (fdies (tyInt w64) l₄) ∷ ‵ (fat fullShare ty-rules l₃ 0 s-rules) ∷ ‵ (fdies ty-rules l₃) ∷ ‵ (fat fullShare (tyInt w64) l₂ 0 (vint w64 columns₀)) ∷ ‵ (fdies (tyInt w64) l₂) ∷ ‵ (fat fullShare (tyInt w64) l₁ 0 (vint w64 rows₀)) ∷ ‵ (fdies (tyInt w64) l₁) ∷ ‵ (froom (tyInt w32) l₀ 0) ∷ ‵ (fdies (tyInt w32) l₀) ∷ []) (runs C Λ En mir′.t-15 (atRet En Post))
+    from-3 : (r₁ : Boards) (is₁ : Is of-Boards.the-row r₁ (LL.vals of-Boards.the-type laws-Boards.the-laws r₁)) (got₁ : r₁ ≡ heldOf boards₀) (r₂ : Boarded) (is₂ : Is of-Boarded.the-row r₂ (LL.vals of-Boarded.the-type laws-Boarded.the-laws r₂)) (depths₂ : List ℕ) (long-depths₂ : length depths₂ ≡ length depths₀) (lasts₂ : List ℕ) (long-lasts₂ : length lasts₂ ≡ length lasts₀) (records₂ : List ℕ) (long-records₂ : length records₂ ≡ length records₀) (run₂ : List ℕ) (long-run₂ : length run₂ ≡ length run₀) (steps₂ : List ℕ) (long-steps₂ : length steps₂ ≡ length steps₀) (got₂ : TellsHeld (plan (shapeFrom rows₀ columns₀) (marks₀ .now)) (given (ground (rulesFrom (rules₀ .now)) (beds₀ .now) (roughness₀ .now) (rates₀ .now)) (rain₀ .now) (inflow₀ .now)) end₀ (world depths₀ lasts₀ records₀ (runValueFrom run₀)) r₁ (rules₀ .now) run₀ steps₀ r₂ depths₂ lasts₂ records₂ run₂ steps₂) → Sq W (‵ (row of-Board.the-row fullShare boards₀ b-boards o-boards) ∷ ‵ (fobor κ-boards q-boards (Held of-Board.the-row (length boards₀) b-boards o-boards γ-boards)) ∷ ‵ (fobs γ-boards (codedHoleys of-Board.the-row .code (heres of-Board.the-row boards₀))) ∷ ‵ (fauth γ-boards (codedHoleys of-Board.the-row .code (heres of-Board.the-row boards₀))) ∷ ‵ (row u64 fullShare steps₂ b-steps o-steps) ∷ ‵ (fobor κ-steps q-steps (Held u64 (length steps₀) b-steps o-steps γ-steps)) ∷ ‵ (fobs γ-steps (codedHoleys u64 .code (heres u64 steps₀))) ∷ ‵ (fauth γ-steps (codedHoleys u64 .code (heres u64 steps₀))) ∷ ‵ (row u64 fullShare run₂ b-run o-run) ∷ ‵ (fobor κ-run q-run (Held u64 (length run₀) b-run o-run γ-run)) ∷ ‵ (fobs γ-run (codedHoleys u64 .code (heres u64 run₀))) ∷ ‵ (fauth γ-run (codedHoleys u64 .code (heres u64 run₀))) ∷ ‵ (row u32 fullShare records₂ b-records o-records) ∷ ‵ (fobor κ-records q-records (Held u32 (length records₀) b-records o-records γ-records)) ∷ ‵ (fobs γ-records (codedHoleys u32 .code (heres u32 records₀))) ∷ ‵ (fauth γ-records (codedHoleys u32 .code (heres u32 records₀))) ∷ ‵ (row u32 fullShare lasts₂ b-lasts o-lasts) ∷ ‵ (fobor κ-lasts q-lasts (Held u32 (length lasts₀) b-lasts o-lasts γ-lasts)) ∷ ‵ (fobs γ-lasts (codedHoleys u32 .code (heres u32 lasts₀))) ∷ ‵ (fauth γ-lasts (codedHoleys u32 .code (heres u32 lasts₀))) ∷ ‵ (row u32 fullShare depths₂ b-depths o-depths) ∷ ‵ (fobor κ-depths q-depths (Held u32 (length depths₀) b-depths o-depths γ-depths)) ∷ ‵ (fobs γ-depths (codedHoleys u32 .code (heres u32 depths₀))) ∷ ‵ (fauth γ-depths (codedHoleys u32 .code (heres u32 depths₀))) ∷ ‵ (flft κ-inflow q-inflow) ∷ ‵ (flft κ-rain q-rain) ∷ ‵ (flft κ-rates q-rates) ∷ ‵ (flft κ-roughness q-roughness) ∷ ‵ (flft κ-beds q-beds) ∷ ‵ (flft κ-marks q-marks) ∷ ‵ (flft κ-rules q-rules) ∷ ‵ D-inflow ∷ ‵ D-rain ∷ ‵ D-rates ∷ ‵ D-roughness ∷ ‵ D-beds ∷ ‵ D-marks ∷ ‵ D-rules ∷ ‵ (froom (sliceTy (tyRef erased mut (pointee (of-Board.the-row .written)))) l₃₄ 0) ∷ ‵ (fdies (sliceTy (tyRef erased mut (pointee (of-Board.the-row .written)))) l₃₄) ∷ ‵ (froom (tyRef erased mut (pointee (of-Board.the-row .written))) l₃₃ 0) ∷ ‵ (fdies (tyRef erased mut (pointee (of-Board.the-row .written))) l₃₃) ∷ ‵ (froom tyUnit l₃₂ 0) ∷ ‵ (fdies tyUnit l₃₂) ∷ ‵ (fat fullShare (sliceTy (tyRef erased mut (tyInt w64))) l₃₁ 0 s-steps) ∷ ‵ (fdies (sliceTy (tyRef erased mut (tyInt w64))) l₃₁) ∷ ‵ (fat fullShare (tyRef erased mut (tyInt w64)) l₃₀ 0 (vptr b-steps o-steps)) ∷ ‵ (fdies (tyRef erased mut (tyInt w64)) l₃₀) ∷ ‵ (fat fullShare (sliceTy (tyRef erased mut (tyInt w64))) l₂₉ 0 s-run) ∷ ‵ (fdies (sliceTy (tyRef erased mut (tyInt w64))) l₂₉) ∷ ‵ (fat fullShare (tyRef erased mut (tyInt w64)) l₂₈ 0 (vptr b-run o-run)) ∷ ‵ (fdies (tyRef erased mut (tyInt w64)) l₂₈) ∷ ‵ (fat fullShare (sliceTy (tyRef erased mut (tyInt w32))) l₂₇ 0 s-records) ∷ ‵ (fdies (sliceTy (tyRef erased mut (tyInt w32))) l₂₇) ∷ ‵ (fat fullShare (tyRef erased mut (tyInt w32)) l₂₆ 0 (vptr b-records o-records)) ∷ ‵ (fdies (tyRef erased mut (tyInt w32)) l₂₆) ∷ ‵ (fat fullShare (sliceTy (tyRef erased mut (tyInt w32))) l₂₅ 0 s-lasts) ∷ ‵ (fdies (sliceTy (tyRef erased mut (tyInt w32))) l₂₅) ∷ ‵ (fat fullShare (tyRef erased mut (tyInt w32)) l₂₄ 0 (vptr b-lasts o-lasts)) ∷ ‵ (fdies (tyRef erased mut (tyInt w32)) l₂₄) ∷ ‵ (fat fullShare (sliceTy (tyRef erased mut (tyInt w32))) l₂₃ 0 s-depths) ∷ ‵ (fdies (sliceTy (tyRef erased mut (tyInt w32))) l₂₃) ∷ ‵ (fat fullShare (tyRef erased mut (tyInt w32)) l₂₂ 0 (vptr b-depths o-depths)) ∷ ‵ (fdies (tyRef erased mut (tyInt w32)) l₂₂) ∷ ‵ (fat fullShare (sliceTy (tyRef erased imm (pointee (of-Board.the-row .written)))) l₂₁ 0 s-boards) ∷ ‵ (fdies (sliceTy (tyRef erased imm (pointee (of-Board.the-row .written)))) l₂₁) ∷ ‵ (fat fullShare (tyRef erased imm (pointee (of-Board.the-row .written))) l₂₀ 0 (vptr b-boards o-boards)) ∷ ‵ (fdies (tyRef erased imm (pointee (of-Board.the-row .written))) l₂₀) ∷ ‵ (froom laws-Boards.mir l₁₉ 0) ∷ ‵ (fdies laws-Boards.mir l₁₉) ∷ ‵ (fat fullShare laws-Boarded.mir l₁₈ 0 (LL.val of-Boarded.the-type laws-Boarded.the-laws r₂)) ∷ ‵ (fdies laws-Boarded.mir l₁₈) ∷ ‵ (fat fullShare laws-Boards.mir l₁₇ 0 (LL.val of-Boards.the-type laws-Boards.the-laws r₁)) ∷ ‵ (fdies laws-Boards.mir l₁₇) ∷ ‵ (fat fullShare ty-boards l₁₆ 0 s-boards) ∷ ‵ (fdies ty-boards l₁₆) ∷ ‵ (fat fullShare ty-steps l₁₅ 0 s-steps) ∷ ‵ (fdies ty-steps l₁₅) ∷ ‵ (fat fullShare ty-run l₁₄ 0 s-run) ∷ ‵ (fdies ty-run l₁₄) ∷ ‵ (fat fullShare ty-records l₁₃ 0 s-records) ∷ ‵ (fdies ty-records l₁₃) ∷ ‵ (fat fullShare ty-lasts l₁₂ 0 s-lasts) ∷ ‵ (fdies ty-lasts l₁₂) ∷ ‵ (fat fullShare ty-depths l₁₁ 0 s-depths) ∷ ‵ (fdies ty-depths l₁₁) ∷ ‵ (fat fullShare ty-inflow l₁₀ 0 s-inflow) ∷ ‵ (fdies ty-inflow l₁₀) ∷ ‵ (fat fullShare ty-rain l₉ 0 s-rain) ∷ ‵ (fdies ty-rain l₉) ∷ ‵ (fat fullShare ty-rates l₈ 0 s-rates) ∷ ‵ (fdies ty-rates l₈) ∷ ‵ (fat fullShare ty-roughness l₇ 0 s-roughness) ∷ ‵ (fdies ty-roughness l₇) ∷ ‵ (fat fullShare ty-beds l₆ 0 s-beds) ∷ ‵ (fdies ty-beds l₆) ∷ ‵ (fat fullShare ty-marks l₅ 0 s-marks) ∷ ‵ (fdies ty-marks l₅) ∷ ‵ (fat fullShare (tyInt w64) l₄ 0 (vint w64 end₀)) ∷ ‵ (fdies (tyInt w64) l₄) ∷ ‵ (fat fullShare ty-rules l₃ 0 s-rules) ∷ ‵ (fdies ty-rules l₃) ∷ ‵ (fat fullShare (tyInt w64) l₂ 0 (vint w64 columns₀)) ∷ ‵ (fdies (tyInt w64) l₂) ∷ ‵ (fat fullShare (tyInt w64) l₁ 0 (vint w64 rows₀)) ∷ ‵ (fdies (tyInt w64) l₁) ∷ ‵ (froom (tyInt w32) l₀ 0) ∷ ‵ (fdies (tyInt w32) l₀) ∷ []) (runs C Λ En mir′.t-15 (atRet En Post))
     from-3 r₁ is₁ got₁ r₂ is₂ depths₂ long-depths₂ lasts₂ long-lasts₂ records₂ long-records₂ run₂ long-run₂ steps₂ long-steps₂ got₂ =
         use0 W (raw (Of-boards-of 𝓤 H A mem run .pre (to-3 r₁ is₁ got₁ r₂ is₂ depths₂ long-depths₂ lasts₂ long-lasts₂ records₂ long-records₂ run₂ long-run₂ steps₂ long-steps₂ got₂))) (goes-3 r₁ is₁ got₁ r₂ is₂ depths₂ long-depths₂ lasts₂ long-lasts₂ records₂ long-records₂ run₂ long-run₂ steps₂ long-steps₂ got₂) $
         calls-at ! fm (Of-boards-of 𝓤 H A mem run) k-boards-of (to-3 r₁ is₁ got₁ r₂ is₂ depths₂ long-depths₂ lasts₂ long-lasts₂ records₂ long-records₂ run₂ long-run₂ steps₂ long-steps₂ got₂) (and-then ! (load ! (from ! (stop !)) (look ! 71 refl)) (no-more !)) (λ w.
@@ -718,7 +718,7 @@ module _ {M : Type 1} (𝓤 : URA M) (H : Heap 𝓤) (A : Atoms 𝓤) (W : Given
         drop ! $
         from-4 r₁ is₁ got₁ r₂ is₂ depths₂ long-depths₂ lasts₂ long-lasts₂ records₂ long-records₂ run₂ long-run₂ steps₂ long-steps₂ got₂ r₃ (subst (Is of-Boards.the-row r₃) (LL.tells of-Boards.the-type laws-Boards.the-laws r₃ (w ∷ []) is) is) got₃)))))
 
-    from-2 : (r₁ : Boards) (is₁ : Is of-Boards.the-row r₁ (LL.vals of-Boards.the-type laws-Boards.the-laws r₁)) (got₁ : r₁ ≡ heldOf boards₀) → Sq W (‵ (row of-Board.the-row fullShare boards₀ b-boards o-boards) ∷ ‵ (fobor κ-boards q-boards (Held of-Board.the-row (length boards₀) b-boards o-boards γ-boards)) ∷ ‵ (fobs γ-boards (codedHoleys of-Board.the-row .code (heres of-Board.the-row boards₀))) ∷ ‵ (fauth γ-boards (codedHoleys of-Board.the-row .code (heres of-Board.the-row boards₀))) ∷ ‵ (row u64 fullShare steps₀ b-steps o-steps) ∷ ‵ (fobor κ-steps q-steps (Held u64 (length steps₀) b-steps o-steps γ-steps)) ∷ ‵ (fobs γ-steps (codedHoleys u64 .code (heres u64 steps₀))) ∷ ‵ (fauth γ-steps (codedHoleys u64 .code (heres u64 steps₀))) ∷ ‵ (row u64 fullShare run₀ b-run o-run) ∷ ‵ (fobor κ-run q-run (Held u64 (length run₀) b-run o-run γ-run)) ∷ ‵ (fobs γ-run (codedHoleys u64 .code (heres u64 run₀))) ∷ ‵ (fauth γ-run (codedHoleys u64 .code (heres u64 run₀))) ∷ ‵ (row u32 fullShare records₀ b-records o-records) ∷ ‵ (fobor κ-records q-records (Held u32 (length records₀) b-records o-records γ-records)) ∷ ‵ (fobs γ-records (codedHoleys u32 .code (heres u32 records₀))) ∷ ‵ (fauth γ-records (codedHoleys u32 .code (heres u32 records₀))) ∷ ‵ (row u32 fullShare lasts₀ b-lasts o-lasts) ∷ ‵ (fobor κ-lasts q-lasts (Held u32 (length lasts₀) b-lasts o-lasts γ-lasts)) ∷ ‵ (fobs γ-lasts (codedHoleys u32 .code (heres u32 lasts₀))) ∷ ‵ (fauth γ-lasts (codedHoleys u32 .code (heres u32 lasts₀))) ∷ ‵ (row u32 fullShare depths₀ b-depths o-depths) ∷ ‵ (fobor κ-depths q-depths (Held u32 (length depths₀) b-depths o-depths γ-depths)) ∷ ‵ (fobs γ-depths (codedHoleys u32 .code (heres u32 depths₀))) ∷ ‵ (fauth γ-depths (codedHoleys u32 .code (heres u32 depths₀))) ∷ ‵ (flft κ-inflow q-inflow) ∷ ‵ (flft κ-rain q-rain) ∷ ‵ (flft κ-rates q-rates) ∷ ‵ (flft κ-roughness q-roughness) ∷ ‵ (flft κ-beds q-beds) ∷ ‵ (flft κ-marks q-marks) ∷ ‵ (flft κ-rules q-rules) ∷ ‵ D-inflow ∷ ‵ D-rain ∷ ‵ D-rates ∷ ‵ D-roughness ∷ ‵ D-beds ∷ ‵ D-marks ∷ ‵ D-rules ∷ ‵ (froom (sliceTy (tyRef erased mut (pointee (of-Board.the-row .written)))) l₃₄ 0) ∷ ‵ (fdies (sliceTy (tyRef erased mut (pointee (of-Board.the-row .written)))) l₃₄) ∷ ‵ (froom (tyRef erased mut (pointee (of-Board.the-row .written))) l₃₃ 0) ∷ ‵ (fdies (tyRef erased mut (pointee (of-Board.the-row .written))) l₃₃) ∷ ‵ (froom tyUnit l₃₂ 0) ∷ ‵ (fdies tyUnit l₃₂) ∷ ‵ (froom (sliceTy (tyRef erased mut (tyInt w64))) l₃₁ 0) ∷ ‵ (fdies (sliceTy (tyRef erased mut (tyInt w64))) l₃₁) ∷ ‵ (froom (tyRef erased mut (tyInt w64)) l₃₀ 0) ∷ ‵ (fdies (tyRef erased mut (tyInt w64)) l₃₀) ∷ ‵ (froom (sliceTy (tyRef erased mut (tyInt w64))) l₂₉ 0) ∷ ‵ (fdies (sliceTy (tyRef erased mut (tyInt w64))) l₂₉) ∷ ‵ (froom (tyRef erased mut (tyInt w64)) l₂₈ 0) ∷ ‵ (fdies (tyRef erased mut (tyInt w64)) l₂₈) ∷ ‵ (froom (sliceTy (tyRef erased mut (tyInt w32))) l₂₇ 0) ∷ ‵ (fdies (sliceTy (tyRef erased mut (tyInt w32))) l₂₇) ∷ ‵ (froom (tyRef erased mut (tyInt w32)) l₂₆ 0) ∷ ‵ (fdies (tyRef erased mut (tyInt w32)) l₂₆) ∷ ‵ (froom (sliceTy (tyRef erased mut (tyInt w32))) l₂₅ 0) ∷ ‵ (fdies (sliceTy (tyRef erased mut (tyInt w32))) l₂₅) ∷ ‵ (froom (tyRef erased mut (tyInt w32)) l₂₄ 0) ∷ ‵ (fdies (tyRef erased mut (tyInt w32)) l₂₄) ∷ ‵ (froom (sliceTy (tyRef erased mut (tyInt w32))) l₂₃ 0) ∷ ‵ (fdies (sliceTy (tyRef erased mut (tyInt w32))) l₂₃) ∷ ‵ (froom (tyRef erased mut (tyInt w32)) l₂₂ 0) ∷ ‵ (fdies (tyRef erased mut (tyInt w32)) l₂₂) ∷ ‵ (fat fullShare (sliceTy (tyRef erased imm (pointee (of-Board.the-row .written)))) l₂₁ 0 s-boards) ∷ ‵ (fdies (sliceTy (tyRef erased imm (pointee (of-Board.the-row .written)))) l₂₁) ∷ ‵ (fat fullShare (tyRef erased imm (pointee (of-Board.the-row .written))) l₂₀ 0 (vptr b-boards o-boards)) ∷ ‵ (fdies (tyRef erased imm (pointee (of-Board.the-row .written))) l₂₀) ∷ ‵ (froom laws-Boards.mir l₁₉ 0) ∷ ‵ (fdies laws-Boards.mir l₁₉) ∷ ‵ (froom laws-Told.mir l₁₈ 0) ∷ ‵ (fdies laws-Told.mir l₁₈) ∷ ‵ (fat fullShare laws-Boards.mir l₁₇ 0 (LL.val of-Boards.the-type laws-Boards.the-laws r₁)) ∷ ‵ (fdies laws-Boards.mir l₁₇) ∷ ‵ (fat fullShare ty-boards l₁₆ 0 s-boards) ∷ ‵ (fdies ty-boards l₁₆) ∷ ‵ (fat fullShare ty-steps l₁₅ 0 s-steps) ∷ ‵ (fdies ty-steps l₁₅) ∷ ‵ (fat fullShare ty-run l₁₄ 0 s-run) ∷ ‵ (fdies ty-run l₁₄) ∷ ‵ (fat fullShare ty-records l₁₃ 0 s-records) ∷ ‵ (fdies ty-records l₁₃) ∷ ‵ (fat fullShare ty-lasts l₁₂ 0 s-lasts) ∷ ‵ (fdies ty-lasts l₁₂) ∷ ‵ (fat fullShare ty-depths l₁₁ 0 s-depths) ∷ ‵ (fdies ty-depths l₁₁) ∷ ‵ (fat fullShare ty-inflow l₁₀ 0 s-inflow) ∷ ‵ (fdies ty-inflow l₁₀) ∷ ‵ (fat fullShare ty-rain l₉ 0 s-rain) ∷ ‵ (fdies ty-rain l₉) ∷ ‵ (fat fullShare ty-rates l₈ 0 s-rates) ∷ ‵ (fdies ty-rates l₈) ∷ ‵ (fat fullShare ty-roughness l₇ 0 s-roughness) ∷ ‵ (fdies ty-roughness l₇) ∷ ‵ (fat fullShare ty-beds l₆ 0 s-beds) ∷ ‵ (fdies ty-beds l₆) ∷ ‵ (fat fullShare ty-marks l₅ 0 s-marks) ∷ ‵ (fdies ty-marks l₅) ∷ ‵ (fat fullShare (tyInt w64) l₄ 0 (vint w64 end₀)) ∷ ‵ (fdies (tyInt w64) l₄) ∷ ‵ (fat fullShare ty-rules l₃ 0 s-rules) ∷ ‵ (fdies ty-rules l₃) ∷ ‵ (fat fullShare (tyInt w64) l₂ 0 (vint w64 columns₀)) ∷ ‵ (fdies (tyInt w64) l₂) ∷ ‵ (fat fullShare (tyInt w64) l₁ 0 (vint w64 rows₀)) ∷ ‵ (fdies (tyInt w64) l₁) ∷ ‵ (froom (tyInt w32) l₀ 0) ∷ ‵ (fdies (tyInt w32) l₀) ∷ []) (runs C Λ En mir′.t-4 (atRet En Post))
+    from-2 : (r₁ : Boards) (is₁ : Is of-Boards.the-row r₁ (LL.vals of-Boards.the-type laws-Boards.the-laws r₁)) (got₁ : r₁ ≡ heldOf boards₀) → Sq W (‵ (row of-Board.the-row fullShare boards₀ b-boards o-boards) ∷ ‵ (fobor κ-boards q-boards (Held of-Board.the-row (length boards₀) b-boards o-boards γ-boards)) ∷ ‵ (fobs γ-boards (codedHoleys of-Board.the-row .code (heres of-Board.the-row boards₀))) ∷ ‵ (fauth γ-boards (codedHoleys of-Board.the-row .code (heres of-Board.the-row boards₀))) ∷ ‵ (row u64 fullShare steps₀ b-steps o-steps) ∷ ‵ (fobor κ-steps q-steps (Held u64 (length steps₀) b-steps o-steps γ-steps)) ∷ ‵ (fobs γ-steps (codedHoleys u64 .code (heres u64 steps₀))) ∷ ‵ (fauth γ-steps (codedHoleys u64 .code (heres u64 steps₀))) ∷ ‵ (row u64 fullShare run₀ b-run o-run) ∷ ‵ (fobor κ-run q-run (Held u64 (length run₀) b-run o-run γ-run)) ∷ ‵ (fobs γ-run (codedHoleys u64 .code (heres u64 run₀))) ∷ ‵ (fauth γ-run (codedHoleys u64 .code (heres u64 run₀))) ∷ ‵ (row u32 fullShare records₀ b-records o-records) ∷ ‵ (fobor κ-records q-records (Held u32 (length records₀) b-records o-records γ-records)) ∷ ‵ (fobs γ-records (codedHoleys u32 .code (heres u32 records₀))) ∷ ‵ (fauth γ-records (codedHoleys u32 .code (heres u32 records₀))) ∷ ‵ (row u32 fullShare lasts₀ b-lasts o-lasts) ∷ ‵ (fobor κ-lasts q-lasts (Held u32 (length lasts₀) b-lasts o-lasts γ-lasts)) ∷ ‵ (fobs γ-lasts (codedHoleys u32 .code (heres u32 lasts₀))) ∷ ‵ (fauth γ-lasts (codedHoleys u32 .code (heres u32 lasts₀))) ∷ ‵ (row u32 fullShare depths₀ b-depths o-depths) ∷ ‵ (fobor κ-depths q-depths (Held u32 (length depths₀) b-depths o-depths γ-depths)) ∷ ‵ (fobs γ-depths (codedHoleys u32 .code (heres u32 depths₀))) ∷ ‵ (fauth γ-depths (codedHoleys u32 .code (heres u32 depths₀))) ∷ ‵ (flft κ-inflow q-inflow) ∷ ‵ (flft κ-rain q-rain) ∷ ‵ (flft κ-rates q-rates) ∷ ‵ (flft κ-roughness q-roughness) ∷ ‵ (flft κ-beds q-beds) ∷ ‵ (flft κ-marks q-marks) ∷ ‵ (flft κ-rules q-rules) ∷ ‵ D-inflow ∷ ‵ D-rain ∷ ‵ D-rates ∷ ‵ D-roughness ∷ ‵ D-beds ∷ ‵ D-marks ∷ ‵ D-rules ∷ ‵ (froom (sliceTy (tyRef erased mut (pointee (of-Board.the-row .written)))) l₃₄ 0) ∷ ‵ (fdies (sliceTy (tyRef erased mut (pointee (of-Board.the-row .written)))) l₃₄) ∷ ‵ (froom (tyRef erased mut (pointee (of-Board.the-row .written))) l₃₃ 0) ∷ ‵ (fdies (tyRef erased mut (pointee (of-Board.the-row .written))) l₃₃) ∷ ‵ (froom tyUnit l₃₂ 0) ∷ ‵ (fdies tyUnit l₃₂) ∷ ‵ (froom (sliceTy (tyRef erased mut (tyInt w64))) l₃₁ 0) ∷ ‵ (fdies (sliceTy (tyRef erased mut (tyInt w64))) l₃₁) ∷ ‵ (froom (tyRef erased mut (tyInt w64)) l₃₀ 0) ∷ ‵ (fdies (tyRef erased mut (tyInt w64)) l₃₀) ∷ ‵ (froom (sliceTy (tyRef erased mut (tyInt w64))) l₂₉ 0) ∷ ‵ (fdies (sliceTy (tyRef erased mut (tyInt w64))) l₂₉) ∷ ‵ (froom (tyRef erased mut (tyInt w64)) l₂₈ 0) ∷ ‵ (fdies (tyRef erased mut (tyInt w64)) l₂₈) ∷ ‵ (froom (sliceTy (tyRef erased mut (tyInt w32))) l₂₇ 0) ∷ ‵ (fdies (sliceTy (tyRef erased mut (tyInt w32))) l₂₇) ∷ ‵ (froom (tyRef erased mut (tyInt w32)) l₂₆ 0) ∷ ‵ (fdies (tyRef erased mut (tyInt w32)) l₂₆) ∷ ‵ (froom (sliceTy (tyRef erased mut (tyInt w32))) l₂₅ 0) ∷ ‵ (fdies (sliceTy (tyRef erased mut (tyInt w32))) l₂₅) ∷ ‵ (froom (tyRef erased mut (tyInt w32)) l₂₄ 0) ∷ ‵ (fdies (tyRef erased mut (tyInt w32)) l₂₄) ∷ ‵ (froom (sliceTy (tyRef erased mut (tyInt w32))) l₂₃ 0) ∷ ‵ (fdies (sliceTy (tyRef erased mut (tyInt w32))) l₂₃) ∷ ‵ (froom (tyRef erased mut (tyInt w32)) l₂₂ 0) ∷ ‵ (fdies (tyRef erased mut (tyInt w32)) l₂₂) ∷ ‵ (fat fullShare (sliceTy (tyRef erased imm (pointee (of-Board.the-row .written)))) l₂₁ 0 s-boards) ∷ ‵ (fdies (sliceTy (tyRef erased imm (pointee (of-Board.the-row .written)))) l₂₁) ∷ ‵ (fat fullShare (tyRef erased imm (pointee (of-Board.the-row .written))) l₂₀ 0 (vptr b-boards o-boards)) ∷ ‵ (fdies (tyRef erased imm (pointee (of-Board.the-row .written))) l₂₀) ∷ ‵ (froom laws-Boards.mir l₁₉ 0) ∷ ‵ (fdies laws-Boards.mir l₁₉) ∷ ‵ (froom laws-Boarded.mir l₁₈ 0) ∷ ‵ (fdies laws-Boarded.mir l₁₈) ∷ ‵ (fat fullShare laws-Boards.mir l₁₇ 0 (LL.val of-Boards.the-type laws-Boards.the-laws r₁)) ∷ ‵ (fdies laws-Boards.mir l₁₇) ∷ ‵ (fat fullShare ty-boards l₁₆ 0 s-boards) ∷ ‵ (fdies ty-boards l₁₆) ∷ ‵ (fat fullShare ty-steps l₁₅ 0 s-steps) ∷ ‵ (fdies ty-steps l₁₅) ∷ ‵ (fat fullShare ty-run l₁₄ 0 s-run) ∷ ‵ (fdies ty-run l₁₄) ∷ ‵ (fat fullShare ty-records l₁₃ 0 s-records) ∷ ‵ (fdies ty-records l₁₃) ∷ ‵ (fat fullShare ty-lasts l₁₂ 0 s-lasts) ∷ ‵ (fdies ty-lasts l₁₂) ∷ ‵ (fat fullShare ty-depths l₁₁ 0 s-depths) ∷ ‵ (fdies ty-depths l₁₁) ∷ ‵ (fat fullShare ty-inflow l₁₀ 0 s-inflow) ∷ ‵ (fdies ty-inflow l₁₀) ∷ ‵ (fat fullShare ty-rain l₉ 0 s-rain) ∷ ‵ (fdies ty-rain l₉) ∷ ‵ (fat fullShare ty-rates l₈ 0 s-rates) ∷ ‵ (fdies ty-rates l₈) ∷ ‵ (fat fullShare ty-roughness l₇ 0 s-roughness) ∷ ‵ (fdies ty-roughness l₇) ∷ ‵ (fat fullShare ty-beds l₆ 0 s-beds) ∷ ‵ (fdies ty-beds l₆) ∷ ‵ (fat fullShare ty-marks l₅ 0 s-marks) ∷ ‵ (fdies ty-marks l₅) ∷ ‵ (fat fullShare (tyInt w64) l₄ 0 (vint w64 end₀)) ∷ ‵ (fdies (tyInt w64) l₄) ∷ ‵ (fat fullShare ty-rules l₃ 0 s-rules) ∷ ‵ (fdies ty-rules l₃) ∷ ‵ (fat fullShare (tyInt w64) l₂ 0 (vint w64 columns₀)) ∷ ‵ (fdies (tyInt w64) l₂) ∷ ‵ (fat fullShare (tyInt w64) l₁ 0 (vint w64 rows₀)) ∷ ‵ (fdies (tyInt w64) l₁) ∷ ‵ (froom (tyInt w32) l₀ 0) ∷ ‵ (fdies (tyInt w32) l₀) ∷ []) (runs C Λ En mir′.t-4 (atRet En Post))
     from-2 r₁ is₁ got₁ =
         assigns ! (addr ! (from ! (fld ! refl (hop ! (look-in ! 84 (sub ! 0 refl (whole !))) (stop !))))) (from ! (stop !)) (init ! 62 refl (tt, tt)) $
         assigns ! (agg ! (and-then ! (load ! (from ! (stop !)) (look ! 62 refl)) (and-then ! (load ! (from ! (fld ! refl (stop !))) (look-in ! 84 (sub ! 1 refl (whole !)))) (no-more !)))) (from ! (stop !)) (init ! 60 refl (tt, (tt, (record { fits = room-depths .0 }, tt)))) $
@@ -768,7 +768,7 @@ module _ {M : Type 1} (𝓤 : URA M) (H : Heap 𝓤) (A : Atoms 𝓤) (W : Given
         group ! 24 $
         use1 W (raw (Of-run-told 𝓤 H A mem run .pre (to-2 r₁ is₁ got₁ ν-depths ν-lasts ν-records ν-run ν-steps δ-depths δ-lasts δ-records δ-run δ-steps))) (goes-2 r₁ is₁ got₁ ν-depths ν-lasts ν-records ν-run ν-steps δ-depths δ-lasts δ-records δ-run δ-steps) $
         calls-at ! fm (Of-run-told 𝓤 H A mem run) k-run-told (to-2 r₁ is₁ got₁ ν-depths ν-lasts ν-records ν-run ν-steps δ-depths δ-lasts δ-records δ-run δ-steps) (and-then ! (load ! (from ! (stop !)) (look ! 66 refl)) (and-then ! (load ! (from ! (stop !)) (look ! 98 refl)) (and-then ! (load ! (from ! (stop !)) (look ! 96 refl)) (and-then ! (load ! (from ! (stop !)) (look ! 94 refl)) (and-then ! (load ! (from ! (stop !)) (look ! 92 refl)) (and-then ! (load ! (from ! (stop !)) (look ! 90 refl)) (and-then ! (load ! (from ! (stop !)) (look ! 88 refl)) (and-then ! (load ! (from ! (stop !)) (look ! 86 refl)) (and-then ! (load ! (from ! (stop !)) (look ! 84 refl)) (and-then ! (load ! (from ! (stop !)) (look ! 82 refl)) (and-then ! (load ! (from ! (stop !)) (look ! 80 refl)) (and-then ! (load ! (from ! (stop !)) (look ! 54 refl)) (and-then ! (load ! (from ! (stop !)) (look ! 50 refl)) (and-then ! (load ! (from ! (stop !)) (look ! 46 refl)) (and-then ! (load ! (from ! (stop !)) (look ! 42 refl)) (and-then ! (load ! (from ! (stop !)) (look ! 38 refl)) (no-more !))))))))))))))))) (λ w.
-        use1 W (later (some (λ (r₂ : Told). ((‵ (flft κ-rules q-rules) ⊛ (‵ (flft κ-marks q-marks) ⊛ (‵ (flft κ-beds q-beds) ⊛ (‵ (flft κ-roughness q-roughness) ⊛ (‵ (flft κ-rates q-rates) ⊛ (‵ (flft κ-rain q-rain) ⊛ (‵ (flft κ-inflow q-inflow) ⊛ (‵ (flft (ν-depths ∷ []) fullShare) ⊛ (‵ (flft (ν-lasts ∷ []) fullShare) ⊛ (‵ (flft (ν-records ∷ []) fullShare) ⊛ (‵ (flft (ν-run ∷ []) fullShare) ⊛ (‵ (flft (ν-steps ∷ []) fullShare) ⊛ ‵ ftrue)))))))))))) ⊛ ‵ (of-Told.the-row .own r₂ (w ∷ []))) ⊛ raw (ensured 𝓤 H A run-told.ended (run-told.clauses 𝓤 H A mem run) (κ-rules, (κ-marks, (κ-beds, (κ-roughness, (κ-rates, (κ-rain, (κ-inflow, (ν-depths ∷ [], (ν-lasts ∷ [], (ν-records ∷ [], (ν-run ∷ [], (ν-steps ∷ [], tt)))))))))))) (r₁, (rows₀, (columns₀, (rules₀, (end₀, (marks₀, (beds₀, (roughness₀, (rates₀, (rain₀, (inflow₀, (at-depths δ-depths depths₀, (at-lasts δ-lasts lasts₀, (at-records δ-records records₀, (at-run δ-run run₀, (at-steps δ-steps steps₀, tt)))))))))))))))) tt r₂)))) (id⊢ 𝓤 _) $
+        use1 W (later (some (λ (r₂ : Boarded). ((‵ (flft κ-rules q-rules) ⊛ (‵ (flft κ-marks q-marks) ⊛ (‵ (flft κ-beds q-beds) ⊛ (‵ (flft κ-roughness q-roughness) ⊛ (‵ (flft κ-rates q-rates) ⊛ (‵ (flft κ-rain q-rain) ⊛ (‵ (flft κ-inflow q-inflow) ⊛ (‵ (flft (ν-depths ∷ []) fullShare) ⊛ (‵ (flft (ν-lasts ∷ []) fullShare) ⊛ (‵ (flft (ν-records ∷ []) fullShare) ⊛ (‵ (flft (ν-run ∷ []) fullShare) ⊛ (‵ (flft (ν-steps ∷ []) fullShare) ⊛ ‵ ftrue)))))))))))) ⊛ ‵ (of-Boarded.the-row .own r₂ (w ∷ []))) ⊛ raw (ensured 𝓤 H A run-told.ended (run-told.clauses 𝓤 H A mem run) (κ-rules, (κ-marks, (κ-beds, (κ-roughness, (κ-rates, (κ-rain, (κ-inflow, (ν-depths ∷ [], (ν-lasts ∷ [], (ν-records ∷ [], (ν-run ∷ [], (ν-steps ∷ [], tt)))))))))))) (r₁, (rows₀, (columns₀, (rules₀, (end₀, (marks₀, (beds₀, (roughness₀, (rates₀, (rain₀, (inflow₀, (at-depths δ-depths depths₀, (at-lasts δ-lasts lasts₀, (at-records δ-records records₀, (at-run δ-run run₀, (at-steps δ-steps steps₀, tt)))))))))))))))) tt r₂)))) (id⊢ 𝓤 _) $
         await ! tt $ pick ! (λ r₂. split ! $ move ! (1 ∷ []) $
         use1 W (some (λ (zs : Unit {0} × (Unit {0} × (Unit {0} × (Unit {0} × (Unit {0} × (Unit {0} × (Unit {0} × (Unit {0} × (Unit {0} × (Unit {0} × (Unit {0} × (List ℕ × (List ℕ × (List ℕ × (List ℕ × (List ℕ × (Unit {0}))))))))))))))))). ‵ (lasts run-told.ended (κ-rules, (κ-marks, (κ-beds, (κ-roughness, (κ-rates, (κ-rain, (κ-inflow, (ν-depths ∷ [], (ν-lasts ∷ [], (ν-records ∷ [], (ν-run ∷ [], (ν-steps ∷ [], tt)))))))))))) (r₁, (rows₀, (columns₀, (rules₀, (end₀, (marks₀, (beds₀, (roughness₀, (rates₀, (rain₀, (inflow₀, (at-depths δ-depths depths₀, (at-lasts δ-lasts lasts₀, (at-records δ-records records₀, (at-run δ-run run₀, (at-steps δ-steps steps₀, tt)))))))))))))))) zs) ⊛ raw (fact 𝓤 (TellsHeld (plan (shapeFrom rows₀ columns₀) (marks₀ .now)) (given (ground (rulesFrom (rules₀ .now)) (beds₀ .now) (roughness₀ .now) (rates₀ .now)) (rain₀ .now) (inflow₀ .now)) end₀ (world depths₀ lasts₀ records₀ (runValueFrom run₀)) r₁ (rules₀ .now) run₀ steps₀ r₂ (zs .1 .1 .1 .1 .1 .1 .1 .1 .1 .1 .1 .0) (zs .1 .1 .1 .1 .1 .1 .1 .1 .1 .1 .1 .1 .0) (zs .1 .1 .1 .1 .1 .1 .1 .1 .1 .1 .1 .1 .1 .0) (zs .1 .1 .1 .1 .1 .1 .1 .1 .1 .1 .1 .1 .1 .1 .0) (zs .1 .1 .1 .1 .1 .1 .1 .1 .1 .1 .1 .1 .1 .1 .1 .0))))) (id⊢ 𝓤 _) $ pick ! (λ zs.
         split ! $ move ! (1 ∷ []) $ heard ! (TellsHeld (plan (shapeFrom rows₀ columns₀) (marks₀ .now)) (given (ground (rulesFrom (rules₀ .now)) (beds₀ .now) (roughness₀ .now) (rates₀ .now)) (rain₀ .now) (inflow₀ .now)) end₀ (world depths₀ lasts₀ records₀ (runValueFrom run₀)) r₁ (rules₀ .now) run₀ steps₀ r₂ (zs .1 .1 .1 .1 .1 .1 .1 .1 .1 .1 .1 .0) (zs .1 .1 .1 .1 .1 .1 .1 .1 .1 .1 .1 .1 .0) (zs .1 .1 .1 .1 .1 .1 .1 .1 .1 .1 .1 .1 .1 .0) (zs .1 .1 .1 .1 .1 .1 .1 .1 .1 .1 .1 .1 .1 .1 .0) (zs .1 .1 .1 .1 .1 .1 .1 .1 .1 .1 .1 .1 .1 .1 .1 .0)) (λ got₂.
@@ -813,9 +813,9 @@ module _ {M : Type 1} (𝓤 : URA M) (H : Heap 𝓤) (A : Atoms 𝓤) (W : Given
         move ! (5 ∷ []) $
         split ! $
         move ! (1 ∷ []) $
-        peeks ! of-Told.the-row (Is of-Told.the-row) (shows 𝓤 H A of-Told.the-row) r₂ (w ∷ []) (λ is.
-        land ! (from ! (stop !)) (init ! 70 refl (LL.lawful of-Told.the-type laws-Told.the-laws 𝓤 H A W .typed r₂ _ is .0)) $
-        rewrite ! 70 (λ (x : Val). ‵ (fat fullShare laws-Told.mir l₁₈ 0 x)) (ap only (LL.tells of-Told.the-type laws-Told.the-laws r₂ (w ∷ []) is)) refl $
+        peeks ! of-Boarded.the-row (Is of-Boarded.the-row) (shows 𝓤 H A of-Boarded.the-row) r₂ (w ∷ []) (λ is.
+        land ! (from ! (stop !)) (init ! 70 refl (LL.lawful of-Boarded.the-type laws-Boarded.the-laws 𝓤 H A W .typed r₂ _ is .0)) $
+        rewrite ! 70 (λ (x : Val). ‵ (fat fullShare laws-Boarded.mir l₁₈ 0 x)) (ap only (LL.tells of-Boarded.the-type laws-Boarded.the-laws r₂ (w ∷ []) is)) refl $
         drop ! $
         split ! $
         move ! (1 ∷ []) $
@@ -863,9 +863,9 @@ module _ {M : Type 1} (𝓤 : URA M) (H : Heap 𝓤) (A : Atoms 𝓤) (W : Given
         move ! (0 ∷ 13 ∷ 12 ∷ []) $
         use3 W (later (‵ (row u64 fullShare (zs .1 .1 .1 .1 .1 .1 .1 .1 .1 .1 .1 .1 .1 .1 .1 .0) b-steps o-steps))) (back-row 𝓤 H A W u64 (named 11) (ν-steps ∷ []) b-steps o-steps (zs .1 .1 .1 .1 .1 .1 .1 .1 .1 .1 .1 .1 .1 .1 .1 .0) (length steps₀) δ-steps) $ await ! tt $
         move ! (19 ∷ 20 ∷ 21 ∷ 22 ∷ 0 ∷ 23 ∷ 24 ∷ 25 ∷ 1 ∷ 26 ∷ 27 ∷ 28 ∷ 2 ∷ 29 ∷ 30 ∷ 31 ∷ 3 ∷ 32 ∷ 33 ∷ 34 ∷ 4 ∷ 35 ∷ 36 ∷ 37 ∷ 5 ∷ 6 ∷ 7 ∷ 8 ∷ 9 ∷ 10 ∷ 11 ∷ 12 ∷ 13 ∷ 14 ∷ 15 ∷ 16 ∷ 17 ∷ 18 ∷ []) $
-        from-3 r₁ is₁ got₁ r₂ (subst (Is of-Told.the-row r₂) (LL.tells of-Told.the-type laws-Told.the-laws r₂ (w ∷ []) is) is) (zs .1 .1 .1 .1 .1 .1 .1 .1 .1 .1 .1 .0) now-depths (zs .1 .1 .1 .1 .1 .1 .1 .1 .1 .1 .1 .1 .0) now-lasts (zs .1 .1 .1 .1 .1 .1 .1 .1 .1 .1 .1 .1 .1 .0) now-records (zs .1 .1 .1 .1 .1 .1 .1 .1 .1 .1 .1 .1 .1 .1 .0) now-run (zs .1 .1 .1 .1 .1 .1 .1 .1 .1 .1 .1 .1 .1 .1 .1 .0) now-steps got₂))))))))))))))))))))
+        from-3 r₁ is₁ got₁ r₂ (subst (Is of-Boarded.the-row r₂) (LL.tells of-Boarded.the-type laws-Boarded.the-laws r₂ (w ∷ []) is) is) (zs .1 .1 .1 .1 .1 .1 .1 .1 .1 .1 .1 .0) now-depths (zs .1 .1 .1 .1 .1 .1 .1 .1 .1 .1 .1 .1 .0) now-lasts (zs .1 .1 .1 .1 .1 .1 .1 .1 .1 .1 .1 .1 .1 .0) now-records (zs .1 .1 .1 .1 .1 .1 .1 .1 .1 .1 .1 .1 .1 .1 .0) now-run (zs .1 .1 .1 .1 .1 .1 .1 .1 .1 .1 .1 .1 .1 .1 .1 .0) now-steps got₂))))))))))))))))))))
 
-    from-1 : Sq W (‵ (row of-Board.the-row fullShare boards₀ b-boards o-boards) ∷ ‵ (fobor κ-boards q-boards (Held of-Board.the-row (length boards₀) b-boards o-boards γ-boards)) ∷ ‵ (fobs γ-boards (codedHoleys of-Board.the-row .code (heres of-Board.the-row boards₀))) ∷ ‵ (fauth γ-boards (codedHoleys of-Board.the-row .code (heres of-Board.the-row boards₀))) ∷ ‵ (row u64 fullShare steps₀ b-steps o-steps) ∷ ‵ (fobor κ-steps q-steps (Held u64 (length steps₀) b-steps o-steps γ-steps)) ∷ ‵ (fobs γ-steps (codedHoleys u64 .code (heres u64 steps₀))) ∷ ‵ (fauth γ-steps (codedHoleys u64 .code (heres u64 steps₀))) ∷ ‵ (row u64 fullShare run₀ b-run o-run) ∷ ‵ (fobor κ-run q-run (Held u64 (length run₀) b-run o-run γ-run)) ∷ ‵ (fobs γ-run (codedHoleys u64 .code (heres u64 run₀))) ∷ ‵ (fauth γ-run (codedHoleys u64 .code (heres u64 run₀))) ∷ ‵ (row u32 fullShare records₀ b-records o-records) ∷ ‵ (fobor κ-records q-records (Held u32 (length records₀) b-records o-records γ-records)) ∷ ‵ (fobs γ-records (codedHoleys u32 .code (heres u32 records₀))) ∷ ‵ (fauth γ-records (codedHoleys u32 .code (heres u32 records₀))) ∷ ‵ (row u32 fullShare lasts₀ b-lasts o-lasts) ∷ ‵ (fobor κ-lasts q-lasts (Held u32 (length lasts₀) b-lasts o-lasts γ-lasts)) ∷ ‵ (fobs γ-lasts (codedHoleys u32 .code (heres u32 lasts₀))) ∷ ‵ (fauth γ-lasts (codedHoleys u32 .code (heres u32 lasts₀))) ∷ ‵ (row u32 fullShare depths₀ b-depths o-depths) ∷ ‵ (fobor κ-depths q-depths (Held u32 (length depths₀) b-depths o-depths γ-depths)) ∷ ‵ (fobs γ-depths (codedHoleys u32 .code (heres u32 depths₀))) ∷ ‵ (fauth γ-depths (codedHoleys u32 .code (heres u32 depths₀))) ∷ ‵ (flft κ-inflow q-inflow) ∷ ‵ (flft κ-rain q-rain) ∷ ‵ (flft κ-rates q-rates) ∷ ‵ (flft κ-roughness q-roughness) ∷ ‵ (flft κ-beds q-beds) ∷ ‵ (flft κ-marks q-marks) ∷ ‵ (flft κ-rules q-rules) ∷ ‵ D-inflow ∷ ‵ D-rain ∷ ‵ D-rates ∷ ‵ D-roughness ∷ ‵ D-beds ∷ ‵ D-marks ∷ ‵ D-rules ∷ ‵ (froom (sliceTy (tyRef erased mut (pointee (of-Board.the-row .written)))) l₃₄ 0) ∷ ‵ (fdies (sliceTy (tyRef erased mut (pointee (of-Board.the-row .written)))) l₃₄) ∷ ‵ (froom (tyRef erased mut (pointee (of-Board.the-row .written))) l₃₃ 0) ∷ ‵ (fdies (tyRef erased mut (pointee (of-Board.the-row .written))) l₃₃) ∷ ‵ (froom tyUnit l₃₂ 0) ∷ ‵ (fdies tyUnit l₃₂) ∷ ‵ (froom (sliceTy (tyRef erased mut (tyInt w64))) l₃₁ 0) ∷ ‵ (fdies (sliceTy (tyRef erased mut (tyInt w64))) l₃₁) ∷ ‵ (froom (tyRef erased mut (tyInt w64)) l₃₀ 0) ∷ ‵ (fdies (tyRef erased mut (tyInt w64)) l₃₀) ∷ ‵ (froom (sliceTy (tyRef erased mut (tyInt w64))) l₂₉ 0) ∷ ‵ (fdies (sliceTy (tyRef erased mut (tyInt w64))) l₂₉) ∷ ‵ (froom (tyRef erased mut (tyInt w64)) l₂₈ 0) ∷ ‵ (fdies (tyRef erased mut (tyInt w64)) l₂₈) ∷ ‵ (froom (sliceTy (tyRef erased mut (tyInt w32))) l₂₇ 0) ∷ ‵ (fdies (sliceTy (tyRef erased mut (tyInt w32))) l₂₇) ∷ ‵ (froom (tyRef erased mut (tyInt w32)) l₂₆ 0) ∷ ‵ (fdies (tyRef erased mut (tyInt w32)) l₂₆) ∷ ‵ (froom (sliceTy (tyRef erased mut (tyInt w32))) l₂₅ 0) ∷ ‵ (fdies (sliceTy (tyRef erased mut (tyInt w32))) l₂₅) ∷ ‵ (froom (tyRef erased mut (tyInt w32)) l₂₄ 0) ∷ ‵ (fdies (tyRef erased mut (tyInt w32)) l₂₄) ∷ ‵ (froom (sliceTy (tyRef erased mut (tyInt w32))) l₂₃ 0) ∷ ‵ (fdies (sliceTy (tyRef erased mut (tyInt w32))) l₂₃) ∷ ‵ (froom (tyRef erased mut (tyInt w32)) l₂₂ 0) ∷ ‵ (fdies (tyRef erased mut (tyInt w32)) l₂₂) ∷ ‵ (froom (sliceTy (tyRef erased imm (pointee (of-Board.the-row .written)))) l₂₁ 0) ∷ ‵ (fdies (sliceTy (tyRef erased imm (pointee (of-Board.the-row .written)))) l₂₁) ∷ ‵ (froom (tyRef erased imm (pointee (of-Board.the-row .written))) l₂₀ 0) ∷ ‵ (fdies (tyRef erased imm (pointee (of-Board.the-row .written))) l₂₀) ∷ ‵ (froom laws-Boards.mir l₁₉ 0) ∷ ‵ (fdies laws-Boards.mir l₁₉) ∷ ‵ (froom laws-Told.mir l₁₈ 0) ∷ ‵ (fdies laws-Told.mir l₁₈) ∷ ‵ (froom laws-Boards.mir l₁₇ 0) ∷ ‵ (fdies laws-Boards.mir l₁₇) ∷ ‵ (fat fullShare ty-boards l₁₆ 0 s-boards) ∷ ‵ (fdies ty-boards l₁₆) ∷ ‵ (fat fullShare ty-steps l₁₅ 0 s-steps) ∷ ‵ (fdies ty-steps l₁₅) ∷ ‵ (fat fullShare ty-run l₁₄ 0 s-run) ∷ ‵ (fdies ty-run l₁₄) ∷ ‵ (fat fullShare ty-records l₁₃ 0 s-records) ∷ ‵ (fdies ty-records l₁₃) ∷ ‵ (fat fullShare ty-lasts l₁₂ 0 s-lasts) ∷ ‵ (fdies ty-lasts l₁₂) ∷ ‵ (fat fullShare ty-depths l₁₁ 0 s-depths) ∷ ‵ (fdies ty-depths l₁₁) ∷ ‵ (fat fullShare ty-inflow l₁₀ 0 s-inflow) ∷ ‵ (fdies ty-inflow l₁₀) ∷ ‵ (fat fullShare ty-rain l₉ 0 s-rain) ∷ ‵ (fdies ty-rain l₉) ∷ ‵ (fat fullShare ty-rates l₈ 0 s-rates) ∷ ‵ (fdies ty-rates l₈) ∷ ‵ (fat fullShare ty-roughness l₇ 0 s-roughness) ∷ ‵ (fdies ty-roughness l₇) ∷ ‵ (fat fullShare ty-beds l₆ 0 s-beds) ∷ ‵ (fdies ty-beds l₆) ∷ ‵ (fat fullShare ty-marks l₅ 0 s-marks) ∷ ‵ (fdies ty-marks l₅) ∷ ‵ (fat fullShare (tyInt w64) l₄ 0 (vint w64 end₀)) ∷ ‵ (fdies (tyInt w64) l₄) ∷ ‵ (fat fullShare ty-rules l₃ 0 s-rules) ∷ ‵ (fdies ty-rules l₃) ∷ ‵ (fat fullShare (tyInt w64) l₂ 0 (vint w64 columns₀)) ∷ ‵ (fdies (tyInt w64) l₂) ∷ ‵ (fat fullShare (tyInt w64) l₁ 0 (vint w64 rows₀)) ∷ ‵ (fdies (tyInt w64) l₁) ∷ ‵ (froom (tyInt w32) l₀ 0) ∷ ‵ (fdies (tyInt w32) l₀) ∷ []) (runs C Λ En mir′.t-1 (atRet En Post))
+    from-1 : Sq W (‵ (row of-Board.the-row fullShare boards₀ b-boards o-boards) ∷ ‵ (fobor κ-boards q-boards (Held of-Board.the-row (length boards₀) b-boards o-boards γ-boards)) ∷ ‵ (fobs γ-boards (codedHoleys of-Board.the-row .code (heres of-Board.the-row boards₀))) ∷ ‵ (fauth γ-boards (codedHoleys of-Board.the-row .code (heres of-Board.the-row boards₀))) ∷ ‵ (row u64 fullShare steps₀ b-steps o-steps) ∷ ‵ (fobor κ-steps q-steps (Held u64 (length steps₀) b-steps o-steps γ-steps)) ∷ ‵ (fobs γ-steps (codedHoleys u64 .code (heres u64 steps₀))) ∷ ‵ (fauth γ-steps (codedHoleys u64 .code (heres u64 steps₀))) ∷ ‵ (row u64 fullShare run₀ b-run o-run) ∷ ‵ (fobor κ-run q-run (Held u64 (length run₀) b-run o-run γ-run)) ∷ ‵ (fobs γ-run (codedHoleys u64 .code (heres u64 run₀))) ∷ ‵ (fauth γ-run (codedHoleys u64 .code (heres u64 run₀))) ∷ ‵ (row u32 fullShare records₀ b-records o-records) ∷ ‵ (fobor κ-records q-records (Held u32 (length records₀) b-records o-records γ-records)) ∷ ‵ (fobs γ-records (codedHoleys u32 .code (heres u32 records₀))) ∷ ‵ (fauth γ-records (codedHoleys u32 .code (heres u32 records₀))) ∷ ‵ (row u32 fullShare lasts₀ b-lasts o-lasts) ∷ ‵ (fobor κ-lasts q-lasts (Held u32 (length lasts₀) b-lasts o-lasts γ-lasts)) ∷ ‵ (fobs γ-lasts (codedHoleys u32 .code (heres u32 lasts₀))) ∷ ‵ (fauth γ-lasts (codedHoleys u32 .code (heres u32 lasts₀))) ∷ ‵ (row u32 fullShare depths₀ b-depths o-depths) ∷ ‵ (fobor κ-depths q-depths (Held u32 (length depths₀) b-depths o-depths γ-depths)) ∷ ‵ (fobs γ-depths (codedHoleys u32 .code (heres u32 depths₀))) ∷ ‵ (fauth γ-depths (codedHoleys u32 .code (heres u32 depths₀))) ∷ ‵ (flft κ-inflow q-inflow) ∷ ‵ (flft κ-rain q-rain) ∷ ‵ (flft κ-rates q-rates) ∷ ‵ (flft κ-roughness q-roughness) ∷ ‵ (flft κ-beds q-beds) ∷ ‵ (flft κ-marks q-marks) ∷ ‵ (flft κ-rules q-rules) ∷ ‵ D-inflow ∷ ‵ D-rain ∷ ‵ D-rates ∷ ‵ D-roughness ∷ ‵ D-beds ∷ ‵ D-marks ∷ ‵ D-rules ∷ ‵ (froom (sliceTy (tyRef erased mut (pointee (of-Board.the-row .written)))) l₃₄ 0) ∷ ‵ (fdies (sliceTy (tyRef erased mut (pointee (of-Board.the-row .written)))) l₃₄) ∷ ‵ (froom (tyRef erased mut (pointee (of-Board.the-row .written))) l₃₃ 0) ∷ ‵ (fdies (tyRef erased mut (pointee (of-Board.the-row .written))) l₃₃) ∷ ‵ (froom tyUnit l₃₂ 0) ∷ ‵ (fdies tyUnit l₃₂) ∷ ‵ (froom (sliceTy (tyRef erased mut (tyInt w64))) l₃₁ 0) ∷ ‵ (fdies (sliceTy (tyRef erased mut (tyInt w64))) l₃₁) ∷ ‵ (froom (tyRef erased mut (tyInt w64)) l₃₀ 0) ∷ ‵ (fdies (tyRef erased mut (tyInt w64)) l₃₀) ∷ ‵ (froom (sliceTy (tyRef erased mut (tyInt w64))) l₂₉ 0) ∷ ‵ (fdies (sliceTy (tyRef erased mut (tyInt w64))) l₂₉) ∷ ‵ (froom (tyRef erased mut (tyInt w64)) l₂₈ 0) ∷ ‵ (fdies (tyRef erased mut (tyInt w64)) l₂₈) ∷ ‵ (froom (sliceTy (tyRef erased mut (tyInt w32))) l₂₇ 0) ∷ ‵ (fdies (sliceTy (tyRef erased mut (tyInt w32))) l₂₇) ∷ ‵ (froom (tyRef erased mut (tyInt w32)) l₂₆ 0) ∷ ‵ (fdies (tyRef erased mut (tyInt w32)) l₂₆) ∷ ‵ (froom (sliceTy (tyRef erased mut (tyInt w32))) l₂₅ 0) ∷ ‵ (fdies (sliceTy (tyRef erased mut (tyInt w32))) l₂₅) ∷ ‵ (froom (tyRef erased mut (tyInt w32)) l₂₄ 0) ∷ ‵ (fdies (tyRef erased mut (tyInt w32)) l₂₄) ∷ ‵ (froom (sliceTy (tyRef erased mut (tyInt w32))) l₂₃ 0) ∷ ‵ (fdies (sliceTy (tyRef erased mut (tyInt w32))) l₂₃) ∷ ‵ (froom (tyRef erased mut (tyInt w32)) l₂₂ 0) ∷ ‵ (fdies (tyRef erased mut (tyInt w32)) l₂₂) ∷ ‵ (froom (sliceTy (tyRef erased imm (pointee (of-Board.the-row .written)))) l₂₁ 0) ∷ ‵ (fdies (sliceTy (tyRef erased imm (pointee (of-Board.the-row .written)))) l₂₁) ∷ ‵ (froom (tyRef erased imm (pointee (of-Board.the-row .written))) l₂₀ 0) ∷ ‵ (fdies (tyRef erased imm (pointee (of-Board.the-row .written))) l₂₀) ∷ ‵ (froom laws-Boards.mir l₁₉ 0) ∷ ‵ (fdies laws-Boards.mir l₁₉) ∷ ‵ (froom laws-Boarded.mir l₁₈ 0) ∷ ‵ (fdies laws-Boarded.mir l₁₈) ∷ ‵ (froom laws-Boards.mir l₁₇ 0) ∷ ‵ (fdies laws-Boards.mir l₁₇) ∷ ‵ (fat fullShare ty-boards l₁₆ 0 s-boards) ∷ ‵ (fdies ty-boards l₁₆) ∷ ‵ (fat fullShare ty-steps l₁₅ 0 s-steps) ∷ ‵ (fdies ty-steps l₁₅) ∷ ‵ (fat fullShare ty-run l₁₄ 0 s-run) ∷ ‵ (fdies ty-run l₁₄) ∷ ‵ (fat fullShare ty-records l₁₃ 0 s-records) ∷ ‵ (fdies ty-records l₁₃) ∷ ‵ (fat fullShare ty-lasts l₁₂ 0 s-lasts) ∷ ‵ (fdies ty-lasts l₁₂) ∷ ‵ (fat fullShare ty-depths l₁₁ 0 s-depths) ∷ ‵ (fdies ty-depths l₁₁) ∷ ‵ (fat fullShare ty-inflow l₁₀ 0 s-inflow) ∷ ‵ (fdies ty-inflow l₁₀) ∷ ‵ (fat fullShare ty-rain l₉ 0 s-rain) ∷ ‵ (fdies ty-rain l₉) ∷ ‵ (fat fullShare ty-rates l₈ 0 s-rates) ∷ ‵ (fdies ty-rates l₈) ∷ ‵ (fat fullShare ty-roughness l₇ 0 s-roughness) ∷ ‵ (fdies ty-roughness l₇) ∷ ‵ (fat fullShare ty-beds l₆ 0 s-beds) ∷ ‵ (fdies ty-beds l₆) ∷ ‵ (fat fullShare ty-marks l₅ 0 s-marks) ∷ ‵ (fdies ty-marks l₅) ∷ ‵ (fat fullShare (tyInt w64) l₄ 0 (vint w64 end₀)) ∷ ‵ (fdies (tyInt w64) l₄) ∷ ‵ (fat fullShare ty-rules l₃ 0 s-rules) ∷ ‵ (fdies ty-rules l₃) ∷ ‵ (fat fullShare (tyInt w64) l₂ 0 (vint w64 columns₀)) ∷ ‵ (fdies (tyInt w64) l₂) ∷ ‵ (fat fullShare (tyInt w64) l₁ 0 (vint w64 rows₀)) ∷ ‵ (fdies (tyInt w64) l₁) ∷ ‵ (froom (tyInt w32) l₀ 0) ∷ ‵ (fdies (tyInt w32) l₀) ∷ []) (runs C Λ En mir′.t-1 (atRet En Post))
     from-1 =
         assigns ! (addr ! (from ! (fld ! refl (hop ! (look-in ! 74 (sub ! 0 refl (whole !))) (stop !))))) (from ! (stop !)) (init ! 66 refl (tt, tt)) $
         assigns ! (agg ! (and-then ! (load ! (from ! (stop !)) (look ! 66 refl)) (and-then ! (load ! (from ! (fld ! refl (stop !))) (look-in ! 74 (sub ! 1 refl (whole !)))) (no-more !)))) (from ! (stop !)) (init ! 64 refl (tt, (tt, (record { fits = room-boards .0 }, tt)))) $
@@ -897,7 +897,7 @@ module _ {M : Type 1} (𝓤 : URA M) (H : Heap 𝓤) (A : Atoms 𝓤) (W : Given
         use2 W (later (‵ (row of-Board.the-row fullShare boards₀ b-boards o-boards))) (back-shr-row 𝓤 H A W of-Board.the-row (named 0) (ν-boards ∷ []) b-boards o-boards boards₀) $ await ! tt $
         from-2 r₁ (subst (Is of-Boards.the-row r₁) (LL.tells of-Boards.the-type laws-Boards.the-laws r₁ (w ∷ []) is) is) got₁)))))))
 
-    opened : Sq W (‵ (froom (sliceTy (tyRef erased mut (pointee (of-Board.the-row .written)))) l₃₄ 0) ∷ ‵ (fdies (sliceTy (tyRef erased mut (pointee (of-Board.the-row .written)))) l₃₄) ∷ ‵ (froom (tyRef erased mut (pointee (of-Board.the-row .written))) l₃₃ 0) ∷ ‵ (fdies (tyRef erased mut (pointee (of-Board.the-row .written))) l₃₃) ∷ ‵ (froom tyUnit l₃₂ 0) ∷ ‵ (fdies tyUnit l₃₂) ∷ ‵ (froom (sliceTy (tyRef erased mut (tyInt w64))) l₃₁ 0) ∷ ‵ (fdies (sliceTy (tyRef erased mut (tyInt w64))) l₃₁) ∷ ‵ (froom (tyRef erased mut (tyInt w64)) l₃₀ 0) ∷ ‵ (fdies (tyRef erased mut (tyInt w64)) l₃₀) ∷ ‵ (froom (sliceTy (tyRef erased mut (tyInt w64))) l₂₉ 0) ∷ ‵ (fdies (sliceTy (tyRef erased mut (tyInt w64))) l₂₉) ∷ ‵ (froom (tyRef erased mut (tyInt w64)) l₂₈ 0) ∷ ‵ (fdies (tyRef erased mut (tyInt w64)) l₂₈) ∷ ‵ (froom (sliceTy (tyRef erased mut (tyInt w32))) l₂₇ 0) ∷ ‵ (fdies (sliceTy (tyRef erased mut (tyInt w32))) l₂₇) ∷ ‵ (froom (tyRef erased mut (tyInt w32)) l₂₆ 0) ∷ ‵ (fdies (tyRef erased mut (tyInt w32)) l₂₆) ∷ ‵ (froom (sliceTy (tyRef erased mut (tyInt w32))) l₂₅ 0) ∷ ‵ (fdies (sliceTy (tyRef erased mut (tyInt w32))) l₂₅) ∷ ‵ (froom (tyRef erased mut (tyInt w32)) l₂₄ 0) ∷ ‵ (fdies (tyRef erased mut (tyInt w32)) l₂₄) ∷ ‵ (froom (sliceTy (tyRef erased mut (tyInt w32))) l₂₃ 0) ∷ ‵ (fdies (sliceTy (tyRef erased mut (tyInt w32))) l₂₃) ∷ ‵ (froom (tyRef erased mut (tyInt w32)) l₂₂ 0) ∷ ‵ (fdies (tyRef erased mut (tyInt w32)) l₂₂) ∷ ‵ (froom (sliceTy (tyRef erased imm (pointee (of-Board.the-row .written)))) l₂₁ 0) ∷ ‵ (fdies (sliceTy (tyRef erased imm (pointee (of-Board.the-row .written)))) l₂₁) ∷ ‵ (froom (tyRef erased imm (pointee (of-Board.the-row .written))) l₂₀ 0) ∷ ‵ (fdies (tyRef erased imm (pointee (of-Board.the-row .written))) l₂₀) ∷ ‵ (froom laws-Boards.mir l₁₉ 0) ∷ ‵ (fdies laws-Boards.mir l₁₉) ∷ ‵ (froom laws-Told.mir l₁₈ 0) ∷ ‵ (fdies laws-Told.mir l₁₈) ∷ ‵ (froom laws-Boards.mir l₁₇ 0) ∷ ‵ (fdies laws-Boards.mir l₁₇) ∷ ‵ (fat fullShare ty-boards l₁₆ 0 s-boards) ∷ ‵ (fdies ty-boards l₁₆) ∷ ‵ (fat fullShare ty-steps l₁₅ 0 s-steps) ∷ ‵ (fdies ty-steps l₁₅) ∷ ‵ (fat fullShare ty-run l₁₄ 0 s-run) ∷ ‵ (fdies ty-run l₁₄) ∷ ‵ (fat fullShare ty-records l₁₃ 0 s-records) ∷ ‵ (fdies ty-records l₁₃) ∷ ‵ (fat fullShare ty-lasts l₁₂ 0 s-lasts) ∷ ‵ (fdies ty-lasts l₁₂) ∷ ‵ (fat fullShare ty-depths l₁₁ 0 s-depths) ∷ ‵ (fdies ty-depths l₁₁) ∷ ‵ (fat fullShare ty-inflow l₁₀ 0 s-inflow) ∷ ‵ (fdies ty-inflow l₁₀) ∷ ‵ (fat fullShare ty-rain l₉ 0 s-rain) ∷ ‵ (fdies ty-rain l₉) ∷ ‵ (fat fullShare ty-rates l₈ 0 s-rates) ∷ ‵ (fdies ty-rates l₈) ∷ ‵ (fat fullShare ty-roughness l₇ 0 s-roughness) ∷ ‵ (fdies ty-roughness l₇) ∷ ‵ (fat fullShare ty-beds l₆ 0 s-beds) ∷ ‵ (fdies ty-beds l₆) ∷ ‵ (fat fullShare ty-marks l₅ 0 s-marks) ∷ ‵ (fdies ty-marks l₅) ∷ ‵ (fat fullShare (tyInt w64) l₄ 0 (vint w64 end₀)) ∷ ‵ (fdies (tyInt w64) l₄) ∷ ‵ (fat fullShare ty-rules l₃ 0 s-rules) ∷ ‵ (fdies ty-rules l₃) ∷ ‵ (fat fullShare (tyInt w64) l₂ 0 (vint w64 columns₀)) ∷ ‵ (fdies (tyInt w64) l₂) ∷ ‵ (fat fullShare (tyInt w64) l₁ 0 (vint w64 rows₀)) ∷ ‵ (fdies (tyInt w64) l₁) ∷ ‵ (froom (tyInt w32) l₀ 0) ∷ ‵ (fdies (tyInt w32) l₀) ∷ (‵ (flft κ-rules q-rules) ⊛ (‵ (flft κ-marks q-marks) ⊛ (‵ (flft κ-beds q-beds) ⊛ (‵ (flft κ-roughness q-roughness) ⊛ (‵ (flft κ-rates q-rates) ⊛ (‵ (flft κ-rain q-rain) ⊛ (‵ (flft κ-inflow q-inflow) ⊛ (‵ (flft κ-depths q-depths) ⊛ (‵ (flft κ-lasts q-lasts) ⊛ (‵ (flft κ-records q-records) ⊛ (‵ (flft κ-run q-run) ⊛ (‵ (flft κ-steps q-steps) ⊛ (‵ (flft κ-boards q-boards) ⊛ ‵ ftrue))))))))))))) ∷ ‵ (owns (usize ∷ usize ∷ ShrSlice (named 0) κ-rules u64 ∷ u64 ∷ ShrSlice (named 1) κ-marks u8 ∷ ShrSlice (named 2) κ-beds u32 ∷ ShrSlice (named 3) κ-roughness u32 ∷ ShrSlice (named 4) κ-rates u32 ∷ ShrSlice (named 5) κ-rain u32 ∷ ShrSlice (named 6) κ-inflow u32 ∷ MutSlice (named 7) κ-depths u32 ∷ MutSlice (named 8) κ-lasts u32 ∷ MutSlice (named 9) κ-records u32 ∷ MutSlice (named 10) κ-run u64 ∷ MutSlice (named 11) κ-steps u64 ∷ MutSlice (named 12) κ-boards of-Board.the-row ∷ []) a vals) ∷ []) (runs C Λ En (code.function .body) (atRet En Post))
+    opened : Sq W (‵ (froom (sliceTy (tyRef erased mut (pointee (of-Board.the-row .written)))) l₃₄ 0) ∷ ‵ (fdies (sliceTy (tyRef erased mut (pointee (of-Board.the-row .written)))) l₃₄) ∷ ‵ (froom (tyRef erased mut (pointee (of-Board.the-row .written))) l₃₃ 0) ∷ ‵ (fdies (tyRef erased mut (pointee (of-Board.the-row .written))) l₃₃) ∷ ‵ (froom tyUnit l₃₂ 0) ∷ ‵ (fdies tyUnit l₃₂) ∷ ‵ (froom (sliceTy (tyRef erased mut (tyInt w64))) l₃₁ 0) ∷ ‵ (fdies (sliceTy (tyRef erased mut (tyInt w64))) l₃₁) ∷ ‵ (froom (tyRef erased mut (tyInt w64)) l₃₀ 0) ∷ ‵ (fdies (tyRef erased mut (tyInt w64)) l₃₀) ∷ ‵ (froom (sliceTy (tyRef erased mut (tyInt w64))) l₂₉ 0) ∷ ‵ (fdies (sliceTy (tyRef erased mut (tyInt w64))) l₂₉) ∷ ‵ (froom (tyRef erased mut (tyInt w64)) l₂₈ 0) ∷ ‵ (fdies (tyRef erased mut (tyInt w64)) l₂₈) ∷ ‵ (froom (sliceTy (tyRef erased mut (tyInt w32))) l₂₇ 0) ∷ ‵ (fdies (sliceTy (tyRef erased mut (tyInt w32))) l₂₇) ∷ ‵ (froom (tyRef erased mut (tyInt w32)) l₂₆ 0) ∷ ‵ (fdies (tyRef erased mut (tyInt w32)) l₂₆) ∷ ‵ (froom (sliceTy (tyRef erased mut (tyInt w32))) l₂₅ 0) ∷ ‵ (fdies (sliceTy (tyRef erased mut (tyInt w32))) l₂₅) ∷ ‵ (froom (tyRef erased mut (tyInt w32)) l₂₄ 0) ∷ ‵ (fdies (tyRef erased mut (tyInt w32)) l₂₄) ∷ ‵ (froom (sliceTy (tyRef erased mut (tyInt w32))) l₂₃ 0) ∷ ‵ (fdies (sliceTy (tyRef erased mut (tyInt w32))) l₂₃) ∷ ‵ (froom (tyRef erased mut (tyInt w32)) l₂₂ 0) ∷ ‵ (fdies (tyRef erased mut (tyInt w32)) l₂₂) ∷ ‵ (froom (sliceTy (tyRef erased imm (pointee (of-Board.the-row .written)))) l₂₁ 0) ∷ ‵ (fdies (sliceTy (tyRef erased imm (pointee (of-Board.the-row .written)))) l₂₁) ∷ ‵ (froom (tyRef erased imm (pointee (of-Board.the-row .written))) l₂₀ 0) ∷ ‵ (fdies (tyRef erased imm (pointee (of-Board.the-row .written))) l₂₀) ∷ ‵ (froom laws-Boards.mir l₁₉ 0) ∷ ‵ (fdies laws-Boards.mir l₁₉) ∷ ‵ (froom laws-Boarded.mir l₁₈ 0) ∷ ‵ (fdies laws-Boarded.mir l₁₈) ∷ ‵ (froom laws-Boards.mir l₁₇ 0) ∷ ‵ (fdies laws-Boards.mir l₁₇) ∷ ‵ (fat fullShare ty-boards l₁₆ 0 s-boards) ∷ ‵ (fdies ty-boards l₁₆) ∷ ‵ (fat fullShare ty-steps l₁₅ 0 s-steps) ∷ ‵ (fdies ty-steps l₁₅) ∷ ‵ (fat fullShare ty-run l₁₄ 0 s-run) ∷ ‵ (fdies ty-run l₁₄) ∷ ‵ (fat fullShare ty-records l₁₃ 0 s-records) ∷ ‵ (fdies ty-records l₁₃) ∷ ‵ (fat fullShare ty-lasts l₁₂ 0 s-lasts) ∷ ‵ (fdies ty-lasts l₁₂) ∷ ‵ (fat fullShare ty-depths l₁₁ 0 s-depths) ∷ ‵ (fdies ty-depths l₁₁) ∷ ‵ (fat fullShare ty-inflow l₁₀ 0 s-inflow) ∷ ‵ (fdies ty-inflow l₁₀) ∷ ‵ (fat fullShare ty-rain l₉ 0 s-rain) ∷ ‵ (fdies ty-rain l₉) ∷ ‵ (fat fullShare ty-rates l₈ 0 s-rates) ∷ ‵ (fdies ty-rates l₈) ∷ ‵ (fat fullShare ty-roughness l₇ 0 s-roughness) ∷ ‵ (fdies ty-roughness l₇) ∷ ‵ (fat fullShare ty-beds l₆ 0 s-beds) ∷ ‵ (fdies ty-beds l₆) ∷ ‵ (fat fullShare ty-marks l₅ 0 s-marks) ∷ ‵ (fdies ty-marks l₅) ∷ ‵ (fat fullShare (tyInt w64) l₄ 0 (vint w64 end₀)) ∷ ‵ (fdies (tyInt w64) l₄) ∷ ‵ (fat fullShare ty-rules l₃ 0 s-rules) ∷ ‵ (fdies ty-rules l₃) ∷ ‵ (fat fullShare (tyInt w64) l₂ 0 (vint w64 columns₀)) ∷ ‵ (fdies (tyInt w64) l₂) ∷ ‵ (fat fullShare (tyInt w64) l₁ 0 (vint w64 rows₀)) ∷ ‵ (fdies (tyInt w64) l₁) ∷ ‵ (froom (tyInt w32) l₀ 0) ∷ ‵ (fdies (tyInt w32) l₀) ∷ (‵ (flft κ-rules q-rules) ⊛ (‵ (flft κ-marks q-marks) ⊛ (‵ (flft κ-beds q-beds) ⊛ (‵ (flft κ-roughness q-roughness) ⊛ (‵ (flft κ-rates q-rates) ⊛ (‵ (flft κ-rain q-rain) ⊛ (‵ (flft κ-inflow q-inflow) ⊛ (‵ (flft κ-depths q-depths) ⊛ (‵ (flft κ-lasts q-lasts) ⊛ (‵ (flft κ-records q-records) ⊛ (‵ (flft κ-run q-run) ⊛ (‵ (flft κ-steps q-steps) ⊛ (‵ (flft κ-boards q-boards) ⊛ ‵ ftrue))))))))))))) ∷ ‵ (owns (usize ∷ usize ∷ ShrSlice (named 0) κ-rules u64 ∷ u64 ∷ ShrSlice (named 1) κ-marks u8 ∷ ShrSlice (named 2) κ-beds u32 ∷ ShrSlice (named 3) κ-roughness u32 ∷ ShrSlice (named 4) κ-rates u32 ∷ ShrSlice (named 5) κ-rain u32 ∷ ShrSlice (named 6) κ-inflow u32 ∷ MutSlice (named 7) κ-depths u32 ∷ MutSlice (named 8) κ-lasts u32 ∷ MutSlice (named 9) κ-records u32 ∷ MutSlice (named 10) κ-run u64 ∷ MutSlice (named 11) κ-steps u64 ∷ MutSlice (named 12) κ-boards of-Board.the-row ∷ []) a vals) ∷ []) (runs C Λ En (code.function .body) (atRet En Post))
     opened =
         move ! (71 ∷ []) $
         fsplit ! $
@@ -981,7 +981,7 @@ module _ {M : Type 1} (𝓤 : URA M) (H : Heap 𝓤) (A : Atoms 𝓤) (W : Given
         opens-slice ! tt of-Board.the-row boards₀ b-boards o-boards $
         from-1
 
-    passed : Sq W (‵ (froom (sliceTy (tyRef erased mut (pointee (of-Board.the-row .written)))) l₃₄ 0) ∷ ‵ (fdies (sliceTy (tyRef erased mut (pointee (of-Board.the-row .written)))) l₃₄) ∷ ‵ (froom (tyRef erased mut (pointee (of-Board.the-row .written))) l₃₃ 0) ∷ ‵ (fdies (tyRef erased mut (pointee (of-Board.the-row .written))) l₃₃) ∷ ‵ (froom tyUnit l₃₂ 0) ∷ ‵ (fdies tyUnit l₃₂) ∷ ‵ (froom (sliceTy (tyRef erased mut (tyInt w64))) l₃₁ 0) ∷ ‵ (fdies (sliceTy (tyRef erased mut (tyInt w64))) l₃₁) ∷ ‵ (froom (tyRef erased mut (tyInt w64)) l₃₀ 0) ∷ ‵ (fdies (tyRef erased mut (tyInt w64)) l₃₀) ∷ ‵ (froom (sliceTy (tyRef erased mut (tyInt w64))) l₂₉ 0) ∷ ‵ (fdies (sliceTy (tyRef erased mut (tyInt w64))) l₂₉) ∷ ‵ (froom (tyRef erased mut (tyInt w64)) l₂₈ 0) ∷ ‵ (fdies (tyRef erased mut (tyInt w64)) l₂₈) ∷ ‵ (froom (sliceTy (tyRef erased mut (tyInt w32))) l₂₇ 0) ∷ ‵ (fdies (sliceTy (tyRef erased mut (tyInt w32))) l₂₇) ∷ ‵ (froom (tyRef erased mut (tyInt w32)) l₂₆ 0) ∷ ‵ (fdies (tyRef erased mut (tyInt w32)) l₂₆) ∷ ‵ (froom (sliceTy (tyRef erased mut (tyInt w32))) l₂₅ 0) ∷ ‵ (fdies (sliceTy (tyRef erased mut (tyInt w32))) l₂₅) ∷ ‵ (froom (tyRef erased mut (tyInt w32)) l₂₄ 0) ∷ ‵ (fdies (tyRef erased mut (tyInt w32)) l₂₄) ∷ ‵ (froom (sliceTy (tyRef erased mut (tyInt w32))) l₂₃ 0) ∷ ‵ (fdies (sliceTy (tyRef erased mut (tyInt w32))) l₂₃) ∷ ‵ (froom (tyRef erased mut (tyInt w32)) l₂₂ 0) ∷ ‵ (fdies (tyRef erased mut (tyInt w32)) l₂₂) ∷ ‵ (froom (sliceTy (tyRef erased imm (pointee (of-Board.the-row .written)))) l₂₁ 0) ∷ ‵ (fdies (sliceTy (tyRef erased imm (pointee (of-Board.the-row .written)))) l₂₁) ∷ ‵ (froom (tyRef erased imm (pointee (of-Board.the-row .written))) l₂₀ 0) ∷ ‵ (fdies (tyRef erased imm (pointee (of-Board.the-row .written))) l₂₀) ∷ ‵ (froom laws-Boards.mir l₁₉ 0) ∷ ‵ (fdies laws-Boards.mir l₁₉) ∷ ‵ (froom laws-Told.mir l₁₈ 0) ∷ ‵ (fdies laws-Told.mir l₁₈) ∷ ‵ (froom laws-Boards.mir l₁₇ 0) ∷ ‵ (fdies laws-Boards.mir l₁₇) ∷ ‵ (froom ty-boards l₁₆ 0) ∷ ‵ (fdies ty-boards l₁₆) ∷ ‵ (froom ty-steps l₁₅ 0) ∷ ‵ (fdies ty-steps l₁₅) ∷ ‵ (froom ty-run l₁₄ 0) ∷ ‵ (fdies ty-run l₁₄) ∷ ‵ (froom ty-records l₁₃ 0) ∷ ‵ (fdies ty-records l₁₃) ∷ ‵ (froom ty-lasts l₁₂ 0) ∷ ‵ (fdies ty-lasts l₁₂) ∷ ‵ (froom ty-depths l₁₁ 0) ∷ ‵ (fdies ty-depths l₁₁) ∷ ‵ (froom ty-inflow l₁₀ 0) ∷ ‵ (fdies ty-inflow l₁₀) ∷ ‵ (froom ty-rain l₉ 0) ∷ ‵ (fdies ty-rain l₉) ∷ ‵ (froom ty-rates l₈ 0) ∷ ‵ (fdies ty-rates l₈) ∷ ‵ (froom ty-roughness l₇ 0) ∷ ‵ (fdies ty-roughness l₇) ∷ ‵ (froom ty-beds l₆ 0) ∷ ‵ (fdies ty-beds l₆) ∷ ‵ (froom ty-marks l₅ 0) ∷ ‵ (fdies ty-marks l₅) ∷ ‵ (froom (tyInt w64) l₄ 0) ∷ ‵ (fdies (tyInt w64) l₄) ∷ ‵ (froom ty-rules l₃ 0) ∷ ‵ (fdies ty-rules l₃) ∷ ‵ (froom (tyInt w64) l₂ 0) ∷ ‵ (fdies (tyInt w64) l₂) ∷ ‵ (froom (tyInt w64) l₁ 0) ∷ ‵ (fdies (tyInt w64) l₁) ∷ ‵ (froom (tyInt w32) l₀ 0) ∷ ‵ (fdies (tyInt w32) l₀) ∷ (‵ (flft κ-rules q-rules) ⊛ (‵ (flft κ-marks q-marks) ⊛ (‵ (flft κ-beds q-beds) ⊛ (‵ (flft κ-roughness q-roughness) ⊛ (‵ (flft κ-rates q-rates) ⊛ (‵ (flft κ-rain q-rain) ⊛ (‵ (flft κ-inflow q-inflow) ⊛ (‵ (flft κ-depths q-depths) ⊛ (‵ (flft κ-lasts q-lasts) ⊛ (‵ (flft κ-records q-records) ⊛ (‵ (flft κ-run q-run) ⊛ (‵ (flft κ-steps q-steps) ⊛ (‵ (flft κ-boards q-boards) ⊛ ‵ ftrue))))))))))))) ∷ ‵ (owns (usize ∷ usize ∷ ShrSlice (named 0) κ-rules u64 ∷ u64 ∷ ShrSlice (named 1) κ-marks u8 ∷ ShrSlice (named 2) κ-beds u32 ∷ ShrSlice (named 3) κ-roughness u32 ∷ ShrSlice (named 4) κ-rates u32 ∷ ShrSlice (named 5) κ-rain u32 ∷ ShrSlice (named 6) κ-inflow u32 ∷ MutSlice (named 7) κ-depths u32 ∷ MutSlice (named 8) κ-lasts u32 ∷ MutSlice (named 9) κ-records u32 ∷ MutSlice (named 10) κ-run u64 ∷ MutSlice (named 11) κ-steps u64 ∷ MutSlice (named 12) κ-boards of-Board.the-row ∷ []) a vals) ∷ []) (params′ En ((vint w64 rows₀) ∷ (vint w64 columns₀) ∷ s-rules ∷ (vint w64 end₀) ∷ s-marks ∷ s-beds ∷ s-roughness ∷ s-rates ∷ s-rain ∷ s-inflow ∷ s-depths ∷ s-lasts ∷ s-records ∷ s-run ∷ s-steps ∷ s-boards ∷ []) (runs C Λ En (code.function .body) (atRet En Post)))
+    passed : Sq W (‵ (froom (sliceTy (tyRef erased mut (pointee (of-Board.the-row .written)))) l₃₄ 0) ∷ ‵ (fdies (sliceTy (tyRef erased mut (pointee (of-Board.the-row .written)))) l₃₄) ∷ ‵ (froom (tyRef erased mut (pointee (of-Board.the-row .written))) l₃₃ 0) ∷ ‵ (fdies (tyRef erased mut (pointee (of-Board.the-row .written))) l₃₃) ∷ ‵ (froom tyUnit l₃₂ 0) ∷ ‵ (fdies tyUnit l₃₂) ∷ ‵ (froom (sliceTy (tyRef erased mut (tyInt w64))) l₃₁ 0) ∷ ‵ (fdies (sliceTy (tyRef erased mut (tyInt w64))) l₃₁) ∷ ‵ (froom (tyRef erased mut (tyInt w64)) l₃₀ 0) ∷ ‵ (fdies (tyRef erased mut (tyInt w64)) l₃₀) ∷ ‵ (froom (sliceTy (tyRef erased mut (tyInt w64))) l₂₉ 0) ∷ ‵ (fdies (sliceTy (tyRef erased mut (tyInt w64))) l₂₉) ∷ ‵ (froom (tyRef erased mut (tyInt w64)) l₂₈ 0) ∷ ‵ (fdies (tyRef erased mut (tyInt w64)) l₂₈) ∷ ‵ (froom (sliceTy (tyRef erased mut (tyInt w32))) l₂₇ 0) ∷ ‵ (fdies (sliceTy (tyRef erased mut (tyInt w32))) l₂₇) ∷ ‵ (froom (tyRef erased mut (tyInt w32)) l₂₆ 0) ∷ ‵ (fdies (tyRef erased mut (tyInt w32)) l₂₆) ∷ ‵ (froom (sliceTy (tyRef erased mut (tyInt w32))) l₂₅ 0) ∷ ‵ (fdies (sliceTy (tyRef erased mut (tyInt w32))) l₂₅) ∷ ‵ (froom (tyRef erased mut (tyInt w32)) l₂₄ 0) ∷ ‵ (fdies (tyRef erased mut (tyInt w32)) l₂₄) ∷ ‵ (froom (sliceTy (tyRef erased mut (tyInt w32))) l₂₃ 0) ∷ ‵ (fdies (sliceTy (tyRef erased mut (tyInt w32))) l₂₃) ∷ ‵ (froom (tyRef erased mut (tyInt w32)) l₂₂ 0) ∷ ‵ (fdies (tyRef erased mut (tyInt w32)) l₂₂) ∷ ‵ (froom (sliceTy (tyRef erased imm (pointee (of-Board.the-row .written)))) l₂₁ 0) ∷ ‵ (fdies (sliceTy (tyRef erased imm (pointee (of-Board.the-row .written)))) l₂₁) ∷ ‵ (froom (tyRef erased imm (pointee (of-Board.the-row .written))) l₂₀ 0) ∷ ‵ (fdies (tyRef erased imm (pointee (of-Board.the-row .written))) l₂₀) ∷ ‵ (froom laws-Boards.mir l₁₉ 0) ∷ ‵ (fdies laws-Boards.mir l₁₉) ∷ ‵ (froom laws-Boarded.mir l₁₈ 0) ∷ ‵ (fdies laws-Boarded.mir l₁₈) ∷ ‵ (froom laws-Boards.mir l₁₇ 0) ∷ ‵ (fdies laws-Boards.mir l₁₇) ∷ ‵ (froom ty-boards l₁₆ 0) ∷ ‵ (fdies ty-boards l₁₆) ∷ ‵ (froom ty-steps l₁₅ 0) ∷ ‵ (fdies ty-steps l₁₅) ∷ ‵ (froom ty-run l₁₄ 0) ∷ ‵ (fdies ty-run l₁₄) ∷ ‵ (froom ty-records l₁₃ 0) ∷ ‵ (fdies ty-records l₁₃) ∷ ‵ (froom ty-lasts l₁₂ 0) ∷ ‵ (fdies ty-lasts l₁₂) ∷ ‵ (froom ty-depths l₁₁ 0) ∷ ‵ (fdies ty-depths l₁₁) ∷ ‵ (froom ty-inflow l₁₀ 0) ∷ ‵ (fdies ty-inflow l₁₀) ∷ ‵ (froom ty-rain l₉ 0) ∷ ‵ (fdies ty-rain l₉) ∷ ‵ (froom ty-rates l₈ 0) ∷ ‵ (fdies ty-rates l₈) ∷ ‵ (froom ty-roughness l₇ 0) ∷ ‵ (fdies ty-roughness l₇) ∷ ‵ (froom ty-beds l₆ 0) ∷ ‵ (fdies ty-beds l₆) ∷ ‵ (froom ty-marks l₅ 0) ∷ ‵ (fdies ty-marks l₅) ∷ ‵ (froom (tyInt w64) l₄ 0) ∷ ‵ (fdies (tyInt w64) l₄) ∷ ‵ (froom ty-rules l₃ 0) ∷ ‵ (fdies ty-rules l₃) ∷ ‵ (froom (tyInt w64) l₂ 0) ∷ ‵ (fdies (tyInt w64) l₂) ∷ ‵ (froom (tyInt w64) l₁ 0) ∷ ‵ (fdies (tyInt w64) l₁) ∷ ‵ (froom (tyInt w32) l₀ 0) ∷ ‵ (fdies (tyInt w32) l₀) ∷ (‵ (flft κ-rules q-rules) ⊛ (‵ (flft κ-marks q-marks) ⊛ (‵ (flft κ-beds q-beds) ⊛ (‵ (flft κ-roughness q-roughness) ⊛ (‵ (flft κ-rates q-rates) ⊛ (‵ (flft κ-rain q-rain) ⊛ (‵ (flft κ-inflow q-inflow) ⊛ (‵ (flft κ-depths q-depths) ⊛ (‵ (flft κ-lasts q-lasts) ⊛ (‵ (flft κ-records q-records) ⊛ (‵ (flft κ-run q-run) ⊛ (‵ (flft κ-steps q-steps) ⊛ (‵ (flft κ-boards q-boards) ⊛ ‵ ftrue))))))))))))) ∷ ‵ (owns (usize ∷ usize ∷ ShrSlice (named 0) κ-rules u64 ∷ u64 ∷ ShrSlice (named 1) κ-marks u8 ∷ ShrSlice (named 2) κ-beds u32 ∷ ShrSlice (named 3) κ-roughness u32 ∷ ShrSlice (named 4) κ-rates u32 ∷ ShrSlice (named 5) κ-rain u32 ∷ ShrSlice (named 6) κ-inflow u32 ∷ MutSlice (named 7) κ-depths u32 ∷ MutSlice (named 8) κ-lasts u32 ∷ MutSlice (named 9) κ-records u32 ∷ MutSlice (named 10) κ-run u64 ∷ MutSlice (named 11) κ-steps u64 ∷ MutSlice (named 12) κ-boards of-Board.the-row ∷ []) a vals) ∷ []) (params′ En ((vint w64 rows₀) ∷ (vint w64 columns₀) ∷ s-rules ∷ (vint w64 end₀) ∷ s-marks ∷ s-beds ∷ s-roughness ∷ s-rates ∷ s-rain ∷ s-inflow ∷ s-depths ∷ s-lasts ∷ s-records ∷ s-run ∷ s-steps ∷ s-boards ∷ []) (runs C Λ En (code.function .body) (atRet En Post)))
     passed =
         params1 ! $
         pass1 ! (init ! 66 refl (uint-lawful 𝓤 H A W w64 .typed rows₀ _ is-rows .0)) $

@@ -2,7 +2,7 @@
 -- Assumes nothing.
 use native.Mathlib.Omega.{arith}
 use borrow.Author.Needs.{needs}
-use Rattle.slices.specs.inner.Told.{toldText}
+use Rattle.slices.specs.inner.Telling.{toldText}
 use Rattle.slices.proofs.ToldLaws.{told-short}
 use Rattle.slices.proofs.running.put_told.Statement.{statement}
 use Rattle.slices.proofs.running.put_told.Tie as tie
