@@ -7,7 +7,7 @@ from rattle.walks.values import NOTHING, U8, U32, U64, USIZE, mutable, shared, s
 BOARD, BOARDS, SHOWN = (struct("display", "boards", name) for name in ("Board", "Boards", "Shown"))
 SHAPE, RULES = struct("grid", "squares", "Shape"), struct("rule", "rules", "Rules")
 RUN, RAN = struct("ledger", "runs", "Run"), struct("flood", "run", "Ran")
-TOLD = struct("display_exports", "boards", "Told")
+BOARDED = struct("display_exports", "boards", "Boarded")
 
 # what a run is lent, to be read and to be written, and in the exported call besides
 READ = {"marks": shared(U8)} | {name: shared(U32) for name in ("beds", "roughness", "rates", "rain", "inflow")}
@@ -74,7 +74,7 @@ FLOOD_RUN_TO_BOARDS = Straight(
     "display_exports::boards::flood_run_to_boards",
     {"rows": USIZE, "columns": USIZE, "rules": shared(U64), "end": U64} | READ | WRITTEN | TOLD_IN | {"boards": mutable(BOARD)},
     round_run(
-        Call("display_exports::boards::run_told", ("r1", "rows", "columns", "rules", "end", *READ, *written(WRITTEN), *written(TOLD_IN)), TOLD,
+        Call("display_exports::boards::run_told", ("r1", "rows", "columns", "rules", "end", *READ, *written(WRITTEN), *written(TOLD_IN)), BOARDED,
              f"TellsHeld {STARTS_TOLD} r₁ {TOLD_BEFORE} r₂ depths₂ lasts₂ records₂ run₂ steps₂"),
         "display_exports::boards::boards_of", Call("display_exports::boards::number_of", ("r2",), U32, "r₅ ≡ r₂ .number")),
     law=f"exported-back {STARTS_TOLD} boards₀ {TOLD_BEFORE} got₁ got₂ got₃ got₄ got₅",
