@@ -127,13 +127,13 @@ def two_at_a_time(checks, room):
 
 
 def crates_at_once(checks, room):
-    """What rt ci is told of how many crates to take at once: three or six on two cores with memory for them, else nothing."""
+    """What rt ci is told of how many crates to take at once: three or eight on two cores with memory for them, else nothing."""
     room.stand_in("rt", f'echo "jobs: ${{RT_JOBS:-}}"; echo "{VERDICT}"')
     room.write("bin/setup", "exit 0")
     room.write("tests/outside/build.sh", "tools() { :; }; archive() { :; }")
     room.write("tests/linters.py", LINTED)
     room.write("tests/one.py", PASSES)
-    for cores, kilobytes, jobs in ((2, 24000000, "6"), (2, 12000000, "3"), (2, 8000000, ""), (1, 24000000, ""), (8, 64000000, "")):
+    for cores, kilobytes, jobs in ((2, 24000000, "8"), (2, 12000000, "3"), (2, 8000000, ""), (1, 24000000, ""), (8, 64000000, "")):
         room.stand_in("nproc", f"echo {cores}")
         room.stand_in("awk", f"echo {kilobytes}")
         printed = room.ran("bash", ".ci/run")[1].splitlines()
