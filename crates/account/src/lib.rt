@@ -1,6 +1,9 @@
 // The water account as numbers: the water on the ground, and what rain and hatches give between two clocks.
 //   water_on      the water on all squares not closed
 //   tables_give   what the tables give all squares not closed
+
+#![tactic(auto)]
+
 ghost use Rattle.std.specs.Prelude.{◌≡◌, ◌*◌, ◌≤◌, ◌<◌, get_or, length};
 ghost use Rattle.reckon.specs.Tests.{pick};
 ghost use Rattle.reckon.specs.Ranges.{most_side};

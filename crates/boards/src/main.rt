@@ -1,5 +1,8 @@
 // Reads two file names from standard input, a sheet's and a list of boards', runs the sheet to its end, and writes of each board the highest
 // depth seen and the clock when its mark was first reached.
+
+#![tactic(auto)]
+
 use files::read_two;
 use levels::program::boards_of;
 use programs::limits::{OUT_ROOM, TEXT_ROOM};

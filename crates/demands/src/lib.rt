@@ -8,3 +8,5 @@
 //   Played    demands 2 and 3 and the account, of any series as it is played by either engine
 //   Account   document 02, #108: no water is lost and none made
 //   Worked    the worked cases of document 01 that are to be proved, as one list
+
+#![tactic(auto)]

@@ -1,4 +1,7 @@
 // The warden's desk: reads lines from standard input, answers each, and makes the steps of a line `step` one by one.
+
+#![tactic(auto)]
+
 ghost use Rattle.std.specs.Prelude.{◌≡◌, ◌≤◌, length};
 ghost use Rattle.sheet.specs.Sheet.{rooms};
 ghost use Rattle.evenings.specs.Program.{stores};

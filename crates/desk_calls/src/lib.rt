@@ -3,5 +3,8 @@
 //
 //   single    after_command, after_make_next: each call, made once
 //   several   a line or a step at two desks, two desks in turn, a further step, a step taken back, a state saved and laid again
+
+#![tactic(auto)]
+
 pub mod several;
 pub mod single;

@@ -6,6 +6,9 @@
 //   answers    a state's frame, and how an answer ends
 //   lines      what each line does over a sheet's own part of the rooms
 //   command    wanted, command, make_next, make_step: the whole program short of its input and output
+
+#![tactic(auto)]
+
 pub mod answers;
 pub mod command;
 pub mod lines;

@@ -4,6 +4,9 @@
 //   boards   Board, Boards, Shown, MOST_BOARDS, no_board, no_boards, with_board
 //   watch    run_boards
 //   lent     held_of, put_back, run_to_boards
+
+#![tactic(auto)]
+
 pub mod boards;
 pub mod lent;
 pub mod watch;

@@ -2,4 +2,7 @@
 // asked of a caller: the call is refused by its number, 0 being none, and sizes are tried before all else, as in `exports`.
 //
 //   boards   flood_run_to_boards
+
+#![tactic(auto)]
+
 pub mod boards;

@@ -1,5 +1,8 @@
 // Reads a depth and sheets' file names from standard input, runs each sheet to its end, and writes of each square how many had it that deep, the
 // deepest value and the sheet that first gave it; then the sheets run and refused.
+
+#![tactic(auto)]
+
 use answer::printing::put_refused;
 use files::{read_input, read_named};
 use lists::names::{Listed, MOST_SHEETS, read_list};

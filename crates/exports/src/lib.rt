@@ -8,6 +8,9 @@
 //   sizes    inside: how many numbers each slice has
 //   inputs   inside: shape, rules and run of the numbers lent
 //   answers  inside: a run and a heading put into slices
+
+#![tactic(auto)]
+
 pub mod answers;
 pub mod bounds;
 pub mod inputs;

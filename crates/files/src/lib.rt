@@ -9,6 +9,9 @@
 //   read_two     the two files whose names are the two lines of the standard input
 //   can_write    whether a file whose name is a line of a list can be written
 //   write_named  a text as the file whose name is a line of a list
+
+#![tactic(auto)]
+
 ghost use Rattle.std.specs.Prelude.{◌≡◌, false, ◌<◌, ◌≤◌, length};
 ghost use Rattle.reckon.specs.Tests.{pick};
 ghost use Rattle.files.specs.Files.{InputCame, FileCame, NamedCame, HandedOn, OneCame, TwoCame, NamedWritten, most_name, not_read};

@@ -5,5 +5,8 @@
 //   run::run_to         steps by a Walk to an end of the clock, after the checks
 // The walk is all that two engines differ in: `Walk::All` works every square, `Walk::Wet` only those with something to work or to write.
 // A fresh run and the checks are in `checks`; a take-back is the ledger's: ledger::take_back::take_back.
+
+#![tactic(auto)]
+
 pub mod run;
 pub mod step;

@@ -3,6 +3,9 @@
 //   frame    Figures; put_frame
 //   bounds   put_bounds
 //   arrows   put_arrows
+
+#![tactic(auto)]
+
 pub mod arrows;
 pub mod bounds;
 pub mod frame;

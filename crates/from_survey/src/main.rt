@@ -1,5 +1,8 @@
 // Reads five file names from standard input, those of a note and of its grids of beds, depths, roughness and soak rates, and writes the sheet
 // that they say.
+
+#![tactic(auto)]
+
 use answer::printing::put_refused;
 use files::{NAMES_ROOM, read_names, read_of};
 use programs::limits::OUT_ROOM;

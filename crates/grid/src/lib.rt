@@ -4,6 +4,9 @@
 //   marks     is_closed, is_exit, marks_fine, inflow_squares_fine
 //   masks     row_mask, mask_rows, ones, next_set
 //   walks     Walk, LEAST_WET, next_within, next_after, beside_set
+
+#![tactic(auto)]
+
 pub mod marks;
 pub mod masks;
 pub mod squares;

@@ -1,5 +1,8 @@
 // Reads two file names from standard input, a sheet's and a log's, takes the log's lines in turn, and writes the water at each line's clock and
 // after each `back`, up to the first refusal.
+
+#![tactic(auto)]
+
 use evenings::program::{Night, RATES_ROOM, begin_log, go_on};
 use files::read_two;
 use hatches::log::MOST_NUMBERS;

@@ -1,4 +1,7 @@
 // Reads a sheet from standard input, runs it to its end, and writes the highest water of each square with the clock when it first stood so high.
+
+#![tactic(auto)]
+
 use peaks::highest::highest_of;
 use programs::limits::{OUT_ROOM, TEXT_ROOM};
 

@@ -4,6 +4,9 @@
 //   rounds     unknown beds filled in rounds
 //   holes      the `?` of a text, and the text with other beds in their places
 //   repairing  REPAIR_ROOM; repair_of
+
+#![tactic(auto)]
+
 mod holes;
 pub mod repairing;
 mod rounds;

@@ -2,5 +2,8 @@
 //
 //   running  run_sheet_wet
 //   hours    hours_of
+
+#![tactic(auto)]
+
 pub mod hours;
 pub mod running;

@@ -1,4 +1,7 @@
 // Reads a sheet from standard input, runs it to its end, and writes for how long each square was wet, 1 cm deep or deeper; or its refusal.
+
+#![tactic(auto)]
+
 use hours::hours::hours_of;
 use programs::limits::{OUT_ROOM, TEXT_ROOM};
 

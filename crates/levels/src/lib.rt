@@ -3,6 +3,9 @@
 //   lines     read_boards
 //   printing  put_shown
 //   program   boards_of
+
+#![tactic(auto)]
+
 pub mod lines;
 pub mod printing;
 pub mod program;

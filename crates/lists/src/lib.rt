@@ -6,6 +6,9 @@
 //   merging   merge: one accepted sheet more
 //   tally     Tally; begin_tally, take_sheet
 //   printing  put_drowned: what is printed at the end
+
+#![tactic(auto)]
+
 pub mod judging;
 pub mod merging;
 pub mod names;

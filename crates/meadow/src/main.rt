@@ -1,5 +1,8 @@
 // Reads a sheet from standard input, runs it to its end, and writes the water that it leaves, or its refusal; of a long run standard error tells how far
 // it has come.
+
+#![tactic(auto)]
+
 use programs::limits::{OUT_ROOM, TEXT_ROOM};
 use slices::meadow::meadow_told;
 

@@ -1,5 +1,8 @@
 // Works one square root and one cube root aloud, as the display panel shows it and as `reckon::roots` finds them: in decimal, place by
 // place from the top, each digit raised while its power still fits. docs/ROOTS.md holds what this prints.
+
+#![tactic(auto)]
+
 ghost use Rattle.std.specs.Prelude.{◌≡◌, ◌^◌, ◌≤◌, ◌<◌, leb};
 ghost use Rattle.reckon.specs.Roots.{Root};
 ghost use Rattle.reckon.specs.Inner.RootSearch.{SmallPower, Asked, Place, Raised};

@@ -6,6 +6,9 @@
 //   running   run_sheet
 //   printing  put_ran
 //   meadow    meadow_of
+
+#![tactic(auto)]
+
 pub mod limits;
 pub mod meadow;
 pub mod printing;

@@ -4,6 +4,9 @@
 //   amounts   Scale
 //   reading   Head, Entry; head_of, entry_at, grid_bad
 //   writing   put_grid
+
+#![tactic(auto)]
+
 pub mod amounts;
 pub mod reading;
 pub mod writing;

@@ -8,6 +8,9 @@
 //   roots     square_root, cube_root
 //   soaking   soak_due
 //   tables    RAIN_WIDTH, RAIN_ROOM, INFLOW_WIDTH, INFLOW_ROOM; rain_fine, inflow_fine, rain_by, inflow_by, rain_added, inflow_added
+
+#![tactic(auto)]
+
 pub mod copying;
 pub mod numbers;
 pub mod ranges;

@@ -1,5 +1,8 @@
 // Reads a sheet with `?` for beds that could not be seen from standard input, fills them in rounds, and writes the sheet and what was given,
 // or its refusal.
+
+#![tactic(auto)]
+
 use holes::repairing::{REPAIR_ROOM, repair_of};
 use programs::limits::TEXT_ROOM;
 

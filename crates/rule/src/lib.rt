@@ -5,6 +5,9 @@
 //   weighing   weigh
 //   low_roots  inside: bounds of roots from below, found by shifts
 //   length     shorter, held_length, is_update, duration_for, steps_over
+
+#![tactic(auto)]
+
 pub mod drops;
 pub mod length;
 pub mod low_roots;

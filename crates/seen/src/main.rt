@@ -1,6 +1,9 @@
 // Shows what is seen of a small meadow with closed squares, an exit, a dry and a still square: the arrow of each square, its speeds east
 // and north as bit patterns, and the wet rows; after a step, after another, and after a take-back, which must show the first step's
 // again. Then each refusal.
+
+#![tactic(auto)]
+
 use checks::fresh::{fresh, fresh_run};
 use flood::step::step;
 use grid::squares::Shape;

@@ -4,6 +4,9 @@
 //   spread      the new depths, worked in a room
 //   reach       whether they fit, and the water written, at the squares that a step reaches
 //   settle      Settled; settle, surely_settles
+
+#![tactic(auto)]
+
 mod reach;
 pub mod settle;
 mod spread;

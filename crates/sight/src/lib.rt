@@ -5,6 +5,9 @@
 //   all_arrows all_arrows: the arrows of a whole grid, checked once
 //   wet_rows   Wet; ones_in, wet_rows
 //   refusals   inside: the refusals 1 to 3, which both calls share
+
+#![tactic(auto)]
+
 pub mod all_arrows;
 pub mod arrows;
 mod refusals;

@@ -3,5 +3,8 @@
 //
 //   running  run_slices
 //   meadow   meadow_told
+
+#![tactic(auto)]
+
 pub mod meadow;
 pub mod running;

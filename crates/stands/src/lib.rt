@@ -7,6 +7,9 @@
 //   squares    the squares' lines, looked through, judged and stored
 //   judging    refusals 3, 4 and 6 of what was read
 //   laying     read_stand: a state read from its text
+
+#![tactic(auto)]
+
 pub mod heads;
 pub mod judging;
 pub mod laying;

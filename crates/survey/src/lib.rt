@@ -5,6 +5,9 @@
 //   sets       a set: judged, compared, and put into rooms
 //   moving     Part, Moved; to_part
 //   returning  from_set
+
+#![tactic(auto)]
+
 pub mod moving;
 mod notes;
 pub mod returning;

@@ -1,5 +1,8 @@
 // Reads six file names from standard input, a sheet's and those of a note and of its grids of beds, depths, roughness and soak rates, and writes
 // the sheet's set to these five, once all of it is judged and each of them can be written.
+
+#![tactic(auto)]
+
 use answer::printing::put_refused;
 use files::{NAMES_ROOM, can_write, read_names, read_of, write_named};
 use programs::limits::OUT_ROOM;

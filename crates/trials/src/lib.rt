@@ -7,6 +7,9 @@
 //   slot_before    the slot that is the newest after a take-back
 //   kept_after     how many records are kept after a step
 //   ring_fine      whether K, kept and newest are in range
+
+#![tactic(auto)]
+
 ghost use Rattle.std.specs.Prelude.{◌<◌, ◌^◌};
 ghost use Rattle.trials.specs.Ring.{slot_start, SlotsIn, SlotStart, SlotAfter, SlotBefore, KeptAfter, RingJudged};
 

@@ -3,5 +3,8 @@
 //
 //   given    Account; open_account: what the tables gave the standing steps
 //   lines    Tried; name, draw, step_once, back
+
+#![tactic(auto)]
+
 pub mod given;
 pub mod lines;

@@ -1,5 +1,8 @@
 // Runs vectors of the weighing and of the step-length candidates, worked outside Rattle by tests/vectors.py: a line for each row and
 // each edition of the rule, its four transfers and the least of 60,000 and its candidates.
+
+#![tactic(auto)]
+
 ghost use Rattle.rule.specs.Inner.InRange.{Weighable, Candidacy};
 
 use rule::length::shorter;

@@ -1,5 +1,8 @@
 // Runs document 01's worked cases that are not marked P, and beside them each refusal, a run refused midway and series of steps and
 // take-backs; a line for each call. tests/worked.py works the same lines.
+
+#![tactic(auto)]
+
 mod bounds;
 mod columns;
 mod meadow;
