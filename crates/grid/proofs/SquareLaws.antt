@@ -3,7 +3,7 @@
 use mathlib.Core.Path.{◌≡◌, refl, sym, ap, ◌∙◌}
 use mathlib.Core.Bool.{true, false}
 use Prim.Native.Nat.{ℕ, zero, suc, ◌+◌, ◌-◌, ◌*◌, ◌/◌, ◌%◌, ◌≤◌, ◌<◌}
-use native.Mathlib.Nat.{mul-le-mul, mul-le-mul_right, suc-mul, zero-mod, mod-lt, mod_self, mod-eq_of_lt, mod-add-mod, mul-mod_left, div-add-mod', mul-add-mod_self_right, mul-add_div_right, div-eq_of_lt, add-zero, zero-mul}
+use native.Mathlib.Nat.{mul-le-mul, mul-le-mul_right, suc-mul, zero-mod, mod-lt, mod_self, mod-eq_of_lt, mod-add-mod, mul-mod_left, div-add-mod', mul-add-mod_self_right, mul-add-div_right, div-eq_of_lt, add-zero, zero-mul}
 use native.Mathlib.Decide.{dec_le, dec_lt, ℕ_discrete}
 use native.Mathlib.Omega.{arith}
 use lib.Dec.{ltb}
@@ -45,7 +45,7 @@ module _ (s : Shape) where
 
   pub row_of : (row : ℕ) {column : ℕ} → column < s.columns → square_at s row column / s.columns ≡ row
   row_of row {column} h =
-      mul-add_div_right (omega arith) row column ∙ (ap (λ (k : ℕ). row + k) (div-eq_of_lt h) ∙ add-zero row)
+      mul-add-div_right (omega arith) row column ∙ (ap (λ (k : ℕ). row + k) (div-eq_of_lt h) ∙ add-zero row)
 
   pub column_of : (row : ℕ) {column : ℕ} → column < s.columns → square_at s row column % s.columns ≡ column
   column_of row {column} h = mul-add-mod_self_right row s.columns column ∙ mod-eq_of_lt h
