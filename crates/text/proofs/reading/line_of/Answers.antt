@@ -2,7 +2,7 @@
 -- Assumes nothing.
 use mathlib.Core.Path.{sym, ap, ◌∙◌}
 use native.Mathlib.Omega.{arith}
-use borrow.Author.Tests.{not-false}
+use borrow.Author.Tests.{not-true, not-false}
 use Rattle.reckon.proofs.TestLaws.{pick_true, pick_false}
 use Rattle.text.specs.Reading.{read_line, as_fields}
 use Rattle.text.proofs.ReadingLaws.{unfound, found_anywhere, word_within}
@@ -29,15 +29,14 @@ returns-then-not-rest c =
     ∙ ap (as_fields a.at)
     (sym
     (pick_true _ _
-    (sym c.word_at.ensures ∙ not-false _
-    c.if-not-word_at.false)
-    ∙ unfound _ _ c.rest_of_line-rest.ensures (c.if-not-rest.true)))
+    (sym c.word_at.ensures ∙ c.if-not-word_at.false)
+    ∙ unfound _ _ c.rest_of_line-rest.ensures (not-true _ c.if-not-rest.true)))
 
 pub returns : goal.returns
 unfolding read_line
 returns c =
     let a = c.args in
-    found_anywhere _ _ c.rest_of_line-rest.ensures a.at (c.if-not-rest.false)
+    found_anywhere _ _ c.rest_of_line-rest.ensures a.at (not-false _ c.if-not-rest.false)
     ∙ ap (as_fields a.at)
     (sym (pick_true _ _
     (sym c.word_at.ensures ∙ c.if-not-word_at.false)))

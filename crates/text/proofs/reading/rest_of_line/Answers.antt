@@ -2,6 +2,7 @@
 -- Assumes nothing.
 use mathlib.Core.Path.{sym, ap, ◌∙◌}
 use native.Mathlib.Omega.{arith}
+use borrow.Author.Tests.{not-true, not-false}
 use Rattle.text.specs.Reading.{newline, line_ended, read_rest, as_fields}
 use Rattle.text.proofs.ReadingLaws.{unfound, unended, ended_found, byte_within}
 use Rattle.text.proofs.reading.rest_of_line.Goals as goal
@@ -12,7 +13,7 @@ returns-then-not-fields c =
     let a = c.args in
     c.nothing.ensures
     ∙ ap (λ r. as_fields a.at (line_ended a.text.now r))
-    (sym (unfound _ _ c.fields_at-fields.ensures (c.if-not-fields.true)))
+    (sym (unfound _ _ c.fields_at-fields.ensures (not-true _ c.if-not-fields.true)))
 
 pub returns-then-not-byte_is : goal.returns-then-not-byte_is
 unfolding read_rest
@@ -37,5 +38,5 @@ unfolding read_rest
 returns c =
     let a = c.args in
     ended_found _ _ c.fields_at-fields.ensures a.text.now
-    (c.if-not-fields.false)
+    (not-false _ c.if-not-fields.false)
     (sym c.byte_is.ensures ∙ c.if-not-byte_is.false)
