@@ -1,8 +1,6 @@
 -- `ledger::lent::waters_fine` meets its contract: every square passed so far was fine.
 -- Assumes nothing.
 use mathlib.Core.Path.{sym, ◌∙◌}
-use mathlib.Core.Bool.{true}
-use Prim.Native.Nat.{◌-◌}
 use native.Mathlib.Omega.{arith}
 use Rattle.reckon.proofs.TestLaws.{all_none, all_more, all_fails, all_whole}
 use Rattle.ledger.specs.Checks.{waters_fine}
@@ -16,10 +14,10 @@ loop-square-init c = (omega arith, all_none _)
 
 pub square_fine-requires : goal.square_fine-requires
 square_fine-requires c = (
-      omega (arith, c.requires.marks_long, c.squares_of-squares.ensures, c.loop-square-test.true),
-      omega (arith, c.requires.depths_long, c.squares_of-squares.ensures, c.loop-square-test.true),
-      omega (arith, c.requires.lasts_long, c.squares_of-squares.ensures, c.loop-square-test.true),
-    )
+  omega (arith, c.requires.marks_long, c.squares_of-squares.ensures, c.loop-square-test.true),
+  omega (arith, c.requires.depths_long, c.squares_of-squares.ensures, c.loop-square-test.true),
+  omega (arith, c.requires.lasts_long, c.squares_of-squares.ensures, c.loop-square-test.true),
+)
 
 pub returns-then-not-square_fine : goal.returns-then-not-square_fine
 unfolding waters_fine

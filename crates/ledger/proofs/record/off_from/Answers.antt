@@ -9,39 +9,34 @@ use Rattle.ledger.specs.Flows.{off_side, off_square}
 use Rattle.ledger.specs.Record.{leaves_in}
 use Rattle.ledger.proofs.FlowLaws.{four_words, four-sides, off_none, off_small}
 use Rattle.ledger.proofs.record.off_from.Goals as goal
-use Rattle.ledger.proofs.record.off_from.Goals.{After-off_side-west, Else-is_closed, Start}
+use Rattle.ledger.proofs.record.off_from.Goals.{After-off_side-west}
 
 -- ---- the places, each from the one after it
-
-abbrev start : Else-is_closed → Start
-start c = c.before.before
 
 -- ---- where the four are known
 
 module _ (c : After-off_side-west) where
   abbrev p : Plan
-  p = plan (start c).args.shape (start c).args.marks.now
+  p = plan c.args.shape c.args.marks.now
 
   sum_is :
       c.off_side-north.result + c.off_side-east.result + c.off_side-south.result + c.off_side-west.result ≡
-      off_square p (leaves_in (start c).args.rec.now) (start c).args.square
+      off_square p (leaves_in c.args.rec.now) c.args.square
   unfolding off_square
   sum_is =
-      four-sides (off_side p (leaves_in (start c).args.rec.now) (start c).args.square) c.off_side-north.ensures
+      four-sides (off_side p (leaves_in c.args.rec.now) c.args.square) c.off_side-north.ensures
       c.off_side-east.ensures c.off_side-south.ensures c.off_side-west.ensures
-      ∙ sym (pick_false _ _ (sym c.is_closed.ensures ∙ c.if-is_closed.left))
+      ∙ sym (pick_false _ _ (sym c.is_closed.ensures ∙ c.if-is_closed.false))
 
-  sum-small : off_square p (leaves_in (start c).args.rec.now) (start c).args.square ≤ four_words
-  sum-small = off_small (start c).args.rec.now (λ k. (c.type_inv.rec k).fits) p (start c).args.square
+  sum-small : off_square p (leaves_in c.args.rec.now) c.args.square ≤ four_words
+  sum-small = off_small c.args.rec.now (λ k. (c.type_inv.rec k).fits) p c.args.square
 
 pub returns-then-is_closed : goal.returns-then-is_closed
 unfolding off_square
 returns-then-is_closed c = sym (pick_true _ _ (sym c.is_closed.ensures ∙ c.if-is_closed.true))
 
 pub returns-then-not-on_rim : goal.returns-then-not-on_rim
-returns-then-not-on_rim c =
-    let s = start (goal.at.returns-then-not-on_rim c).Else-is_closed in
-    off_none (plan s.args.shape s.args.marks.now) (leaves_in s.args.rec.now) s.args.square (sym c.on_rim.ensures ∙ c.if-not-on_rim.true)
+returns-then-not-on_rim c = off_none (plan c.args.shape c.args.marks.now) (leaves_in c.args.rec.now) c.args.square (sym c.on_rim.ensures ∙ c.if-not-on_rim.true)
 
 pub overflow_add-result : goal.overflow_add-result
 overflow_add-result c = omega (arith, sum_is c, sum-small c)

@@ -31,5 +31,5 @@ returns-then-run-gt-MOST_OUTFLOW c = sym (every_fails _ 4 (lt-leb _ _ c.if-run-g
 
 pub returns : goal.returns
 returns c =
-    soaked_decides c.args.k c.args.run (sym c.ring_fine.ensures ∙ c.if-not-ring_fine.left) c.if-run-gt-LAST_CLOCK.left
-    c.if-run-lt1.left c.if-run-gt-MOST_LENGTH.left c.if-run-gt-MOST_OUTFLOW.left
+    soaked_decides c.args.k c.args.run (sym c.ring_fine.ensures ∙ c.if-not-ring_fine.false) c.if-run-gt-LAST_CLOCK.false
+    c.if-run-lt1.false c.if-run-gt-MOST_LENGTH.false c.if-run-gt-MOST_OUTFLOW.false

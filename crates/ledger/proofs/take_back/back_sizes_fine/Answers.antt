@@ -2,7 +2,6 @@
 -- Assumes nothing.
 use mathlib.Core.Path.{sym, ◌∙◌}
 use mathlib.Core.List.{[], ◌∷◌}
-use borrow.Author.Tests.{not-false}
 use Rattle.reckon.proofs.TestLaws.{every_fails}
 use Rattle.grid.specs.Squares.{shape_fine}
 use Rattle.grid.proofs.SquareLaws.{ranges_of_fine}
@@ -44,8 +43,7 @@ returns c =
     c.one_each-3.ensures ∙ every_decides
     (shape_fine c.args.shape ∷ one_each p c.args.marks.now ∷ one_each p c.args.depths.now ∷ [])
     (one_each p c.args.lasts.now) (
-      sym c.shape_fine.ensures ∙ not-false _
-          c.if-not-shape_fine.false,
+      sym c.shape_fine.ensures ∙ c.if-not-shape_fine.false,
       (
         sym c.one_each.ensures ∙ c.if-not-one_each.false,
         (sym c.one_each-2.ensures ∙ c.if-not-one_each-2.false, tt),

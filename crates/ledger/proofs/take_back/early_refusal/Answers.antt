@@ -3,7 +3,6 @@
 use mathlib.Core.Path.{◌≡◌, sym, ap, ◌∙◌}
 use mathlib.Core.Bool.{true}
 use Prim.Native.Nat.{ℕ}
-use borrow.Author.Tests.{not-false}
 use Rattle.grid.specs.Marks.{marks_fine}
 use Rattle.ledger.specs.Runs.{Plan, World, plan, world, run_fine}
 use Rattle.ledger.specs.Record.{room_slots}
@@ -23,31 +22,30 @@ ground c = plan c.args.shape c.args.marks.now
 abbrev now_is : After-back_sizes_fine → World
 now_is c = world c.args.depths.now c.args.lasts.now c.args.records.now c.args.run
 
-sizes-pass : (c : Else-not-back_sizes_fine) → sized (ground c) (now_is c) ≡ true
+sizes-pass : (c : Else-not-back_sizes_fine) → sized (ground (goal.at.Else-not-back_sizes_fine c).After-back_sizes_fine) (now_is (goal.at.Else-not-back_sizes_fine c).After-back_sizes_fine) ≡ true
 sizes-pass c = sym c.back_sizes_fine.ensures ∙ c.if-not-back_sizes_fine.false
 
 module _ (c : Else-not-marks_fine) where
-  marks-pass : marks_fine (ground c).shape (ground c).marks ≡ true
+  marks-pass : marks_fine (ground (goal.at.Else-not-marks_fine c).After-back_sizes_fine).shape (ground (goal.at.Else-not-marks_fine c).After-back_sizes_fine).marks ≡ true
   marks-pass = sym c.marks_fine.ensures ∙ c.if-not-marks_fine.false
 
 module _ (c : Else-not-waters_fine) where
   abbrev p : Plan
-  p = ground (sizes c)
+  p = ground (goal.at.Else-not-waters_fine c).After-back_sizes_fine
 
   abbrev w : World
-  w = now_is (sizes c)
+  w = now_is (goal.at.Else-not-waters_fine c).After-back_sizes_fine
 
   waters-pass : waters_fine p w.depths w.lasts ≡ true
   waters-pass = sym c.waters_fine.ensures ∙ c.if-not-waters_fine.false
 
 -- the run is judged by the room's slots
 run-judged :
-    (c : After-run_fine) → let third = run-asked c in c.run_fine.result ≡ run_fine (room_slots (p c) (w c).records) (w c).run
+    (c : After-run_fine) → c.run_fine.result ≡ run_fine (room_slots (p (goal.at.After-run_fine c).Else-not-waters_fine) (w (goal.at.After-run_fine c).Else-not-waters_fine).records) (w (goal.at.After-run_fine c).Else-not-waters_fine).run
 run-judged c =
-    let third = run-asked c in
     c.run_fine.ensures
-    ∙ ap (λ (k : ℕ). run_fine k (w c).run)
-    (slots_of (p c) (w c).records c.record_size.ensures c.slots_in.ensures)
+    ∙ ap (λ (k : ℕ). run_fine k (w (goal.at.After-run_fine c).Else-not-waters_fine).run)
+    (slots_of (p (goal.at.After-run_fine c).Else-not-waters_fine) (w (goal.at.After-run_fine c).Else-not-waters_fine).records c.record_size.ensures c.slots_in.ensures)
 
 pub returns-then-not-back_sizes_fine : goal.returns-then-not-back_sizes_fine
 returns-then-not-back_sizes_fine c = looked_1 (ground (goal.at.returns-then-not-back_sizes_fine c).After-back_sizes_fine) (now_is (goal.at.returns-then-not-back_sizes_fine c).After-back_sizes_fine) (sym c.back_sizes_fine.ensures ∙ c.if-not-back_sizes_fine.true)
@@ -61,32 +59,27 @@ pub returns-then-not-marks_fine : goal.returns-then-not-marks_fine
 returns-then-not-marks_fine c = looked_2 (ground (goal.at.returns-then-not-marks_fine c).After-back_sizes_fine) (now_is (goal.at.returns-then-not-marks_fine c).After-back_sizes_fine) (sizes-pass (goal.at.returns-then-not-marks_fine c).Else-not-back_sizes_fine) (sym c.marks_fine.ensures ∙ c.if-not-marks_fine.true)
 
 pub waters_fine-requires : goal.waters_fine-requires
-waters_fine-requires c = watered_of (ground (sizes (goal.at.waters_fine-requires c).Else-not-back_sizes_fine)) (now_is (sizes (goal.at.waters_fine-requires c).Else-not-back_sizes_fine)) (sizes-pass (goal.at.waters_fine-requires c).Else-not-back_sizes_fine)
+waters_fine-requires c = watered_of (ground (goal.at.waters_fine-requires c).After-back_sizes_fine) (now_is (goal.at.waters_fine-requires c).After-back_sizes_fine) (sizes-pass (goal.at.waters_fine-requires c).Else-not-back_sizes_fine)
 
 pub returns-then-not-waters_fine : goal.returns-then-not-waters_fine
 returns-then-not-waters_fine c =
-    looked_3 (ground (sizes (goal.at.returns-then-not-waters_fine c).Else-not-back_sizes_fine)) (now_is (sizes (goal.at.returns-then-not-waters_fine c).Else-not-back_sizes_fine)) (sizes-pass (goal.at.returns-then-not-waters_fine c).Else-not-back_sizes_fine) (marks-pass (goal.at.returns-then-not-waters_fine c).Else-not-marks_fine)
+    looked_3 (ground (goal.at.returns-then-not-waters_fine c).After-back_sizes_fine) (now_is (goal.at.returns-then-not-waters_fine c).After-back_sizes_fine) (sizes-pass (goal.at.returns-then-not-waters_fine c).Else-not-back_sizes_fine) (marks-pass (goal.at.returns-then-not-waters_fine c).Else-not-marks_fine)
     (sym c.waters_fine.ensures ∙ c.if-not-waters_fine.true)
 
 pub record_size-requires : goal.record_size-requires
-record_size-requires c = (watered_of (p c) (w c) (sizes-pass (first (goal.at.record_size-requires c).Else-not-marks_fine))).fine
+record_size-requires c = (watered_of (p c) (w c) (sizes-pass (goal.at.record_size-requires c).Else-not-back_sizes_fine)).fine
 
 pub returns-then-not-run_fine : goal.returns-then-not-run_fine
 returns-then-not-run_fine c =
-    let before = run-asked (goal.at.returns-then-not-run_fine c).After-slots_in in
-    looked_6 (p (goal.at.returns-then-not-run_fine c).Else-not-waters_fine) (w (goal.at.returns-then-not-run_fine c).Else-not-waters_fine) (sizes-pass (first (goal.at.returns-then-not-run_fine c).Else-not-marks_fine)) (marks-pass (goal.at.returns-then-not-run_fine c).Else-not-marks_fine) (waters-pass (goal.at.returns-then-not-run_fine c).Else-not-waters_fine)
+    looked_6 (p (goal.at.returns-then-not-run_fine c).Else-not-waters_fine) (w (goal.at.returns-then-not-run_fine c).Else-not-waters_fine) (sizes-pass (goal.at.returns-then-not-run_fine c).Else-not-back_sizes_fine) (marks-pass (goal.at.returns-then-not-run_fine c).Else-not-marks_fine) (waters-pass (goal.at.returns-then-not-run_fine c).Else-not-waters_fine)
     (sym (run-judged (goal.at.returns-then-not-run_fine c).After-run_fine) ∙ c.if-not-run_fine.true)
 
 pub returns-then-run-eq0 : goal.returns-then-run-eq0
 returns-then-run-eq0 c =
-    let judged = run (goal.at.returns-then-run-eq0 c).Else-not-run_fine in
-    let before = run-asked (goal.at.returns-then-run-eq0 c).After-slots_in in
-    looked_10 (p (goal.at.returns-then-run-eq0 c).Else-not-waters_fine) (w (goal.at.returns-then-run-eq0 c).Else-not-waters_fine) (sizes-pass (first (goal.at.returns-then-run-eq0 c).Else-not-marks_fine)) (marks-pass (goal.at.returns-then-run-eq0 c).Else-not-marks_fine) (waters-pass (goal.at.returns-then-run-eq0 c).Else-not-waters_fine)
-    (sym (run-judged (goal.at.returns-then-run-eq0 c).After-run_fine) ∙ not-false _ c.if-not-run_fine.false) c.if-run-eq0.true
+    looked_10 (p (goal.at.returns-then-run-eq0 c).Else-not-waters_fine) (w (goal.at.returns-then-run-eq0 c).Else-not-waters_fine) (sizes-pass (goal.at.returns-then-run-eq0 c).Else-not-back_sizes_fine) (marks-pass (goal.at.returns-then-run-eq0 c).Else-not-marks_fine) (waters-pass (goal.at.returns-then-run-eq0 c).Else-not-waters_fine)
+    (sym (run-judged (goal.at.returns-then-run-eq0 c).After-run_fine) ∙ c.if-not-run_fine.false) c.if-run-eq0.true
 
 pub returns : goal.returns
 returns c =
-    let judged = run (goal.at.returns c).Else-not-run_fine in
-    let before = run-asked (goal.at.returns c).After-slots_in in
-    looked_none (p (goal.at.returns c).Else-not-waters_fine) (w (goal.at.returns c).Else-not-waters_fine) (sizes-pass (first (goal.at.returns c).Else-not-marks_fine)) (marks-pass (goal.at.returns c).Else-not-marks_fine) (waters-pass (goal.at.returns c).Else-not-waters_fine)
-    (sym (run-judged (goal.at.returns c).After-run_fine) ∙ not-false _ c.if-not-run_fine.false) c.if-run-eq0.false
+    looked_none (p (goal.at.returns c).Else-not-waters_fine) (w (goal.at.returns c).Else-not-waters_fine) (sizes-pass (goal.at.returns c).Else-not-back_sizes_fine) (marks-pass (goal.at.returns c).Else-not-marks_fine) (waters-pass (goal.at.returns c).Else-not-waters_fine)
+    (sym (run-judged (goal.at.returns c).After-run_fine) ∙ c.if-not-run_fine.false) c.if-run-eq0.false

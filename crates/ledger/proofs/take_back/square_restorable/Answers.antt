@@ -25,15 +25,15 @@ returns-then-last_before-gt-MOST_DEPTH c =
 
 pub held_and_gone-more-requires : goal.held_and_gone-more-requires
 held_and_gone-more-requires c = (
-      omega (arith, c.requires.record_and_depths.depths_long, c.requires.on_square.inside),
-      omega (arith, c.requires.record_and_depths.recorded.record_long, c.requires.on_square.inside),
-    )
+  omega (arith, c.requires.record_and_depths.depths_long, c.requires.on_square.inside),
+  omega (arith, c.requires.record_and_depths.recorded.record_long, c.requires.on_square.inside),
+)
 
 pub came_and_added-less-requires : goal.came_and_added-less-requires
 came_and_added-less-requires c = record {
-      recorded = c.requires.record_and_depths.recorded;
-      on_square = c.requires.on_square;
-    }
+  recorded = c.requires.record_and_depths.recorded;
+  on_square = c.requires.on_square;
+}
 
 pub returns-then-more-less : goal.returns-then-more-less
 returns-then-more-less c =

@@ -5,7 +5,7 @@ use mathlib.Core.Bool.{true}
 use mathlib.Core.List.{List, []}
 use Prim.Native.Nat.{ℕ}
 use native.Mathlib.Omega.{arith}
-use borrow.Author.Tests.{le-leb, lt-leb}
+use borrow.Author.Tests.{le-leb, lt-leb, not-true, not-false}
 use Rattle.ledger.specs.Runs.{Plan, World, plan, world}
 use Rattle.ledger.specs.Flows.{off_grid, soaked_grid}
 use Rattle.ledger.specs.Record.{lasted_in, leaves_in, soaked_in}
@@ -29,7 +29,7 @@ pub returns-then-not-found : goal.returns-then-not-found
 unfolding square_restorable depth_before held_and_gone came_and_added
 returns-then-not-found c =
     record_unfit (plan c.args.shape c.args.marks.now) (world c.args.depths.now [] [] c.args.run)
-    c.args.rec.now 2 (sym c.try_squares-found.ensures.fits_is ∙ c.if-not-found.true)
+    c.args.rec.now 2 (sym c.try_squares-found.ensures.fits_is ∙ not-true _ c.if-not-found.true)
 
 -- ---- the places, each from the one after it
 
@@ -46,7 +46,7 @@ module _ (c : Else-not-found) where
   rec = c.args.rec.now
 
   fit : c.try_squares-found.result.fits ≡ true
-  fit = c.if-not-found.false
+  fit = not-false _ c.if-not-found.false
 
   off_is : c.try_squares-found.result.off ≡ off_grid p (leaves_in rec)
   off_is = c.try_squares-found.ensures.off_is fit
@@ -65,11 +65,10 @@ returns-then-run-found-2 c = record_unfit (p (goal.at.returns-then-run-found-2 c
 pub returns : goal.returns
 unfolding square_restorable depth_before held_and_gone came_and_added
 returns c =
-    let clock = timely (goal.at.returns c).After-try_squares-found in
     record_fit (p (goal.at.returns c).Else-not-found) (w (goal.at.returns c).Else-not-found) (rec (goal.at.returns c).Else-not-found) (fit (goal.at.returns c).Else-not-found) (off_is (goal.at.returns c).Else-not-found) (soaked_is (goal.at.returns c).Else-not-found) (
-      sym c.times_fine.ensures ∙ c.if-not-times_fine.left,
+      sym c.times_fine.ensures ∙ c.if-not-times_fine.false,
       (
-        le-leb (lasted_in (rec (goal.at.returns c).Else-not-found)) (w (goal.at.returns c).Else-not-found).run.clock (omega (arith, c.lasted.ensures, clock.if-run-lasted.left)),
+        le-leb (lasted_in (rec (goal.at.returns c).Else-not-found)) (w (goal.at.returns c).Else-not-found).run.clock (omega (arith, c.lasted.ensures, c.if-run-lasted.false)),
         (
           sym c.try_squares-found.ensures.fits_is ∙ fit (goal.at.returns c).Else-not-found,
           (

@@ -3,7 +3,6 @@ use mathlib.Core.Bool.{true}
 use Prim.Native.Nat.{◌-◌}
 use Rattle.reckon.specs.Tests.{all_below}
 use Rattle.reckon.specs.Lists.{sum_below}
-use Rattle.grid.specs.Squares.{squares}
 use Rattle.ledger.specs.Runs.{plan}
 use Rattle.ledger.specs.Inner.Worlds.{of_depths}
 use Rattle.ledger.specs.Flows.{off_square, soaked_square}
