@@ -1,6 +1,5 @@
 -- `raster::amounts::decimals_at` meets its contract: the decimals so far.
 -- Assumes nothing.
-use Prim.Native.Nat.{◌-◌}
 use native.Mathlib.Omega.{arith}
 use Rattle.raster.proofs.DecimalLaws.{sofar_none, sofar_more, sofar_all, pow_five}
 use Rattle.raster.proofs.amounts.decimals_at.Goals as goal

@@ -1,7 +1,6 @@
 -- `raster::reading::head_of` meets its contract: the six lines in their order, up to the first that cannot be read.
 -- Assumes nothing.
 use mathlib.Core.Path.{sym, ◌∙◌}
-use native.Mathlib.Omega.{arith}
 use Rattle.text.specs.Bytes.{bytes_of}
 use Rattle.raster.specs.Raster.{head_of}
 use Rattle.raster.proofs.reading.head_of.Goals as goal

@@ -1,7 +1,7 @@
 -- `raster::reading::line_number` meets its contract: the line is that of the position so far.
 -- Assumes nothing.
 use mathlib.Core.Path.{◌≡◌, sym, ap, ◌∙◌}
-use Prim.Native.Nat.{◌-◌, ◌+◌}
+use Prim.Native.Nat.{◌+◌}
 use native.Mathlib.Omega.{arith}
 use Rattle.raster.specs.Raster.{line_number}
 use Rattle.raster.proofs.SquareLaws.{line_first, line_more, line_few}

@@ -1,7 +1,6 @@
 -- `raster::reading::past_spaces` meets its contract: from the position so far on the same spaces end at the same place.
 -- Assumes nothing.
 use mathlib.Core.Path.{refl, sym, ◌∙◌}
-use Prim.Native.Nat.{◌-◌}
 use native.Mathlib.Omega.{arith}
 use Rattle.text.proofs.ReadingLaws.{byte_within}
 use Rattle.raster.specs.Raster.{space}

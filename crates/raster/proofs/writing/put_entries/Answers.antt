@@ -1,7 +1,7 @@
 -- `raster::writing::put_entries` meets its contract: the squares so far stand at the place.
 -- Assumes nothing.
 use mathlib.Core.List.{List}
-use Prim.Native.Nat.{ℕ, ◌-◌}
+use Prim.Native.Nat.{ℕ}
 use native.Mathlib.Omega.{arith}
 use Rattle.grid.specs.Squares.{squares}
 use Rattle.text.proofs.JoinedLaws.{none_written, lines_length, line_fits, line_written, lines_whole}
@@ -40,12 +40,12 @@ loop-square-smaller c = omega (arith, c.loop-square-test.true)
 
 pub loop-square-preserved : goal.loop-square-preserved
 loop-square-preserved c = (
-      omega (arith, c.loop-square-test.true),
-      line_written (texts (goal.at.loop-square-preserved c).Start) (squares c.args.shape) c.args.at
-          c.args.room.now c.requires.values_in_bounds
-          c.loop-square.square c.loop-square.invariant.1 (omega (arith, c.squares_of-squares.ensures, c.loop-square-test.true))
-          c.put_entry-next.ensures,
-    )
+  omega (arith, c.loop-square-test.true),
+  line_written (texts (goal.at.loop-square-preserved c).Start) (squares c.args.shape) c.args.at
+      c.args.room.now c.requires.values_in_bounds
+      c.loop-square.square c.loop-square.invariant.1 (omega (arith, c.squares_of-squares.ensures, c.loop-square-test.true))
+      c.put_entry-next.ensures,
+)
 
 pub shape_of-room : goal.shape_of-room
 shape_of-room c =

@@ -1,6 +1,5 @@
 use Prim.Native.Nat.{◌-◌, ◌≤◌}
 use Rattle.reckon.specs.Lists.{joined}
-use Rattle.grid.specs.Squares.{squares}
 use Rattle.text.specs.Writing.{Wrote}
 use Rattle.raster.specs.Raster.{entry_text}
 use Rattle.raster.proofs.writing.put_entries.Given as goal

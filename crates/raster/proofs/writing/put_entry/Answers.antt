@@ -25,9 +25,9 @@ fits s =
 
 pub put_value-end-requires : goal.put_value-end-requires
 put_value-end-requires c = record {
-      square_in_bounds = (c.requires.columns_nonzero.2, c.requires.columns_nonzero.3);
-      square_in_bounds_2 = omega (arith, fits (goal.at.put_value-end-requires c).Start);
-    }
+  square_in_bounds = (c.requires.columns_nonzero.2, c.requires.columns_nonzero.3);
+  square_in_bounds_2 = omega (arith, fits (goal.at.put_value-end-requires c).Start);
+}
 
 pub gap_after-requires : goal.gap_after-requires
 gap_after-requires c = (c.requires.columns_nonzero.0, c.requires.columns_nonzero.1)

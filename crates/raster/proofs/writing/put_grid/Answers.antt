@@ -29,9 +29,9 @@ put_head-next-requires c = omega (arith, fits (goal.at.put_head-next-requires c)
 
 pub put_entries-requires : goal.put_entries-requires
 put_entries-requires c = record {
-      shape_in_range = c.requires.shape_in_range;
-      values_in_bounds = omega (arith, fits (goal.at.put_entries-requires c).Start, c.put_head-next.ensures.next, c.put_head-next.auto.room);
-    }
+  shape_in_range = c.requires.shape_in_range;
+  values_in_bounds = omega (arith, fits (goal.at.put_entries-requires c).Start, c.put_head-next.ensures.next, c.put_head-next.auto.room);
+}
 
 pub returns : goal.returns
 unfolding grid_text
