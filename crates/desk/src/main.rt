@@ -23,14 +23,14 @@ const NEWLINE: u8 = 10;
 const MOST_CALLS: u32 = 65;
 
 // A byte of the input, or none.
-#[derive(Drop)]
+#[derive(Clone, Copy)]
 struct Byte {
     came: bool,
     byte: u8,
 }
 
 // Where an evening has come to: whether more lines can follow, and the desk.
-#[derive(Drop)]
+#[derive(Clone, Copy)]
 struct Turn {
     more: bool,
     desk: Desk,

@@ -22,21 +22,21 @@ use text::writing::put_word;
 
 // What a read of a whole file came to: how many bytes came, and whether that is all of them, or all that the room holds. It is not where the
 // file cannot be opened, or where a read of it fails, as a directory's does: what came before that may read well, and is not the file.
-#[derive(Drop)]
+#[derive(Clone, Copy)]
 pub struct Came {
     pub whole: bool,
     pub length: usize,
 }
 
 // How many bytes of each of two rooms are handed on.
-#[derive(Drop)]
+#[derive(Clone, Copy)]
 pub struct Two {
     pub first: usize,
     pub second: usize,
 }
 
 // One read's answer: the position after what came, and whether the read failed.
-#[derive(Drop)]
+#[derive(Clone, Copy)]
 struct Next {
     failed: bool,
     at: usize,

@@ -13,7 +13,7 @@ use rule::rules::Rules;
 pub(crate) const ROOM: usize = 92;
 
 // All that the calls are lent, and what the last call gave: the refusal's number, 0 for none, and the steps of a run to an end.
-#[derive(Drop)]
+#[derive(Clone, Copy)]
 pub(crate) struct Meadow {
     pub marks: [u8; 4],
     pub beds: [u32; 4],
