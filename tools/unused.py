@@ -14,9 +14,13 @@ IMPORT = {
     ".rt": re.compile(r"^(?:ghost )?use (?:[^;]*?\{([^}]*)\}|[\w:]*::(\w+);)", re.M),
 }
 IMPORT_LINE = re.compile(r"^(?:pub )?(?:ghost )?use [^\n]*$", re.M)
-DEFINED = re.compile(r"^\s*(?:unfoldable |abbrev )*pub (?:record |data |unfoldable |abbrev )*([\w·′-]+) (?::|\()", re.M)
-HEADED = r"^\s*(?:unfoldable |abbrev |pub |record |data )*{}(?![\w·′-])"
-WORD = re.compile(r"[\w·′][\w·′-]*")
+DEFINED = re.compile(r"^\s*(?:unfoldable |abbrev )*pub (?:record |data |unfoldable |abbrev )*([\w'-]+) (?::|\()", re.M)
+HEADED = r"^\s*(?:unfoldable |abbrev |pub |record |data )*{}(?![\w'-])"
+WORD = re.compile(r"\w[\w'-]*")
+# where an operator has its arguments
+HOLE = "◌"
+# files of a proof, whose names are those of goals
+OF_GOALS = ("Proof.antt", "Answers.antt", "Invariants.antt")
 
 
 def plain(text):
@@ -26,9 +30,9 @@ def plain(text):
 
 def is_used(name, body):
     """Whether a text uses a name; of an operator, whether it has its signs."""
-    if name.startswith("_") or name.endswith("_") or "_" in name and not re.fullmatch(r"[\w·′-]+", name):
-        return all(sign in body for sign in name.split("_") if sign)
-    return re.search(rf"(?<![\w·′-]){re.escape(name)}(?![\w·′-])", body) is not None
+    if HOLE in name:
+        return all(sign in body for sign in name.split(HOLE) if sign)
+    return re.search(rf"(?<![\w'-]){re.escape(name)}(?![\w'-])", body) is not None
 
 
 def imports(path, text):
@@ -54,7 +58,7 @@ def lone_names(texts):
     """{name: the files that define it}, for public names that stand only where they are defined."""
     defined = defaultdict(set)
     for path, text in texts.items():
-        if path.suffix == ".antt" and path.name != "Proof.antt":
+        if path.suffix == ".antt" and path.name not in OF_GOALS:
             for name in DEFINED.findall(text):
                 defined[name].add(path)
     without = {path: plain(text) for path, text in texts.items()}
