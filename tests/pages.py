@@ -50,10 +50,12 @@ LINK = re.compile(r"\]\((?!http|#)([^)#]+)\)")
 FENCED = re.compile(r"^```.*?^```", re.S | re.M)
 NAME = re.compile(r"[A-Za-z_][\w′'-]*")
 SOURCES = (".ci", "bin", "crates", "examples", "python", "rust", "samples", "tests", "tools", "validation")
+# the folder of a crate in which rt leaves what it builds
+BUILT = "out"
 # docs/CHANGES.md tells what was, with names that have gone since
 OF_THE_PAST = {"CHANGES.md"}
 # names of the kit, which stand in no source of this project
-OF_THE_KIT = {"rattle-kit-5b"}
+OF_THE_KIT = {"rattle-kit-13f", "version"}
 
 
 def cells(line):
@@ -182,7 +184,7 @@ def hold_edits(checks):
     for edit in found:
         name = f"{edit.crate}/must-fail/{edit.name}.edit"
         checks.hold(edit.fact and edit.where, f"crates/{name} does not say which fact refuses it, and where")
-        sources = [path for kind in ("rt", "antt") for path in (CRATES / edit.crate).rglob(f"*.{kind}")]
+        sources = [path for kind in ("rt", "antt") for path in (CRATES / edit.crate).rglob(f"*.{kind}") if BUILT not in path.parts]
         there = {path.stem for path in sources}.union(*(NAME.findall(path.read_text(encoding="utf-8")) for path in sources))
         checks.hold(" " in edit.where or edit.where in there, f"crates/{name} says {edit.where}, and its crate has no such name")
     checks.hold(edits.page() == CONTRACTS.read_text(encoding="utf-8"), "docs/CONTRACTS.md has not the table of edits that tools/edits.py makes")
@@ -194,9 +196,9 @@ def hold_edits(checks):
 
 
 def source_names():
-    """Every word that stands in a source or is the name of one, but for this file, for what edits say and for what cargo builds."""
+    """Every word that stands in a source or is the name of one, but for this file, for what edits say and for what rt and cargo build."""
     names = set(NAME.findall((TOP / "crates.txt").read_text(encoding="utf-8")))
-    for path in (path for folder in SOURCES for path in (TOP / folder).rglob("*") if TOP / "rust" / "target" not in path.parents):
+    for path in (path for folder in SOURCES for path in (TOP / folder).rglob("*") if TOP / "rust" / "target" not in path.parents and BUILT not in path.parts):
         names |= {path.name, path.stem}
         if path.is_file() and path.suffix not in (".pyc", ".edit") and path != Path(__file__).resolve():
             names |= {name.rstrip("'-") for name in NAME.findall(path.read_text(encoding="utf-8"))}
@@ -271,8 +273,8 @@ def hold_speed(checks):
 
 def hold_size(checks):
     """README says how large the program is that may be copied elsewhere."""
-    told = re.search(r"`target/bin/meadow` has some (\d+)0 kilobytes", (TOP / "README.md").read_text(encoding="utf-8"))
-    size = (TOP / "target" / "bin" / "meadow").stat().st_size
+    told = re.search(r"`crates/meadow/out/meadow` has some (\d+)0 kilobytes", (TOP / "README.md").read_text(encoding="utf-8"))
+    size = (TOP / "crates" / "meadow" / "out" / "meadow").stat().st_size
     checks.hold(told and int(told[1]) == round(size / 10_000), f"README.md does not say that meadow has some {round(size / 1000)} kilobytes")
 
 
