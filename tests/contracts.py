@@ -193,7 +193,7 @@ def determinacy_proofs(top):
 
 def faults(functions):
     """Functions that the test must find fault with, and what the fault is."""
-    one = next(function for function in functions if function.is_entry and any(function.slices.values()) and not all(function.slices.values()))
+    one = next(function for function in functions if function.is_entry and len(function.ensures) == 1 and any(function.slices.values()) and not all(function.slices.values()))
     written = next(name for name, writes in one.slices.items() if writes)
     lent = next(name for name, writes in one.slices.items() if not writes)
     (clause,) = one.ensures
