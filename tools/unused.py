@@ -19,8 +19,8 @@ HEADED = r"^\s*(?:unfoldable |abbrev |pub |record |data )*{}(?![\w'-])"
 WORD = re.compile(r"\w[\w'-]*")
 # where an operator has its arguments
 HOLE = "◌"
-# the folder of a crate in which rt leaves what it builds
-BUILT = "out"
+# where the sources of a kind stand in a crate
+PARTS = {"rt": ("src",), "antt": ("specs", "proofs")}
 # files of a proof, whose names are those of goals
 OF_GOALS = ("Proof.antt", "Answers.antt", "Invariants.antt")
 
@@ -71,7 +71,7 @@ def lone_names(texts):
 
 def main():
     top = Path(sys.argv[1]) if len(sys.argv) > 1 else TOP
-    paths = [path for kind in ("rt", "antt") for path in sorted((top / "crates").rglob(f"*.{kind}")) if BUILT not in path.parts]
+    paths = [path for kind, folders in PARTS.items() for folder in folders for path in sorted((top / "crates").glob(f"*/{folder}/**/*.{kind}"))]
     texts = {path.relative_to(top): path.read_text(encoding="utf-8") for path in paths}
     idle, lone = idle_imports(texts), lone_names(texts)
     print(f"imported and not used: {sum(map(len, idle.values()))} names in {len(idle)} files")
