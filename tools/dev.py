@@ -15,8 +15,8 @@ from begin import ended
 
 SKELETON = re.compile(r"help: write (?:\./)?(proofs/\S+\.antt) with these lines")
 # what begins a new thing that rt says, and those of them that nobody needs in the loop
-BEGINS = re.compile(r"fn |struct |enum |note:|/|\./|logic|library |statements |crate |rt: |checked |empty |holes|error|warning|help:")
-NEEDLESS = ("note: what antt said", "note: antt's advice", "library ", "statements ", "logic /", "rt: chose --jobs", "rt: rt ", "checked ")
+BEGINS = re.compile(r"fn |struct |enum |note:|/|\./|logic|library |statements |axioms |crate |rt: |checked |empty |holes|error|warning|help:")
+NEEDLESS = ("note: what antt said", "note: antt's advice", "library ", "statements ", "axioms ", "logic /", "rt: chose --jobs", "rt: rt ", "checked ")
 COMPUTED = "    (computed from:"
 # modules of the project and of the kit whose names stand before nearly every word
 PREFIXES = re.compile(
