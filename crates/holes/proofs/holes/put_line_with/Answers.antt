@@ -90,60 +90,50 @@ overflow_add-rest c =
 
 pub slice_bounds-put_word-count-3 : goal.slice_bounds-put_word-count-3
 slice_bounds-put_word-count-3 c =
-    let start =
-    c.before.before.before.before.before.before.before.before.before.before.before.before.before.before.before.before.before in
     let at-next-line = c.next_line-end in
     let at-hole-at = c.hole_at in
     let at-spot = c.spot-1 in
-    let a = start.args in
+    let a = c.args in
     let t = told_at a.text.now a.start a.row a.column (sym at-spot.given.1 ∙ at-hole-at.ensures) in
     let k = hole_spot a.text.now a.start a.row a.column t.0 in
-    omega (arith, t.1, k.before, k.inside, k.after, at-next-line.ensures, next-within a.text.now a.start start.pre.0)
+    omega (arith, t.1, k.before, k.inside, k.after, at-next-line.ensures, next-within a.text.now a.start c.requires.start_in_bounds)
 
 pub slice_bounds-put_word-start-3 : goal.slice_bounds-put_word-start-3
 slice_bounds-put_word-start-3 c =
-    let start =
-    c.before.before.before.before.before.before.before.before.before.before.before.before.before.before.before.before.before in
     let at-next-line = c.next_line-end in
     let at-hole-at = c.hole_at in
     let at-spot = c.spot-1 in
-    let a = start.args in
+    let a = c.args in
     let t = told_at a.text.now a.start a.row a.column (sym at-spot.given.1 ∙ at-hole-at.ensures) in
     let k = hole_spot a.text.now a.start a.row a.column t.0 in
-    omega (arith, t.1, k.before, k.inside, k.after, at-next-line.ensures, next-within a.text.now a.start start.pre.0)
+    omega (arith, t.1, k.before, k.inside, k.after, at-next-line.ensures, next-within a.text.now a.start c.requires.start_in_bounds)
 
 pub slice_bounds-put_word-end-3 : goal.slice_bounds-put_word-end-3
 slice_bounds-put_word-end-3 c =
-    let start =
-    c.before.before.before.before.before.before.before.before.before.before.before.before.before.before.before.before.before in
     let at-next-line = c.next_line-end in
     let at-hole-at = c.hole_at in
     let at-spot = c.spot-1 in
-    let a = start.args in
+    let a = c.args in
     let t = told_at a.text.now a.start a.row a.column (sym at-spot.given.1 ∙ at-hole-at.ensures) in
     let k = hole_spot a.text.now a.start a.row a.column t.0 in
-    omega (arith, t.1, k.before, k.inside, k.after, at-next-line.ensures, next-within a.text.now a.start start.pre.0)
+    omega (arith, t.1, k.before, k.inside, k.after, at-next-line.ensures, next-within a.text.now a.start c.requires.start_in_bounds)
 
 pub put_word-requires-2 : goal.put_word-requires-2
 put_word-requires-2 c =
-    let start =
-    c.before.before.before.before.before.before.before.before.before.before.before.before.before.before.before.before.before.before in
     let at-next-line =
     c.next_line-end in
     let at-hole-at = c.hole_at in
     let at-spot = c.spot-1 in
     let at-put-word2 = c.put_word-before in
-    let a = start.args in
+    let a = c.args in
     let spot = at-spot.given.0.0 in
     let t = told_at a.text.now a.start a.row a.column (sym at-spot.given.1 ∙ at-hole-at.ensures) in
     third_fits (between a.text.now a.start spot) (bed_text a.bed) (between a.text.now (spot + 1) at-next-line.result)
     (line_parts a.text.now a.start a.row a.column (bed_text a.bed) t.0 t.1 at-next-line.ensures) a.at a.out.now
-    start.pre.1 at-put-word2.ensures c.put_bed-next.ensures
+    c.requires.bed_in_bounds at-put-word2.ensures c.put_bed-next.ensures
 
 pub returns : goal.returns
 returns c =
-    let start =
-    c.before.before.before.before.before.before.before.before.before.before.before.before.before.before.before.before.before.before.before.before.before in
     let at-next-line =
     c.next_line-end in
     let at-hole-at =
@@ -151,9 +141,9 @@ returns c =
     let at-spot = c.spot-1 in
     let at-put-word2 = c.put_word-before in
     let at-put-bed = c.put_bed-next in
-    let a = start.args in
+    let a = c.args in
     let spot = at-spot.given.0.0 in
     let t = told_at a.text.now a.start a.row a.column (sym at-spot.given.1 ∙ at-hole-at.ensures) in
     three_put (between a.text.now a.start spot) (bed_text a.bed) (between a.text.now (spot + 1) at-next-line.result)
     (line_parts a.text.now a.start a.row a.column (bed_text a.bed) t.0 t.1 at-next-line.ensures) a.at a.out.now
-    start.pre.1 at-put-word2.ensures at-put-bed.ensures c.put_word-2.ensures
+    c.requires.bed_in_bounds at-put-word2.ensures at-put-bed.ensures c.put_word-2.ensures

@@ -72,19 +72,17 @@ put_byte-requires c =
 
 pub returns : goal.returns
 returns c =
-    let start =
-    c.before.before.before.before.before.before.before.before.before.before.before.before.before.before.before.before.before.before.before in
     let at-put-number =
     c.put_number-first in
     let at-put-field = c.put_field-second in
     let at-if1 = c.if-bed in
     let at-put-fields = c.put_fields-end in
-    let a = start.args in
+    let a = c.args in
     let rest =
     third_fits (decimal a.row) (field_text a.column) (fields_text (a.bed ∷ a.turn ∷ []) ++ (newline ∷ []))
-    (known_given a.row a.column a.bed a.turn at-if1.false) a.at a.out.now start.pre at-put-number.ensures
+    (known_given a.row a.column a.bed a.turn at-if1.false) a.at a.out.now c.requires at-put-number.ensures
     at-put-field.ensures in
     three_put (decimal a.row) (field_text a.column) (fields_text (a.bed ∷ a.turn ∷ []) ++ (newline ∷ []))
-    (known_given a.row a.column a.bed a.turn at-if1.false) a.at a.out.now start.pre at-put-number.ensures
+    (known_given a.row a.column a.bed a.turn at-if1.false) a.at a.out.now c.requires at-put-number.ensures
     at-put-field.ensures
     (both_put (fields_text (a.bed ∷ a.turn ∷ [])) (newline ∷ []) _ _ rest at-put-fields.ensures c.put_byte.ensures)

@@ -31,27 +31,23 @@ fill_rounds-requires c =
 
 pub put_with_beds-next-requires : goal.put_with_beds-next-requires
 put_with_beds-next-requires c =
-    let start =
-    c.before.before.before.before.before.before.before.before.before.before.before.before.before.before.before.before.before.before.before in
-    let a = start.args in
+    let a = c.args in
     let at-squares-of =
     c.squares_of-squares in
     let at-mark-holes = c.mark_holes in
     let at-fill-rounds = c.fill_rounds in
-    let k = start.pre.0 in record {
+    let k = c.requires.0 in record {
       looked = (
         looked a.text.now k at-squares-of.ensures,
         omega (arith, at-squares-of.ensures, (rooms_long a.text.now k at-squares-of.ensures at-mark-holes.ensures k.few at-fill-rounds.ensures).0),
       );
       beds_in_bounds = sheet_fits a.text.now k at-squares-of.ensures at-mark-holes.ensures k.few at-fill-rounds.ensures
-          (λ i. omega (arith, c.type_inv.beds i)) a.out.now start.pre.1;
+          (λ i. omega (arith, c.type_inv.beds i)) a.out.now c.requires.1;
     }
 
 pub put_list-requires : goal.put_list-requires
 put_list-requires c =
-    let start =
-    c.before.before.before.before.before.before.before.before.before.before.before.before.before.before.before.before.before.before.before.before.before.before.before.before.before in
-    let a = start.args in
+    let a = c.args in
     let at-squares-of =
     c.squares_of-squares in
     let at-mark-holes =
@@ -59,7 +55,7 @@ put_list-requires c =
     let at-fill-rounds = c.fill_rounds in
     let at-slice-known4 = c.slice_known-1 in
     let at-put-with-beds = c.put_with_beds-next in
-    let k = start.pre.0 in
+    let k = c.requires.0 in
     let long = rooms_long a.text.now k at-squares-of.ensures at-mark-holes.ensures k.few at-fill-rounds.ensures in record {
       looked = (
         looked a.text.now k at-squares-of.ensures,
@@ -67,14 +63,12 @@ put_list-requires c =
         omega (arith, at-squares-of.ensures, long.1, k.few),
       );
       turns_in_bounds = list_fits a.text.now k at-squares-of.ensures at-mark-holes.ensures k.few at-fill-rounds.ensures
-          (λ i. omega (arith, at-slice-known4.given i)) a.out.now start.pre.1
+          (λ i. omega (arith, at-slice-known4.given i)) a.out.now c.requires.1
           at-put-with-beds.ensures;
     }
 
 pub returns : goal.returns
 returns c =
-    let start =
-    c.before.before.before.before.before.before.before.before.before.before.before.before.before.before.before.before.before.before.before.before.before.before.before.before.before.before.before.before in
     let at-squares-of =
     c.squares_of-squares in
     let at-mark-holes =
@@ -83,7 +77,7 @@ returns c =
     c.fill_rounds in
     let at-slice-known4 = c.slice_known-1 in
     let at-put-with-beds = c.put_with_beds-next in
-    let k = start.pre.0 in
-    repaired_put start.args.text.now k at-squares-of.ensures at-mark-holes.ensures k.few at-fill-rounds.ensures
-    (λ i. omega (arith, at-slice-known4.given i)) start.args.out.now start.pre.1
+    let k = c.requires.0 in
+    repaired_put c.args.text.now k at-squares-of.ensures at-mark-holes.ensures k.few at-fill-rounds.ensures
+    (λ i. omega (arith, at-slice-known4.given i)) c.args.out.now c.requires.1
     at-put-with-beds.ensures c.put_list.ensures

@@ -31,73 +31,61 @@ one_round-requires c =
 
 pub same_beds-requires : goal.same_beds-requires
 same_beds-requires c =
-    let start =
-    c.before.before.before.before.before.before.before.before.before.before.before.before.before.before.before.before.before.before.before in
-    let a = start.args in
+    let a = c.args in
     let at-squares-of =
     c.squares_of-squares in
     let at-loop = c.loop-turn in
     let at-loop-test = c.loop-turn-test in
     let at-copy-into = c.copy_into in
-    let g = going_long a.shape a.marks.now a.beds.now start.pre.1 at-loop.invariant.2 in
-    let b = copied a.shape a.marks.now a.beds.now start.pre.1 at-loop.invariant.0 (omega (arith, at-loop-test.true, at-squares-of.ensures)) at-loop.invariant.2 at-loop.before (omega (arith, start.pre.0.3, at-loop.invariant.1)) at-copy-into.ensures in
+    let g = going_long a.shape a.marks.now a.beds.now c.requires.beds_seen at-loop.invariant.2 in
+    let b = copied a.shape a.marks.now a.beds.now c.requires.beds_seen at-loop.invariant.0 (omega (arith, at-loop-test.true, at-squares-of.ensures)) at-loop.invariant.2 at-loop.before (omega (arith, c.requires.shape_in_range.3, at-loop.invariant.1)) at-copy-into.ensures in
     ap length b
     ∙ (g.0
     ∙ sym
     (ap length c.one_round.ensures
-    ∙ round_long a.shape a.marks.now a.beds.now start.pre.1 _))
+    ∙ round_long a.shape a.marks.now a.beds.now c.requires.beds_seen _))
 
 pub shape_of-beds-then-same_beds : goal.shape_of-beds-then-same_beds
 shape_of-beds-then-same_beds c =
-    let start =
-    c.before.before.before.before.before.before.before.before.before.before.before.before.before.before.before.before.before.before.before.before.before in
-    let a = start.args in
+    let a = c.args in
     let at-one-round = c.one_round in
-    ap length at-one-round.ensures ∙ (round_long a.shape a.marks.now a.beds.now start.pre.1 _ ∙ sym start.pre.1.one_each)
+    ap length at-one-round.ensures ∙ (round_long a.shape a.marks.now a.beds.now c.requires.beds_seen _ ∙ sym c.requires.beds_seen.one_each)
 
 pub shape_of-turns-then-same_beds : goal.shape_of-turns-then-same_beds
 shape_of-turns-then-same_beds c =
-    let start =
-    c.before.before.before.before.before.before.before.before.before.before.before.before.before.before.before.before.before.before.before.before.before in
-    let a = start.args in
+    let a = c.args in
     let at-loop = c.loop-turn in
-    (going_long a.shape a.marks.now a.beds.now start.pre.1 at-loop.invariant.2).1
+    (going_long a.shape a.marks.now a.beds.now c.requires.beds_seen at-loop.invariant.2).1
 
 pub shape_of-before-then-same_beds : goal.shape_of-before-then-same_beds
 shape_of-before-then-same_beds c =
-    let start =
-    c.before.before.before.before.before.before.before.before.before.before.before.before.before.before.before.before.before.before.before.before.before in
-    let a = start.args in
+    let a = c.args in
     let at-squares-of =
     c.squares_of-squares in
     let at-loop = c.loop-turn in
     let at-loop-test = c.loop-turn-test in
     let at-copy-into = c.copy_into in
-    let g = going_long a.shape a.marks.now a.beds.now start.pre.1 at-loop.invariant.2 in
-    let b = copied a.shape a.marks.now a.beds.now start.pre.1 at-loop.invariant.0 (omega (arith, at-loop-test.true, at-squares-of.ensures)) at-loop.invariant.2 at-loop.before (omega (arith, start.pre.0.3, at-loop.invariant.1)) at-copy-into.ensures in
-    omega (arith, ap length b, g.0, start.pre.0.3)
+    let g = going_long a.shape a.marks.now a.beds.now c.requires.beds_seen at-loop.invariant.2 in
+    let b = copied a.shape a.marks.now a.beds.now c.requires.beds_seen at-loop.invariant.0 (omega (arith, at-loop-test.true, at-squares-of.ensures)) at-loop.invariant.2 at-loop.before (omega (arith, c.requires.shape_in_range.3, at-loop.invariant.1)) at-copy-into.ensures in
+    omega (arith, ap length b, g.0, c.requires.shape_in_range.3)
 
 pub returns-then-same_beds : goal.returns-then-same_beds
 returns-then-same_beds c =
-    let start =
-    c.before.before.before.before.before.before.before.before.before.before.before.before.before.before.before.before.before.before.before.before.before in
-    let a = start.args in
+    let a = c.args in
     let at-squares-of =
     c.squares_of-squares in
     let at-loop = c.loop-turn in
     let at-loop-test = c.loop-turn-test in
     let at-copy-into = c.copy_into in
     let at-one-round = c.one_round in
-    let b = copied a.shape a.marks.now a.beds.now start.pre.1 at-loop.invariant.0 (omega (arith, at-loop-test.true, at-squares-of.ensures)) at-loop.invariant.2 at-loop.before (omega (arith, start.pre.0.3, at-loop.invariant.1)) at-copy-into.ensures in
-    going_still a.shape a.marks.now a.beds.now start.pre.1 at-loop.invariant.0
+    let b = copied a.shape a.marks.now a.beds.now c.requires.beds_seen at-loop.invariant.0 (omega (arith, at-loop-test.true, at-squares-of.ensures)) at-loop.invariant.2 at-loop.before (omega (arith, c.requires.shape_in_range.3, at-loop.invariant.1)) at-copy-into.ensures in
+    going_still a.shape a.marks.now a.beds.now c.requires.beds_seen at-loop.invariant.0
     (omega (arith, at-loop-test.true, at-squares-of.ensures)) at-loop.invariant.2 b at-one-round.ensures
     (sym c.if-same_beds.true ∙ c.same_beds.ensures)
 
 pub note_round-requires : goal.note_round-requires
 note_round-requires c =
-    let start =
-    c.before.before.before.before.before.before.before.before.before.before.before.before.before.before.before.before.before.before.before.before.before.before.before.before in
-    let a = start.args in
+    let a = c.args in
     let at-squares-of =
     c.squares_of-squares in
     let at-loop =
@@ -106,29 +94,25 @@ note_round-requires c =
     c.loop-turn-test in
     let at-copy-into = c.copy_into in
     let at-one-round = c.one_round in
-    let g = going_long a.shape a.marks.now a.beds.now start.pre.1 at-loop.inv.2 in
-    let b = copied a.shape a.marks.now a.beds.now start.pre.1 at-loop.inv.0 (omega (arith, at-loop-test.taken, at-squares-of.ensures)) at-loop.inv.2 at-loop.before (omega (arith, start.pre.0.3, at-loop.inv.1)) at-copy-into.ensures in
-    let l = ap length at-one-round.ensures ∙ round_long a.shape a.marks.now a.beds.now start.pre.1 _ in
-    (omega (arith, ap length b, g.0, l), omega (arith, ap length b, g.0, g.1, start.pre.0.2))
+    let g = going_long a.shape a.marks.now a.beds.now c.requires.beds_seen at-loop.inv.2 in
+    let b = copied a.shape a.marks.now a.beds.now c.requires.beds_seen at-loop.inv.0 (omega (arith, at-loop-test.taken, at-squares-of.ensures)) at-loop.inv.2 at-loop.before (omega (arith, c.requires.shape_in_range.3, at-loop.inv.1)) at-copy-into.ensures in
+    let l = ap length at-one-round.ensures ∙ round_long a.shape a.marks.now a.beds.now c.requires.beds_seen _ in
+    (omega (arith, ap length b, g.0, l), omega (arith, ap length b, g.0, g.1, c.requires.shape_in_range.2))
 
 pub overflow_add-turn : goal.overflow_add-turn
 overflow_add-turn c =
-    let start =
-    c.before.before.before.before.before.before.before.before.before.before.before.before.before.before.before.before.before.before.before.before.before.before.before.before.before.before.before in
     let at-squares-of =
     c.squares_of-squares in
     let at-loop-test =
     c.loop-turn-test in
-    omega (arith, at-loop-test.taken, at-squares-of.ensures, start.pre.0.0.few)
+    omega (arith, at-loop-test.taken, at-squares-of.ensures, c.requires.shape_in_range.0.few)
 
 pub loop-turn-smaller : goal.loop-turn-smaller
 loop-turn-smaller c = omega (arith, c.loop-turn-test.true)
 
 pub loop-turn-preserved : goal.loop-turn-preserved
 loop-turn-preserved c =
-    let start =
-    c.before.before.before.before.before.before.before.before.before.before.before.before.before.before.before.before.before.before.before.before.before.before.before.before.before.before.before in
-    let a = start.args in
+    let a = c.args in
     let at-squares-of =
     c.squares_of-squares in
     let at-loop =
@@ -138,11 +122,11 @@ loop-turn-preserved c =
     let at-copy-into =
     c.copy_into in
     let at-one-round = c.one_round in
-    let g = going_long a.shape a.marks.now a.beds.now start.pre.1 at-loop.inv.2 in
-    let b = copied a.shape a.marks.now a.beds.now start.pre.1 at-loop.inv.0 (omega (arith, at-loop-test.taken, at-squares-of.ensures)) at-loop.inv.2 at-loop.before (omega (arith, start.pre.0.3, at-loop.inv.1)) at-copy-into.ensures in (
+    let g = going_long a.shape a.marks.now a.beds.now c.requires.beds_seen at-loop.inv.2 in
+    let b = copied a.shape a.marks.now a.beds.now c.requires.beds_seen at-loop.inv.0 (omega (arith, at-loop-test.taken, at-squares-of.ensures)) at-loop.inv.2 at-loop.before (omega (arith, c.requires.shape_in_range.3, at-loop.inv.1)) at-copy-into.ensures in (
       omega arith,
-      omega (arith, ap length b, g.0, start.pre.0.3),
-      going_more a.shape a.marks.now a.beds.now start.pre.1 at-loop.inv.0
+      omega (arith, ap length b, g.0, c.requires.shape_in_range.3),
+      going_more a.shape a.marks.now a.beds.now c.requires.beds_seen at-loop.inv.0
           (omega (arith, at-loop-test.taken, at-squares-of.ensures)) at-loop.inv.2 b at-one-round.ensures
           c.note_round.ensures,
     )

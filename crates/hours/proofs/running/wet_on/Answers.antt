@@ -158,18 +158,18 @@ loop-at-smaller c = omega (arith, further (goal.at.loop-at-smaller c).Else-refus
 pub loop-at-preserved : goal.loop-at-preserved
 loop-at-preserved c =
     let inv = c.loop-at.invariant in
-    let last = c.step_on-made.new.left in
-    let kept = c.step_on-made.auto.depths in
-    let rooms = kept.1.1.1 in (
+    let last = c.step_on-made.new in
+    let kept = c.step_on-made.auto in
+    let rooms = kept in (
       goes_on (goal.at.loop-at-preserved c).Else-refused-ne0,
       wetted_on (p (goal.at.loop-at-preserved c).Start) (g (goal.at.loop-at-preserved c).Start) (w (goal.at.loop-at-preserved c).Start) (marks_even (goal.at.loop-at-preserved c).Start) inv.1 c.step_on-made.ensures.world_is (further (goal.at.loop-at-preserved c).Else-refused-ne0) c.add_wet.ensures,
-      kept.0 ∙ inv.2,
-      kept.1.0 ∙ inv.3,
-      kept.1.1.0 ∙ inv.4,
-      refilled last.0 c.loop-at.left rooms.0 inv.5 (squares_fit (goal.at.loop-at-preserved c).In-loop-at),
-      refilled last.1.0 c.loop-at.worked rooms.1.0 inv.6 (rows_fit (goal.at.loop-at-preserved c).In-loop-at),
-      refilled last.1.1.0 c.loop-at.senders rooms.1.1.0 inv.7 (rows_fit (goal.at.loop-at-preserved c).In-loop-at),
-      refilled last.1.1.1.0 c.loop-at.room rooms.1.1.1.0 inv.8 (squares_fit (goal.at.loop-at-preserved c).In-loop-at),
+      kept.depths ∙ inv.2,
+      kept.lasts ∙ inv.3,
+      kept.records ∙ inv.4,
+      refilled last.left c.loop-at.left rooms.left inv.5 (squares_fit (goal.at.loop-at-preserved c).In-loop-at),
+      refilled last.worked c.loop-at.worked rooms.worked inv.6 (rows_fit (goal.at.loop-at-preserved c).In-loop-at),
+      refilled last.senders c.loop-at.senders rooms.senders inv.7 (rows_fit (goal.at.loop-at-preserved c).In-loop-at),
+      refilled last.room c.loop-at.room rooms.room inv.8 (squares_fit (goal.at.loop-at-preserved c).In-loop-at),
     )
 
 -- ---- at the end

@@ -24,28 +24,21 @@ pub squares_of-squares-requires : goal.squares_of-squares-requires
 squares_of-squares-requires c = c.requires.0.shape
 
 pub slice_bounds-put_highest-end : goal.slice_bounds-put_highest-end
-slice_bounds-put_highest-end c =
-    let start =
-    c.before.before.before.before.before.before.before.before.before.before.before.before.before.before.before.before.before.before.before in
-    part_long _ (omega (arith, start.pre.0.marks_long, c.squares_of-squares.ensures, start.pre.0.few))
+slice_bounds-put_highest-end c = part_long _ (omega (arith, c.requires.0.marks_long, c.squares_of-squares.ensures, c.requires.0.few))
 
 pub slice_bounds-peaks-end : goal.slice_bounds-peaks-end
 slice_bounds-peaks-end c =
-    let start =
-    c.before.before.before.before.before.before.before.before.before.before.before.before.before.before.before.before.before.before.before in
     let at-run-sheet-peaks = c.run_sheet_peaks-ran in
     omega (
       arith,
       at-run-sheet-peaks.ensures.told.peaks_long,
       length-replicate {A = ℕ} program_squares 0,
       c.squares_of-squares.ensures,
-      start.pre.0.few,
+      c.requires.0.few,
     )
 
 pub slice_bounds-put_highest-end-2 : goal.slice_bounds-put_highest-end-2
 slice_bounds-put_highest-end-2 c =
-    let start =
-    c.before.before.before.before.before.before.before.before.before.before.before.before.before.before.before.before.before.before.before.before in
     let at-run-sheet-peaks = c.run_sheet_peaks-ran in
     part_long _
     (omega (
@@ -53,26 +46,22 @@ slice_bounds-put_highest-end-2 c =
       at-run-sheet-peaks.ensures.told.peaks_long,
       length-replicate {A = ℕ} program_squares 0,
       c.squares_of-squares.ensures,
-      start.pre.0.few,
+      c.requires.0.few,
     ))
 
 pub slice_bounds-clocks-end : goal.slice_bounds-clocks-end
 slice_bounds-clocks-end c =
-    let start =
-    c.before.before.before.before.before.before.before.before.before.before.before.before.before.before.before.before.before.before.before.before in
     let at-run-sheet-peaks = c.run_sheet_peaks-ran in
     omega (
       arith,
       at-run-sheet-peaks.ensures.told.clocks_long,
       length-replicate {A = ℕ} program_squares 0,
       c.squares_of-squares.ensures,
-      start.pre.0.few,
+      c.requires.0.few,
     )
 
 pub slice_bounds-put_highest-end-3 : goal.slice_bounds-put_highest-end-3
 slice_bounds-put_highest-end-3 c =
-    let start =
-    c.before.before.before.before.before.before.before.before.before.before.before.before.before.before.before.before.before.before.before.before.before in
     let at-run-sheet-peaks = c.run_sheet_peaks-ran in
     part_long _
     (omega (
@@ -80,21 +69,19 @@ slice_bounds-put_highest-end-3 c =
       at-run-sheet-peaks.ensures.told.clocks_long,
       length-replicate {A = ℕ} program_squares 0,
       c.squares_of-squares.ensures,
-      start.pre.0.few,
+      c.requires.0.few,
     ))
 
 pub put_highest-requires : goal.put_highest-requires
 put_highest-requires c =
-    let start =
-    c.before.before.before.before.before.before.before.before.before.before.before.before.before.before.before.before.before.before.before.before.before in
     let at-run-sheet-peaks = c.run_sheet_peaks-ran in
-    let h = start.pre.0 in
+    let h = c.requires.0 in
     let n = c.squares_of-squares.ensures in
     let zeros = length-replicate {A = ℕ} program_squares 0 in
     let ran = at-run-sheet-peaks.ensures.told in record {
-      shape_in_range = (h.shape, h.few, start.pre.1);
+      shape_in_range = (h.shape, h.few, c.requires.1);
       shape_in_bounds = (
-        omega (arith, n, part_long {n = c.squares_of-squares.result} start.args.marks.now (omega (arith, h.marks_long, n, h.few))),
+        omega (arith, n, part_long {n = c.squares_of-squares.result} c.args.marks.now (omega (arith, h.marks_long, n, h.few))),
         omega (arith, n, part_long {n = c.squares_of-squares.result} at-run-sheet-peaks.new.1.1.1.1.1.1.1.1.0 (omega (arith, ran.peaks_long, zeros, n, h.few))),
         omega (arith, n, part_long {n = c.squares_of-squares.result} at-run-sheet-peaks.new.1.1.1.1.1.1.1.1.1.0 (omega (arith, ran.clocks_long, zeros, n, h.few))),
       );
@@ -102,10 +89,8 @@ put_highest-requires c =
 
 pub returns : goal.returns
 returns c =
-    let at_before =
-    c.before.before.before.before.before.before.before.before.before.before.before.before.before.before.before.before.before.before.before.before.before.before.before.before in
     let at-run-sheet-peaks = c.run_sheet_peaks-ran in
     let at-squares-of = c.squares_of-squares in
-    let s = (at_before) in
+    let s = (c) in
     highest_printed s.args.heading (held s) at-run-sheet-peaks.ensures.told s.pre.0.few at-squares-of.ensures
     c.put_highest.ensures

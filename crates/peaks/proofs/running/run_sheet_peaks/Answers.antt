@@ -40,105 +40,73 @@ slice_bounds-run_peaks-end-2 c =
 
 pub slice_bounds-run_peaks-end-3 : goal.slice_bounds-run_peaks-end-3
 slice_bounds-run_peaks-end-3 c =
-    let start =
-    c.before.before.before.before.before.before.before.before.before.before.before.before.before.before.before.before.before in
     let at-squares-of = c.squares_of-squares in
-    part_long _ (omega (arith, start.pre.0.roughness_long, at-squares-of.ensures, start.pre.0.few))
+    part_long _ (omega (arith, c.requires.holds.roughness_long, at-squares-of.ensures, c.requires.holds.few))
 
 pub slice_bounds-run_peaks-end-4 : goal.slice_bounds-run_peaks-end-4
 slice_bounds-run_peaks-end-4 c =
-    let start =
-    c.before.before.before.before.before.before.before.before.before.before.before.before.before.before.before.before.before.before in
     let at-squares-of = c.squares_of-squares in
-    part_long _ (omega (arith, start.pre.0.rates_long, at-squares-of.ensures, start.pre.0.few))
+    part_long _ (omega (arith, c.requires.holds.rates_long, at-squares-of.ensures, c.requires.holds.few))
 
 pub slice_bounds-run_peaks-end-5 : goal.slice_bounds-run_peaks-end-5
-slice_bounds-run_peaks-end-5 c =
-    let start =
-    c.before.before.before.before.before.before.before.before.before.before.before.before.before.before.before.before.before.before.before in
-    part_long _ (omega (arith, start.pre.0.rain_few, start.pre.0.rain_long))
+slice_bounds-run_peaks-end-5 c = part_long _ (omega (arith, c.requires.holds.rain_few, c.requires.holds.rain_long))
 
 pub slice_bounds-run_peaks-end-6 : goal.slice_bounds-run_peaks-end-6
-slice_bounds-run_peaks-end-6 c =
-    let start =
-    c.before.before.before.before.before.before.before.before.before.before.before.before.before.before.before.before.before.before.before.before in
-    part_long _ (omega (arith, start.pre.0.inflow_few, start.pre.0.inflow_long))
+slice_bounds-run_peaks-end-6 c = part_long _ (omega (arith, c.requires.holds.inflow_few, c.requires.holds.inflow_long))
 
 pub slice_bounds-run_peaks-end-7 : goal.slice_bounds-run_peaks-end-7
 slice_bounds-run_peaks-end-7 c =
-    let start =
-    c.before.before.before.before.before.before.before.before.before.before.before.before.before.before.before.before.before.before.before.before in
     let at-squares-of = c.squares_of-squares in
-    omega (arith, start.pre.0.depths_long, at-squares-of.ensures, start.pre.0.few)
+    omega (arith, c.requires.holds.depths_long, at-squares-of.ensures, c.requires.holds.few)
 
 pub slice_bounds-run_peaks-end-8 : goal.slice_bounds-run_peaks-end-8
 slice_bounds-run_peaks-end-8 c =
-    let start =
-    c.before.before.before.before.before.before.before.before.before.before.before.before.before.before.before.before.before.before.before.before.before in
     let at-squares-of = c.squares_of-squares in
-    part_long _ (omega (arith, start.pre.0.depths_long, at-squares-of.ensures, start.pre.0.few))
+    part_long _ (omega (arith, c.requires.holds.depths_long, at-squares-of.ensures, c.requires.holds.few))
 
 pub slice_bounds-lasts-end : goal.slice_bounds-lasts-end
 slice_bounds-lasts-end c =
-    let start =
-    c.before.before.before.before.before.before.before.before.before.before.before.before.before.before.before.before.before.before.before.before.before in
     let at-squares-of = c.squares_of-squares in
-    omega (arith, at-squares-of.ensures, start.pre.0.few)
+    omega (arith, at-squares-of.ensures, c.requires.holds.few)
 
 pub slice_bounds-run_peaks-end-9 : goal.slice_bounds-run_peaks-end-9
 slice_bounds-run_peaks-end-9 c =
-    let start =
-    c.before.before.before.before.before.before.before.before.before.before.before.before.before.before.before.before.before.before.before.before.before.before in
     let at-squares-of = c.squares_of-squares in
-    taken_long {size = program_squares} _ (omega (arith, at-squares-of.ensures, start.pre.0.few)) refl
+    taken_long {size = program_squares} _ (omega (arith, at-squares-of.ensures, c.requires.holds.few)) refl
 
 pub slice_bounds-records-end : goal.slice_bounds-records-end
 slice_bounds-records-end c =
-    let start =
-    c.before.before.before.before.before.before.before.before.before.before.before.before.before.before.before.before.before.before.before.before.before.before in
     let at-record-size = c.record_size-size in
-    omega (arith, at-record-size.ensures, start.pre.0.few)
+    omega (arith, at-record-size.ensures, c.requires.holds.few)
 
 pub slice_bounds-run_peaks-end-10 : goal.slice_bounds-run_peaks-end-10
 slice_bounds-run_peaks-end-10 c =
-    let start =
-    c.before.before.before.before.before.before.before.before.before.before.before.before.before.before.before.before.before.before.before.before.before.before.before in
     let at-record-size = c.record_size-size in
-    taken_long {size = head_words + square_words * program_squares} _ (omega (arith, at-record-size.ensures, start.pre.0.few)) refl
+    taken_long {size = head_words + square_words * program_squares} _ (omega (arith, at-record-size.ensures, c.requires.holds.few)) refl
 
 pub slice_bounds-run_peaks-end-11 : goal.slice_bounds-run_peaks-end-11
 slice_bounds-run_peaks-end-11 c =
-    let start =
-    c.before.before.before.before.before.before.before.before.before.before.before.before.before.before.before.before.before.before.before.before.before.before.before in
     let at-squares-of = c.squares_of-squares in
-    omega (arith, start.pre.1.0, at-squares-of.ensures, start.pre.0.few)
+    omega (arith, c.requires.peaks_len.0, at-squares-of.ensures, c.requires.holds.few)
 
 pub slice_bounds-run_peaks-end-12 : goal.slice_bounds-run_peaks-end-12
 slice_bounds-run_peaks-end-12 c =
-    let start =
-    c.before.before.before.before.before.before.before.before.before.before.before.before.before.before.before.before.before.before.before.before.before.before.before.before in
     let at-squares-of = c.squares_of-squares in
-    part_long _ (omega (arith, start.pre.1.0, at-squares-of.ensures, start.pre.0.few))
+    part_long _ (omega (arith, c.requires.peaks_len.0, at-squares-of.ensures, c.requires.holds.few))
 
 pub slice_bounds-run_peaks-end-13 : goal.slice_bounds-run_peaks-end-13
 slice_bounds-run_peaks-end-13 c =
-    let start =
-    c.before.before.before.before.before.before.before.before.before.before.before.before.before.before.before.before.before.before.before.before.before.before.before.before in
     let at-squares-of = c.squares_of-squares in
-    omega (arith, start.pre.1.1, at-squares-of.ensures, start.pre.0.few)
+    omega (arith, c.requires.peaks_len.1, at-squares-of.ensures, c.requires.holds.few)
 
 pub slice_bounds-run_peaks-end-14 : goal.slice_bounds-run_peaks-end-14
 slice_bounds-run_peaks-end-14 c =
-    let start =
-    c.before.before.before.before.before.before.before.before.before.before.before.before.before.before.before.before.before.before.before.before.before.before.before.before.before in
     let at-squares-of =
     c.squares_of-squares in
-    part_long _ (omega (arith, start.pre.1.1, at-squares-of.ensures, start.pre.0.few))
+    part_long _ (omega (arith, c.requires.peaks_len.1, at-squares-of.ensures, c.requires.holds.few))
 
 pub returns : goal.returns
 returns c =
-    let at_before =
-    c.before.before.before.before.before.before.before.before.before.before.before.before.before.before.before.before.before.before.before.before.before.before.before.before.before.before.before.before.before.before.before.before.before.before in
     let at-fresh-run =
     c.fresh_run-run in
     let at-squares-of =
@@ -146,7 +114,7 @@ returns c =
     let at-record-size =
     c.record_size-size in
     let at-run-peaks = c.run_peaks in
-    let s = (at_before) in
+    let s = (c) in
     let h = s.pre.0 in
     let n = at-squares-of.ensures in
     let m = at-record-size.ensures in

@@ -29,22 +29,22 @@ put_grid-requires c = record {
     }
 
 pub put_grid-requires-in-Depth : goal.put_grid-requires-in-Depth
-put_grid-requires-in-Depth c = (
-      (c.requires.writable.shape, omega (arith, c.requires.writable.each.marks), omega (arith, c.requires.writable.each.depths)),
-      omega (arith, depth-room c.args.heading (held (goal.at.put_grid-requires-in-Depth c).Start) c.requires.writable c.args.out.now c.requires.most_file_in_bounds),
-    )
+put_grid-requires-in-Depth c = record {
+      shape_in_range = (c.requires.writable.shape, omega (arith, c.requires.writable.each.marks), omega (arith, c.requires.writable.each.depths));
+      side_in_bounds = omega (arith, depth-room c.args.heading (held (goal.at.put_grid-requires-in-Depth c).Start) c.requires.writable c.args.out.now c.requires.most_file_in_bounds);
+    }
 
 pub put_grid-requires-in-Roughness : goal.put_grid-requires-in-Roughness
-put_grid-requires-in-Roughness c = (
-      (c.requires.writable.shape, omega (arith, c.requires.writable.each.marks), omega (arith, c.requires.writable.each.roughness)),
-      omega (arith, roughness_room c.args.heading (held (goal.at.put_grid-requires-in-Roughness c).Start) c.requires.writable c.args.out.now c.requires.most_file_in_bounds),
-    )
+put_grid-requires-in-Roughness c = record {
+      shape_in_range = (c.requires.writable.shape, omega (arith, c.requires.writable.each.marks), omega (arith, c.requires.writable.each.roughness));
+      side_in_bounds = omega (arith, roughness_room c.args.heading (held (goal.at.put_grid-requires-in-Roughness c).Start) c.requires.writable c.args.out.now c.requires.most_file_in_bounds);
+    }
 
 pub put_grid-requires-in-Rate : goal.put_grid-requires-in-Rate
-put_grid-requires-in-Rate c = (
-      (c.requires.writable.shape, omega (arith, c.requires.writable.each.marks), omega (arith, c.requires.writable.each.rates)),
-      omega (arith, rate_room c.args.heading (held (goal.at.put_grid-requires-in-Rate c).Start) c.requires.writable c.args.out.now c.requires.most_file_in_bounds),
-    )
+put_grid-requires-in-Rate c = record {
+      shape_in_range = (c.requires.writable.shape, omega (arith, c.requires.writable.each.marks), omega (arith, c.requires.writable.each.rates));
+      side_in_bounds = omega (arith, rate_room c.args.heading (held (goal.at.put_grid-requires-in-Rate c).Start) c.requires.writable c.args.out.now c.requires.most_file_in_bounds);
+    }
 
 pub returns-in-Note : goal.returns-in-Note
 returns-in-Note c =
