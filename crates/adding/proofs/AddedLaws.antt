@@ -11,7 +11,7 @@ use native.Mathlib.Omega.{arith}
 use lib.Dec.{leb, eqb}
 use lib.ListN.{length, get_or, set, take, drop, length-set, length-drop}
 use lib.Seq.{ext_get_or, get_or-set_same, get_or-set_other, get_or-take, get_or-drop, length-take-le}
-use borrow.Author.Tests.{eqb-true, eq_eqb, ne_eqb, leb-true, le-leb, lt-leb, lt-ltb, not-true, not-false, ltb-true}
+use borrow.Author.Tests.{eqb-true, eq-eqb, ne_eqb, leb-true, le-leb, lt-leb, lt-ltb, not-true, not-false, ltb-true}
 use Rattle.reckon.specs.Tests.{pick, all_below}
 use Rattle.reckon.specs.Lists.{tabulate, filled, sum_below}
 use Rattle.reckon.specs.Ranges.{most_depth}
@@ -66,7 +66,7 @@ module _ {marks old : List ℕ} {rain : ℕ} where
 pub row_is_on :
     (inflow : List ℕ) {row column : ℕ} (j : ℕ) → row ≡ inflow_row inflow j → column ≡ inflow_column inflow j → on_square inflow row column j ≡ true
 unfolding on_square
-row_is_on inflow j a b = and_both _ _ (eq_eqb _ _ (sym a)) (eq_eqb _ _ (sym b))
+row_is_on inflow j a b = and_both _ _ (eq-eqb _ _ (sym a)) (eq-eqb _ _ (sym b))
 
 -- the rows before row j, as the code tests them: one is for its square, or none is
 module _ (inflow : List ℕ) (j : ℕ) {row column : ℕ} (r : row ≡ inflow_row inflow j) (c : column ≡ inflow_column inflow j) where
@@ -113,7 +113,7 @@ module _ (inflow : List ℕ) (row column : ℕ) where
           other d (no m) t = not_two j k (omega arith) l here t
 
           go : Dec (k ≡ j) → on k ≡ eqb k j
-          go (yes e) = ap on e ∙ (here ∙ sym (eq_eqb k j e))
+          go (yes e) = ap on e ∙ (here ∙ sym (eq-eqb k j e))
           go (no d) = no_more (on k) (other d (dec_lt k j)) ∙ sym (ne_eqb k j d)
 
       -- so the sum over all rows is what that one gives
@@ -207,8 +207,8 @@ module _ (s : Shape) (inflow : List ℕ) (j : ℕ) where
   unfolding on_square
   row_counts h e =
       and_both _ _
-      (eq_eqb _ _ (sym (ap (λ (x : ℕ). x / s.columns) e ∙ row_of s (inflow_row inflow j) h)))
-      (eq_eqb _ _ (sym (ap (λ (x : ℕ). x % s.columns) e ∙ column_of s (inflow_row inflow j) h)))
+      (eq-eqb _ _ (sym (ap (λ (x : ℕ). x / s.columns) e ∙ row_of s (inflow_row inflow j) h)))
+      (eq-eqb _ _ (sym (ap (λ (x : ℕ). x % s.columns) e ∙ column_of s (inflow_row inflow j) h)))
 
 -- each row of a fine table is for a square of the grid that is not closed
 pub rows_fine :

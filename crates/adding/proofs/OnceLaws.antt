@@ -10,7 +10,7 @@ use native.Mathlib.Decide.{ℕ_discrete}
 use native.Mathlib.Omega.{arith}
 use lib.Dec.{eqb}
 use lib.ListN.{length}
-use borrow.Author.Tests.{eq_eqb, ne_eqb, lt-ltb, not-true}
+use borrow.Author.Tests.{eq-eqb, ne_eqb, lt-ltb, not-true}
 use Rattle.reckon.specs.Tests.{pick, all_below}
 use Rattle.reckon.specs.Lists.{sum_below}
 use Rattle.reckon.specs.Tables.{on_square, inflow_added, inflow_by}
@@ -110,7 +110,7 @@ module _ (p : Plan) (inflow : List ℕ) (side start end : ℕ) (fine : inflow_sq
     reached_more i = go (ℕ_discrete i (rows_place n))
       where
         go : Dec (i ≡ rows_place n) → reached (n + 1) i ≡ reached n i + pick (eqb i (rows_place n)) (brings i) 0
-        go (yes e) = here i e ∙ ap (λ (x : ℕ). reached n i + x) (sym (pick_true _ _ (eq_eqb i (rows_place n) e)))
+        go (yes e) = here i e ∙ ap (λ (x : ℕ). reached n i + x) (sym (pick_true _ _ (eq-eqb i (rows_place n) e)))
         go (no d) = elsewhere i d ∙ (sym (add-zero (reached n i)) ∙ ap (λ (x : ℕ). reached n i + x) (sym (pick_false _ _ (ne_eqb i (rows_place n) d))))
 
     -- which is what is counted for the row

@@ -4,7 +4,7 @@ use grid::walks::Walk;
 use rule::rules::Rules;
 
 // How a step goes about its work: by which walk, on which grid, by which rules, and whether no two inflow rows are for one square.
-#[derive(Drop)]
+#[derive(Clone, Copy)]
 pub struct Way {
     pub walk: Walk,
     pub shape: Shape,

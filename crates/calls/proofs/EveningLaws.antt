@@ -3,7 +3,7 @@
 use mathlib.Core.Path.{sym, ap, ◌∙◌, subst}
 use mathlib.Core.List.{List}
 use Prim.Native.Nat.{ℕ}
-use borrow.Author.Tests.{eq_eqb, ne_eqb}
+use borrow.Author.Tests.{eq-eqb, ne_eqb}
 use Rattle.reckon.specs.Tests.{refusal}
 use Rattle.reckon.proofs.TestLaws.{pick_true, pick_false}
 use Rattle.ledger.specs.Runs.{Plan}
@@ -37,7 +37,7 @@ module _ (p : Plan) (g : Given) (entry : Entry) (e : Evening) where
             let refused = ne_eqb (refusal (entry_refusals p g e entry)) 0 (λ z. says.never_none (subst (FirstFails (entry_refusals p g e entry)) (sym e' ∙ z) first)) in
             (s.number_is ∙ (pick_false _ _ refused ∙ e'), s.evening_is ∙ pick_false _ _ refused);
         taken = λ z.
-            let passed = eq_eqb (refusal (entry_refusals p g e entry)) 0 z in
+            let passed = eq-eqb (refusal (entry_refusals p g e entry)) 0 z in
             (s.number_is ∙ pick_true _ _ passed, s.evening_is ∙ pick_true _ _ passed);
         goes_on = λ x q. ap (λ (at : Evening). after_entry p g at entry) q ∙ sym s.evening_is;
       }

@@ -9,7 +9,7 @@ use native.Mathlib.Omega.{arith}
 use lib.Dec.{eqb, leb}
 use lib.ListN.{length, get_or}
 use lib.Ieee.{Float}
-use borrow.Author.Tests.{eq_eqb, le-leb, lt-leb, leb-true}
+use borrow.Author.Tests.{eq-eqb, le-leb, lt-leb, leb-true}
 use Rattle.reckon.specs.Tests.{pick}
 use Rattle.reckon.proofs.TestLaws.{and_left, and_right, no_more, pick_true, pick_false}
 use Rattle.grid.specs.Masks.{wet_masks}
@@ -66,7 +66,7 @@ number_none false e z = absurd (omega (arith, sym e ∙ z))
 -- what a slice holds after a call that was not refused
 made_of : {A : Type 0} {n m : ℕ} {new : A} (made old : A) → n ≡ m → new ≡ unless_refused m made old → n ≡ 0 → new ≡ made
 unfolding unless_refused
-made_of made old q e z = e ∙ pick_true _ _ (eq_eqb _ _ (sym q ∙ z))
+made_of made old q e z = e ∙ pick_true _ _ (eq-eqb _ _ (sym q ∙ z))
 
 -- a run's numbers tell the run
 run-told : {run : List ℕ} (u : Run) → run ≡ run_numbers u → run_value_from run ≡ u

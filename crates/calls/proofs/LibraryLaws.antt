@@ -7,7 +7,7 @@ use Prim.Native.Nat.{ℕ, zero, suc, ◌%◌, ◌<◌, ◌≤◌}
 use native.Mathlib.Omega.{arith}
 use lib.ListN.{length, get_or, drop}
 use lib.Seq.{take_at, drop_at}
-use borrow.Author.Tests.{eq_eqb, le-leb}
+use borrow.Author.Tests.{eq-eqb, le-leb}
 use Rattle.reckon.specs.Tests.{refusal}
 use Rattle.reckon.specs.Lists.{placed}
 use Rattle.reckon.proofs.TestLaws.{not_both, each_every, pick_true}
@@ -138,7 +138,7 @@ after-fresh {p} {r} {before} {records} {a} {lasts} s =
       made = λ z. s.answer ∙ done_of (fresh_number p r before records) _ (sym number ∙ z);
       none_left = λ z i h e.
           let none : fresh_number p r before records ≡ 0 = sym number ∙ z in
-          ap (λ (l : List ℕ). get_or l i 0) (s.lasts_are ∙ pick_true _ _ (eq_eqb _ _ none)) ∙ filled_in _ _ _ before i (long none h) h e;
+          ap (λ (l : List ℕ). get_or l i 0) (s.lasts_are ∙ pick_true _ _ (eq-eqb _ _ none)) ∙ filled_in _ _ _ before i (long none h) h e;
       none_altered = λ i e. ap (λ (l : List ℕ). get_or l i 0) s.lasts_are ∙ (demand_2 p).none_altered.fresh r before records i e;
       begins = λ depths u e. (demand_3 p).fresh_is r depths records before lasts u (rw (sym e) s);
     }
@@ -171,7 +171,7 @@ after_bounds r clock end {a} s =
         ap bounds_told s ∙ told_number (bounds_number r clock end) (spans_whole r clock end) (figures r clock end) (subst (λ (x : Bounds). bounds_told x < 100) s l)
 
     whole : clock % r.update ≡ 0 → clock ≤ end → spans_whole r clock end ≡ true
-    whole e l = each_every _ (eq_eqb _ _ e, (le-leb _ _ l, tt))
+    whole e l = each_every _ (eq-eqb _ _ e, (le-leb _ _ l, tt))
 
     table : TableSays (bounds_refusals r clock end) (bounds_number r clock end)
     table = (demand_1.exactly_when (plan (record { rows = 0; columns = 0 }) [])).step_bounds r clock end
@@ -209,7 +209,7 @@ after-all {p} {D} {w} {old} {new} {n} s =
     record {
       exactly_when = rw s.number_is ((demand_1.exactly_when p).all_arrows D w old);
       as_it_was = (demand_1.refusals_leave p).all_arrows D w old new n s;
-      seen = λ z row column h g. each (s.rooms_are ∙ pick_true _ _ (eq_eqb _ _ (sym s.number_is ∙ z))) row column h g;
+      seen = λ z row column h g. each (s.rooms_are ∙ pick_true _ _ (eq-eqb _ _ (sym s.number_is ∙ z))) row column h g;
     }
   where
     each : new ≡ laid_out (squares p.shape) (seen_square p D w) → (row column : ℕ) → row < p.shape.rows → column < p.shape.columns →
@@ -249,7 +249,7 @@ after_wet {p} {depths} {least} {old} {a} {rows} s =
         ones_over masks,
         (
           s.answer ∙ count_of _ (ones_over masks) (sym number ∙ z),
-          subst (λ (l : List ℕ). WetAre p depths least l (ones_over masks)) (sym (s.rows_are ∙ pick_true _ _ (eq_eqb _ _ (sym number ∙ z)))) (wet_are p depths least),
+          subst (λ (l : List ℕ). WetAre p depths least l (ones_over masks)) (sym (s.rows_are ∙ pick_true _ _ (eq-eqb _ _ (sym number ∙ z)))) (wet_are p depths least),
         ),
       );
     }

@@ -6,7 +6,7 @@ use mathlib.Core.List.{List}
 use Prim.Native.Nat.{ℕ, ◌+◌, ◌<◌}
 use native.Mathlib.Omega.{arith}
 use lib.ListN.{get_or}
-use borrow.Author.Tests.{le-leb, lt-leb, eq_eqb, ne_eqb}
+use borrow.Author.Tests.{le-leb, lt-leb, eq-eqb, ne_eqb}
 use Rattle.reckon.specs.Lists.{sum_below}
 use Rattle.reckon.proofs.TestLaws.{pick_true, pick_false}
 use Rattle.reckon.proofs.ListLaws.{get_or-tabulate}
@@ -54,7 +54,7 @@ module _ (s : List ℕ) where
   says h e =
       record {
         run-refused = λ refused. run-told h e ∙ pick_false _ _ (ne_eqb _ _ refused);
-        run_made = λ made. run-told h e ∙ pick_true _ _ (eq_eqb _ _ made);
+        run_made = λ made. run-told h e ∙ pick_true _ _ (eq-eqb _ _ made);
         time_is = λ i. time_is _ _ _ i _;
         grows = λ i. grows _ _ _ i;
       }

@@ -8,7 +8,7 @@ use native.Mathlib.Decide.{ℕ_discrete}
 use native.Mathlib.Omega.{arith}
 use lib.Dec.{eqb, leb}
 use lib.ListN.{length, get_or, length-map}
-use borrow.Author.Tests.{eq_eqb, ne_eqb, lt-leb}
+use borrow.Author.Tests.{eq-eqb, ne_eqb, lt-leb}
 use Rattle.reckon.specs.Tests.{Row, pick, refusal}
 use Rattle.reckon.proofs.TestLaws.{not_both, pick_true, pick_false, pick_both, no_more, and_false, or_of, refusal_both}
 use Rattle.ledger.specs.Runs.{Plan, World, world, seen_of}
@@ -75,7 +75,7 @@ module _
 
     shown_all : after ≡ map (λ (b : Board). shown p g w b (run_to p g end w).steps) before
     unfolding boards_after
-    shown_all = f.boards_are ∙ pick_true _ _ (eq_eqb (watch_number p g end w n before) 0 none)
+    shown_all = f.boards_are ∙ pick_true _ _ (eq-eqb (watch_number p g end w n before) 0 none)
 
     board_is : (i : ℕ) → i < length before → BoardIs p g w (get_or before i no_board) a.steps (get_or after i no_board)
     board_is i l =
@@ -114,7 +114,7 @@ has n (r ∷ rows) = eqb n r.number || has n rows
 
 first_has : {n : ℕ} {rows : List Row} → FirstFails rows n → has n rows ≡ true
 unfolding has
-first_has (here {n} {fine} {rows} e) = ap (λ (b : Bool). b || has n rows) (eq_eqb n n refl)
+first_has (here {n} {fine} {rows} e) = ap (λ (b : Bool). b || has n rows) (eq-eqb n n refl)
 first_has (later {n} {k} {fine} {rows} e x) = or_of (eqb n k) (has n rows) (λ d. first_has x)
 
 -- no step is refused by 13

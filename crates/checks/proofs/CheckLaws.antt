@@ -6,7 +6,7 @@ use mathlib.Core.List.{List, [], ◌∷◌}
 use Prim.Native.Nat.{ℕ, ◌%◌, ◌≤◌, ◌<◌}
 use lib.Dec.{T, leb}
 use lib.ListN.{length, get_or}
-use borrow.Author.Tests.{leb-true, le-leb, eqb-true, eq_eqb, not-true, not-false}
+use borrow.Author.Tests.{leb-true, le-leb, eqb-true, eq-eqb, not-true, not-false}
 use Rattle.reckon.specs.Tests.{every, refusal}
 use Rattle.reckon.specs.Inner.Rows.{numbered}
 use Rattle.reckon.specs.Ranges.{most_depth, most_length, last_clock, most_outflow, most_soak_rate, most_soaked, water_fine, side_fine, rate_fine}
@@ -173,7 +173,7 @@ module _ (p : Plan) where
 
   long_each : (l : List ℕ) → length l ≡ squares p.shape → one_each p l ≡ true
   unfolding one_each
-  long_each l e = eq_eqb _ _ e
+  long_each l e = eq-eqb _ _ e
 
   ground-at :
       (o : Ground) → grounds_fine p o ≡ true → (i : ℕ) → i < squares p.shape → shut p i ≡ false →

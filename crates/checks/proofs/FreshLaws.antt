@@ -6,7 +6,7 @@ use mathlib.Core.List.{List, [], ◌∷◌}
 use Prim.Native.Nat.{ℕ, ◌+◌, ◌<◌}
 use lib.Dec.{T}
 use lib.ListN.{length, set}
-use borrow.Author.Tests.{eq_eqb, ne_eqb, not-true, eqb-false}
+use borrow.Author.Tests.{eq-eqb, ne_eqb, not-true, eqb-false}
 use Rattle.reckon.specs.Tests.{every, pick}
 use Rattle.reckon.specs.Inner.Rows.{numbered}
 use Rattle.reckon.specs.Lists.{filled}
@@ -99,5 +99,5 @@ module _ (p : Plan) (r : Rules) (before records : List ℕ) {n : ℕ} (e : n ≡
   fresh_done z {u = u} q k f =
       record {
         answer = answered_done u z ∙ ap₂ answered e (f ∙ ap (fresh_run r) k);
-        lasts_are = q ∙ sym (pick_true _ _ (eq_eqb _ _ (sym e ∙ z)));
+        lasts_are = q ∙ sym (pick_true _ _ (eq-eqb _ _ (sym e ∙ z)));
       }

@@ -10,14 +10,14 @@ use rule::length::{is_update, steps_over};
 use rule::rules::Rules;
 
 // The most and the least steps of a run that is not refused.
-#[derive(Drop)]
+#[derive(Clone, Copy)]
 pub struct StepBounds {
     pub most: u64,
     pub least: u64,
 }
 
 // NotBounded: the clock is no multiple of U, or the end comes before it.
-#[derive(Drop)]
+#[derive(Clone, Copy)]
 pub enum Bounds {
     Bounded(StepBounds),
     NotBounded,

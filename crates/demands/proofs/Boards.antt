@@ -8,7 +8,7 @@ use native.Mathlib.Decide.{ℕ_discrete}
 use native.Mathlib.Omega.{arith}
 use lib.Dec.{leb}
 use lib.ListN.{length, get_or}
-use borrow.Author.Tests.{eq_eqb, ne_eqb, not-true}
+use borrow.Author.Tests.{eq-eqb, ne_eqb, not-true}
 use Rattle.reckon.specs.Tests.{Row, pick, first_failing, ◌unless◌, refusal}
 use Rattle.reckon.specs.Most.{most_over}
 use Rattle.reckon.proofs.TestLaws.{pick_true, pick_false, all_at, every_each, refusal_passed, refusal_both, refusal-first, refusal-second}
@@ -120,9 +120,9 @@ module _ (p : Plan) where
           go : Dec (watch_number p g end w (length boards) boards ≡ 0) →
               boards_after p g end w (length boards) boards ≡ boards_after p h end v (length boards) boards
           go (yes e) =
-              pick_true _ _ (eq_eqb (watch_number p g end w (length boards) boards) 0 e)
+              pick_true _ _ (eq-eqb (watch_number p g end w (length boards) boards) 0 e)
               ∙ (map_same boards _ _ (λ k l. shown_same (get_or boards k no_board) (open_each e k l) _ ∙ ap (shown p h v (get_or boards k no_board)) steps)
-              ∙ sym (pick_true _ _ (eq_eqb (watch_number p h end v (length boards) boards) 0 (sym number_same ∙ e))))
+              ∙ sym (pick_true _ _ (eq-eqb (watch_number p h end v (length boards) boards) 0 (sym number_same ∙ e))))
           go (no d) =
               pick_false _ _ (ne_eqb (watch_number p g end w (length boards) boards) 0 d)
               ∙ sym (pick_false _ _ (ne_eqb (watch_number p h end v (length boards) boards) 0 (λ e. d (number_same ∙ e))))

@@ -7,7 +7,7 @@ use Prim.Native.Nat.{ℕ, ◌+◌, ◌-◌, ◌*◌, ◌≤◌}
 use native.Mathlib.Omega.{arith}
 use lib.Dec.{leb}
 use lib.ListN.{length, length-append, length-replicate, length-take}
-use borrow.Author.Tests.{eq_eqb, le-leb}
+use borrow.Author.Tests.{eq-eqb, le-leb}
 use Rattle.reckon.specs.Tests.{pick}
 use Rattle.reckon.specs.Tables.{inflow_kind, table_room}
 use Rattle.reckon.proofs.TestLaws.{pick_true, pick_false, every_each, each_every, passed_refusal}
@@ -271,7 +271,7 @@ module _ (d : Desk) (r : Stores) (on : OnDesk d r) (first : BeginsOn d r) where
     unfolding desk_with noted_deed
     stands_more =
         ap (λ (x : deeds.Desk). x.noted.standing) comes_next
-        ∙ ap (λ (m : Notes). m.standing) (pick_true (noted_deed one_step X.noted) X.noted (eq_eqb _ _ none))
+        ∙ ap (λ (m : Notes). m.standing) (pick_true (noted_deed one_step X.noted) X.noted (eq-eqb _ _ none))
 
     step_gone : (line text : List ℕ) → order line ≡ Entered (Back 1) →
         AsBefore before.0 before.1 (command_left (step_left before.0 before.1).desk (step_left before.0 before.1).rooms text (order line)).desk
@@ -316,7 +316,7 @@ module _ (d : Desk) (r : Stores) (on : OnDesk d r) where
   unfolding is_sheet order_told entry_told back_told deed_came desk_after desk_with
   back_frame text count z =
       framed_text (command_left d r text (Entered (Back count))) (shown (plan_on d r) c) (ending_text 0 0)
-      (line_is d r on text (Entered (Back count)) refl ∙ ap (told_on d r) (pick_true _ _ (eq_eqb _ _ z))) (sized_one d r on (going_back count ∷ []) tt)
+      (line_is d r on text (Entered (Back count)) refl ∙ ap (told_on d r) (pick_true _ _ (eq-eqb _ _ z))) (sized_one d r on (going_back count ∷ []) tt)
       (ap (λ (n : ℕ). framed c ++ ending_text n 0) z)
     where
       c : Came
@@ -327,7 +327,7 @@ module _ (d : Desk) (r : Stores) (on : OnDesk d r) where
   unfolding next_told deed_came desk_after desk_with
   step_frame nine going each more z =
       subst (λ (l : Left). l.text ≡ frame_on l.desk l.rooms)
-      (sym (next_is d r on going ∙ ap (told_on d r) (pick_true _ _ more ∙ pick_true _ _ (eq_eqb _ _ z))))
+      (sym (next_is d r on going ∙ ap (told_on d r) (pick_true _ _ more ∙ pick_true _ _ (eq-eqb _ _ z))))
       (pick_true _ _ each ∙ told_frame (made_told (plan_on d r) d.series (step_came (plan_on d r) (ground_on d r) (state_on d r) d.account)) (sized_one d r on (one_step ∷ []) nine))
 
   end_frame : d.series.on ≡ true → d.series.every ≡ false → steps_left d.series d.log.run.clock ≡ false →
@@ -444,7 +444,7 @@ module _ (d : Desk) (r : Stores) (whole : RoomsWhole r) (text : List ℕ) (h : H
   unfolding command_left is_sheet wanted_by sheet_left
   sheet_begins bytes whole =
       subst (λ (l : Left). OnDesk l.desk l.rooms × BeginsOn l.desk l.rooms × BalancedOn l.desk l.rooms)
-      (sym (pick_true _ _ refl ∙ (pick_true _ _ (eq_eqb _ _ whole) ∙ ap (λ (s : reading.Sheet). sheet_left text s d r) read)))
+      (sym (pick_true _ _ refl ∙ (pick_true _ _ (eq-eqb _ _ whole) ∙ ap (λ (s : reading.Sheet). sheet_left text s d r) read)))
       (let b = fresh_begins laid_sheet.desk laid_sheet.rooms sheet_on refl refl in (sheet_on, b.0, b.1))
 
 -- a saved state
@@ -483,7 +483,7 @@ module _ (d : Desk) (r : Stores) (on : OnDesk d r) (text : List ℕ) where
   lay_begins bytes whole few z =
       subst (λ (l : Left). OnDesk l.desk l.rooms × BeginsOn l.desk l.rooms)
       (sym (lay_is d r on text bytes
-      ∙ ap (told_on d r) (pick_true _ _ (each_every _ (eq_eqb _ _ whole, (le-leb _ _ few, tt))) ∙ pick_true _ _ (eq_eqb _ _ z)))) (
+      ∙ ap (told_on d r) (pick_true _ _ (each_every _ (eq-eqb _ _ whole, (le-leb _ _ few, tt))) ∙ pick_true _ _ (eq-eqb _ _ z)))) (
         told-on d r on t sized,
         subst (λ (e : Evening). Begins (plan_on d r) (ground_on d r) e t.account) (sym (put_taken d.heading r t.evening sized)) (laid_begins z),
       )

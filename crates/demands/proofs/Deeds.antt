@@ -7,7 +7,7 @@ use Prim.Native.Nat.{ℕ, ◌-◌}
 use native.Mathlib.Decide.{ℕ_discrete}
 use lib.Dec.{eqb}
 use lib.ListN.{set}
-use borrow.Author.Tests.{eq_eqb, ne_eqb}
+use borrow.Author.Tests.{eq-eqb, ne_eqb}
 use Rattle.reckon.specs.Tests.{pick, refusal}
 use Rattle.reckon.proofs.TestLaws.{pick_true, pick_false, pick_both, not_both, every_each, refusal_passed}
 use Rattle.ledger.specs.Runs.{Plan}
@@ -34,7 +34,7 @@ module _ (p : Plan) (g : Given) (e : Evening) (a : Account) where
     pub name_made : name_number ≡ 0 → deed_came p g (naming n row column) e a ≡ with_log e (tried 0 (hatch_named e.log n row column) a)
     unfolding deed_came name_tried
     name_made z =
-        let q : name_tried p g.lie.rules g.inflow e.log a n row column ≡ tried 0 (hatch_named e.log n row column) a = pick_true _ _ (eq_eqb _ _ z) in
+        let q : name_tried p g.lie.rules g.inflow e.log a n row column ≡ tried 0 (hatch_named e.log n row column) a = pick_true _ _ (eq-eqb _ _ z) in
         ap (λ (t : Tried). with_log e t) q
 
     pub name_refused : (name_number ≡ 0 → ⊥) → deed_came p g (naming n row column) e a ≡ came name_number e a
@@ -52,7 +52,7 @@ module _ (p : Plan) (g : Given) (e : Evening) (a : Account) where
     pub draw_made : draw_number ≡ 0 → deed_came p g (drawing n litres) e a ≡ with_log e (tried 0 (log_at e.log (set e.log.litres (n - 1) litres)) a)
     unfolding deed_came draw_tried
     draw_made z =
-        let q : draw_tried e.log a n litres ≡ tried 0 (log_at e.log (set e.log.litres (n - 1) litres)) a = pick_true _ _ (eq_eqb _ _ z) in
+        let q : draw_tried e.log a n litres ≡ tried 0 (log_at e.log (set e.log.litres (n - 1) litres)) a = pick_true _ _ (eq-eqb _ _ z) in
         ap (λ (t : Tried). with_log e t) q
 
     pub draw_refused : (draw_number ≡ 0 → ⊥) → deed_came p g (drawing n litres) e a ≡ came draw_number e a
@@ -75,11 +75,11 @@ module _ (p : Plan) (g : Given) (e : Evening) (a : Account) where
 
   pub step-refused : try_number ≡ 0 → (own_number ≡ 0 → ⊥) → deed_came p g one_step e a ≡ came own_number e a
   unfolding deed_came step_came
-  step-refused z d = pick_true _ _ (eq_eqb _ _ z) ∙ pick_false _ _ (ne_eqb _ _ d)
+  step-refused z d = pick_true _ _ (eq-eqb _ _ z) ∙ pick_false _ _ (ne_eqb _ _ d)
 
   pub step_made : try_number ≡ 0 → own_number ≡ 0 → deed_came p g one_step e a ≡ came 0 (evening_next p g e a) (account_next p g e a)
   unfolding deed_came step_came
-  step_made z y = pick_true _ _ (eq_eqb _ _ z) ∙ pick_true _ _ (eq_eqb _ _ y)
+  step_made z y = pick_true _ _ (eq-eqb _ _ z) ∙ pick_true _ _ (eq-eqb _ _ y)
 
   -- ---- `back`
 
@@ -94,7 +94,7 @@ module _ (p : Plan) (g : Given) (e : Evening) (a : Account) where
     pub back_taken : refusal (back_refusals e.log count) ≡ 0 → (back_from p count 0 (world_of e)).number ≡ 0 →
         deed_came p g (going_back count) e a ≡ came 0 (after_back p nothing_given e count) account_ago
     unfolding deed_came back_came
-    back_taken z none = pick_true _ _ (eq_eqb _ _ z) ∙ ap (λ (k : ℕ). came k (after_back p nothing_given e count) account_ago) none
+    back_taken z none = pick_true _ _ (eq-eqb _ _ z) ∙ ap (λ (k : ℕ). came k (after_back p nothing_given e count) account_ago) none
 
 -- ---- the desk after it
 
@@ -110,7 +110,7 @@ module _ (p : Plan) (g : Given) (d : Deed) (x : Desk) where
   pub desk_made : {e : Evening} {a : Account} → deed_came p g d x.at x.account ≡ came 0 e a → desk_with p g d x ≡ record { at = e; account = a; noted = noted_deed d x.noted }
   unfolding desk_with
   desk_made {e} {a} q =
-      ap desk_of q ∙ ap (λ (m : Notes). record { at = e; account = a; noted = m }) (pick_true (noted_deed d x.noted) x.noted (eq_eqb 0 0 refl))
+      ap desk_of q ∙ ap (λ (m : Notes). record { at = e; account = a; noted = m }) (pick_true (noted_deed d x.noted) x.noted (eq-eqb 0 0 refl))
 
 -- ---- once the opening is over, hatches stay
 

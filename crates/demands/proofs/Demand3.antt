@@ -7,7 +7,7 @@ use Prim.Native.Nat.{ℕ, zero, suc, ◌-◌, ◌≤◌, ◌<◌, max}
 use native.Mathlib.Omega.{arith}
 use lib.Dec.{eqb, ltb}
 use lib.ListN.{length, get_or, replicate, drop}
-use borrow.Author.Tests.{eq_eqb, ne_eqb}
+use borrow.Author.Tests.{eq-eqb, ne_eqb}
 use Rattle.reckon.specs.Tests.{pick, Row, ◌unless◌, refusal}
 use Rattle.reckon.proofs.TestLaws.{pick_true, pick_false, refusal-first, refusal-second, refusal_here, every_each, Passed, refusal_passed}
 use Rattle.reckon.specs.Lists.{filled}
@@ -161,7 +161,7 @@ module _ (p : Plan) where
   module _ (x : Trail p) (high : length x.standing ≤ x.peak) where
     step-called : (g : Given) (n : ℕ) → step_number p g x.at ≡ n → Any.called E (Any.stepping g) (trail x) ≡ trail (called p (stepping g) x)
     step-called g zero e =
-        let stands : stand_after p (stepping g) x.at x.standing ≡ g ∷ x.standing = pick_true _ _ (eq_eqb _ _ e) in
+        let stands : stand_after p (stepping g) x.at x.standing ≡ g ∷ x.standing = pick_true _ _ (eq-eqb _ _ e) in
         ap (after_step E g (trail x)) (step_made g x.at e) ∙ trail_is refl (sym stands) (rw stands (omega arith))
     step-called g (suc n) e =
         let stands : stand_after p (stepping g) x.at x.standing ≡ x.standing = pick_false _ _ (ne_eqb _ _ (some_number e)) in
@@ -170,7 +170,7 @@ module _ (p : Plan) where
 
     back_called : (n : ℕ) → back_number p x.at ≡ n → Any.called E Any.taking_back (trail x) ≡ trail (called p taking_back x)
     back_called zero e =
-        let stands : stand_after p taking_back x.at x.standing ≡ drop 1 x.standing = pick_true _ _ (eq_eqb _ _ e) in
+        let stands : stand_after p taking_back x.at x.standing ≡ drop 1 x.standing = pick_true _ _ (eq-eqb _ _ e) in
         ap (after_back E (trail x)) (back_made x.at e) ∙ trail_is refl (older_is x.standing ∙ sym stands) (rw stands (fewer x.standing high))
       where
         older_is : (steps : List Given) → older E steps ≡ drop 1 steps
@@ -300,7 +300,7 @@ module _ (p : Plan) where
       last_rows = 10 unless not (eqb f.run.kept 0) ∷ 11 unless restorable p f (newest_record p f) ∷ []
 
       is_ten : refusal last_rows ≡ 10
-      is_ten = refusal_here 10 _ (ap not (eq_eqb _ _ F.kept_none))
+      is_ten = refusal_here 10 _ (ap not (eq-eqb _ _ F.kept_none))
 
       look_passed : refusal look ≡ 0 → back_number p f ≡ 10
       unfolding back_number back_refusals early_refusals
@@ -365,7 +365,7 @@ module _ (p : Plan) where
 
     lasts_cleared : lasts ≡ filled (squares p.shape) (shut p) (λ i. 0) before
     unfolding fresh_lasts
-    lasts_cleared = a.lasts_are ∙ pick_true _ _ (eq_eqb _ _ freshened.number)
+    lasts_cleared = a.lasts_are ∙ pick_true _ _ (eq-eqb _ _ freshened.number)
 
     looks_good : length depths ≡ squares p.shape → ((i : ℕ) → i < squares p.shape → shut p i ≡ false → get_or depths i 0 ≤ most_depth) →
         Looks p (ring_fine (room_slots p records) f.run.kept f.run.newest) (seen_of f)

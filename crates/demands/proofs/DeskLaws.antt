@@ -10,7 +10,7 @@ use native.Mathlib.Decide.{ℕ_discrete}
 use lib.Dec.{eqb}
 use lib.ListN.{length, get_or, set, drop, length-append, length-map, length-set, length-replicate}
 use lib.Seq.{get_or-set_same, get_or-set_other, drop-append_seam}
-use borrow.Author.Tests.{eq_eqb, leb-true, le-leb, lt-leb}
+use borrow.Author.Tests.{eq-eqb, leb-true, le-leb, lt-leb}
 use Rattle.reckon.specs.Tests.{pick, refusal}
 use Rattle.reckon.specs.Tables.{inflow_kind, table_room}
 use Rattle.reckon.specs.Ranges.{most_depth, most_outflow, most_soaked}
@@ -188,7 +188,7 @@ module _ (p : Plan) (g : Given) (e₀ : Evening) (a₀ : Account) (first : Begin
         world_is = ap (λ (y : Trail p). y.at) snoc ∙ ap (stepped p G) x.world_is;
         standing_is =
             ap (λ (y : Trail p). y.standing) snoc
-            ∙ (pick_true _ _ (eq_eqb _ _ (subst (λ (v : World). step_number p G v ≡ 0) (sym x.world_is) z)) ∙ ap (λ (l : List Given). G ∷ l) x.standing_is);
+            ∙ (pick_true _ _ (eq-eqb _ _ (subst (λ (v : World). step_number p G v ≡ 0) (sym x.world_is) z)) ∙ ap (λ (l : List Given). G ∷ l) x.standing_is);
         beside =
             beside_same (sym (m.kept_is ∙ ap (λ (k : ℕ). kept_after k w.run.kept) x.slots_are))
             (sym (m.newest_is ∙ ap (λ (k : ℕ). slot_after k w.run.newest) x.slots_are))
@@ -651,7 +651,7 @@ module _ (p : Plan) (g : Given) (e : Evening) (a : Account) (b : Begins p g e a)
     as_before : after.noted.standing ≡ before.noted.standing
     unfolding desk_with noted_deed
     as_before =
-        ap (λ (m : Notes). m.standing) (pick_true _ _ (eq_eqb _ _ (back_whole p g e a b later later_stands (length made) l)))
+        ap (λ (m : Notes). m.standing) (pick_true _ _ (eq-eqb _ _ (back_whole p g e a b later later_stands (length made) l)))
         ∙ (back_standing (length made) later.noted ∙ (ap (λ (s : List (List ℕ)). drop (length made) s) same ∙ drop-append_seam made before.noted.standing))
 
     -- each at the same hatches, or none stands

@@ -9,7 +9,7 @@ use native.Mathlib.Nat.{add-zero, mul-suc, mul-le-mul_left}
 use native.Mathlib.Omega.{arith}
 use lib.Dec.{eqb}
 use lib.ListN.{get_or, drop}
-use borrow.Author.Tests.{eq_eqb, ne_eqb}
+use borrow.Author.Tests.{eq-eqb, ne_eqb}
 use Rattle.reckon.specs.Lists.{tabulate, joined}
 use Rattle.reckon.specs.Tables.{rain_kind, inflow_kind}
 use Rattle.reckon.proofs.TestLaws.{pick_true, pick_false}
@@ -47,7 +47,7 @@ module _ (h : Heading) (held : Rooms) (i : ℕ) where
 
   closed-ground : mark ≡ 0 → ground_at held i ≡ []
   unfolding ground_at closed
-  closed-ground e = pick_true _ _ (eq_eqb mark 0 e)
+  closed-ground e = pick_true _ _ (eq-eqb mark 0 e)
 
   closed_line : mark ≡ 0 → cell_written h.shape.columns held i ≡ place_of h i ++ bytes_of "\tx\n"
   unfolding cell_written letter_of rest_text fields_text bytes_of

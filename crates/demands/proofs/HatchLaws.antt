@@ -9,7 +9,7 @@ use native.Mathlib.Omega.{arith}
 use lib.Dec.{eqb}
 use lib.ListN.{length, get_or, set, replicate, drop, length-append, length-drop, length-set, length-replicate}
 use native.Mathlib.Decide.{ℕ_discrete}
-use borrow.Author.Tests.{eq_eqb, ne_eqb}
+use borrow.Author.Tests.{eq-eqb, ne_eqb}
 use Rattle.reckon.specs.Tests.{pick, refusal}
 use Rattle.reckon.proofs.TestLaws.{pick_true, pick_false, pick_both, not_both, every_each}
 use Rattle.trials.specs.Ring.{slot_before, slot_ago}
@@ -139,7 +139,7 @@ module _ (p : Plan) (g : Given) (f : World) (fresh : Fresh p f) where
         world_is = ap (λ (y : Trail p). y.at) snoc ∙ ap (taken_back p) x.world_is;
         standing_is =
             ap (λ (y : Trail p). y.standing) snoc
-            ∙ (pick_true _ _ (eq_eqb _ _ none) ∙ (ap (λ (l : List Given). drop 1 l) x.standing_is ∙ map-drop (drawn g hs) standing));
+            ∙ (pick_true _ _ (eq-eqb _ _ none) ∙ (ap (λ (l : List Given). drop 1 l) x.standing_is ∙ map-drop (drawn g hs) standing));
         beside =
             beside_same (sym back.kept_is) (sym (back.newest_is ∙ ap (λ (k : ℕ). slot_before k w.run.newest) x.slots_are)) refl refl
             (beside_back (subst (λ (k : ℕ). Beside K k w.run.newest began standing) (omega arith) x.beside));
@@ -330,7 +330,7 @@ module _ (p : Plan) (g : Given) (f : World) (fresh : Fresh p f) where
               noted = pick (eqb (refusal (entry_refusals p g e entry)) 0) (noted_with p g e entry m) m;
             })
         go (yes z) =
-            let y = eq_eqb _ _ z in
+            let y = eq-eqb _ _ z in
             subst (λ (a : Evening). Follows earlier (record { at = a; noted = pick (eqb (refusal (entry_refusals p g e entry)) 0) (noted_with p g e entry m) m })) (sym (pick_true _ _ y))
             (subst (λ (o : Notes). Follows earlier (record { at = entered p g e entry; noted = o })) (sym (pick_true _ _ y)) (follow_made entry z))
         go (no d) =
@@ -341,7 +341,7 @@ module _ (p : Plan) (g : Given) (f : World) (fresh : Fresh p f) where
     -- a `back` that is not refused before is made whole
     whole_back : (count : ℕ) → refusal (entry_refusals p g e (Back count)) ≡ 0 → entry_number p g e (Back count) ≡ 0
     unfolding entry_number steps_number
-    whole_back count z = pick_true _ _ (eq_eqb _ _ z) ∙ goes_whole count 0 (back_kept e.log count (entered_is p g e (Back count) z).kept) h.goes
+    whole_back count z = pick_true _ _ (eq-eqb _ _ z) ∙ goes_whole count 0 (back_kept e.log count (entered_is p g e (Back count) z).kept) h.goes
 
   follow_all : (lines : List Entry) (x : Page p g) → Follows 0 x → Follows 0 (page_after p g lines x)
   unfolding page_after

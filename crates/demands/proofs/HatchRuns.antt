@@ -8,7 +8,7 @@ use native.Mathlib.Decide.{dec_lt, ℕ_discrete}
 use native.Mathlib.Omega.{arith}
 use lib.Dec.{ltb, leb}
 use lib.ListN.{length, take, replicate, length-replicate}
-use borrow.Author.Tests.{eq_eqb, ne_eqb, lt-ltb, le-ltb, le-leb, leb-true, eqb-true}
+use borrow.Author.Tests.{eq-eqb, ne_eqb, lt-ltb, le-ltb, le-leb, leb-true, eqb-true}
 use Rattle.reckon.specs.Tests.{pick}
 use Rattle.reckon.specs.Lists.{placed}
 use Rattle.reckon.specs.Ranges.{most_table_rows}
@@ -107,7 +107,7 @@ module _ {s : List ℕ} {n a : Night} {r : Stores} {depths lasts records began o
         go : Dec ((log_line s n.at).next < length s) → rest s n r ≡ night_line s n r ++ rest s (night_next s n r) R
         go (yes h) =
             let t : ltb (log_line s n.at).next (length s) ≡ true = lt-ltb _ _ h in
-            let left : is_left s (night_next s n r) ≡ true = each_every _ (each_every _ (eq_eqb _ _ z, (t, tt)), (t, tt)) in
+            let left : is_left s (night_next s n r) ≡ true = each_every _ (each_every _ (eq-eqb _ _ z, (t, tt)), (t, tt)) in
             whole
             ∙ ap (λ (t : List ℕ). night_line s n r ++ t)
             (ap (lines_from P G s (log_line s n.at).next (n.line + 1)) (sym next_evening) ∙ sym (pick_true _ _ left))

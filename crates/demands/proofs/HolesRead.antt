@@ -10,7 +10,7 @@ use native.Mathlib.Omega.{arith}
 use lib.Dec.{eqb}
 use lib.ListN.{length, get_or, replicate, length-append, length-replicate, get_or-replicate}
 use lib.Seq.{ext_get_or}
-use borrow.Author.Tests.{eq_eqb, ne_eqb, eqb-false, le-leb}
+use borrow.Author.Tests.{eq-eqb, ne_eqb, eqb-false, le-leb}
 use Rattle.reckon.specs.Tests.{pick}
 use Rattle.reckon.specs.Lists.{tabulate, filled}
 use Rattle.reckon.specs.Ranges.{most_bed}
@@ -111,7 +111,7 @@ module _ {s : List ℕ} {p q : ℕ} (row column m : ℕ) (vs : List ℕ) (place 
   placed_is =
       pick_true _ _ word_is
       ∙ (ap (λ (r : Reading.Reading). placed_cell s row column (as_fields (p + length cell_word) r)) fields_are
-      ∙ (pick_true _ _ refl ∙ (pick_true _ _ (eq_eqb row row refl) ∙ pick_true _ _ (eq_eqb column column refl))))
+      ∙ (pick_true _ _ refl ∙ (pick_true _ _ (eq-eqb row row refl) ∙ pick_true _ _ (eq-eqb column column refl))))
 
   letter_at : StandsAt s (end + 1) (letter_of m ∷ rest_text vs) q
   letter_at = stands_second (tab ∷ []) (letter_of m ∷ rest_text vs) third
@@ -312,7 +312,7 @@ module _ (shape : Shape) (r : Rules) (held : Rooms) (end : ℕ) (beds : List ℕ
       let one = every_each _ t.0 in
       let two = every_each _ t.1.0 in
       passed_refusal _ (
-        each_every _ (one.0, (one.1.0, (one.1.1.0, (eq_eqb (length beds) (squares shape) long, one.1.1.1.1)))),
+        each_every _ (one.0, (one.1.0, (one.1.1.0, (eq-eqb (length beds) (squares shape) long, one.1.1.1.1)))),
         (each_every _ (two.0, (grounds two.1.0, tt)), t.1.1),
       )
 

@@ -5,7 +5,7 @@ use Prim.Native.Nat.{ℕ, zero, suc, ◌+◌, ◌-◌, ◌/◌, ◌%◌, ◌≤�
 use native.Mathlib.Nat.{div-add-mod', mod-lt, mul-le-mul_right, suc-mul}
 use native.Mathlib.Decide.{dec_lt, ℕ_discrete}
 use native.Mathlib.Omega.{arith}
-use borrow.Author.Tests.{eq_eqb}
+use borrow.Author.Tests.{eq-eqb}
 use Rattle.reckon.specs.Tests.{refusal}
 use Rattle.reckon.proofs.TestLaws.{pick_true}
 use Rattle.rule.specs.Length.{duration_for}
@@ -87,7 +87,7 @@ pub line_clock : (p : Plan) (g : Given) (e : Evening) (clock n litres : ℕ) →
 unfolding entry_number after_entry steps_number entered after_rate
 line_clock p g e clock n litres z =
     let y = number_zero p g e (Rate clock n litres) z in
-    let t = eq_eqb _ _ y in
+    let t = eq-eqb _ _ y in
     ap (λ (x : Evening). x.log.run.clock) (pick_true _ _ t)
     ∙ run-reaches p (drawn g e.log.hatches e.log.litres) clock (world_of e)
     (rate_clock g.lie.rules e.log clock n litres (entered_is p g e (Rate clock n litres) y).line).1 (sym (pick_true _ _ t) ∙ z)

@@ -9,7 +9,7 @@ use native.Mathlib.Omega.{arith}
 use lib.Dec.{eqb, leb}
 use lib.ListN.{length, take, drop, take-append-drop}
 use lib.Seq.{length-take-le, take_at}
-use borrow.Author.Tests.{eq_eqb, ne_eqb}
+use borrow.Author.Tests.{eq-eqb, ne_eqb}
 use Rattle.reckon.specs.Tests.{pick, every, refusal}
 use Rattle.reckon.specs.Lists.{placed}
 use Rattle.reckon.proofs.TestLaws.{pick_true, pick_false, pick_both, not_both, every_fails, and_true}
@@ -397,7 +397,7 @@ module _ (d : Desk) (r : Stores) (on : OnDesk d r) where
 
     pub line_is : is_sheet o ≡ false → command_left d r text o ≡ told_on d r T
     unfolding command_left other_left
-    line_is q = pick_false _ _ q ∙ pick_true _ _ (eq_eqb _ _ on.ready)
+    line_is q = pick_false _ _ q ∙ pick_true _ _ (eq-eqb _ _ on.ready)
 
     pub each_line : lays_down o ≡ false → Does (deed_of o) d r (command_left d r text o)
     each_line l =
@@ -420,7 +420,7 @@ module _ (d : Desk) (r : Stores) (on : OnDesk d r) where
 
   pub next_is : (d.series.on ≡ true) → step_left d r ≡ told_on d r (next_told P G E d.account d.series)
   unfolding step_left
-  next_is q = pick_true _ _ q ∙ pick_true _ _ (eq_eqb _ _ on.ready)
+  next_is q = pick_true _ _ q ∙ pick_true _ _ (eq-eqb _ _ on.ready)
 
   untouched_does : (t : List ℕ) → Does [] d r (untouched d r t)
   unfolding desk_after ready_number

@@ -8,7 +8,7 @@ use native.Mathlib.Decide.{dec_lt, ℕ_discrete}
 use native.Mathlib.Omega.{arith}
 use lib.Dec.{eqb, leb}
 use lib.ListN.{length, drop}
-use borrow.Author.Tests.{eq_eqb, ne_eqb, lt-ltb, le-ltb}
+use borrow.Author.Tests.{eq-eqb, ne_eqb, lt-ltb, le-ltb}
 use Rattle.reckon.specs.Tests.{pick, refusal}
 use Rattle.reckon.proofs.TestLaws.{pick_true, pick_false, not_both}
 use Rattle.ledger.specs.Runs.{Plan}
@@ -191,5 +191,5 @@ module _ (p : Plan) (g : Given) (s : List ℕ) where
       ap (λ (k : ℕ). lines_text p g s k at line e) (let k : length s - at ≡ suc (length s - at - 1) = omega arith in k)
       ∙ (lines_here (length s - at - 1) at line e h
       ∙ ap (λ (t : List ℕ). line_shown p g s at line e ++ t)
-      (pick_true _ _ (eq_eqb _ _ z)
+      (pick_true _ _ (eq-eqb _ _ z)
       ∙ lines_enough (length s - at - 1) (length s - (log_line s at).next) (log_line s at).next (line + 1) (after_entry p g e (log_line s at).entry) (omega arith) (omega arith)))

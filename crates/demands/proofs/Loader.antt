@@ -9,7 +9,7 @@ use native.Mathlib.Decide.{dec_lt}
 use native.Mathlib.Omega.{arith}
 use lib.Dec.{eqb}
 use lib.ListN.{length, get_or, drop, get_or-eq_default}
-use borrow.Author.Tests.{eq_eqb, ne_eqb, eqb-true, le-leb, lt-leb, leb-true}
+use borrow.Author.Tests.{eq-eqb, ne_eqb, eqb-true, le-leb, lt-leb, leb-true}
 use Rattle.reckon.specs.Tests.{pick, Row, ◌unless◌, refusal}
 use Rattle.reckon.specs.Lists.{filled}
 use Rattle.reckon.proofs.TestLaws.{not_both, pick_true, pick_false, failing_before}
@@ -140,7 +140,7 @@ module _ (s : List ℕ) where
         too_long = λ l. pick_false _ _ (lt-leb _ _ l);
         not-read = λ l number line e. pick_true _ _ (le-leb _ _ l) ∙ ap (sheet_text s) e;
         run-refused = λ l h e d. pick_true _ _ (le-leb _ _ l) ∙ (ap (sheet_text s) e ∙ pick_false _ _ (ne_eqb _ _ d));
-        run_made = λ l h e z. pick_true _ _ (le-leb _ _ l) ∙ (ap (sheet_text s) e ∙ pick_true _ _ (eq_eqb _ _ z));
+        run_made = λ l h e z. pick_true _ _ (le-leb _ _ l) ∙ (ap (sheet_text s) e ∙ pick_true _ _ (eq-eqb _ _ z));
       }
 
 pub loader_refuses : LoaderRefuses
@@ -208,7 +208,7 @@ module _ (s : List ℕ) (before after : Rooms) (h : Heading) (R : Reads s before
   marks_are_letters =
       record {
         spelled = λ i l. rw shape_is (spelled i (rw (← shape_is) l));
-        x_is_closed = λ i l e. eq_eqb _ _ (only_x (get_or after.cells.marks i 0) e);
+        x_is_closed = λ i l e. eq-eqb _ _ (only_x (get_or after.cells.marks i 0) e);
         closed_is_x = λ i l e. ap letter_of (eqb-true (get_or after.cells.marks i 0) 0 e);
       }
     where

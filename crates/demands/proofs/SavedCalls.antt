@@ -8,7 +8,7 @@ use Prim.Native.Nat.{ℕ, ◌≤◌, ◌<◌}
 use native.Mathlib.Omega.{arith}
 use lib.ListN.{length, get_or}
 use lib.Seq.{ext_get_or, length-take-le}
-use borrow.Author.Tests.{eq_eqb, le-leb}
+use borrow.Author.Tests.{eq-eqb, le-leb}
 use Rattle.reckon.proofs.TestLaws.{pick_true, each_every}
 use Rattle.reckon.proofs.ListLaws.{length-filled}
 use Rattle.grid.specs.Squares.{squares}
@@ -105,7 +105,7 @@ module _ (d : Desk) (r : Stores) (on : OnDesk d r) where
     unfolding lay_told
     lay_left bytes whole few z =
         lay_is d r on text bytes
-        ∙ ap (told_on d r) (pick_true _ _ (each_every _ (eq_eqb _ _ whole, (le-leb _ _ few, tt))) ∙ pick_true _ _ (eq_eqb _ _ z))
+        ∙ ap (told_on d r) (pick_true _ _ (each_every _ (eq-eqb _ _ whole, (le-leb _ _ few, tt))) ∙ pick_true _ _ (eq-eqb _ _ z))
 
     state_laid : state_on (told_on d r lay_tells).desk (told_on d r lay_tells).rooms ≡ lay_tells.evening
     state_laid = put_taken d.heading r lay_tells.evening lay_sized
@@ -346,7 +346,7 @@ from_sheet : (d : Desk) (r : Stores) → RoomsWhole r → (text : List ℕ) (byt
 unfolding command_left is_sheet wanted_by
 from_sheet d r whole text bytes h long read =
     subst (λ (k : Left). ReadAgain k.desk k.rooms)
-    (sym (pick_true _ _ refl ∙ (pick_true _ _ (eq_eqb _ _ long) ∙ ap (λ (x : reading.Sheet). sheet_left text x d r) own)))
+    (sym (pick_true _ _ refl ∙ (pick_true _ _ (eq-eqb _ _ long) ∙ ap (λ (x : reading.Sheet). sheet_left text x d r) own)))
     (λ calls t d' r' same.
     let b = read_begins d r whole text own in
     again _ _ (read_on d r whole text own) b.0 b.1 (read_savable d r whole text own) calls t d' r' same)

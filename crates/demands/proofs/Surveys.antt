@@ -5,7 +5,7 @@ use mathlib.Core.Bool.{true, false}
 use mathlib.Core.List.{List}
 use Prim.Native.Nat.{ℕ, zero, suc}
 use native.Mathlib.Omega.{arith}
-use borrow.Author.Tests.{eq_eqb, ne_eqb}
+use borrow.Author.Tests.{eq-eqb, ne_eqb}
 use Rattle.reckon.specs.Tests.{pick, refusal}
 use Rattle.reckon.proofs.TestLaws.{pick_true, pick_false, refusal_here, refusal_later}
 use Rattle.checks.specs.Refusals.{check_refusals}
@@ -42,8 +42,8 @@ module _ (t : Set) where
   unfolding set_number checks_in
   number_is short good =
       by_test (all_agree t)
-      (λ e. pick_true _ _ e ∙ sym (refusal_later 12 _ short ∙ (refusal_later 12 _ (eq_eqb _ 0 good) ∙ refusal_later 14 _ e)))
-      (λ e. pick_false _ _ e ∙ sym (refusal_later 12 _ short ∙ (refusal_later 12 _ (eq_eqb _ 0 good) ∙ refusal_here 14 _ e)))
+      (λ e. pick_true _ _ e ∙ sym (refusal_later 12 _ short ∙ (refusal_later 12 _ (eq-eqb _ 0 good) ∙ refusal_later 14 _ e)))
+      (λ e. pick_false _ _ e ∙ sym (refusal_later 12 _ short ∙ (refusal_later 12 _ (eq-eqb _ 0 good) ∙ refusal_here 14 _ e)))
 
   module _ (short : all_short t ≡ true) where
     moved_is : from_survey t ≡ answer (set_bad t) (set_number t)

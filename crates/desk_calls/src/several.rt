@@ -15,7 +15,7 @@ use desks::state::{
 use reckon::tables::{INFLOW_ROOM, RAIN_ROOM};
 
 // Two desks.
-#[derive(Drop)]
+#[derive(Clone, Copy)]
 pub struct Desks {
     pub one: Desk,
     pub other: Desk,

@@ -7,7 +7,7 @@ use Prim.Native.Nat.{ℕ, ◌≤◌}
 use native.Mathlib.Omega.{arith}
 use lib.Dec.{eqb}
 use lib.ListN.{length, length-append}
-use borrow.Author.Tests.{eq_eqb, ne_eqb, leb-true}
+use borrow.Author.Tests.{eq-eqb, ne_eqb, leb-true}
 use Rattle.reckon.specs.Tests.{pick, every, refusal}
 use Rattle.reckon.proofs.TestLaws.{not_both, and_true, pick_true, pick_false, every_each}
 use Rattle.ledger.specs.Runs.{Plan}
@@ -110,7 +110,7 @@ module _
       Answers (back_told p e a count) d r (evening depths lasts records began r.log) old new
   unfolding back_told
   back_shown z x =
-      answers_as (ap (λ (c : Came). shown p c) h ∙ sym (pick_true _ _ (eq_eqb _ _ (number_back ∙ z))))
+      answers_as (ap (λ (c : Came). shown p c) h ∙ sym (pick_true _ _ (eq-eqb _ _ (number_back ∙ z))))
       (answers_of depths lasts records began x)
 
 -- ---- `step`
@@ -133,7 +133,7 @@ module _ (d : Desk) (count end every' : ℕ) (p : Plan) (depths lasts records be
       Answers (step_told p before d.account count end every') d r (evening depths lasts records began r.log) old old
   unfolding step_told
   step-begun e x =
-      answers_as (sym (pick_true _ _ (eq_eqb _ _ e)))
+      answers_as (sym (pick_true _ _ (eq-eqb _ _ e)))
       (answers_of depths lasts records began
       (nothing_told d d.log d.account (record { on = true; left = count; end = end; every = eqb every' 1 }) x))
 
@@ -191,5 +191,5 @@ module _ (p : Plan) (g : Given) (e : Evening) (a : Account) (s : Series) where
     unfolding next_told
     next_made z x =
         answers_as
-        (ap (λ (y : Came). made_told p s y) h ∙ (sym (pick_true _ _ (eq_eqb _ _ (number_next ∙ z))) ∙ sym (pick_true _ _ l)))
+        (ap (λ (y : Came). made_told p s y) h ∙ (sym (pick_true _ _ (eq-eqb _ _ (number_next ∙ z))) ∙ sym (pick_true _ _ l)))
         x

@@ -6,7 +6,7 @@ use mathlib.Core.List.{List, []}
 use Prim.Native.Nat.{ℕ, ◌≤◌}
 use native.Mathlib.Omega.{arith}
 use lib.ListN.{length}
-use borrow.Author.Tests.{eq_eqb, ne_eqb}
+use borrow.Author.Tests.{eq-eqb, ne_eqb}
 use Rattle.reckon.specs.Tests.{pick}
 use Rattle.reckon.proofs.TestLaws.{pick_true, pick_false}
 use Rattle.ledger.specs.Runs.{Plan}
@@ -39,7 +39,7 @@ ending-refused number line {at} {old} {new} {r} d h w =
 pub ending_done : (number line : ℕ) {at : ℕ} {old new : List ℕ} {r : ℕ} → number ≡ 0 → Wrote done_text at old new r → EndingPut number line at old new r
 unfolding ending_text
 ending_done number line {at} {old} {new} {r} z w =
-    let e : ending_text number line ≡ done_text = pick_true _ _ (eq_eqb _ _ z) in
+    let e : ending_text number line ≡ done_text = pick_true _ _ (eq-eqb _ _ z) in
     record {
       wrote = subst (λ (t : List ℕ). Wrote t at old new r) (sym e) w;
       short = omega (arith, ap length e);

@@ -7,7 +7,7 @@ use Prim.Native.Nat.{ℕ}
 use native.Mathlib.Omega.{arith}
 use lib.Dec.{eqb, leb}
 use lib.ListN.{length}
-use borrow.Author.Tests.{eq_eqb, ne_eqb}
+use borrow.Author.Tests.{eq-eqb, ne_eqb}
 use Rattle.reckon.specs.Tests.{pick}
 use Rattle.reckon.proofs.TestLaws.{pick_true, pick_false}
 use Rattle.grid.specs.Squares.{ShapeInRange}
@@ -57,7 +57,7 @@ module _ (d : Desk) (r : Stores) (text : List ℕ) (o : Order) {n : ℕ} (h : n 
       Leaves (told_on d r (order_told (plan_on d r) (evening_on d.heading r d.log) d.account d.heading.rules (inflow_on d.heading r) text o)) a after old new →
       Leaves (other_left d r text o) a after old new
   unfolding other_left
-  other_told z w = as_left (pick_true _ _ (eq_eqb _ _ (sym h ∙ z))) w
+  other_told z w = as_left (pick_true _ _ (eq-eqb _ _ (sym h ∙ z))) w
 
 -- ---- the next step of a line `step`
 
@@ -81,7 +81,7 @@ module _ (d : Desk) (r : Stores) where
         Leaves (told_on d r (next_told (plan_on d r) (given_held d.heading r) (evening_on d.heading r d.log) d.account d.series)) a after old new →
         Leaves (step_left d r) a after old new
     unfolding step_left
-    step-told z w = as_left (pick_true _ _ on ∙ pick_true _ _ (eq_eqb _ _ (sym h ∙ z))) w
+    step-told z w = as_left (pick_true _ _ on ∙ pick_true _ _ (eq-eqb _ _ (sym h ∙ z))) w
 
 -- ---- `sheet`
 
@@ -95,7 +95,7 @@ module _ (d : Desk) (r : Stores) (text : List ℕ) (bytes : ℕ) where
 
   module _ (e : length text ≡ bytes) {s : Sheet} {held : Rooms} (w : ReadsWithin desk_text text r.sheet s held) where
     taken_is : sheet_taken ≡ sheet_left text s d r
-    taken_is = pick_true _ _ (eq_eqb _ _ e) ∙ ap (λ (x : Sheet). sheet_left text x d r) (sym w.answer)
+    taken_is = pick_true _ _ (eq-eqb _ _ e) ∙ ap (λ (x : Sheet). sheet_left text x d r) (sym w.answer)
 
     pub sheet_refused : {a : Desk} {old new : List ℕ} {number line : ℕ} → s ≡ Refused number line → DeskTold d d.log d.account no_series (ending_text number line) old new a →
         Leaves sheet_taken a (stores held r.lasts r.records r.began) old new

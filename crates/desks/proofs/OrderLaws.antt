@@ -5,7 +5,7 @@ use mathlib.Core.Bool.{true, false}
 use mathlib.Core.List.{List}
 use Prim.Native.Nat.{ℕ}
 use lib.ListN.{length}
-use borrow.Author.Tests.{eq_eqb, ne_eqb}
+use borrow.Author.Tests.{eq-eqb, ne_eqb}
 use Rattle.reckon.specs.Tests.{pick}
 use Rattle.reckon.proofs.TestLaws.{not_both, pick_true, pick_false}
 use Rattle.text.specs.Reading.{Reading, as_fields, padded, read_line}
@@ -23,7 +23,7 @@ module _ (s word : List ℕ) (count : ℕ) {line : Fields} (e : line ≡ as_fiel
   whole_read n = go (read_line s 0 word count) e
     where
       go : (r : Reading) → line ≡ as_fields 0 r → line ≡ as_fields 0 (to_the_end (length s) r)
-      go (read vs q) x = x ∙ ap (as_fields 0) (sym (pick_true _ _ (eq_eqb q (length s) (sym (ap (λ (f : Fields). f.next) x) ∙ n))))
+      go (read vs q) x = x ∙ ap (as_fields 0) (sym (pick_true _ _ (eq-eqb q (length s) (sym (ap (λ (f : Fields). f.next) x) ∙ n))))
       go unread x = x
 
   -- or it does not, and nothing is read

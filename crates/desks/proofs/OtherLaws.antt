@@ -9,7 +9,7 @@ use native.Mathlib.Omega.{arith}
 use lib.Dec.{eqb, leb}
 use lib.ListN.{length, take, length-append}
 use lib.Seq.{length-take-le}
-use borrow.Author.Tests.{eq_eqb, ne_eqb, le-leb, lt-leb}
+use borrow.Author.Tests.{eq-eqb, ne_eqb, le-leb, lt-leb}
 use Rattle.reckon.specs.Tests.{every}
 use Rattle.reckon.proofs.TestLaws.{pick_true, pick_false, every_fails, each_every, refusal_later}
 use Rattle.grid.specs.Squares.{ShapeInRange, squares}
@@ -178,7 +178,7 @@ module _ (p : Plan) (depths lasts records began inflow text : List ℕ) (bytes :
   module _ (count : length text ≡ bytes) (fits : length text ≤ desk_text) {slots : ℕ} (k : slots ≡ kept_slots p.shape)
       {laid : Laid} {after behind : List ℕ} (l : Lays p inflow slots text (water depths lasts) laid (water after behind)) where
     fit : every tests ≡ true
-    fit = each_every tests (eq_eqb _ _ count, (le-leb _ _ fits, tt))
+    fit = each_every tests (eq-eqb _ _ count, (le-leb _ _ fits, tt))
 
     laid_is : laid ≡ stand_of p inflow (kept_slots p.shape) text
     laid_is = l.answer ∙ ap (λ (j : ℕ). stand_of p inflow j text) k
@@ -215,7 +215,7 @@ module _ (p : Plan) (depths lasts records began inflow text : List ℕ) (bytes :
         sym (l.rooms_are ∙ ap (λ (j : ℕ). water_after p text j (water depths lasts)) z) in
         told_as
         (pick_true _ _ fit
-        ∙ (pick_true _ _ (eq_eqb _ _ (sym number_is ∙ z))
+        ∙ (pick_true _ _ (eq-eqb _ _ (sym number_is ∙ z))
         ∙ ap₂
         (λ (v : Laid) (w : Water).
         shown p (came 0 (evening w.depths w.lasts records began v.saved.log) (account_opened v.saved.start v.saved.given)))
@@ -243,7 +243,7 @@ room_part {p = p} s l h =
 
 done_is : done_text ≡ ending_text 0 0
 unfolding ending_text
-done_is = sym (pick_true done_text (refused_text 0 0) (eq_eqb 0 0 refl))
+done_is = sym (pick_true done_text (refused_text 0 0) (eq-eqb 0 0 refl))
 
 module _ (p : Plan) (d : Desk) (depths lasts records began : List ℕ) where
   abbrev seeing : World
@@ -262,7 +262,7 @@ module _ (p : Plan) (d : Desk) (depths lasts records began : List ℕ) where
         s.number_is
         ∙ refusal_later 1 _
         (each_every _
-        (eq_eqb _ _ (kinds_long ∙ sym marks_long), (eq_eqb _ _ (east_long ∙ sym marks_long), (eq_eqb _ _ (north_long ∙ sym marks_long), tt))))
+        (eq-eqb _ _ (kinds_long ∙ sym marks_long), (eq-eqb _ _ (east_long ∙ sym marks_long), (eq-eqb _ _ (north_long ∙ sym marks_long), tt))))
 
     pub arrows_refused :
         {r : Desk} {old new : List ℕ} → (number ≡ 0 → ⊥) → DeskTold d d.log d.account no_series (ending_text number 0) old new r →
@@ -283,9 +283,9 @@ module _ (p : Plan) (d : Desk) (depths lasts records began : List ℕ) where
     unfolding arrows_told
     arrows_shown z x =
         let laid : after ≡ laid_out (squares p.shape) (seen_square p side seeing) =
-        s.rooms_are ∙ pick_true _ _ (eq_eqb _ _ (sym s.number_is ∙ z)) in
+        s.rooms_are ∙ pick_true _ _ (eq-eqb _ _ (sym s.number_is ∙ z)) in
         told_as
-        (pick_true _ _ (eq_eqb _ _ (sym number_seen ∙ z))
+        (pick_true _ _ (eq-eqb _ _ (sym number_seen ∙ z))
         ∙ ap₂
         (λ (v : Sights) (t : List ℕ). told (evening depths lasts records began d.log) d.account no_series (arrows_text p.shape v ++ t))
         (sym laid) done_is)

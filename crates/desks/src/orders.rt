@@ -9,7 +9,7 @@ use text::reading::{Fields, line_of};
 // What a line asks for: a sheet of so many bytes; a hatch named or steps taken back, as in a hatch log; a hatch's litres per second; a count of
 // steps, an end and whether each is shown; what stands now; all arrows; the most steps to an end; the state to be saved; a saved state of so many
 // bytes; or nothing that can be read.
-#[derive(Drop)]
+#[derive(Clone, Copy)]
 pub enum Order {
     Sheet(u32),
     Entered(Entry),

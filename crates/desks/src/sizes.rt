@@ -11,7 +11,7 @@ use reckon::ranges::MOST_TABLE_ROWS;
 use reckon::tables::{INFLOW_WIDTH, RAIN_WIDTH};
 use sheet::reading::Heading;
 
-#[derive(Drop)]
+#[derive(Clone, Copy)]
 pub(crate) struct Sizes {
     pub(crate) squares: usize,
     pub(crate) rain: usize,

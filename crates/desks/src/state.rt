@@ -28,7 +28,7 @@ pub const DESK_OUT: usize = 262_144;
 
 // The steps of a line `step` that are still to be made: whether one may be, how many at most, while the clock is below an end, and whether each is
 // shown or the last alone.
-#[derive(Drop)]
+#[derive(Clone, Copy)]
 pub struct Series {
     pub on: bool,
     pub left: u32,
@@ -38,7 +38,7 @@ pub struct Series {
 
 // Whether a sheet lies on the desk, and what it says; the log and the account of the trial; the steps still to be made; and how many bytes of the
 // answer's room are to be written.
-#[derive(Drop)]
+#[derive(Clone, Copy)]
 pub struct Desk {
     pub ready: bool,
     pub heading: Heading,
@@ -49,7 +49,7 @@ pub struct Desk {
 }
 
 // A desk while the steps of a line are made: all of it but the account's ring, which is lent beside it, so that no step copies it.
-#[derive(Drop)]
+#[derive(Clone, Copy)]
 pub struct Going {
     pub ready: bool,
     pub heading: Heading,

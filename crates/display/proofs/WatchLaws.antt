@@ -9,7 +9,7 @@ use native.Mathlib.Omega.{arith}
 use lib.Dec.{T}
 use lib.ListN.{get_or, drop}
 use lib.Seq.{get_or-take}
-use borrow.Author.Tests.{eq_eqb, ne_eqb, leb-true, ltb-true}
+use borrow.Author.Tests.{eq-eqb, ne_eqb, leb-true, ltb-true}
 use Rattle.reckon.specs.Tests.{refusal, ◌unless◌}
 use Rattle.reckon.specs.Inner.Rows.{numbered}
 use Rattle.reckon.proofs.TestLaws.{pick_true, pick_false, every_each, all_at, refusal_here, refusal_later, refusal-first, refusal-second}
@@ -198,7 +198,7 @@ module _ (p : Plan) (g : Given) (end : ℕ) (w : World) (before : Boards) where
       number ≡ 0 →
       boards_after p g end w before.count (listed before) ≡ map (λ (b : Board). shown p g w b (run_to p g end w).steps) (listed before)
   unfolding boards_after
-  boards_then z = pick_true _ _ (eq_eqb _ _ z)
+  boards_then z = pick_true _ _ (eq-eqb _ _ z)
 
   pub boards_run :
       {n : ℕ} {a : Shown} {depths lasts records : List ℕ} → n ≡ checked → n ≡ 0 → all_fine ≡ true →

@@ -7,7 +7,7 @@ use flood::run::Ran;
 // A board's square and mark, which it keeps; the highest depth seen there, whether the mark was reached, and the clock when it first was
 // (0 where it was not). Laid out as in C and with no enum within, so that other languages can lend a list of them.
 #[repr(C)]
-#[derive(Drop)]
+#[derive(Clone, Copy)]
 pub struct Board {
     pub row: usize,
     pub column: usize,
@@ -20,14 +20,14 @@ pub struct Board {
 pub const MOST_BOARDS: usize = 16;
 
 // How many boards there are, and the first sixteen of them; the rest of the list is not looked at.
-#[derive(Drop)]
+#[derive(Clone, Copy)]
 pub struct Boards {
     pub count: usize,
     pub list: [Board; MOST_BOARDS],
 }
 
 // What a run came to, and the boards after it.
-#[derive(Drop)]
+#[derive(Clone, Copy)]
 pub struct Shown {
     pub ran: Ran,
     pub boards: Boards,

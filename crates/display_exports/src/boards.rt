@@ -18,7 +18,7 @@ use flood::run::Ran;
 use grid::squares::Shape;
 
 // The number of a run with boards by value, and the boards after it.
-#[derive(Drop)]
+#[derive(Clone, Copy)]
 struct Boarded {
     number: u32,
     boards: Boards,

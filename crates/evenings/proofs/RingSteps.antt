@@ -5,7 +5,7 @@ use mathlib.Core.List.{List}
 use Prim.Native.Nat.{ℕ, zero, suc, ◌-◌, ◌≤◌, ◌<◌}
 use native.Mathlib.Decide.{dec_lt, ℕ_discrete}
 use native.Mathlib.Omega.{arith}
-use borrow.Author.Tests.{eq_eqb}
+use borrow.Author.Tests.{eq-eqb}
 use Rattle.reckon.specs.Tests.{refusal}
 use Rattle.reckon.proofs.TestLaws.{pick_true}
 use Rattle.trials.specs.Ring.{slot_after, slot_before, kept_after}
@@ -147,4 +147,4 @@ restored p w rec = record { newest_is = refl; kept_is = refl; slots_are = refl }
 
 pub back_returned : (p : Plan) (w : World) → back_number p w ≡ 0 → Returned p w (taken_back p w)
 unfolding taken_back
-back_returned p w z = subst (Returned p w) (sym (pick_true _ _ (eq_eqb _ _ z))) (restored p w (newest_record p w))
+back_returned p w z = subst (Returned p w) (sym (pick_true _ _ (eq-eqb _ _ z))) (restored p w (newest_record p w))

@@ -6,7 +6,7 @@ use mathlib.Core.List.{List, []}
 use Prim.Native.Nat.{ℕ, zero, suc, ◌≤◌, ◌<◌, ◌^◌}
 use native.Mathlib.Omega.{arith}
 use lib.ListN.{length, get_or}
-use borrow.Author.Tests.{eq_eqb, ne_eqb}
+use borrow.Author.Tests.{eq-eqb, ne_eqb}
 use Rattle.reckon.specs.Tests.{pick, refusal}
 use Rattle.reckon.proofs.TestLaws.{pick_true, pick_false}
 use Rattle.grid.specs.Squares.{squares}
@@ -46,7 +46,7 @@ module _ (p : Plan) (entry : Entry) (line : ℕ) (e : Evening) {old new : List �
   pub shown-world : {number : ℕ} → number ≡ 0 → is_shown entry ≡ true → Prints (stands_text p e) old new r → Prints (entry_text p number entry line e) old new r
   unfolding entry_text
   shown-world z h w =
-      subst (λ (t : List ℕ). Prints t old new r) (sym (pick_true _ _ (eq_eqb _ _ z) ∙ pick_true _ _ h)) w
+      subst (λ (t : List ℕ). Prints t old new r) (sym (pick_true _ _ (eq-eqb _ _ z) ∙ pick_true _ _ h)) w
 
 -- nothing is printed
 pub nothing_printed : (old : List ℕ) {r : ℕ} → r ≡ 0 → Prints [] old old r
@@ -55,7 +55,7 @@ nothing_printed old e = rw e (record { wrote = record { next = omega arith; room
 pub shown_nothing : (p : Plan) (entry : Entry) (line : ℕ) (e : Evening) {old : List ℕ} {number : ℕ} → number ≡ 0 → is_shown entry ≡ false → Prints (entry_text p number entry line e) old old 0
 unfolding entry_text
 shown_nothing p entry line e {old} z h =
-    subst (λ (t : List ℕ). Prints t old old 0) (sym (pick_true _ _ (eq_eqb _ _ z) ∙ pick_false _ _ h))
+    subst (λ (t : List ℕ). Prints t old old 0) (sym (pick_true _ _ (eq-eqb _ _ z) ∙ pick_false _ _ h))
     (nothing_printed old refl)
 
 -- a line that is not refused was lent enough

@@ -6,7 +6,7 @@ use mathlib.Core.List.{List}
 use Prim.Native.Nat.{ℕ, zero, suc, ◌+◌, ◌-◌, ◌≤◌, ◌<◌}
 use native.Mathlib.Omega.{arith}
 use lib.Dec.{eqb, ltb}
-use borrow.Author.Tests.{eq_eqb, ne_eqb}
+use borrow.Author.Tests.{eq-eqb, ne_eqb}
 use Rattle.reckon.specs.Tests.{pick, refusal}
 use Rattle.reckon.proofs.TestLaws.{pick_true, pick_false}
 use Rattle.trials.proofs.RingLaws.{fine_ring}
@@ -110,7 +110,7 @@ module _ (p : Plan) (g : Given) (e : Evening) where
       TakesEntry p g entry e n after
   unfolding entry_number after_entry
   take_made entry z a b =
-      let y = eq_eqb _ _ z in
+      let y = eq-eqb _ _ z in
       record { number_is = a ∙ sym (pick_true _ _ y); evening_is = b ∙ sym (pick_true _ _ y) }
 
 -- by the kind of line

@@ -25,7 +25,7 @@ pub const RATES_ROOM: usize = MOST_KEPT * MOST_HATCHES;
 
 // Where a log has come to: whether a line is left, where it starts and its number; how many bytes are to be printed; what the sheet says; and the
 // log's own value.
-#[derive(Drop)]
+#[derive(Clone, Copy)]
 pub struct Night {
     pub more: bool,
     pub at: usize,
@@ -36,7 +36,7 @@ pub struct Night {
 }
 
 // How much of each room is lent to a line.
-#[derive(Drop)]
+#[derive(Clone, Copy)]
 struct Sizes {
     squares: usize,
     rain: usize,

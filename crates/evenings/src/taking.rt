@@ -26,7 +26,7 @@ use reckon::tables::INFLOW_ROOM;
 use rule::rules::Rules;
 
 // The number that a line is refused with, 0 for none, and the log after it.
-#[derive(Drop)]
+#[derive(Clone, Copy)]
 pub struct EntryTaken {
     pub number: u32,
     pub log: Log,

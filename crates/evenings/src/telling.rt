@@ -17,7 +17,7 @@ use rule::rules::Rules;
 
 // What came of a line: the number that it is refused with, 0 for none, where the next line starts, how many bytes are to be printed, and the
 // log after it.
-#[derive(Drop)]
+#[derive(Clone, Copy)]
 pub struct LineTaken {
     pub number: u32,
     pub next: usize,

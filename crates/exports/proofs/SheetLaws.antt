@@ -7,7 +7,7 @@ use Prim.Native.Nat.{ℕ, ◌≤◌, ◌<◌}
 use native.Mathlib.Omega.{arith}
 use lib.ListN.{length, take, drop, replicate, length-replicate}
 use lib.Seq.{take-append_seam}
-use borrow.Author.Tests.{eq_eqb, le-leb, lt-leb}
+use borrow.Author.Tests.{eq-eqb, le-leb, lt-leb}
 use Rattle.reckon.specs.Lists.{placed}
 use Rattle.reckon.proofs.TestLaws.{pick_true, pick_false, each_every}
 use Rattle.text.specs.Writing.{Wrote}
@@ -51,7 +51,7 @@ module _ (s : List ℕ) (before : Rooms) (old_heading old_line : List ℕ) where
       Reads s before a after → SheetGives a old_heading number heading line → ExportsRead s before old_heading old_line number after heading line
   sheet_told h l f t =
       let fits : sheet_sized s before old_heading old_line ≡ true =
-      each_every _ (eq_eqb (length old_heading) heading_size h, (eq_eqb (length old_line) line_size l, tt)) in
+      each_every _ (eq-eqb (length old_heading) heading_size h, (eq-eqb (length old_line) line_size l, tt)) in
       record {
         number_is = t.0 ∙ (ap sheet_number f.answer ∙ sym (sized_number fits));
         rooms_are = f.rooms_are ∙ (ap (λ (z : Sheet). rooms_after s z before) f.answer ∙ sym (pick_true _ _ fits));

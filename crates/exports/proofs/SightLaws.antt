@@ -6,7 +6,7 @@ use mathlib.Core.List.{List, [], ◌∷◌}
 use Prim.Native.Nat.{ℕ, zero, suc}
 use lib.ListN.{length}
 use lib.Ieee.{Float}
-use borrow.Author.Tests.{ne_eqb, eq_eqb}
+use borrow.Author.Tests.{ne_eqb, eq-eqb}
 use Rattle.reckon.specs.Tests.{pick}
 use Rattle.reckon.proofs.TestLaws.{pick_true, pick_false}
 use Rattle.ledger.specs.Runs.{Plan, World}
@@ -106,7 +106,7 @@ module _ (p : Plan) (depths : List ℕ) (least : ℕ) (old_rows old_count : List
       let f = subst (λ (x : Plan). WetRowed x depths least old_rows a rows) same-plan made in
       let n = wet_number p depths least (length old_rows) in
       let k = ones_over (wet_masks p.shape p.marks depths least) in
-      let gives : wet_gives p depths least old_rows old_count ≡ n = sized_number (eq_eqb (length old_count) count_size h) in
+      let gives : wet_gives p depths least old_rows old_count ≡ n = sized_number (eq-eqb (length old_count) count_size h) in
       record {
         number_is = t.0 ∙ (ap wet_number_of f.answer ∙ (number_counted n k ∙ sym gives));
         rows_are = f.rows_are ∙ ap (λ (m : ℕ). unless_refused m (wet_masks p.shape p.marks depths least) old_rows) (sym gives);

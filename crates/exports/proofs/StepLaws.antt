@@ -6,7 +6,7 @@ use mathlib.Core.List.{List, [], ◌∷◌}
 use Prim.Native.Nat.{ℕ}
 use lib.Dec.{eqb}
 use lib.ListN.{length}
-use borrow.Author.Tests.{ne_eqb, eq_eqb}
+use borrow.Author.Tests.{ne_eqb, eq-eqb}
 use Rattle.reckon.specs.Lists.{filled}
 use Rattle.reckon.proofs.TestLaws.{pick_true, pick_false}
 use Rattle.grid.specs.Squares.{squares}
@@ -127,7 +127,7 @@ module _ (p : Plan) (w : World) (old : List ℕ) where
         ExportsBack p w old number depths lasts run
     back-told h same-plan same-world made t =
         let f = subst₂ (λ (x : Plan) (y : World). TakesBack x y a depths lasts) same-plan same-world made in
-        let gives : back_call_number p w old ≡ back_number p w = sized_number (eq_eqb (length old) run_size h) in
+        let gives : back_call_number p w old ≡ back_number p w = sized_number (eq-eqb (length old) run_size h) in
         let stays : (x : World → List ℕ) → x (taken_back p w) ≡ unless_refused (back_call_number p w old) (x (taken_back p w)) (x w) =
         λ x. sym (back_stays x) ∙ ap (λ (n : ℕ). unless_refused n (x (taken_back p w)) (x w)) (sym gives) in
         record {

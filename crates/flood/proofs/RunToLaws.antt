@@ -8,7 +8,7 @@ use native.Mathlib.Numerals.{add-one}
 use native.Mathlib.Decide.{dec_lt}
 use native.Mathlib.Omega.{arith}
 use lib.ListN.{length}
-use borrow.Author.Tests.{eq_eqb, ne_eqb, lt-ltb, le-ltb}
+use borrow.Author.Tests.{eq-eqb, ne_eqb, lt-ltb, le-ltb}
 use Rattle.reckon.specs.Tests.{refusal}
 use Rattle.reckon.proofs.TestLaws.{pick_true, pick_false, refusal_both}
 use Rattle.trials.specs.Ring.{slots_in, slot_after}
@@ -39,7 +39,7 @@ Valid p g w = refusal (step_checks p g (ring_of p w) (seen_of w)) ≡ 0
 module _ (p : Plan) (g : Given) (w : World) where
   pub made_is : step_number p g w ≡ 0 → stepped p g w ≡ world_after p (step_moves p g (seen_of w)) w
   unfolding stepped
-  made_is e = pick_true _ _ (eq_eqb _ _ e)
+  made_is e = pick_true _ _ (eq-eqb _ _ e)
 
   pub refused_is : (step_number p g w ≡ 0 → ⊥) → stepped p g w ≡ w
   unfolding stepped

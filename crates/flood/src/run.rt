@@ -18,7 +18,7 @@ use ledger::runs::Run;
 use rule::rules::Rules;
 
 // The refusal's number, 0 for none, the steps made, and the run that they leave.
-#[derive(Drop)]
+#[derive(Clone, Copy)]
 pub struct Ran {
     pub refused: u32,
     pub steps: u64,

@@ -32,7 +32,7 @@ use settling::settle::{Settled, settle, surely_settles};
 
 // What is decided before the squares are worked: the length that the run will hold, how long the step lasts, and whether it is sure that
 // nothing refuses it any more.
-#[derive(Drop)]
+#[derive(Clone, Copy)]
 pub(crate) struct Decided {
     pub length: u64,
     pub duration: u64,

@@ -12,7 +12,7 @@ use lib.Ieee.{Float, nan, inf, fin, binary64}
 use lib.Ieee.Bits.{to_bits-lt}
 use lib.Ieee.Compare.{differs_from_itself}
 use lib.ListN.{length, get_or, length-append}
-use borrow.Author.Tests.{eq_eqb, ne_eqb}
+use borrow.Author.Tests.{eq-eqb, ne_eqb}
 use Rattle.reckon.specs.Tests.{pick}
 use Rattle.reckon.proofs.TestLaws.{pick_true, pick_false, pick_both}
 use Rattle.grid.specs.Squares.{ShapeInRange, squares}
@@ -56,7 +56,7 @@ module _ (s : Shape) (seen : Sights) (i : ℕ) where
       arrow_text s seen i ≡ line_text arrow_word (i / s.columns ∷ i % s.columns ∷ east ∷ north ∷ [])
   unfolding arrow_text
   moving_text e p q =
-      pick_true _ _ (eq_eqb _ _ e)
+      pick_true _ _ (eq-eqb _ _ e)
       ∙ ap₂ (λ (x y : ℕ). line_text arrow_word (i / s.columns ∷ i % s.columns ∷ x ∷ y ∷ [])) (sym p) (sym q)
 
 -- ---- how long the arrows of a grid can get

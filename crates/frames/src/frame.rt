@@ -13,7 +13,7 @@ use text::writing::{put_byte, put_field, put_line, put_word};
 
 // What a frame says beside rates and depths: steps standing, clock, length held, outflow, total soaked, steps kept, room for as many, water on squares
 // not closed, water at the start, and what tables and hatches gave the standing steps.
-#[derive(Drop)]
+#[derive(Clone, Copy)]
 pub struct Figures {
     pub steps: u64,
     pub clock: u64,

@@ -11,7 +11,7 @@ use lib.Bits.{bit_or, or_step, or_shr}
 use lib.Dec.{eqb}
 use lib.ListN.{get_or}
 use lib.Pow.{field, mod-mod-pow, shl-shr, shr-shr}
-use borrow.Author.Tests.{eq_eqb, ne_eqb}
+use borrow.Author.Tests.{eq-eqb, ne_eqb}
 use Rattle.reckon.proofs.TestLaws.{not_both}
 use Rattle.grid.specs.declared.squares.Shape.{Shape}
 use Rattle.grid.specs.Squares.{north, east, south, west, sides, squares, square_at, beside, ShapeInRange, OnSquare}
@@ -34,7 +34,7 @@ or_clear a b c h = (
     together = or_shr a b c
 
     set_not : bit_or a b / 2 ^ c % 2 ≡ 1 → ⊥
-    set_not z = not_both {A = ⊥} (eq_eqb (bit_or a b / 2 ^ c % 2) 1 z) h
+    set_not z = not_both {A = ⊥} (eq-eqb (bit_or a b / 2 ^ c % 2) 1 z) h
 
 -- moved to the east, a bit stands in the next column
 east_bit : (x c : ℕ) → suc c < bits → bit_at (x * 2 ^ 1 % 2 ^ bits) (suc c) ≡ bit_at x c

@@ -7,7 +7,7 @@ use Prim.Native.Nat.{ℕ, ◌≤◌, ◌<◌}
 use native.Mathlib.Decide.{dec_lt}
 use native.Mathlib.Omega.{arith}
 use lib.ListN.{length, get_or-eq_default}
-use borrow.Author.Tests.{lt-ltb, le-ltb, eq_eqb}
+use borrow.Author.Tests.{lt-ltb, le-ltb, eq-eqb}
 use Rattle.reckon.specs.Tests.{pick}
 use Rattle.reckon.proofs.TestLaws.{not_both, pick_true, pick_false, each_every, every_fails}
 use Rattle.grid.specs.declared.squares.Shape.{Shape}
@@ -18,7 +18,7 @@ use Rattle.grid.specs.Marks.{closed, inflow_row, inflow_column, inflow_square_fi
 
 pub closed_past : (marks : List ℕ) (i : ℕ) → length marks ≤ i → closed marks i ≡ true
 unfolding closed
-closed_past marks i h = eq_eqb _ _ (get_or-eq_default marks 0 h)
+closed_past marks i h = eq-eqb _ _ (get_or-eq_default marks 0 h)
 
 -- a square that is not closed has a mark
 pub marked : (marks : List ℕ) (i : ℕ) → closed marks i ≡ false → i < length marks

@@ -3,11 +3,11 @@
 use mathlib.Core.Path.{◌≡◌, refl, sym, ap, ◌∙◌}
 use mathlib.Core.Bool.{true, false}
 use Prim.Native.Nat.{ℕ, zero, suc, ◌+◌, ◌-◌, ◌*◌, ◌/◌, ◌%◌, ◌≤◌, ◌<◌}
-use native.Mathlib.Nat.{mul-le-mul, mul-le-mul_right, suc-mul, zero-mod, mod-lt, mod_self, mod-eq_of_lt, mod-add-mod, mul-mod_left, div-add-mod', mul-add-mod_self_right, mul-add_div_right, div-eq_of_lt, add-zero, zero-mul}
+use native.Mathlib.Nat.{mul-le-mul, mul-le-mul_right, suc-mul, zero-mod, mod-lt, mod_self, mod-eq_of_lt, mod-add-mod, mul-mod_left, div-add-mod', mul-add-mod_self_right, mul-add-div_right, div-eq_of_lt, add-zero, zero-mul}
 use native.Mathlib.Decide.{dec_le, dec_lt, ℕ_discrete}
 use native.Mathlib.Omega.{arith}
 use lib.Dec.{ltb}
-use borrow.Author.Tests.{not-false, ltb-true, leb-true, le-leb, lt-leb, lt-ltb, le-ltb, eq_eqb, ne_eqb}
+use borrow.Author.Tests.{not-false, ltb-true, leb-true, le-leb, lt-leb, lt-ltb, le-ltb, eq-eqb, ne_eqb}
 use Rattle.reckon.proofs.TestLaws.{pick_true, pick_false, every_each, each_every, all_at, all_of, all_fails}
 use Rattle.grid.specs.declared.squares.Shape.{Shape}
 use Rattle.grid.specs.Inner.Rows.{InRow, AtRow}
@@ -45,7 +45,7 @@ module _ (s : Shape) where
 
   pub row_of : (row : ℕ) {column : ℕ} → column < s.columns → square_at s row column / s.columns ≡ row
   row_of row {column} h =
-      mul-add_div_right (omega arith) row column ∙ (ap (λ (k : ℕ). row + k) (div-eq_of_lt h) ∙ add-zero row)
+      mul-add-div_right (omega arith) row column ∙ (ap (λ (k : ℕ). row + k) (div-eq_of_lt h) ∙ add-zero row)
 
   pub column_of : (row : ℕ) {column : ℕ} → column < s.columns → square_at s row column % s.columns ≡ column
   column_of row {column} h = mul-add-mod_self_right row s.columns column ∙ mod-eq_of_lt h
@@ -85,7 +85,7 @@ module _ (s : Shape) where
 
     pub east_none : side ≡ east → (i + 1) % s.columns ≡ 0 → beside s i side ≡ squares s
     unfolding beside
-    east_none e h = rw e (pick_true _ _ (eq_eqb ((i + 1) % s.columns) 0 h))
+    east_none e h = rw e (pick_true _ _ (eq-eqb ((i + 1) % s.columns) 0 h))
 
     pub south_some : side ≡ south → i + s.columns < squares s → beside s i side ≡ i + s.columns
     unfolding beside
@@ -101,7 +101,7 @@ module _ (s : Shape) where
 
     pub west_none : side ≡ west → i % s.columns ≡ 0 → beside s i side ≡ squares s
     unfolding beside
-    west_none e h = rw e (pick_true _ _ (eq_eqb (i % s.columns) 0 h))
+    west_none e h = rw e (pick_true _ _ (eq-eqb (i % s.columns) 0 h))
 
   -- there is a square to the west of every column but the first, and to the east of every column but the last
   pub west_in : (i : ℕ) → (i % s.columns ≡ 0 → ⊥) → 1 ≤ i

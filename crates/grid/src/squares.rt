@@ -3,7 +3,7 @@
 ghost use Rattle.std.specs.Prelude.{◌<◌};
 ghost use Rattle.grid.specs.Squares.{BesideOn, ShapeInRange, NextColumn, OnGrid, OppositeOf, RimJudged, ShapeJudged, SquareFound, SquaresOf, OnSquare, sides};
 
-#[derive(Drop)]
+#[derive(Clone, Copy)]
 pub struct Shape {
     pub rows: usize,
     pub columns: usize,

@@ -6,7 +6,7 @@ ghost use Rattle.grid.specs.Walks.{BesideSet, LowestSet, NextWithin, WithinRow, 
 use crate::masks::next_set;
 
 // Whether a step works the sides of all squares, or goes from one square with water to the next.
-#[derive(Drop)]
+#[derive(Clone, Copy)]
 pub enum Walk {
     All,
     Wet,

@@ -6,7 +6,7 @@ use text::reading::{Number, line_of, number_at, rest_of_line};
 
 // What a line says: a hatch with its number, row and column; a clock, a hatch's number and litres per second; how many steps to take back;
 // or nothing that can be read.
-#[derive(Drop)]
+#[derive(Clone, Copy)]
 pub enum Entry {
     Hatch(u32, u32, u32),
     Rate(u32, u32, u32),
@@ -15,7 +15,7 @@ pub enum Entry {
 }
 
 // What a line says, and where the next one starts.
-#[derive(Drop)]
+#[derive(Clone, Copy)]
 pub struct LogLine {
     pub entry: Entry,
     pub next: usize,

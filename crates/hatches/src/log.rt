@@ -16,7 +16,7 @@ pub const MOST_KEPT: usize = 64;
 pub const MOST_NUMBERS: usize = 16_384;
 
 // Of each hatch whether it is named, and its row and column.
-#[derive(Drop)]
+#[derive(Clone, Copy)]
 pub struct Hatches {
     pub named: [bool; 9],
     pub rows: [u32; 9],
@@ -25,7 +25,7 @@ pub struct Hatches {
 
 // What the lines of a log change, beside what is lent: the run, the steps standing, whether hatches may still be named, the hatches, and the
 // litres per second that each runs at.
-#[derive(Drop)]
+#[derive(Clone, Copy)]
 pub struct Log {
     pub run: Run,
     pub steps: u64,

@@ -9,7 +9,7 @@ use native.Mathlib.Omega.{arith}
 use lib.Dec.{eqb, leb}
 use lib.ListN.{length, get_or, set, drop_of_length-le}
 use lib.Seq.{ext_get_or}
-use borrow.Author.Tests.{eq_eqb, ne_eqb, eqb-true, le-ltb, lt-ltb, le-leb, lt-leb}
+use borrow.Author.Tests.{eq-eqb, ne_eqb, eqb-true, le-ltb, lt-ltb, le-leb, lt-leb}
 use Rattle.reckon.specs.Tests.{pick, all_below}
 use Rattle.reckon.specs.Lists.{tabulate, filled, placed}
 use Rattle.reckon.proofs.TestLaws.{not_both, pick_true, pick_false, and_both, and_false, all_at, failing_at, failing_none}
@@ -105,7 +105,7 @@ module _ (shape : Shape) (marks beds : List ℕ) where
         beds_are = refl;
         turns_are =
             is_filled n (λ i. eqb (bed 0 i) (bed 0 i)) (round_filling shape marks beds) old old refl
-            (λ i l. sym (pick_true _ _ (or_true (leb n i) (eq_eqb (bed 0 i) (bed 0 i) refl))));
+            (λ i l. sym (pick_true _ _ (or_true (leb n i) (eq-eqb (bed 0 i) (bed 0 i) refl))));
       }
     where
       or_true : (a : Bool) {b : Bool} → b ≡ true → (a || b) ≡ true
@@ -152,7 +152,7 @@ module _ (shape : Shape) (marks beds : List ℕ) (seen : BedsSeen shape marks be
       z ∙ sym (failing_none size (λ r. eqb (height r i) no_bed) (λ k g. unknown k (omega arith))))
     where
       unknown : (k : ℕ) → k < suc t → eqb (height k i) no_bed ≡ true
-      unknown k g = eq_eqb (height k i) no_bed (unknown_before k t i l (omega arith) e)
+      unknown k g = eq-eqb (height k i) no_bed (unknown_before k t i l (omega arith) e)
 
   pub going_long : {old : List ℕ} {r : ℕ} {now turns : List ℕ} → Going shape marks beds old r now turns → (length now ≡ size) × (length turns ≡ length old)
   going_long {old} {r} g =
@@ -200,12 +200,12 @@ module _ (shape : Shape) (marks beds : List ℕ) (seen : BedsSeen shape marks be
       inside i l x =
           by_eq (height (suc t) i) (height t i)
           (λ q.
-          filled_skipped size fresh (λ i. suc t) turns i (omega (arith, l, same)) (eq_eqb _ _ q)
+          filled_skipped size fresh (λ i. suc t) turns i (omega (arith, l, same)) (eq-eqb _ _ q)
           ∙ (was i
           ∙ by_eq (height t i) (height 0 i)
           (λ z.
-          filled_skipped size (λ i. eqb (height t i) (height 0 i)) (round_filling shape marks beds) old i l (eq_eqb _ _ z)
-          ∙ sym (pick_true _ _ (by_second i x true (eq_eqb _ _ (q ∙ z)))))
+          filled_skipped size (λ i. eqb (height t i) (height 0 i)) (round_filling shape marks beds) old i l (eq-eqb _ _ z)
+          ∙ sym (pick_true _ _ (by_second i x true (eq-eqb _ _ (q ∙ z)))))
           (λ d.
           filled_in size (λ i. eqb (height t i) (height 0 i)) (round_filling shape marks beds) old i l x (ne_eqb _ _ d)
           ∙ sym (pick_false _ _ (by_second i x false (ne_eqb _ _ (λ z. d (sym q ∙ z))))))))

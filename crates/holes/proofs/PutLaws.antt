@@ -9,7 +9,7 @@ use native.Mathlib.Omega.{arith}
 use lib.Dec.{eqb}
 use lib.ListN.{length, get_or, take, drop, length-append, length-drop}
 use lib.Seq.{take_all}
-use borrow.Author.Tests.{eq_eqb, ne_eqb}
+use borrow.Author.Tests.{eq-eqb, ne_eqb}
 use Rattle.reckon.specs.Tests.{pick}
 use Rattle.reckon.proofs.TestLaws.{not_both, pick_true, pick_false, no_more}
 use Rattle.text.specs.Reading.{tab, newline, word_at, next_line, line_from}
@@ -204,7 +204,7 @@ module _ (s : List ℕ) (p row column : ℕ) where
 
 pub unknown_text : (bed : ℕ) → bed ≡ no_bed → bed_text bed ≡ question ∷ []
 unfolding bed_text
-unknown_text bed e = pick_true _ _ (eq_eqb bed no_bed e)
+unknown_text bed e = pick_true _ _ (eq-eqb bed no_bed e)
 
 pub known_text : (bed : ℕ) → (bed ≡ no_bed → ⊥) → bed_text bed ≡ decimal bed
 unfolding bed_text
@@ -230,7 +230,7 @@ module _ (s : List ℕ) (p row column : ℕ) (bed : List ℕ) where
 module _ (row column bed turn : ℕ) where
   pub unknown_given : bed ≡ no_bed → given_text row column bed turn ≡ decimal row ++ (field_text column ++ (tab ∷ 45 ∷ tab ∷ 45 ∷ newline ∷ []))
   unfolding given_text
-  unknown_given e = ap (λ (t : List ℕ). decimal row ++ (field_text column ++ t)) (pick_true _ _ (eq_eqb bed no_bed e))
+  unknown_given e = ap (λ (t : List ℕ). decimal row ++ (field_text column ++ t)) (pick_true _ _ (eq-eqb bed no_bed e))
 
   pub known_given :
       (bed ≡ no_bed → ⊥) → given_text row column bed turn ≡ decimal row ++ (field_text column ++ (fields_text (bed ∷ turn ∷ []) ++ (newline ∷ [])))

@@ -10,7 +10,7 @@ use native.Mathlib.Omega.{arith}
 use lib.Dec.{eqb}
 use lib.ListN.{length, get_or, get_or-eq_default}
 use lib.Seq.{ext_get_or}
-use borrow.Author.Tests.{eq_eqb, ne_eqb, eqb-true, eqb-false, ltb-true}
+use borrow.Author.Tests.{eq-eqb, ne_eqb, eqb-true, eqb-false, ltb-true}
 use Rattle.reckon.specs.Tests.{pick, all_below}
 use Rattle.reckon.specs.Lists.{sum_below}
 use Rattle.reckon.proofs.TestLaws.{pick_true, pick_false, pick_both, and_left, and_right, and_both, all_at, all_some}
@@ -61,7 +61,7 @@ module _ (shape : Shape) (marks beds : List ℕ) (seen : BedsSeen shape marks be
   known_stays r i l d = round_at r i l ∙ pick_false _ _ (ne_eqb (bed r i) no_bed d)
 
   lowest_given : (r i : ℕ) → i < n → bed r i ≡ no_bed → bed (suc r) i ≡ lowest_beside shape marks (after_rounds shape marks beds r) i
-  lowest_given r i l e = round_at r i l ∙ pick_true _ _ (eq_eqb (bed r i) no_bed e)
+  lowest_given r i l e = round_at r i l ∙ pick_true _ _ (eq-eqb (bed r i) no_bed e)
 
   still : (r k : ℕ) → after_rounds shape marks beds (suc r) ≡ after_rounds shape marks beds r → after_rounds shape marks beds (r + k) ≡ after_rounds shape marks beds r
   unfolding after_rounds
@@ -187,7 +187,7 @@ module _ (shape : Shape) (marks beds : List ℕ) (seen : BedsSeen shape marks be
   blanks r = sum_below n (blank r)
 
   blank_one : (r i : ℕ) → bed r i ≡ no_bed → blank r i ≡ 1
-  blank_one r i e = pick_true 1 0 (eq_eqb (bed r i) no_bed e)
+  blank_one r i e = pick_true 1 0 (eq-eqb (bed r i) no_bed e)
 
   blank_none : (r i : ℕ) → (bed r i ≡ no_bed → ⊥) → blank r i ≡ 0
   blank_none r i d = pick_false 1 0 (ne_eqb (bed r i) no_bed d)

@@ -13,7 +13,7 @@ use text::reading::word_at;
 use text::writing::{put_byte, put_fields, put_number, put_word};
 
 // Where the `?` of a square's line stands, or that it has none.
-#[derive(Drop)]
+#[derive(Clone, Copy)]
 pub(crate) enum Hole {
     At(usize),
     None,

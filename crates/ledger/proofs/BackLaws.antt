@@ -7,7 +7,7 @@ use Prim.Native.Nat.{ℕ, zero, suc, ◌+◌, ◌-◌, ◌≤◌, ◌<◌}
 use native.Mathlib.Omega.{arith}
 use lib.Dec.{leb}
 use lib.ListN.{length, get_or, take, drop}
-use borrow.Author.Tests.{leb-true, le-leb, lt-leb, eqb-true, eq_eqb, ne_eqb}
+use borrow.Author.Tests.{leb-true, le-leb, lt-leb, eqb-true, eq-eqb, ne_eqb}
 use Rattle.reckon.specs.Tests.{every, all_below, ◌unless◌, refusal}
 use Rattle.reckon.specs.Lists.{filled}
 use Rattle.reckon.specs.Ranges.{most_depth}
@@ -167,7 +167,7 @@ module _ (p : Plan) (w : World) where
           looked_10 e =
               refused_by (λ z. omega arith)
               (refusal_later 1 _ s
-              ∙ (refusal_later 2 _ m ∙ (refusal_later 3 _ l ∙ (refusal_later 6 _ r ∙ refusal_here 10 _ (ap not (eq_eqb w.run.kept 0 e))))))
+              ∙ (refusal_later 2 _ m ∙ (refusal_later 3 _ l ∙ (refusal_later 6 _ r ∙ refusal_here 10 _ (ap not (eq-eqb w.run.kept 0 e))))))
 
           pub looked_none : (w.run.kept ≡ 0 → ⊥) → EarlyRefused p w 0
           looked_none d =
@@ -184,7 +184,7 @@ module _ (p : Plan) (w : World) where
       refusal_later 1 _
       (each_every _ (
         fine_of_ranges p.shape k.watered.fine,
-        (eq_eqb _ _ k.watered.marks_long, (eq_eqb _ _ k.watered.depths_long, (eq_eqb _ _ k.watered.lasts_long, tt))),
+        (eq-eqb _ _ k.watered.marks_long, (eq-eqb _ _ k.watered.depths_long, (eq-eqb _ _ k.watered.lasts_long, tt))),
       ))
       ∙ (refusal_later 2 _ k.marks-fine
       ∙ (refusal_later 3 _ k.waters-fine
@@ -217,7 +217,7 @@ module _ (p : Plan) (w : World) where
     unfolding taken_back world_before depth_before held_and_gone came_and_added
     takes_back e {u} s o t r g h =
         let z : back_number p w ≡ 0 = late k ∙ passed_refusal _ (ap (restorable p w) (sym q) ∙ (sym (alone p w rec) ∙ e), tt) in
-        let back : taken_back p w ≡ world_before p w rec = pick_true _ _ (eq_eqb (back_number p w) 0 z) ∙ ap (world_before p w) (sym q) in
+        let back : taken_back p w ≡ world_before p w rec = pick_true _ _ (eq-eqb (back_number p w) 0 z) ∙ ap (world_before p w) (sym q) in
         let run_is : u ≡ (world_before p w rec).run = rw (r, s, o, t) in
         record {
           answer = ap Done (run_is ∙ ap (λ (v : World). v.run) (sym back)) ∙ answered_done (taken_back p w).run z;

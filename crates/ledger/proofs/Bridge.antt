@@ -6,7 +6,7 @@ use mathlib.Core.List.{List, [], ◌∷◌, ◌++◌}
 use Prim.Native.Nat.{ℕ, zero, suc, ◌-◌}
 use native.Mathlib.Omega.{arith}
 use lib.Dec.{eqb}
-use borrow.Author.Tests.{eq_eqb, ne_eqb}
+use borrow.Author.Tests.{eq-eqb, ne_eqb}
 use Rattle.reckon.specs.Tests.{pick, Row, ◌unless◌, refusal}
 use Rattle.reckon.proofs.TestLaws.{pick_true, pick_false, refusal-first, refusal-second, refusal_here, refusal_later}
 use Rattle.trials.specs.Ring.{slot_before}
@@ -50,7 +50,7 @@ module _ (p : Plan) (w : World) where
   number_last e = refusal-second (early_refusals p (ring_of p w) (seen_of w)) last_rows tt e
 
   number_none : look ≡ 0 → w.run.kept ≡ 0 → back_number p w ≡ 10
-  number_none e k = number_last e ∙ refusal_here 10 _ (ap not (eq_eqb w.run.kept 0 k))
+  number_none e k = number_last e ∙ refusal_here 10 _ (ap not (eq-eqb w.run.kept 0 k))
 
   number_record : look ≡ 0 → {left : ℕ} → w.run.kept ≡ suc left → back_number p w ≡ refusal (11 unless restorable p w (newest_record p w) ∷ [])
   number_record e k = number_last e ∙ refusal_later 10 _ (ap not (ne_eqb w.run.kept 0 (λ z. omega arith)))
@@ -59,7 +59,7 @@ module _ (p : Plan) (w : World) where
 
   made_back : back_number p w ≡ 0 → taken_back p w ≡ world_before p w (newest_record p w)
   unfolding taken_back
-  made_back e = pick_true _ _ (eq_eqb (back_number p w) 0 e)
+  made_back e = pick_true _ _ (eq-eqb (back_number p w) 0 e)
 
   -- a refused take-back gives the world back
   pub refused_stays : (back_number p w ≡ 0 → ⊥) → taken_back p w ≡ w

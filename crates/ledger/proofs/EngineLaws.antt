@@ -7,7 +7,7 @@ use Prim.Native.Nat.{ℕ, zero, suc, ◌+◌, ◌-◌, ◌≤◌, ◌<◌}
 use native.Mathlib.Omega.{arith}
 use lib.ListN.{length, get_or}
 use lib.Seq.{ext_get_or}
-use borrow.Author.Tests.{leb-true, eqb-true, le-leb, eq_eqb}
+use borrow.Author.Tests.{leb-true, eqb-true, le-leb, eq-eqb}
 use Rattle.reckon.specs.Tests.{refusal}
 use Rattle.reckon.specs.Lists.{filled}
 use Rattle.reckon.specs.Ranges.{most_depth, most_length, last_clock, most_outflow, most_soaked, water_fine}
@@ -111,7 +111,7 @@ module _ (p : Plan) where
     unfolding early_refusals one_each run_values_fine
     seen_look L =
         passed_refusal _
-        (each_every _ (L.shape-fine, omega (arith, eq_eqb)), (L.marks-fine, (waters_of L, (each_every _ (L.ring-fine, omega (arith, le-leb)), tt))))
+        (each_every _ (L.shape-fine, omega (arith, eq-eqb)), (L.marks-fine, (waters_of L, (each_every _ (L.ring-fine, omega (arith, le-leb)), tt))))
 
   -- ---- a step within its bounds, taken back
 

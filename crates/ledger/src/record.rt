@@ -30,7 +30,7 @@ const SOAKED_WORD: usize = 6;
 pub const MOST_RECORD: usize = HEAD_WORDS + SQUARE_WORDS * MOST_SQUARES;
 
 // What a walk over the squares finds: whether each passes its test, and if so what left the grid and what soaked.
-#[derive(Drop)]
+#[derive(Clone, Copy)]
 pub(crate) struct Found {
     pub(crate) fits: bool,
     pub(crate) off: u64,

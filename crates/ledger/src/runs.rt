@@ -2,7 +2,7 @@
 ghost use Rattle.ledger.specs.Runs.{RunJudged};
 
 // clock and length are in ms; outflow and soaked are in µm over one square; kept and newest are of the ring of records.
-#[derive(Drop)]
+#[derive(Clone, Copy)]
 pub struct Run {
     pub clock: u64,
     pub length: u64,
@@ -12,7 +12,7 @@ pub struct Run {
     pub soaked: u64,
 }
 
-#[derive(Drop)]
+#[derive(Clone, Copy)]
 pub enum Answer {
     Done(Run),
     Refused(u32),

@@ -7,7 +7,7 @@ use native.Mathlib.Omega.{arith}
 use lib.Dec.{T, eqb}
 use lib.ListN.{length, length-append, length-map}
 use lib.Seq.{length-take-le}
-use borrow.Author.Tests.{eq_eqb, ne_eqb, le-leb, lt-leb, leb-true}
+use borrow.Author.Tests.{eq-eqb, ne_eqb, le-leb, lt-leb, leb-true}
 use Rattle.reckon.specs.Tests.{pick, ◌unless◌}
 use Rattle.reckon.specs.Inner.Rows.{numbered}
 use Rattle.reckon.proofs.TestLaws.{pick_true, pick_false, pick_both, every_each, refusal_passed, refusal_both}
@@ -73,7 +73,7 @@ module _ (a : Shown) (x : RanWords a) where
         Prints (shown_text a) old new r
     unfolding watch_text
     shown_made {new} {r} z w =
-        subst (λ (t : List ℕ). Prints t old new r) (sym (pick_true _ _ (eq_eqb _ _ z)))
+        subst (λ (t : List ℕ). Prints t old new r) (sym (pick_true _ _ (eq-eqb _ _ z)))
         (prints l
         (omega (arith, counted, v.fits, length-append (levels_text (listed a.boards)) (counts_text a.ran.steps a.ran.run.clock)))
         (wrote_both (omega (arith, l, counted, v.fits)) v.wrote w))
@@ -184,7 +184,7 @@ module _ (h : Heading) (held : Rooms) (b : List ℕ) {f : BoardsFound} (e : f �
       subst (λ (t : List ℕ). Prints t old new r)
       (shown-told h held f.boards g
       ∙ (ap (λ (x : BoardsFound). watch_text (sheet_watched h held x.boards) (sheet_boards h held x.boards)) e
-      ∙ sym (pick_true _ _ (eq_eqb _ _ (sym bad_is ∙ z))))) w
+      ∙ sym (pick_true _ _ (eq-eqb _ _ (sym bad_is ∙ z))))) w
 
 -- ---- the whole
 

@@ -7,7 +7,7 @@ use display::boards::{Board, Boards, no_board, no_boards, with_board};
 use text::reading::{Number, number_at, rest_of_line};
 
 // Whether a board's line can be read, its board, and where the next line starts.
-#[derive(Drop)]
+#[derive(Clone, Copy)]
 struct BoardLine {
     found: bool,
     board: Board,
@@ -15,7 +15,7 @@ struct BoardLine {
 }
 
 // The number of the first line that cannot be read, 0 for none, and the boards of the lines before it.
-#[derive(Drop)]
+#[derive(Clone, Copy)]
 pub(crate) struct BoardsFound {
     pub(crate) bad: usize,
     pub(crate) boards: Boards,

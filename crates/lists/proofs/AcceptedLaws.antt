@@ -8,7 +8,7 @@ use native.Mathlib.Nat.{not-suc-le-zero}
 use native.Mathlib.Omega.{arith}
 use lib.Dec.{eqb, leb, ltb}
 use lib.ListN.{length}
-use borrow.Author.Tests.{lt-ltb, le-ltb, eq_eqb, ne_eqb, eqb-false}
+use borrow.Author.Tests.{lt-ltb, le-ltb, eq-eqb, ne_eqb, eqb-false}
 use Rattle.reckon.specs.Tests.{pick}
 use Rattle.reckon.proofs.TestLaws.{pick_true, pick_false}
 use Rattle.text.proofs.ReadingLaws.{by_test, by_lt}
@@ -55,7 +55,7 @@ module _ (i : ℕ) where
       first_with i depth ((x ∷ xs) ++ ys) ≡ first_with i depth (x ∷ xs)
   unfolding first_with deepest_of
   first_in depth x [] ys e =
-      let own = eq_eqb (peak_in i x) depth (omega (arith, e)) in
+      let own = eq-eqb (peak_in i x) depth (omega (arith, e)) in
       pick_true _ _ own ∙ sym (pick_true _ _ own)
   first_in depth x (y ∷ zs) ys e =
       by_test (eqb (peak_in i x) depth) (λ t. pick_true _ _ t ∙ sym (pick_true _ _ t))
@@ -87,8 +87,8 @@ module _ (i : ℕ) where
       pk = peak_in i s
 
       alone : (z : Accepted) → first_with i (peak_in i z) (z ∷ []) ≡ z.place
-      alone z = pick_true _ _ (eq_eqb (peak_in i z) (peak_in i z) refl)
+      alone z = pick_true _ _ (eq-eqb (peak_in i z) (peak_in i z) refl)
 
   pub first_alone : (s : Accepted) → first_gave i (s ∷ []) ≡ s.place
   unfolding first_with deepest_of
-  first_alone s = pick_true _ _ (eq_eqb (peak_in i s) (max (peak_in i s) 0) (omega arith))
+  first_alone s = pick_true _ _ (eq-eqb (peak_in i s) (max (peak_in i s) 0) (omega arith))

@@ -8,7 +8,7 @@ use native.Mathlib.Numerals.{add-one}
 use native.Mathlib.Omega.{arith}
 use lib.ListN.{length, get_or, drop, drop_of_length-le}
 use lib.Seq.{drop-cons}
-use borrow.Author.Tests.{eq_eqb, ne_eqb}
+use borrow.Author.Tests.{eq-eqb, ne_eqb}
 use Rattle.reckon.specs.Tests.{pick}
 use Rattle.reckon.proofs.TestLaws.{pick_true, pick_false}
 use Rattle.text.specs.Reading.{newline, is_byte, with_number}
@@ -21,7 +21,7 @@ use Rattle.lists.specs.declared.names.Listed.{Listed}
 module _ (s : List ℕ) (begun : Bool) (p : ℕ) where
   line_ends : p < length s → get_or s p 0 ≡ newline → lines_in begun (drop p s) ≡ suc (lines_in false (drop (p + 1) s))
   unfolding lines_in
-  line_ends l e = rw (drop-cons s p 0 l, add-one p) (pick_true _ _ (eq_eqb _ _ e))
+  line_ends l e = rw (drop-cons s p 0 l, add-one p) (pick_true _ _ (eq-eqb _ _ e))
 
   line_goes_on : p < length s → (get_or s p 0 ≡ newline → ⊥) → lines_in begun (drop p s) ≡ lines_in true (drop (p + 1) s)
   unfolding lines_in

@@ -3,7 +3,7 @@
 use mathlib.Core.Path.{◌≡◌, sym, ap, ◌∙◌}
 use mathlib.Core.Bool.{Bool, true}
 use Prim.Native.Nat.{ℕ}
-use borrow.Author.Tests.{eq_eqb, eqb-true}
+use borrow.Author.Tests.{eq-eqb, eqb-true}
 use Rattle.reckon.specs.Tests.{every}
 use Rattle.reckon.proofs.TestLaws.{and_true, every_each}
 use Rattle.grid.specs.Squares.{squares}
@@ -18,7 +18,7 @@ module _ (p q : Plan) where
       b ≡ same_marks n p.marks q.marks → b ≡ same_plan p q
   unfolding same_plan every
   plan-marks e f h m =
-      m ∙ (ap (λ (k : ℕ). same_marks k p.marks q.marks) h ∙ sym (rw (eq_eqb _ _ e, eq_eqb _ _ f) (and_true _)))
+      m ∙ (ap (λ (k : ℕ). same_marks k p.marks q.marks) h ∙ sym (rw (eq-eqb _ _ e, eq-eqb _ _ f) (and_true _)))
 
   pub same_shape : same_plan p q ≡ true → p.shape ≡ q.shape
   unfolding same_plan

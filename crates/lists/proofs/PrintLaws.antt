@@ -10,7 +10,7 @@ use native.Mathlib.Omega.{arith}
 use lib.Dec.{eqb}
 use lib.ListN.{length, get_or, take, drop, length-append, drop_of_length-le}
 use lib.Seq.{drop-cons, length-take-le, get_or-take}
-use borrow.Author.Tests.{leb-true, eq_eqb, ne_eqb}
+use borrow.Author.Tests.{leb-true, eq-eqb, ne_eqb}
 use Rattle.reckon.specs.Tests.{pick, every}
 use Rattle.reckon.proofs.TestLaws.{pick_true, pick_false, pick_both, and_true, every_each}
 use Rattle.grid.specs.Squares.{ShapeInRange, squares}
@@ -123,7 +123,7 @@ fine-last a b s z p q r = rw (p, q, r) (sym (and_true (z && true) ∙ and_true z
 
 pub accepted_line : (place n : ℕ) → n ≡ 0 → refused_line place n ≡ []
 unfolding refused_line
-accepted_line place n e = pick_true _ _ (eq_eqb n 0 e)
+accepted_line place n e = pick_true _ _ (eq-eqb n 0 e)
 
 pub refused-line : (place n : ℕ) → (n ≡ 0 → ⊥) → refused_line place n ≡ numbers_text (place ∷ n ∷ [])
 unfolding refused_line

@@ -9,7 +9,7 @@ use native.Mathlib.Omega.{arith}
 use lib.Dec.{eqb, ltb}
 use lib.ListN.{length, get_or, set, take}
 use lib.Seq.{paste}
-use borrow.Author.Tests.{lt-ltb, le-ltb, eq_eqb, ne_eqb}
+use borrow.Author.Tests.{lt-ltb, le-ltb, eq-eqb, ne_eqb}
 use Rattle.reckon.specs.Tests.{pick}
 use Rattle.reckon.specs.Lists.{placed}
 use Rattle.reckon.proofs.TestLaws.{pick_true, pick_false}
@@ -139,7 +139,7 @@ module _ (t : Tally) (f : File) (r : Rooms) where
           kept = plan-kept k.marks_are
 
           none : eqb (number_with t f r) 0 ≡ true
-          none = eq_eqb _ _ (sym (its_number judged.number_is) ∙ z)
+          none = eq-eqb _ _ (sym (its_number judged.number_is) ∙ z)
 
           m : Merges (plan_now t f r) t.begun t.wet (t.taken + 1) (file_peaks f) r.counts r.deepest r.places counts' deepest' places'
           m =

@@ -9,7 +9,7 @@ use native.Mathlib.Omega.{arith}
 use lib.Dec.{eqb, leb, ltb}
 use lib.ListN.{length, get_or, take, length-append}
 use lib.Seq.{take-suc-set}
-use borrow.Author.Tests.{lt-ltb, le-ltb, eq_eqb, ne_eqb, eqb-true, eqb-false}
+use borrow.Author.Tests.{lt-ltb, le-ltb, eq-eqb, ne_eqb, eqb-true, eqb-false}
 use Rattle.reckon.specs.Tests.{pick, every}
 use Rattle.reckon.specs.Lists.{placed}
 use Rattle.reckon.proofs.TestLaws.{not_both, pick_true, pick_false, pick_same, and_true}
@@ -183,7 +183,7 @@ module _ {numbers : List ℕ} {sheets : List Accepted} {r : Rooms} (h : Noted nu
               h.all_told,
               length-append numbers (0 ∷ []),
               length-append sheets (s ∷ []),
-              refused_more numbers 0 ∙ pick_true (refused_many numbers) (refused_many numbers + 1) (eq_eqb 0 0 refl),
+              refused_more numbers 0 ∙ pick_true (refused_many numbers) (refused_many numbers + 1) (eq-eqb 0 0 refl),
             );
       }
 
@@ -284,7 +284,7 @@ module _ {wet : ℕ} {numbers : List ℕ} {sheets : List Accepted} {begun : Bool
 
   module _ (e : file_number begun q f ≡ 0) where
     is_zero : eqb (number_with t f r) 0 ≡ true
-    is_zero = eq_eqb _ 0 (number_is ∙ e)
+    is_zero = eq-eqb _ 0 (number_is ∙ e)
 
     module _ (p : Plan) (now_is : plan_now t f r ≡ p) where
       tally_accepted : tally_after t f r ≡ tallied wet (length numbers + 1) true p.shape 0

@@ -40,7 +40,7 @@ use Rattle.ledger.specs.Runs.{Plan, plan}
 use Rattle.ledger.specs.Flows.{shut}
 use Rattle.grid.specs.Squares.{squares}
 use Rattle.reckon.proofs.TestLaws.{pick_true, pick_false, pick_same}
-use borrow.Author.Tests.{eq_eqb, ne_eqb}
+use borrow.Author.Tests.{eq-eqb, ne_eqb}
 use native.Mathlib.Omega.{arith}
 use Rattle.flood.specs.Run.{steps_on}
 use Rattle.reckon.specs.Most.{most_over}
@@ -106,7 +106,7 @@ module _ {begun : Bool} {q : Plan} {place : ℕ} {f : File} {rest : List File} {
       }
     where
       is_zero : eqb (file_number begun q f) 0 ≡ true
-      is_zero = eq_eqb (file_number begun q f) 0 e
+      is_zero = eq-eqb (file_number begun q f) 0 e
 
       or_all : (b : Bool) → (b || true) ≡ true
       or_all true = refl

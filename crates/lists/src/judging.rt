@@ -19,14 +19,14 @@ use reckon::tables::{INFLOW_ROOM, RAIN_ROOM};
 use sheet::reading::{Heading, Sheet};
 
 // The number that a sheet is refused with, 0 for none, and the shape of an accepted one.
-#[derive(Drop)]
+#[derive(Clone, Copy)]
 pub(crate) struct Judged {
     pub(crate) number: u32,
     pub(crate) shape: Shape,
 }
 
 // Whether one was accepted before, and the first one's shape.
-#[derive(Drop)]
+#[derive(Clone, Copy)]
 pub(crate) struct First {
     pub(crate) begun: bool,
     pub(crate) shape: Shape,

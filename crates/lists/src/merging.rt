@@ -11,7 +11,7 @@ use grid::marks::is_closed;
 use grid::squares::{Shape, squares_of};
 
 // The sheet: whether one was accepted before it, the depth that counts, and its place in the list.
-#[derive(Drop)]
+#[derive(Clone, Copy)]
 pub(crate) struct Merging {
     pub(crate) begun: bool,
     pub(crate) wet: u32,

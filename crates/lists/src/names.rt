@@ -10,7 +10,7 @@ use text::reading::{NEWLINE, Number, byte_is, number_at};
 pub const MOST_SHEETS: usize = 200;
 
 // The number of a refusal, 0 for none, and its line; the depth, and how many names there are.
-#[derive(Drop)]
+#[derive(Clone, Copy)]
 pub struct Listed {
     pub number: u32,
     pub line: usize,

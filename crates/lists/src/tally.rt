@@ -18,7 +18,7 @@ use reckon::copying::copy_into;
 
 // The depth that counts; how many names were taken; whether a sheet was accepted, and the first one's shape; and the number that the newest was
 // refused with, 0 for none.
-#[derive(Drop)]
+#[derive(Clone, Copy)]
 pub struct Tally {
     pub wet: u32,
     pub taken: usize,

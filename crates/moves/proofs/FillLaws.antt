@@ -10,7 +10,7 @@ use native.Mathlib.Omega.{arith}
 use lib.Dec.{eqb}
 use lib.ListN.{length, get_or, set, replicate, get_or-replicate}
 use lib.Seq.{ext_get_or, get_or-set_same, get_or-set_other}
-use borrow.Author.Tests.{eq_eqb}
+use borrow.Author.Tests.{eq-eqb}
 use Rattle.reckon.specs.Tests.{pick}
 use Rattle.reckon.specs.Ranges.{most_depth}
 use Rattle.reckon.specs.Soaking.{soak_due}
@@ -135,7 +135,7 @@ module _ (p : Plan) (o : Ground) (depths lasts : List ℕ) (ms : ℕ) where
     where
       go : (b : Bool) → shut p i ≡ b → sends p out i ≡ false
       go true c = rw c
-      go false c = rw (c, eq_eqb (gone out i) 0 (dry-gone i c (d c)))
+      go false c = rw (c, eq-eqb (gone out i) 0 (dry-gone i c (d c)))
 
 -- ---- the words after those that stand
 

@@ -12,7 +12,7 @@ use lib.Bits.{bit_or, and_le_l, and_le_r, or_add_and}
 use lib.Dec.{eqb}
 use lib.ListN.{length, get_or}
 use lib.Pow.{pow_mono}
-use borrow.Author.Tests.{leb-false, eqb-true, eq_eqb, not-false}
+use borrow.Author.Tests.{leb-false, eqb-true, eq-eqb, not-false}
 use Rattle.reckon.specs.Tests.{pick}
 use Rattle.reckon.specs.Lists.{tabulate}
 use Rattle.reckon.proofs.TestLaws.{not_both, and_left, and_right}
@@ -85,7 +85,7 @@ module _ (depths lasts added : List ℕ) (i : ℕ) where
   stirs_none e =
       let two = or_none (bit_or (get_or depths i 0) (get_or lasts i 0)) (get_or added i 0) e in
       let one = or_none (get_or depths i 0) (get_or lasts i 0) two.0 in
-      rw (eq_eqb (get_or depths i 0) 0 one.0, eq_eqb (get_or lasts i 0) 0 one.1, eq_eqb (get_or added i 0) 0 two.1)
+      rw (eq-eqb (get_or depths i 0) 0 one.0, eq-eqb (get_or lasts i 0) 0 one.1, eq-eqb (get_or added i 0) 0 two.1)
 
   stirs_some : (together ≡ 0 → ⊥) → stirs depths lasts added i ≡ true
   unfolding stirs

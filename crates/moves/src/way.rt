@@ -1,7 +1,7 @@
 // What the functions of a step hand on to one another by value.
 
 // The length that the run holds, the clock at which a step starts, and how long it lasts.
-#[derive(Drop)]
+#[derive(Clone, Copy)]
 pub struct Span {
     pub held: u64,
     pub start: u64,
@@ -9,14 +9,14 @@ pub struct Span {
 }
 
 // A square, and the column in which it stands.
-#[derive(Drop)]
+#[derive(Clone, Copy)]
 pub(crate) struct Place {
     pub square: usize,
     pub column: usize,
 }
 
 // A row by its first square, and the mask of its columns that are worked.
-#[derive(Drop)]
+#[derive(Clone, Copy)]
 pub(crate) struct Row {
     pub first: usize,
     pub mask: u64,

@@ -7,7 +7,7 @@ use Prim.Native.Nat.{ℕ, suc, ◌+◌, ◌*◌, ◌/◌, ◌%◌, ◌^◌, ◌�
 use native.Mathlib.Nat.{div-le_self, mod-le}
 use native.Mathlib.Omega.{arith}
 use lib.ListN.{length, get_or, length-append}
-use borrow.Author.Tests.{eq_eqb, ne_eqb}
+use borrow.Author.Tests.{eq-eqb, ne_eqb}
 use Rattle.reckon.proofs.TestLaws.{pick_true, pick_false, pick_both}
 use Rattle.grid.specs.Squares.{squares}
 use Rattle.ledger.specs.Runs.{Plan}
@@ -105,7 +105,7 @@ module _ (p : Plan) (peaks clocks : List ℕ) where
         Wrote (totals_text a.run a.steps) next mid new r → PutHighest p peaks clocks a old new r
     unfolding high_world_text
     high_made {old} {mid} {new} {next} {r} l z v w =
-        subst (λ (t : List ℕ). Prints t old new r) (sym (pick_true _ _ (eq_eqb _ _ z)))
+        subst (λ (t : List ℕ). Prints t old new r) (sym (pick_true _ _ (eq-eqb _ _ z)))
         (prints l (omega (arith, highs_fit, length-append (highs_text p peaks clocks) (totals_text a.run a.steps)))
         (wrote_both (omega (arith, l, highs_fit)) v w))
 

@@ -8,7 +8,7 @@ use native.Mathlib.Omega.{arith}
 use lib.Dec.{eqb}
 use lib.ListN.{length, take, drop}
 use lib.Seq.{length-take-le, drop_at}
-use borrow.Author.Tests.{eq_eqb, ne_eqb, eqb-true}
+use borrow.Author.Tests.{eq-eqb, ne_eqb, eqb-true}
 use Rattle.reckon.specs.Tests.{Row, pick, every, refusal, ◌unless◌}
 use Rattle.reckon.proofs.TestLaws.{pick_true, pick_false, each_every, every_each}
 use Rattle.reckon.proofs.ListLaws.{length-filled}
@@ -90,11 +90,11 @@ module _ (p : Plan) (g : Given) (end : ℕ) (w : World) (peaks clocks : List ℕ
 
     peaks_then : peaks_after p g end w peaks clocks ≡ peaks_over p g w (peak_run p g end w peaks clocks).steps peaks
     unfolding peaks_after
-    peaks_then = pick_true _ _ (eq_eqb _ _ z)
+    peaks_then = pick_true _ _ (eq-eqb _ _ z)
 
     clocks_then : clocks_after p g end w peaks clocks ≡ clocks_over p g w (peak_run p g end w peaks clocks).steps clocks
     unfolding clocks_after
-    clocks_then = pick_true _ _ (eq_eqb _ _ z)
+    clocks_then = pick_true _ _ (eq-eqb _ _ z)
 
   checks_pass : rooms_fine ≡ true → refusal (run_checks p g end w) ≡ 0 → peak_checks p g end w peaks clocks ≡ 0
   checks_pass f e = checks_are ∙ (pick_true _ _ f ∙ e)
@@ -143,7 +143,7 @@ module _ (h : Heading) (held : Rooms) where
   module _ (peaks clocks : List ℕ) (fine : ShapeInRange h.shape) (x : length peaks ≡ squares h.shape) (y : length clocks ≡ squares h.shape) (passes : checks_in h.shape h.rules held h.end ≡ 0) where
     none_refused : peak_checks P G h.end W peaks clocks ≡ 0
     unfolding checks_in
-    none_refused = checks_pass P G h.end W peaks clocks (each_every _ (fine_of_ranges _ fine, (eq_eqb _ _ x, (eq_eqb _ _ y, tt)))) passes
+    none_refused = checks_pass P G h.end W peaks clocks (each_every _ (fine_of_ranges _ fine, (eq-eqb _ _ x, (eq-eqb _ _ y, tt)))) passes
 
     -- the run starts from nothing
     starts :

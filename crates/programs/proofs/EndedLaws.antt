@@ -6,7 +6,7 @@ use Prim.Native.Nat.{ℕ, ◌^◌, ◌≤◌, ◌<◌}
 use native.Mathlib.Omega.{arith}
 use lib.ListN.{length, get_or}
 use lib.Seq.{length-take-le}
-use borrow.Author.Tests.{eq_eqb, ne_eqb}
+use borrow.Author.Tests.{eq-eqb, ne_eqb}
 use Rattle.reckon.proofs.TestLaws.{pick_true, pick_false, pick_both}
 use Rattle.grid.specs.Squares.{squares, most_squares}
 use Rattle.ledger.specs.Runs.{Plan}
@@ -48,7 +48,7 @@ module _ (p : Plan) (depths : List ℕ) (a : Ran) (few : squares p.shape ≤ mos
       PutRan p depths a at old new r
   unfolding ended_text
   ran_made {at} {old} {new} {r} z v =
-      record { wrote = subst (λ (t : List ℕ). Wrote t at old new r) (sym (pick_true _ _ (eq_eqb _ _ z))) v; fits = ran_fits }
+      record { wrote = subst (λ (t : List ℕ). Wrote t at old new r) (sym (pick_true _ _ (eq-eqb _ _ z))) v; fits = ran_fits }
 
 -- ---- a text that is printed
 

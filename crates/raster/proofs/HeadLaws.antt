@@ -6,7 +6,7 @@ use mathlib.Core.List.{List, [], ◌∷◌, ◌++◌}
 use Prim.Native.Nat.{ℕ, ◌+◌, ◌≤◌, ◌<◌}
 use native.Mathlib.Omega.{arith}
 use lib.ListN.{length, get_or, drop}
-use borrow.Author.Tests.{eq_eqb, ne_eqb}
+use borrow.Author.Tests.{eq-eqb, ne_eqb}
 use Rattle.reckon.proofs.TestLaws.{not_both, pick_true, pick_false, and_right, and_both}
 use Rattle.grid.specs.declared.squares.Shape.{Shape}
 use Rattle.text.specs.Bytes.{bytes_of}
@@ -32,7 +32,7 @@ only_none n q d = pick_false _ _ (ne_eqb n 0 d)
 
 pub only_zero : (n q : ℕ) → n ≡ 0 → only_zero (Is n q) ≡ Is n q
 unfolding only_zero
-only_zero n q e = pick_true _ _ (eq_eqb n 0 e)
+only_zero n q e = pick_true _ _ (eq-eqb n 0 e)
 
 -- a line, by where its value starts
 module _ (s : List ℕ) (p : ℕ) (word : List ℕ) (value : ℕ → Number) {start : ℕ} (e : start ≡ value_start s p word) where
@@ -139,7 +139,7 @@ module _ {s : List ℕ} {p q : ℕ} (word : List ℕ) where
       ap only_zero
       (line-back word (decimal 0) a (amount_at Metres s) 0 (digit_clear (decimal_begins 0) k.value)
       (zero_back k.value k.over.alone k.over.dot))
-      ∙ pick_true _ _ (eq_eqb 0 0 refl)
+      ∙ pick_true _ _ (eq-eqb 0 0 refl)
 
   no_data_line_back : StandsAt s p (head_line_text word no_data) q → head_line s p word (no_data_at s) ≡ Is 0 q
   unfolding no_data_at bytes_of

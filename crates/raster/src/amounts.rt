@@ -9,7 +9,7 @@ use text::reading::{MOST_NUMBER, Number, byte_is, digit, is_digit, number_at};
 use text::writing::{ZERO, put_byte, put_number};
 
 // Metres with up to six decimals, that is micrometres; or a whole number.
-#[derive(Drop)]
+#[derive(Clone, Copy)]
 pub enum Scale {
     Metres,
     Whole,
@@ -32,7 +32,7 @@ fn places_of(scale: Scale) -> usize
 }
 
 // A number with its decimals, in units of the last place, and the position after them.
-#[derive(Drop)]
+#[derive(Clone, Copy)]
 struct Decimals {
     value: u64,
     next: usize,

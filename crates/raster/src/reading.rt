@@ -16,7 +16,7 @@ pub(crate) const SPACE: u8 = 32;
 const NO_DATA_LENGTH: usize = 5;
 
 // What the six lines of a header say, and the position after them; where they cannot be read, the position of the line that stopped it.
-#[derive(Drop)]
+#[derive(Clone, Copy)]
 pub struct Head {
     pub found: bool,
     pub shape: Shape,
@@ -26,7 +26,7 @@ pub struct Head {
 
 // What stands for a square: `-9999`, for which 0 is the value, or a number; and the position of the next square. Where it cannot be read, its
 // own position.
-#[derive(Drop)]
+#[derive(Clone, Copy)]
 pub struct Entry {
     pub found: bool,
     pub closed: bool,
@@ -249,7 +249,7 @@ pub(crate) fn last_in_row(columns: usize, square: usize) -> bool
 }
 
 // Where the reading of a grid's squares stops: whether all were there, and the position of the first that was not.
-#[derive(Drop)]
+#[derive(Clone, Copy)]
 struct Stop {
     all: bool,
     next: usize,

@@ -6,7 +6,7 @@ use Prim.Native.Nat.{ℕ, zero, suc, ◌+◌, ◌≤◌, ◌<◌}
 use native.Mathlib.Decide.{dec_lt, ℕ_discrete}
 use native.Mathlib.Omega.{arith}
 use lib.Dec.{eqb, ltb}
-use borrow.Author.Tests.{eq_eqb, ne_eqb, lt-ltb, le-ltb}
+use borrow.Author.Tests.{eq-eqb, ne_eqb, lt-ltb, le-ltb}
 use Rattle.reckon.specs.Tests.{pick}
 use Rattle.reckon.specs.Lists.{sum_below}
 use Rattle.reckon.proofs.TestLaws.{pick_true, pick_false}
@@ -41,7 +41,7 @@ sum_one (suc n) k g = go (sum_one n k g) (dec_lt k n) (ℕ_discrete n k)
         omega (arith, before, here, pick_true (g k) 0 (lt-ltb k (suc n) (omega arith)))
     go ih (no l) (yes e) =
         let before = ih ∙ pick_false _ _ (le-ltb k n (omega arith)) in
-        let here = pick_true (g n) 0 (eq_eqb n k e) in
+        let here = pick_true (g n) 0 (eq-eqb n k e) in
         omega (arith, before, here, ap g e, pick_true (g k) 0 (lt-ltb k (suc n) (omega (arith, e))))
     go ih (no l) (no e) =
         let far : (suc n) ≤ k = omega (arith, l, e) in
@@ -56,7 +56,7 @@ module _ (n : ℕ) (b c : ℕ → ℕ) (g : ℕ → ℕ)
   same_place i j l m = go (ℕ_discrete j (b i)) (ℕ_discrete i (c j))
     where
       go : Dec (j ≡ b i) → Dec (i ≡ c j) → eqb j (b i) ≡ eqb i (c j)
-      go (yes e) (yes d) = eq_eqb j (b i) e ∙ sym (eq_eqb i (c j) d)
+      go (yes e) (yes d) = eq-eqb j (b i) e ∙ sym (eq-eqb i (c j) d)
       go (no e) (no d) = ne_eqb j (b i) e ∙ sym (ne_eqb i (c j) d)
       go (yes e) (no d) = absurd (d (sym (ap c e ∙ back i l (omega (arith, m, e)))))
       go (no e) (yes d) = absurd (e (sym (ap b d ∙ forth j m (omega (arith, l, d)))))

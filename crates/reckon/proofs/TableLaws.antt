@@ -4,12 +4,12 @@
 use mathlib.Core.Path.{◌≡◌, ◌∙◌, ap}
 use mathlib.Core.Bool.{Bool, true, false}
 use mathlib.Core.List.{List, [], ◌∷◌}
-use Prim.Native.Nat.{ℕ, ◌+◌, ◌-◌, ◌*◌, ◌/◌, ◌%◌, ◌≤◌, ◌<◌}
+use Prim.Native.Nat.{ℕ, ◌+◌, ◌*◌, ◌/◌, ◌%◌, ◌≤◌, ◌<◌}
 use native.Mathlib.Nat.{le_refl, le_trans, mul-le-mul, mul-le-mul_left, div-le_self, mul-zero, zero-div}
 use native.Mathlib.Omega.{arith}
 use lib.Dec.{eqb, leb}
 use lib.ListN.{length, get_or}
-use borrow.Author.Tests.{leb-true, le-leb, lt-leb, eq_eqb, ne_eqb}
+use borrow.Author.Tests.{leb-true, le-leb, lt-leb, eq-eqb, ne_eqb}
 use Rattle.reckon.specs.Tests.{pick, every, all_below}
 use Rattle.reckon.specs.Lists.{sum_below}
 use Rattle.reckon.specs.Ranges.{last_clock, most_rain, most_litres, most_table_rows}
@@ -101,7 +101,7 @@ module _ (rows : List ℕ) (r c j : ℕ) where
   -- of a row for the square's row its column decides
   pub by_column : get_or rows (inflow_kind.width * j) 0 ≡ r → on_square rows r c j ≡ eqb (get_or rows (inflow_kind.width * j + 1) 0) c
   unfolding on_square
-  by_column e = rw (eq_eqb _ _ e)
+  by_column e = rw (eq-eqb _ _ e)
 
 -- ---- what a table has table_gives never falls
 
@@ -155,7 +155,7 @@ module _ (k : Kind) (rows : List ℕ) where
       length rows % k.width ≡ 0 → length rows / k.width ≤ most_table_rows → all_below (length rows / k.width) row_passes ≡ true →
       table_fine k rows ≡ true
   unfolding table_fine
-  table_passes a b e = each_every tests (eq_eqb _ _ a, (le-leb _ _ b, (e, tt)))
+  table_passes a b e = each_every tests (eq-eqb _ _ a, (le-leb _ _ b, (e, tt)))
 
   -- a table that passes its test is in range
   pub fine_fits : (t : ℕ) → table_fine k rows ≡ true → t ≤ last_clock → Fits k rows t

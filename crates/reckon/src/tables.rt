@@ -10,7 +10,7 @@ use crate::numbers::{lesser, number};
 use crate::ranges::{LAST_CLOCK, MOST_LITRES, MOST_RAIN, MOST_TABLE_ROWS};
 
 // A kind of table: how many numbers a row has, how many of them stand before its from, the most that its last may be.
-#[derive(Drop)]
+#[derive(Clone, Copy)]
 pub struct Kind {
     pub width: usize,
     pub lead: usize,
@@ -18,7 +18,7 @@ pub struct Kind {
 }
 
 // What rows have given, summed: by the start of a step and by its end.
-#[derive(Drop)]
+#[derive(Clone, Copy)]
 struct Sums {
     start: u64,
     end: u64,

@@ -10,7 +10,7 @@ use native.Mathlib.Decide.{dec_le, ℕ_discrete}
 use native.Mathlib.Omega.{arith}
 use lib.Dec.{eqb, ltb}
 use lib.ListN.{get_or}
-use borrow.Author.Tests.{eq_eqb, ne_eqb, ltb-true}
+use borrow.Author.Tests.{eq-eqb, ne_eqb, ltb-true}
 use Rattle.reckon.specs.Tests.{pick}
 use Rattle.reckon.proofs.TestLaws.{pick_true, pick_false, pick_both}
 use Rattle.reckon.proofs.QuotientLaws.{div_mono}
@@ -102,7 +102,7 @@ module _ (r : Rules) (d k : ℕ) where
 
   least_nothing : (best : ℕ) {a : ℕ} → a ≡ 0 → least_from best (only a) ≡ best
   unfolding least_from
-  least_nothing best {a} e = ap (least_from best) (pick_true _ _ (eq_eqb a 0 e))
+  least_nothing best {a} e = ap (least_from best) (pick_true _ _ (eq-eqb a 0 e))
 
   -- of two the lesser that counts decides
   least_two : (best : ℕ) {a b : ℕ} → a ≤ most_drop → b ≤ most_drop → least_from best (only a ++ only b) ≡ least_from best (only (lesser_positive a b))
@@ -140,7 +140,7 @@ module _ (r : Rules) (d k : ℕ) where
   module _ (best : ℕ) (v : List ℕ) where
     pub shorter_dry : d ≡ 0 → least_from best (candidates_of r d k v) ≡ best
     unfolding candidates_of least_from
-    shorter_dry e = ap (least_from best) (pick_true _ _ (eq_eqb d 0 e))
+    shorter_dry e = ap (least_from best) (pick_true _ _ (eq-eqb d 0 e))
 
     module _ (wet : d ≡ 0 → ⊥) (o : DropsInRange v) where
       gentlest_decides : least_from best (candidates_of r d k v) ≡ least_from best (only (gentlest r v))

@@ -8,7 +8,7 @@ use native.Mathlib.Nat.{le_trans, suc-mul, add-mul, mul-one, mul-le-mul_left, mu
 use native.Mathlib.Numerals.{add-one}
 use native.Mathlib.Decide.{dec_le, ℕ_discrete}
 use native.Mathlib.Omega.{arith}
-use borrow.Author.Tests.{eq_eqb, ne_eqb}
+use borrow.Author.Tests.{eq-eqb, ne_eqb}
 use Rattle.reckon.proofs.TestLaws.{pick_true, pick_false}
 use Rattle.rule.specs.Bounds.{steps_over}
 use Rattle.rule.specs.Length.{fresh_length, is_update, length_at, duration_for}
@@ -176,7 +176,7 @@ module _ (r : Rules) where
       begins zero t e = absurd (omega (arith, l, t.there, t.left, add-mul multiple 0 U))
       begins (suc n) t e =
           let whole : U - clock % U ≡ U = omega (arith, e) in
-          rw (pick_true (fresh_length r cs) held (eq_eqb (clock % U) 0 e), whole)
+          rw (pick_true (fresh_length r cs) held (eq-eqb (clock % U) 0 e), whole)
           (span_begins o pos t (fresh_from r cs o.shortest_to) (fresh_to r cs o.shortest_to))
 
       go : Dec (rest ≡ 0) →

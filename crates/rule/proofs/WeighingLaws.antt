@@ -10,7 +10,7 @@ use native.Mathlib.Decide.{dec_le, ℕ_discrete}
 use native.Mathlib.Omega.{arith}
 use lib.Dec.{eqb, leb}
 use lib.ListN.{get_or}
-use borrow.Author.Tests.{eq_eqb, ne_eqb, leb-true, leb-false, le-leb, lt-leb}
+use borrow.Author.Tests.{eq-eqb, ne_eqb, leb-true, leb-false, le-leb, lt-leb}
 use Rattle.reckon.specs.Tests.{pick}
 use Rattle.reckon.specs.Numbers.{held_part}
 use Rattle.reckon.specs.Roots.{Root}
@@ -133,11 +133,11 @@ hold d m t v q pos le = omega (arith, held d m t v pos le (dec_le m d))
 
 pub positive_first : (b : ℕ) {a : ℕ} → a ≡ 0 → lesser_positive a b ≡ b
 unfolding lesser_positive
-positive_first b {a} e = pick_true _ _ (eq_eqb a 0 e)
+positive_first b {a} e = pick_true _ _ (eq-eqb a 0 e)
 
 pub positive_second : {a b : ℕ} → (a ≡ 0 → ⊥) → b ≡ 0 → lesser_positive a b ≡ a
 unfolding lesser_positive
-positive_second {a} {b} h e = pick_false _ _ (ne_eqb a 0 h) ∙ pick_true _ _ (eq_eqb b 0 e)
+positive_second {a} {b} h e = pick_false _ _ (ne_eqb a 0 h) ∙ pick_true _ _ (eq-eqb b 0 e)
 
 pub positive_both : {a b : ℕ} → (a ≡ 0 → ⊥) → (b ≡ 0 → ⊥) → lesser_positive a b ≡ min a b
 unfolding lesser_positive
@@ -182,7 +182,7 @@ by_twice most {sum} {steepest} pos e =
 module _ (r : Rules) (d p least : ℕ) where
   pub limit_third : r.edition ≡ unlimited_edition → d ≡ limit_of r d p least
   unfolding limit_of
-  limit_third third = sym (pick_true _ _ (eq_eqb _ _ third))
+  limit_third third = sym (pick_true _ _ (eq-eqb _ _ third))
 
   pub limit_other : {x : ℕ} → (r.edition ≡ unlimited_edition → ⊥) → x ≡ min d (least + p) → x ≡ limit_of r d p least
   unfolding limit_of
@@ -248,7 +248,7 @@ unfolding half_of
 half_share a g drop pos one = go (ℕ_discrete drop 0)
   where
     go : Dec (drop ≡ 0) → pick (eqb drop 0) 0 (a / 2) ≡ a * drop / (2 * g)
-    go (yes e) = pick_true _ _ (eq_eqb drop 0 e) ∙ sym (ap (λ (x : ℕ). a * x / (2 * g)) e ∙ none_through a (2 * g))
+    go (yes e) = pick_true _ _ (eq-eqb drop 0 e) ∙ sym (ap (λ (x : ℕ). a * x / (2 * g)) e ∙ none_through a (2 * g))
     go (no h) = pick_false _ _ (ne_eqb drop 0 h) ∙ sym (ap (λ (x : ℕ). a * x / (2 * g)) (one h) ∙ mul-div-mul_right a 2 pos)
 
 module _ (v : List ℕ) (one : four_of v ≡ greatest_drop v) where
@@ -289,11 +289,11 @@ none = 0 ∷ 0 ∷ 0 ∷ 0 ∷ []
 
 unless_dry : (d : ℕ) (v x : List ℕ) → d ≡ 0 → nothing_unless d v x ≡ none
 unfolding nothing_unless
-unless_dry d v x e = pick_true _ _ (rw (eq_eqb d 0 e))
+unless_dry d v x e = pick_true _ _ (rw (eq-eqb d 0 e))
 
 unless_flat : (d : ℕ) (v x : List ℕ) → (d ≡ 0 → ⊥) → greatest_drop v ≡ 0 → nothing_unless d v x ≡ none
 unfolding nothing_unless
-unless_flat d v x h e = pick_true _ _ (rw (ne_eqb d 0 h, eq_eqb (greatest_drop v) 0 e))
+unless_flat d v x h e = pick_true _ _ (rw (ne_eqb d 0 h, eq-eqb (greatest_drop v) 0 e))
 
 unless_wet : (d : ℕ) (v x : List ℕ) → (d ≡ 0 → ⊥) → (greatest_drop v ≡ 0 → ⊥) → nothing_unless d v x ≡ x
 unfolding nothing_unless
@@ -366,7 +366,7 @@ module _ (r : Rules) (d k ms : ℕ) where
 
   pub directed_zero : {drop : ℕ} → drop ≡ 0 → directed_amount r d k ms drop ≡ 0
   unfolding directed_amount
-  directed_zero {drop} e = pick_true _ _ (eq_eqb drop 0 e)
+  directed_zero {drop} e = pick_true _ _ (eq-eqb drop 0 e)
 
   pub directed_some : {drop x : ℕ} → (drop ≡ 0 → ⊥) → x ≡ min d (most_through r d k ms drop) → x ≡ directed_amount r d k ms drop
   unfolding directed_amount
@@ -451,7 +451,7 @@ module _ (r : Rules) (d k ms : ℕ) (v : List ℕ) where
 module _ (r : Rules) (d p k ms : ℕ) (v : List ℕ) where
   pub weighed_directed : r.edition ≡ directed_edition → weighed r d p k ms v ≡ directed_sides r d k ms v
   unfolding weighed
-  weighed_directed e = pick_true _ _ (eq_eqb _ _ e)
+  weighed_directed e = pick_true _ _ (eq-eqb _ _ e)
 
   -- the two that weigh by a total
   pub weighed_total : (r.edition ≡ directed_edition → ⊥) → weighed r d p k ms v ≡ nothing_unless d v (through_sides (total_by r d p k ms v) v)
@@ -470,7 +470,7 @@ module _ (r : Rules) (d p k ms : ℕ) (v : List ℕ) where
   pub weighed_unlimited : r.edition ≡ unlimited_edition → weighed r d p k ms v ≡ unlimited_sides r d k ms v
   unfolding weighed
   weighed_unlimited e =
-      pick_false _ _ (ne_eqb r.edition directed_edition (λ (h : r.edition ≡ directed_edition). omega (arith, e, h))) ∙ pick_true _ _ (eq_eqb _ _ e)
+      pick_false _ _ (ne_eqb r.edition directed_edition (λ (h : r.edition ≡ directed_edition). omega (arith, e, h))) ∙ pick_true _ _ (eq-eqb _ _ e)
 
   -- ---- the cases as the code has them
 

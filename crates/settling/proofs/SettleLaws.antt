@@ -1,6 +1,6 @@
 -- Laws of settling: a square's new depth is the world's, whatever else the world holds; 8 comes before 9, and 9 before 15; and parts written make a world.
 -- Assumes nothing.
-use Rattle.std.proofs.Common.{◌≡◌, ℕ, ◌+◌, ◌<◌, ◌≤◌, Bool, true, false, List, length, sym, refl, ap, ◌∙◌, arith, eq_eqb, ne_eqb}
+use Rattle.std.proofs.Common.{◌≡◌, ℕ, ◌+◌, ◌<◌, ◌≤◌, Bool, true, false, List, length, sym, refl, ap, ◌∙◌, arith, eq-eqb, ne_eqb}
 use Rattle.reckon.specs.Tests.{refusal}
 use Rattle.reckon.specs.Lists.{filled, placed}
 use Rattle.reckon.proofs.TestLaws.{pick_true, pick_false}
@@ -56,7 +56,7 @@ module _ (p : Plan) (rec : List ℕ) (held : ℕ) (w : World) where
   unfolding settled
   settles_made e z q =
       let none : settle_number p rec held w ≡ 0 = sym e ∙ z in
-      record { number = sym none; world_is = q ∙ sym (pick_true _ _ (eq_eqb _ 0 none)) }
+      record { number = sym none; world_is = q ∙ sym (pick_true _ _ (eq-eqb _ 0 none)) }
 
   pub outflow_by : {off : ℕ} → off ≡ off_grid p (leaves_in rec) → w.run.outflow + off ≡ new_outflow p (moves_in rec held) w
   unfolding new_outflow

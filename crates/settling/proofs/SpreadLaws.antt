@@ -1,6 +1,6 @@
 -- Laws of spreading: what the squares so far have sent to a square and what remains of it; one square more, worked or not; and all of them.
 -- Assumes nothing.
-use Rattle.std.proofs.Common.{◌≡◌, ℕ, zero, suc, ◌+◌, ◌-◌, ◌*◌, ◌%◌, ◌^◌, ◌<◌, ◌≤◌, Bool, true, false, eqb, ltb, List, length, get_or, set, sym, refl, ap, ◌∙◌, subst, arith, length-set, get_or-set_other, get_or-set_same, le-ltb, lt-ltb, eq_eqb, ne_eqb}
+use Rattle.std.proofs.Common.{◌≡◌, ℕ, zero, suc, ◌+◌, ◌-◌, ◌*◌, ◌%◌, ◌^◌, ◌<◌, ◌≤◌, Bool, true, false, eqb, ltb, List, length, get_or, set, sym, refl, ap, ◌∙◌, subst, arith, length-set, get_or-set_other, get_or-set_same, le-ltb, lt-ltb, eq-eqb, ne_eqb}
 use native.Mathlib.Decide.{dec_lt, ℕ_discrete}
 use Rattle.reckon.specs.Tests.{pick}
 use Rattle.reckon.specs.Ranges.{most_depth}
@@ -50,7 +50,7 @@ one_more_below b n x = go (dec_lt b n) (ℕ_discrete b n)
           arith,
           pick_true x 0 (lt-ltb b (n + 1) (omega arith)),
           pick_false x 0 (le-ltb b n (omega arith)),
-          pick_true x 0 (eq_eqb b n e),
+          pick_true x 0 (eq-eqb b n e),
         )
     go (no l) (no d) =
         omega (
@@ -105,7 +105,7 @@ module _ (p : Plan) (out : Leaves) where
         sent_nothing false e = pick_false _ _ e ∙ omega (arith, side_part out n side' (opposite_small side), none e)
 
         go : Dec (beside p.shape i side ≡ n) → from_it n i side ≡ 0
-        go (yes e) = pick_true _ _ (eq_eqb (beside p.shape i side) n e) ∙ (ap (λ (j : ℕ). pick (shut p j) 0 (out j side')) e ∙ sent_nothing (shut p n) refl)
+        go (yes e) = pick_true _ _ (eq-eqb (beside p.shape i side) n e) ∙ (ap (λ (j : ℕ). pick (shut p j) 0 (out j side')) e ∙ sent_nothing (shut p n) refl)
         go (no d) = pick_false _ _ (ne_eqb (beside p.shape i side) n d)
 
     pub came_same : (i : ℕ) → came_below p out (n + 1) i ≡ came_below p out n i
@@ -126,9 +126,9 @@ module _ (p : Plan) (out : Leaves) where
         go (yes e) =
             let back : beside s n (opposite side) ≡ i =
             ap (λ (j : ℕ). beside s j (opposite side)) (sym e) ∙ there_and_back s h side k (omega (arith, e, inside)) in
-            pick_true _ _ (eq_eqb (beside p.shape i side) n e)
+            pick_true _ _ (eq-eqb (beside p.shape i side) n e)
             ∙ (ap (λ (j : ℕ). pick (shut p j) 0 (out j (opposite side))) e
-            ∙ (pick_false _ _ o ∙ sym (pick_true _ _ (eq_eqb (beside s n (opposite side)) i back))))
+            ∙ (pick_false _ _ o ∙ sym (pick_true _ _ (eq-eqb (beside s n (opposite side)) i back))))
         go (no d) =
             let forth : beside s n (opposite side) ≡ i → ⊥ =
             λ z.
@@ -266,7 +266,7 @@ module _ (p : Plan) (rec : List ℕ) (n side : ℕ) where
           here
           ∙ (whole
           ∙ (ap (λ (j : ℕ). get_or old j 0 + amount) (sym z)
-          ∙ ap (λ (k : ℕ). get_or old i 0 + k) (q ∙ sym (pick_true _ _ (eq_eqb (beside p.shape n side) i (sym e ∙ sym z))))))
+          ∙ ap (λ (k : ℕ). get_or old i 0 + k) (q ∙ sym (pick_true _ _ (eq-eqb (beside p.shape n side) i (sym e ∙ sym z))))))
       go i k o (no z) =
           let other : get_or new i 0 ≡ get_or old i 0 = ap (λ (l : List ℕ). get_or l i 0) w ∙ get_or-set_other old at i v 0 z in
           omega (arith, other, pick_false (leaves_in rec n side) 0 (ne_eqb (beside p.shape n side) i (λ y. z (sym y ∙ sym e))))

@@ -1,7 +1,7 @@
 -- Laws of steps that surely settle: no number of a list is more than all of them joined, so that no new depth is too much, nor what leaves
 -- the grid, nor what soaks; and a record stored where it stands changes nothing.
 -- Assumes nothing.
-use Rattle.std.proofs.Common.{◌≡◌, ℕ, zero, suc, ◌+◌, ◌-◌, ◌*◌, ◌<◌, ◌≤◌, Bool, true, false, leb, List, [], ◌∷◌, ◌++◌, length, get_or, take, drop, sym, refl, ap, ◌∙◌, subst, mul-le-mul_right, add-one, arith, length-drop, take-append-drop, length-take-le, eq_eqb, ne_eqb, le-leb, leb-true}
+use Rattle.std.proofs.Common.{◌≡◌, ℕ, zero, suc, ◌+◌, ◌-◌, ◌*◌, ◌<◌, ◌≤◌, Bool, true, false, leb, List, [], ◌∷◌, ◌++◌, length, get_or, take, drop, sym, refl, ap, ◌∙◌, subst, mul-le-mul_right, add-one, arith, length-drop, take-append-drop, length-take-le, eq-eqb, ne_eqb, le-leb, leb-true}
 use native.Mathlib.Decide.{dec_lt, ℕ_discrete}
 use lib.Bits.{bit_or, or_add_and, and_le_l, and_le_r}
 use lib.ListN.{get_or-eq_default}
@@ -285,8 +285,8 @@ module _ {p : Plan} {w : World} {rec : List ℕ} {held : ℕ} (s : Settles p rec
       unfolding settled
       stored_made z =
           there.world_is
-          ∙ (pick_true _ _ (eq_eqb (settle_number p rec held stored) 0 (sym there.number ∙ z))
-          ∙ (world_same ∙ sym (pick_true _ _ (eq_eqb (settle_number p rec held w) 0 (sym stored_number ∙ z)))))
+          ∙ (pick_true _ _ (eq-eqb (settle_number p rec held stored) 0 (sym there.number ∙ z))
+          ∙ (world_same ∙ sym (pick_true _ _ (eq-eqb (settle_number p rec held w) 0 (sym stored_number ∙ z)))))
 
       pub stored_left : (n ≡ 0 → ⊥) → after ≡ stored
       unfolding settled

@@ -14,7 +14,7 @@ use ledger::runs::Run;
 use reckon::ranges::{MOST_DEPTH, MOST_OUTFLOW, MOST_SOAKED};
 
 // The refusal's number, 0 for none, and the run afterwards.
-#[derive(Drop)]
+#[derive(Clone, Copy)]
 pub struct Settled {
     pub refused: u32,
     pub run: Run,

@@ -18,7 +18,7 @@ use reckon::numbers::number;
 use std::num::wrapping_add_u32;
 
 // What leaves the grid, and what soaks.
-#[derive(Drop)]
+#[derive(Clone, Copy)]
 pub(crate) struct Lost {
     pub(crate) off: u64,
     pub(crate) soaked: u64,

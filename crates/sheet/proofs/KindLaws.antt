@@ -6,7 +6,7 @@ use mathlib.Core.List.{List, [], ◌∷◌, ◌++◌, append_assoc}
 use Prim.Native.Nat.{ℕ, ◌+◌, ◌≤◌, ◌<◌}
 use native.Mathlib.Omega.{arith}
 use lib.ListN.{length, get_or, drop, take, length-append, length-drop}
-use borrow.Author.Tests.{eq_eqb, ne_eqb}
+use borrow.Author.Tests.{eq-eqb, ne_eqb}
 use Rattle.reckon.specs.Tests.{pick}
 use Rattle.reckon.proofs.TestLaws.{not_both, pick_true, pick_false}
 use Rattle.text.specs.Reading.{tab, newline, most_fields, is_byte, word_at, fields_at, rest_of_line, next_line, LineOf}
@@ -175,10 +175,10 @@ module _ {f g : Fields} (s : List ℕ) (row column : ℕ) (e : f ≡ g) where
       unfolding placed_cell
       place_column d =
           subst (λ (k : Fields). placed_cell s row column k ≡ no_cell) e
-          (pick_true _ _ t ∙ (pick_true _ _ (eq_eqb _ _ h) ∙ pick_false _ _ (ne_eqb _ _ d)))
+          (pick_true _ _ t ∙ (pick_true _ _ (eq-eqb _ _ h) ∙ pick_false _ _ (ne_eqb _ _ d)))
 
       pub place_right : get_or f.values 1 0 ≡ column → placed_cell s row column g ≡ marked_cell s f.next
       unfolding placed_cell
       place_right k =
           subst (λ (z : Fields). placed_cell s row column z ≡ marked_cell s f.next) e
-          (pick_true _ _ t ∙ (pick_true _ _ (eq_eqb _ _ h) ∙ pick_true _ _ (eq_eqb _ _ k)))
+          (pick_true _ _ t ∙ (pick_true _ _ (eq-eqb _ _ h) ∙ pick_true _ _ (eq-eqb _ _ k)))

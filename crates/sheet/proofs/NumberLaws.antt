@@ -7,7 +7,7 @@ use mathlib.Core.List.{List, [], ◌∷◌}
 use Prim.Native.Nat.{ℕ}
 use native.Mathlib.Omega.{arith}
 use lib.ListN.{length, replicate, length-replicate}
-use borrow.Author.Tests.{eq_eqb, le-leb, leb-true}
+use borrow.Author.Tests.{eq-eqb, le-leb, leb-true}
 use Rattle.reckon.specs.Tests.{pick, every, ◌unless◌, refusal}
 use Rattle.reckon.specs.Ranges.{last_clock, most_outflow, most_soaked, side_fine}
 use Rattle.reckon.proofs.TestLaws.{not_both, every_each, each_every}
@@ -51,7 +51,7 @@ table_six true true true true true true h q = absurd (omega (arith, q))
 module _ (s : List ℕ) (lent : Rooms) (f : rooms_fine (shape_of s) (line_one s).side lent ≡ true) where
   room-fine : (l : List ℕ) → length l ≡ squares (shape_of s) → one_each (plan_in (shape_of s) (line_two s).rules (said s)) l ≡ true
   unfolding one_each
-  room-fine l e = eq_eqb _ _ e
+  room-fine l e = eq-eqb _ _ e
 
   zeros : length (replicate {A = ℕ} (squares (shape_of s)) 0) ≡ squares (shape_of s)
   zeros = length-replicate (squares (shape_of s)) 0

@@ -6,7 +6,7 @@ use mathlib.Core.List.{List}
 use Prim.Native.Nat.{ℕ, ◌-◌, ◌≤◌}
 use native.Mathlib.Omega.{arith}
 use lib.ListN.{length, get_or}
-use borrow.Author.Tests.{eq_eqb, le-leb, lt-ltb}
+use borrow.Author.Tests.{eq-eqb, le-leb, lt-ltb}
 use Rattle.reckon.specs.Tests.{refusal}
 use Rattle.reckon.specs.Ranges.{most_depth, last_clock, most_outflow, most_soaked, water_fine}
 use Rattle.reckon.proofs.TestLaws.{or_right, or_of, every_each, each_every, all_at, all_of, refusal_passed, passed_refusal}
@@ -80,8 +80,8 @@ run_passes shape r held end e beds roughness rates depths lasts records g =
           (
             lent.1.1.0,
             (
-              eq_eqb _ _ g.beds_long,
-              (eq_eqb _ _ g.roughness_long, (eq_eqb _ _ g.rates_long, (eq_eqb _ _ g.depths_long, (eq_eqb _ _ g.lasts_long, tt)))),
+              eq-eqb _ _ g.beds_long,
+              (eq-eqb _ _ g.roughness_long, (eq-eqb _ _ g.rates_long, (eq-eqb _ _ g.depths_long, (eq-eqb _ _ g.lasts_long, tt)))),
             ),
           ),
         ),

@@ -14,7 +14,7 @@ const OPEN: u8 = 1;
 const EXIT: u8 = 2;
 
 // Line 1: the shape and the side D.
-#[derive(Drop)]
+#[derive(Clone, Copy)]
 pub struct GridLine {
     pub found: bool,
     pub shape: Shape,
@@ -23,7 +23,7 @@ pub struct GridLine {
 }
 
 // Line 2: all of the rules, and the end of the run.
-#[derive(Drop)]
+#[derive(Clone, Copy)]
 pub struct RunLine {
     pub found: bool,
     pub rules: Rules,
@@ -32,7 +32,7 @@ pub struct RunLine {
 }
 
 // A square's line. A closed square has no bed, roughness, depth or soak rate: 0 stands for each.
-#[derive(Drop)]
+#[derive(Clone, Copy)]
 pub struct CellLine {
     pub found: bool,
     pub mark: u8,

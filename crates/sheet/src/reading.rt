@@ -19,7 +19,7 @@ use reckon::tables::{INFLOW_ROOM, INFLOW_WIDTH, RAIN_ROOM, RAIN_WIDTH};
 use rule::rules::Rules;
 
 // What a sheet's first two lines say, and how many rows its tables have. The end is in ms.
-#[derive(Drop)]
+#[derive(Clone, Copy)]
 pub struct Heading {
     pub shape: Shape,
     pub rules: Rules,
@@ -29,7 +29,7 @@ pub struct Heading {
 }
 
 // A sheet that was read, or a refusal's number and line (0 unless the number is 12).
-#[derive(Drop)]
+#[derive(Clone, Copy)]
 pub enum Sheet {
     Read(Heading),
     Refused(u32, usize),
@@ -47,7 +47,7 @@ const FIRST_CELL_LINE: usize = 3;
 
 // What the text after line 1 says: the number of the first line that cannot be read, 0 for none; rules and end; where the cell lines and
 // the tables start, and how many rows they have.
-#[derive(Drop)]
+#[derive(Clone, Copy)]
 pub(crate) struct Body {
     pub(crate) bad: usize,
     pub(crate) rules: Rules,
@@ -60,7 +60,7 @@ pub(crate) struct Body {
 }
 
 // The lengths of the lent rooms.
-#[derive(Drop)]
+#[derive(Clone, Copy)]
 pub(crate) struct Sizes {
     pub(crate) marks: usize,
     pub(crate) beds: usize,
@@ -259,7 +259,7 @@ fn judge_body(
 }
 
 // The number and the line of a refusal, 0 for none, and what the text after line 1 says.
-#[derive(Drop)]
+#[derive(Clone, Copy)]
 pub(crate) struct Verdict {
     pub(crate) number: u32,
     pub(crate) line: usize,

@@ -14,7 +14,7 @@ use reckon::copying::copy_into;
 use text::reading::line_of;
 
 // How many lines were read, and where the line after them starts.
-#[derive(Drop)]
+#[derive(Clone, Copy)]
 pub struct Scan {
     pub count: usize,
     pub next: usize,

@@ -11,7 +11,7 @@ use lib.Dec.{eqb, leb}
 use lib.Ieee.{Float}
 use lib.ListN.{length, get_or, set, length-set}
 use lib.Seq.{get_or-set_same, get_or-set_other, ext_get_or}
-use borrow.Author.Tests.{eq_eqb, ne_eqb, lt-ltb, eqb-true}
+use borrow.Author.Tests.{eq-eqb, ne_eqb, lt-ltb, eqb-true}
 use Rattle.reckon.specs.Tests.{every, refusal}
 use Rattle.reckon.specs.Ranges.{most_side}
 use Rattle.reckon.proofs.TestLaws.{pick_true, pick_false, every_each, refusal_here, refusal_later}
@@ -186,5 +186,5 @@ module _ (p : Plan) (D : ℕ) (w : World) where
               let number : 0 ≡ all_number p D w old = number_none p D w 0 0 e z r t c ∙ sym let_in in
               record {
                 number_is = number;
-                rooms_are = q ∙ (laid_ext (squares p.shape) _ (seen_square p D w) (as_arrow c s) ∙ sym (pick_true _ _ (eq_eqb _ 0 (sym number))));
+                rooms_are = q ∙ (laid_ext (squares p.shape) _ (seen_square p D w) (as_arrow c s) ∙ sym (pick_true _ _ (eq-eqb _ 0 (sym number))));
               }

@@ -8,7 +8,7 @@ use native.Mathlib.Omega.{arith}
 use lib.Dec.{eqb}
 use lib.ListN.{length, get_or, take, drop, length-drop}
 use lib.Seq.{length-take-le}
-use borrow.Author.Tests.{eq_eqb, ne_eqb, le-ltb, lt-ltb, ltb-true, leb-true}
+use borrow.Author.Tests.{eq-eqb, ne_eqb, le-ltb, lt-ltb, ltb-true, leb-true}
 use Rattle.reckon.specs.Tests.{every, refusal}
 use Rattle.reckon.specs.Ranges.{most_depth, most_side}
 use Rattle.reckon.proofs.TestLaws.{pick_true, pick_false, and_both, and_false, every_each, refusal_here, refusal_later, refusal-first, refusal-second, refusal_both, refusal_passed, passed_refusal}
@@ -193,7 +193,7 @@ module _ (p : Plan) (D : ℕ) (depths rec : List ℕ) (i : ℕ) where
   module _ (o : shut p i ≡ false) {own : ℕ} (d : own ≡ get_or depths i 0) where
     pub seen-dry : own ≡ 0 → Dry ≡ seen_by 0 p D depths rec i
     unfolding seen_by
-    seen-dry e = sighted-dry _ _ o (eq_eqb _ _ (sym d ∙ e))
+    seen-dry e = sighted-dry _ _ o (eq-eqb _ _ (sym d ∙ e))
 
     module _ (some : own ≡ 0 → ⊥) {n e s w : Through}
         (ns : Sided p depths rec i north n) (es : Sided p depths rec i east e) (ss : Sided p depths rec i south s) (ws : Sided p depths rec i west w)
@@ -240,7 +240,7 @@ module _ (p : Plan) (D : ℕ) (w : World) (row column : ℕ) {asked : Bool} {sha
     pub early_kept : fine ≡ true → w.run.kept ≡ 0 → 10 ≡ refusal (arrow_early_refusals p D w row column)
     unfolding arrow_early_refusals shared_refusals
     early_kept b k =
-        sym (refusal-second _ _ tt (sym whole ∙ e) ∙ (refusal_later 6 _ (sym f ∙ b) ∙ refusal_here 10 _ (ap not (eq_eqb _ _ k))))
+        sym (refusal-second _ _ tt (sym whole ∙ e) ∙ (refusal_later 6 _ (sym f ∙ b) ∙ refusal_here 10 _ (ap not (eq-eqb _ _ k))))
 
     pub early_none : fine ≡ true → (w.run.kept ≡ 0 → ⊥) → 0 ≡ refusal (arrow_early_refusals p D w row column)
     unfolding arrow_early_refusals shared_refusals

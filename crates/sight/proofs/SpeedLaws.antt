@@ -13,7 +13,7 @@ use lib.Ieee.Exact.{HasValue}
 use lib.Ieee.Back.{round_whole}
 use lib.Ieee.Fits.{up_pos, down_pos}
 use lib.Ieee.Scale.{round_same}
-use borrow.Author.Tests.{eq_eqb, ne_eqb, lt-ltb, le-ltb}
+use borrow.Author.Tests.{eq-eqb, ne_eqb, lt-ltb, le-ltb}
 use Rattle.reckon.proofs.TestLaws.{pick_true, pick_false}
 use Rattle.sight.specs.Speeds.{zero64, quotient_of, pace, side_speed, arrow_of}
 use Rattle.sight.specs.Inner.Arrows.{Ranged}
@@ -79,7 +79,7 @@ module _ {D lasted : ℕ} {t : Through} (r : Ranged D lasted t) where
 module _ (D lasted : ℕ) (t : Through) where
   pub speed_none : t.out ≡ t.back → side_speed D lasted t ≡ zero64
   unfolding side_speed
-  speed_none e = pick_true _ _ (eq_eqb _ _ e)
+  speed_none e = pick_true _ _ (eq-eqb _ _ e)
 
   pub speed_out : (t.out ≡ t.back → ⊥) → t.back < t.out → side_speed D lasted t ≡ pace D lasted (t.out - t.back) t.deep
   unfolding side_speed

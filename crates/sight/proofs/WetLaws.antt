@@ -6,7 +6,7 @@ use Prim.Native.Nat.{ℕ, zero, suc, ◌≤◌, ◌<◌}
 use lib.Count.{ones}
 use lib.Dec.{eqb}
 use lib.ListN.{length, get_or}
-use borrow.Author.Tests.{eq_eqb, ne_eqb, le-leb, lt-leb, eqb-true}
+use borrow.Author.Tests.{eq-eqb, ne_eqb, le-leb, lt-leb, eqb-true}
 use Rattle.reckon.specs.Tests.{refusal}
 use Rattle.reckon.specs.Lists.{tabulate, sum_below}
 use Rattle.reckon.specs.Ranges.{most_depth}
@@ -77,7 +77,7 @@ module _ (p : Plan) (depths : List ℕ) (least : ℕ) (old : List ℕ) {n : ℕ}
   wet_counted {rows} {count} z m c =
       record {
         answer = rw (sym e ∙ z) (ap Count (c ∙ ap ones_over m));
-        rows_are = m ∙ sym (pick_true _ _ (eq_eqb _ 0 (sym e ∙ z)));
+        rows_are = m ∙ sym (pick_true _ _ (eq-eqb _ 0 (sym e ∙ z)));
       }
 
   pub wet_lent : n ≡ 0 → RowsLent p.shape p.marks depths old

@@ -17,7 +17,7 @@ use ledger::runs::{Run, run_fine};
 use reckon::numbers::number;
 use reckon::ranges::MOST_SIDE;
 
-#[derive(Drop)]
+#[derive(Clone, Copy)]
 pub enum Sight {
     Closed,
     Dry,

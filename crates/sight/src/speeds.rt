@@ -5,14 +5,14 @@ ghost use Rattle.sight.specs.Speeds.{arrow_of, quotient_of, side_speed};
 ghost use Rattle.sight.specs.Inner.Arrows.{Ranged};
 
 // The speed towards the east and towards the north, in m/s.
-#[derive(Drop)]
+#[derive(Clone, Copy)]
 pub struct Arrow {
     pub east: f64,
     pub north: f64,
 }
 
 // What a side's speed goes by: what left through it, what the neighbour sent back, and both depths together, in µm.
-#[derive(Drop)]
+#[derive(Clone, Copy)]
 pub(crate) struct Through {
     pub(crate) out: u64,
     pub(crate) back: u64,

@@ -10,7 +10,7 @@ use grid::masks::{mask_rows, ones};
 use grid::squares::Shape;
 use reckon::ranges::MOST_DEPTH;
 
-#[derive(Drop)]
+#[derive(Clone, Copy)]
 pub enum Wet {
     Count(u64),
     Refused(u32),

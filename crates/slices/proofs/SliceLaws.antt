@@ -8,7 +8,7 @@ use native.Mathlib.Nat.{mul-mod_left, mul-le-mul_right, div-mul-le_self, div-add
 use native.Mathlib.Decide.{dec_lt}
 use native.Mathlib.Omega.{arith}
 use lib.Dec.{ltb}
-use borrow.Author.Tests.{eq_eqb, le-leb}
+use borrow.Author.Tests.{eq-eqb, le-leb}
 use Rattle.reckon.specs.Tests.{refusal}
 use Rattle.reckon.specs.Ranges.{last_clock}
 use Rattle.reckon.proofs.TestLaws.{pick_both, each_every, refusal_passed, passed_refusal}
@@ -126,7 +126,7 @@ module _ (p : Plan) (g : Given) (end : ℕ) (w : World) (passed : refusal (run_c
   unfolding end_fine
   passes_at done h =
       passes_for p g (done * U) end w passed
-      (each_every _ (le-leb (done * U) last_clock (omega (arith, within done h, good_end.0)), (eq_eqb _ _ (mul-mod_left done U), tt)))
+      (each_every _ (le-leb (done * U) last_clock (omega (arith, within done h, good_end.0)), (eq-eqb _ _ (mul-mod_left done U), tt)))
 
   pub come_first : Come p g end w 0 0 w
   come_first =

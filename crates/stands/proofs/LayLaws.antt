@@ -5,7 +5,7 @@ use mathlib.Core.List.{List}
 use Prim.Native.Nat.{ℕ, zero, suc, ◌+◌, ◌≤◌, ◌<◌}
 use native.Mathlib.Omega.{arith}
 use lib.ListN.{length}
-use borrow.Author.Tests.{eq_eqb, ne_eqb, le-leb, lt-leb}
+use borrow.Author.Tests.{eq-eqb, ne_eqb, le-leb, lt-leb}
 use Rattle.reckon.specs.Lists.{filled}
 use Rattle.reckon.proofs.TestLaws.{every_fails, each_every, refusal_here, refusal_later, passed_refusal}
 use Rattle.grid.specs.Squares.{squares}
@@ -55,7 +55,7 @@ module _ {s : List ℕ} {a : Head} {n : Named} (k : NamedRead s a n) where
       unfolding bad_after
       bad_square l =
           sym
-          (refusal_later _ _ (eq_eqb a.bad 0 z)
+          (refusal_later _ _ (eq-eqb a.bad 0 z)
           ∙ (refusal_here _ _ (every_fails _ 0 (lt-leb (squares p.shape) (squares_read s n.next p.marks (squares p.shape)) (omega (arith, c.count_is))))
           ∙ ap (λ (x : ℕ). sixth + n.lines + x) same_lines))
           ∙ as_read
@@ -64,7 +64,7 @@ module _ {s : List ℕ} {a : Head} {n : Named} (k : NamedRead s a n) where
       unfolding bad_after
       bad_rest l =
           sym
-          (refusal_later _ _ (eq_eqb a.bad 0 z)
+          (refusal_later _ _ (eq-eqb a.bad 0 z)
           ∙ (refusal_here _ _ (every_fails _ 1 (lt-leb (length s) (start_from s n.next p.marks (squares_read s n.next p.marks (squares p.shape))) (omega (arith, same_start))))
           ∙ ap (λ (x : ℕ). sixth + n.lines + x) same_lines))
           ∙ as_read
@@ -74,7 +74,7 @@ module _ {s : List ℕ} {a : Head} {n : Named} (k : NamedRead s a n) where
       bad_none h g =
           sym
           (passed_refusal _ (
-            eq_eqb a.bad 0 z,
+            eq-eqb a.bad 0 z,
             (
               each_every _ (
                 le-leb (squares p.shape) (squares_read s n.next p.marks (squares p.shape)) (omega (arith, c.count_is)),

@@ -7,7 +7,7 @@ use Prim.Native.Nat.{ℕ, zero, suc, ◌+◌, ◌≤◌}
 use native.Mathlib.Numerals.{add-one}
 use native.Mathlib.Omega.{arith}
 use lib.ListN.{get_or}
-use borrow.Author.Tests.{eq_eqb, ne_eqb}
+use borrow.Author.Tests.{eq-eqb, ne_eqb}
 use Rattle.reckon.proofs.TestLaws.{pick_true, pick_false, pick_both}
 use Rattle.text.specs.Reading.{line_of}
 use Rattle.text.specs.declared.reading.Fields.{Fields}
@@ -31,7 +31,7 @@ module _ (s : List ℕ) (n : Named) (h : ℕ) {f : Fields} (e : f ≡ line_of s 
 
     pub hatch_here : get_or f.values 0 0 ≡ h + 1 → hatch_added n h f ≡ with_hatch s n h
     unfolding if_hatch
-    hatch_here d = sym (by_fields ∙ (pick_true _ _ t ∙ pick_true _ _ (eq_eqb _ _ d)))
+    hatch_here d = sym (by_fields ∙ (pick_true _ _ t ∙ pick_true _ _ (eq-eqb _ _ d)))
 
 -- ---- all places
 

@@ -9,7 +9,7 @@ use native.Mathlib.Numerals.{add-one}
 use native.Mathlib.Omega.{arith}
 use lib.ListN.{length, get_or, set}
 use borrow.Author.Count.{below_more}
-use borrow.Author.Tests.{eq_eqb, ne_eqb}
+use borrow.Author.Tests.{eq-eqb, ne_eqb}
 use Rattle.reckon.specs.Tests.{pick, all_below}
 use Rattle.reckon.specs.Lists.{tabulate, filled}
 use Rattle.reckon.specs.Ranges.{water_fine}
@@ -52,7 +52,7 @@ module _ (s : List ℕ) (q : ℕ) (marks : List ℕ) (i : ℕ) where
           get_or f.values 0 0 ≡ i →
           record { found = true; depth = get_or f.values 1 0; last = get_or f.values 2 0; lines = 1; next = f.next } ≡ square_line s q marks i
       unfolding as_square
-      square_here d = sym (by_fields ∙ (pick_true _ _ t ∙ pick_true _ _ (eq_eqb _ _ d)))
+      square_here d = sym (by_fields ∙ (pick_true _ _ t ∙ pick_true _ _ (eq-eqb _ _ d)))
 
   pub one_line : (square_line s q marks i).lines ≤ 1
   unfolding square_line closed_square as_square no_square

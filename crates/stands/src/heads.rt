@@ -8,7 +8,7 @@ use crate::saved::HALF;
 use text::reading::line_of;
 
 // The first line: steps, clock, length, and whether hatches may still be named.
-#[derive(Drop)]
+#[derive(Clone, Copy)]
 pub(crate) struct StandLine {
     pub(crate) found: bool,
     pub(crate) steps: u64,
@@ -19,7 +19,7 @@ pub(crate) struct StandLine {
 }
 
 // A line of one number of 64 bits.
-#[derive(Drop)]
+#[derive(Clone, Copy)]
 pub(crate) struct TotalLine {
     pub(crate) found: bool,
     pub(crate) value: u64,
@@ -27,7 +27,7 @@ pub(crate) struct TotalLine {
 }
 
 // What the lines before the hatches say; the number of the first that cannot be read, 0 for none.
-#[derive(Drop)]
+#[derive(Clone, Copy)]
 pub(crate) struct Head {
     pub(crate) bad: usize,
     pub(crate) steps: u64,

@@ -64,7 +64,7 @@ fn bad_line(text: &[u8], head: Head, named: Named, shape: Shape, marks: &[u8]) -
 }
 
 // What a text gives, and where its squares' lines start.
-#[derive(Drop)]
+#[derive(Clone, Copy)]
 pub(crate) struct Verdict {
     pub(crate) laid: Laid,
     pub(crate) squares_at: usize,

@@ -7,7 +7,7 @@ use hatches::log::{Hatches, MOST_HATCHES};
 use text::reading::line_of;
 
 // The hatches named, the litres that each runs at, how many lines they have, and where the line after them starts.
-#[derive(Drop)]
+#[derive(Clone, Copy)]
 pub(crate) struct Named {
     pub(crate) hatches: Hatches,
     pub(crate) litres: [u32; 9],

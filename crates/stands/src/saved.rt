@@ -2,7 +2,7 @@
 use hatches::log::Log;
 
 // The log's value, the water that it started with and what tables and hatches gave since.
-#[derive(Drop)]
+#[derive(Clone, Copy)]
 pub struct Saved {
     pub log: Log,
     pub start: u64,
@@ -11,7 +11,7 @@ pub struct Saved {
 
 // What a text of a state gives: a refusal's number, 0 for none, and line (0 unless the number is 12); and the state, which counts where
 // nothing is refused.
-#[derive(Drop)]
+#[derive(Clone, Copy)]
 pub struct Laid {
     pub number: u32,
     pub line: usize,

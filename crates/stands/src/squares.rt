@@ -15,7 +15,7 @@ use reckon::ranges::water_fine;
 use text::reading::line_of;
 
 // A square's line: its depth and last leaving, how many lines it has (a closed square none), and where the next one starts.
-#[derive(Drop)]
+#[derive(Clone, Copy)]
 pub(crate) struct SquareLine {
     pub(crate) found: bool,
     pub(crate) depth: u32,
@@ -25,7 +25,7 @@ pub(crate) struct SquareLine {
 }
 
 // How many squares were passed before the first whose line cannot be read, how many lines they have, and where the line after them starts.
-#[derive(Drop)]
+#[derive(Clone, Copy)]
 pub(crate) struct Scan {
     pub(crate) count: usize,
     pub(crate) lines: usize,

@@ -9,7 +9,7 @@ use native.Mathlib.Omega.{arith}
 use lib.Dec.{eqb, ltb}
 use lib.ListN.{length, take, replicate, length-replicate, get_or-eq_default}
 use lib.Seq.{get_or-take, length-take-le}
-use borrow.Author.Tests.{eq_eqb, ne_eqb, eqb-true, leb-true, ltb-true}
+use borrow.Author.Tests.{eq-eqb, ne_eqb, eqb-true, leb-true, ltb-true}
 use Rattle.reckon.specs.Tests.{pick, every}
 use Rattle.reckon.specs.Lists.{tabulate, filled, placed}
 use Rattle.reckon.specs.Ranges.{side_fine, most_table_rows}
@@ -290,7 +290,7 @@ module _ (t : Set) (good : SetGood t) where
         none_at i l true c g z =
             entry_closed k grid (place_from k grid (head_of grid).next (head_of grid).shape.columns i) (last_in_row (head_of grid).shape.columns i) c
         none_at i l false c g z =
-            not_both (sym (pick_false _ _ c) ∙ g) (ap not (eq_eqb _ 0 z))
+            not_both (sym (pick_false _ _ c) ∙ g) (ap not (eq-eqb _ 0 z))
 
     pub says_writable : Writable (heading_of s) (set_says t)
     unfolding set_says heading_of
@@ -338,7 +338,7 @@ module _ (t : Set) (good : SetGood t) where
         judged_text (looked_heading (heading_of s)) (looked_says t) ≡ moved_back t (judged 0 number (heading_of s))
     unfolding judged_text moved_back judged looked_heading heading_of
     by_number zero e =
-        pick_true _ _ (eq_eqb _ 0 (checks_same ∙ e))
+        pick_true _ _ (eq-eqb _ 0 (checks_same ∙ e))
         ∙ ap₂ (λ (g : Heading) (r : Rooms). moved (sheet_written g r)) (heading_same e) (says_same e)
     by_number (suc number) e =
         pick_false _ _ (ne_eqb _ 0 (λ z. omega (arith, sym (checks_same ∙ e) ∙ z)))

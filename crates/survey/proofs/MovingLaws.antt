@@ -8,7 +8,7 @@ use native.Mathlib.Omega.{arith}
 use lib.Dec.{leb}
 use lib.ListN.{length, take, drop, length-append}
 use lib.Seq.{length-take-le}
-use borrow.Author.Tests.{eq_eqb, ne_eqb}
+use borrow.Author.Tests.{eq-eqb, ne_eqb}
 use Rattle.reckon.specs.Lists.{placed}
 use Rattle.reckon.proofs.TestLaws.{pick_true, pick_false}
 use Rattle.grid.specs.Squares.{most_squares, squares}
@@ -161,7 +161,7 @@ module _ (h : Heading) (held : Rooms) {number : ℕ} (e : number ≡ checks_in h
   pub judged_put : {old new : List ℕ} {r : ℕ} → number ≡ 0 → Wrote (sheet_written h held) 0 old new r → Moves (judged_text h held) old (Moved-as.Wrote r) new
   unfolding judged_text answered room_after
   judged_put {old} z v =
-      let o : judged_text h held ≡ moved (sheet_written h held) = pick_true _ _ (eq_eqb _ 0 (sym e ∙ z)) in
+      let o : judged_text h held ≡ moved (sheet_written h held) = pick_true _ _ (eq-eqb _ 0 (sym e ∙ z)) in
       record {
         answer = ap Moved-as.Wrote (v.next ∙ zero-add (length (sheet_written h held))) ∙ sym (ap answered o);
         room = v.room ∙ sym (ap (λ (x : Outcome (List ℕ)). room_after x old) o);

@@ -6,7 +6,7 @@ use mathlib.Core.List.{List, [], ◌∷◌}
 use Prim.Native.Nat.{ℕ, ◌<◌}
 use lib.Dec.{eqb}
 use lib.ListN.{length, get_or}
-use borrow.Author.Tests.{eq_eqb}
+use borrow.Author.Tests.{eq-eqb}
 use Rattle.reckon.specs.Tests.{pick, all_below}
 use Rattle.reckon.specs.Lists.{tabulate}
 use Rattle.reckon.proofs.TestLaws.{pick_true, pick_false, each_every, all_of}
@@ -116,11 +116,11 @@ module _ (h : Heading) (held : Rooms) (say : Sayable h held) (t : Set) (note_is 
     unfolding agrees
     grid-agrees =
         each_every _ (
-          eq_eqb (head_of grid).shape.rows (shape_of t.note).rows (ap (λ (g : Shape). g.rows) (grid_head.0 ∙ sym note_shape)),
+          eq-eqb (head_of grid).shape.rows (shape_of t.note).rows (ap (λ (g : Shape). g.rows) (grid_head.0 ∙ sym note_shape)),
           (
-            eq_eqb (head_of grid).shape.columns (shape_of t.note).columns (ap (λ (g : Shape). g.columns) (grid_head.0 ∙ sym note_shape)),
+            eq-eqb (head_of grid).shape.columns (shape_of t.note).columns (ap (λ (g : Shape). g.columns) (grid_head.0 ∙ sym note_shape)),
             (
-              eq_eqb (head_of grid).side (line_one t.note).side (grid_head.1 ∙ sym note_side),
+              eq-eqb (head_of grid).side (line_one t.note).side (grid_head.1 ∙ sym note_side),
               (
                 ap (λ (g : Shape). all_below (squares g) (same_closed t k grid)) note_shape ∙ all_of (squares h.shape)
                     (same_closed t k grid) square_same,

@@ -9,7 +9,7 @@ use native.Mathlib.Numerals.{add-one}
 use native.Mathlib.Omega.{arith}
 use lib.ListN.{length, set}
 use borrow.Author.Count.{below_more}
-use borrow.Author.Tests.{eq_eqb, ne_eqb}
+use borrow.Author.Tests.{eq-eqb, ne_eqb}
 use Rattle.reckon.specs.Tests.{all_below}
 use Rattle.reckon.specs.Lists.{filled}
 use Rattle.reckon.proofs.TestLaws.{every_fails, all_of, all_fails}
@@ -185,7 +185,7 @@ module _ {note : List ℕ} {read : Note} (n : NoteIs note read) where
       unfolding agrees
       agrees_by {r} h =
           let last : all_below (squares (shape_of note)) (same_closed (noted note) k grid) ≡ r = sym (h ∙ closed_is) in
-          every_decided _ 3 r last (λ t. (eq_eqb _ _ rows_are, (eq_eqb _ _ columns_are, (eq_eqb _ _ side_same, (last ∙ t, tt)))))
+          every_decided _ 3 r last (λ t. (eq-eqb _ _ rows_are, (eq-eqb _ _ columns_are, (eq-eqb _ _ side_same, (last ∙ t, tt)))))
 
 -- of a set only the note is looked at
 pub agrees_in : (t : Set) (k : Scale) (grid : List ℕ) {r : Bool} → r ≡ agrees (noted t.note) k grid → r ≡ agrees t k grid

@@ -10,7 +10,7 @@ use native.Mathlib.Omega.{arith}
 use lib.Dec.{eqb}
 use lib.ListN.{length, get_or, replicate, length-replicate, get_or-replicate}
 use lib.Seq.{ext_get_or}
-use borrow.Author.Tests.{eq_eqb, eqb-true, eqb-false, le-leb}
+use borrow.Author.Tests.{eq-eqb, eqb-true, eqb-false, le-leb}
 use Rattle.reckon.specs.Tests.{pick}
 use Rattle.reckon.specs.Lists.{tabulate, filled}
 use Rattle.reckon.proofs.TestLaws.{pick_true, pick_false, passed_refusal, failing_none}
@@ -84,7 +84,7 @@ module _ {s : List ℕ} {p q : ℕ} (row column mark : ℕ) (vs : List ℕ) (sma
   placed =
       pick_true _ _ (word_stands inside word)
       ∙ (ap (λ (f : Fields). placed_cell s row column f) (ap (as_fields (p + length cell_word)) here)
-      ∙ (pick_true _ _ (eq_eqb row row refl) ∙ pick_true _ _ (eq_eqb column column refl)))
+      ∙ (pick_true _ _ (eq-eqb row row refl) ∙ pick_true _ _ (eq-eqb column column refl)))
 
   after_mark : p + length (line_head row column mark) ≡ r + 2
   after_mark = letter.after

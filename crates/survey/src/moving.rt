@@ -17,7 +17,7 @@ use reckon::tables::{INFLOW_ROOM, INFLOW_WIDTH, RAIN_ROOM, RAIN_WIDTH};
 use sheet::reading::{Heading, Sheet};
 
 // A file of a set.
-#[derive(Drop)]
+#[derive(Clone, Copy)]
 pub enum Part {
     Note,
     Bed,
@@ -27,7 +27,7 @@ pub enum Part {
 }
 
 // How long the text is that was written, or a refusal's number and line (0 unless the number is 12).
-#[derive(Drop)]
+#[derive(Clone, Copy)]
 pub enum Moved {
     Wrote(usize),
     Refused(u32, usize),

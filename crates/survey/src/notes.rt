@@ -76,7 +76,7 @@ fn count_marks(text: &[u8], at: usize, shape: Shape) -> Scan
 }
 
 // What a note says but for its marks: the first line that cannot be read, 0 for none; its heading, and where its squares and tables start.
-#[derive(Drop)]
+#[derive(Clone, Copy)]
 pub(crate) struct Note {
     pub(crate) bad: usize,
     pub(crate) heading: Heading,

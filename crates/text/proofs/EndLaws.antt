@@ -9,7 +9,7 @@ use native.Mathlib.Omega.{arith}
 use lib.Dec.{eqb}
 use lib.ListN.{length, get_or, drop, length-drop, drop_of_length-le}
 use lib.Seq.{drop-cons}
-use borrow.Author.Tests.{eq_eqb, ne_eqb}
+use borrow.Author.Tests.{eq-eqb, ne_eqb}
 use Rattle.reckon.proofs.TestLaws.{pick_true, pick_false}
 use Rattle.text.specs.Reading.{newline, line_length, next_line, line_from}
 use Rattle.text.specs.Lines.{before_newline, line_end}
@@ -23,7 +23,7 @@ end-last s p h = rw (drop_of_length-le s h, add-zero)
 
 pub end_here : (s : List ℕ) (p : ℕ) → p < length s → get_or s p 0 ≡ newline → line_end s p ≡ p
 unfolding line_end before_newline
-end_here s p h e = rw (drop-cons s p 0 h, pick_true _ _ (eq_eqb (get_or s p 0) newline e), add-zero)
+end_here s p h e = rw (drop-cons s p 0 h, pick_true _ _ (eq-eqb (get_or s p 0) newline e), add-zero)
 
 pub end_on : (s : List ℕ) (p : ℕ) → p < length s → (get_or s p 0 ≡ newline → ⊥) → line_end s p ≡ line_end s (p + 1)
 unfolding line_end before_newline

@@ -11,7 +11,7 @@ use native.Mathlib.Omega.{arith}
 use lib.Dec.{eqb, ltb, leb}
 use lib.ListN.{length, get_or, set, drop, length-set, length-append, drop_of_length-le, get_or-eq_default, get_or-append}
 use lib.Seq.{drop-cons, get_or-set_same, get_or-set_other, get_or-append_seam}
-use borrow.Author.Tests.{lt-ltb, le-ltb, le-leb, lt-leb, eq_eqb, ne_eqb, ltb-true, ltb-false, leb-true, eqb-true}
+use borrow.Author.Tests.{lt-ltb, le-ltb, le-leb, lt-leb, eq-eqb, ne_eqb, ltb-true, ltb-false, leb-true, eqb-true}
 use Rattle.reckon.specs.Tests.{all_below}
 use Rattle.reckon.proofs.TestLaws.{not_both, pick_true, pick_false, and_left, and_right, and_both, and_false, all_fails}
 use Rattle.reckon.proofs.ListLaws.{length-tabulate, get_or-tabulate, is_tabulate}
@@ -179,7 +179,7 @@ module _ (s : List ℕ) (p : ℕ) where
     number_good f = pick_true _ _ (rw (digits_here s p e) (good (ℕ_discrete (get_or s p 0) 48)))
       where
         good : Dec (get_or s p 0 ≡ 48) → well_formed ((get_or s p 0 - 48) ∷ digits_of (drop (p + 1) s)) ≡ true
-        good (yes z) = rw (digits_end s (p + 1) (rw (eq_eqb _ _ z) at f))
+        good (yes z) = rw (digits_end s (p + 1) (rw (eq-eqb _ _ z) at f))
         good (no z) = first_many (get_or s p 0 - 48) (digits_of (drop (p + 1) s)) (omega (arith, digit_low (get_or s p 0) e, z))
 
 -- ---- fields: those read so far, and those that are left

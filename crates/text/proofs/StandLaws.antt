@@ -9,7 +9,7 @@ use native.Mathlib.Numerals.{add-one}
 use native.Mathlib.Omega.{arith}
 use lib.ListN.{length, get_or, take, drop, length-append, length-drop, take-append-drop, drop_of_length-le, get_or-append}
 use lib.Seq.{drop-cons, drop-drop, drop-append_seam, drop_at, get_or-drop, get_or-take, ext_get_or, length-take-le}
-use borrow.Author.Tests.{eq_eqb, eqb-true}
+use borrow.Author.Tests.{eq-eqb, eqb-true}
 use Rattle.reckon.proofs.TestLaws.{all_at, all_of}
 use Rattle.text.specs.Reading.{is_byte, word_at, same_at}
 use Rattle.text.specs.Writing.{Wrote}
@@ -69,7 +69,7 @@ byte_stands {s} {t} {p} {q} {b} a =
     let e : get_or s p 0 ≡ b =
     ap (λ (k : ℕ). get_or s k 0) (sym (add-zero p)) ∙ (sym (get_or-drop p s 0 0) ∙ ap (λ (l : List ℕ). get_or l 0 0) a.text) in
     let h : p < length s = omega (arith, a.after, stands_within a) in
-    (e, byte_here s p b h ∙ eq_eqb _ _ e)
+    (e, byte_here s p b h ∙ eq-eqb _ _ e)
 
 pub stands_word : (s : List ℕ) (p : ℕ) (word : List ℕ) → word_at s p word ≡ true → StandsAt s p word (p + length word)
 stands_word s p word e =
@@ -95,7 +95,7 @@ word_stands {s} {word} {p} {q} h a =
     word_same s p word (omega (arith, a.after))
     (all_of (length word) (same_at s p word)
     (λ i l.
-    eq_eqb _ _
+    eq-eqb _ _
     (sym (get_or-drop p s i 0)
     ∙ (ap (λ (t : List ℕ). get_or t i 0) a.text ∙ get_or-append word (drop q s) 0 i l))))
 

@@ -5,7 +5,7 @@ ghost use Rattle.text.specs.Lines.{LineEnd, NextLine, LineAt, NthLine};
 use crate::reading::{NEWLINE, byte_is};
 
 // Where a line starts and ends, and whether a newline stands at its end.
-#[derive(Drop)]
+#[derive(Clone, Copy)]
 pub struct Line {
     pub from: usize,
     pub to: usize,

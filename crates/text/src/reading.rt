@@ -3,14 +3,14 @@ ghost use Rattle.std.specs.Prelude.{◌≡◌, true, ◌&&◌, ◌+◌, ◌≤�
 ghost use Rattle.text.specs.Reading.{most_fields, is_digit, digits_of, number_from, ByteIs, WordAt, DigitJudged, DigitAt, NumberReadAt, FieldAt, FieldsAt, RestOfLine, LineOf, as_fields, Reading};
 
 // What stands at a position as a number: its value and the position after it, or none.
-#[derive(Drop)]
+#[derive(Clone, Copy)]
 pub enum Number {
     Is(u32, usize),
     Not,
 }
 
 // The fields of a line: whether they were all found, their values with 0 after them, and the position after them.
-#[derive(Drop)]
+#[derive(Clone, Copy)]
 pub struct Fields {
     pub found: bool,
     pub values: [u32; 8],

@@ -8,7 +8,7 @@ use native.Mathlib.Omega.{arith}
 use lib.Dec.{eqb, leb}
 use lib.ListN.{length, take, replicate, length-append, length-replicate}
 use lib.Seq.{length-take-le}
-use borrow.Author.Tests.{eqb-true, eqb-false, eq_eqb, ne_eqb, le-leb, leb-true, lt-leb}
+use borrow.Author.Tests.{eqb-true, eqb-false, eq-eqb, ne_eqb, le-leb, leb-true, lt-leb}
 use Rattle.reckon.specs.Tests.{pick, refusal, Row}
 use Rattle.reckon.specs.Ranges.{last_clock}
 use Rattle.reckon.specs.Tables.{inflow_kind, table_room}
@@ -91,7 +91,7 @@ module _ (rows : List Row) (log : Log) (a : Account) (after : Log) where
   unless-refused h e d = h ∙ (ap (λ (j : ℕ). tried j log a) (sym e) ∙ sym (pick_false _ _ (ne_eqb _ _ (λ y. d (sym e ∙ y)))))
 
   pub unless_none : {l : Log} → l ≡ after → refusal rows ≡ 0 → tried 0 l a ≡ unless_refused rows log a after
-  unless_none h e = ap (λ (x : Log). tried 0 x a) h ∙ sym (pick_true _ _ (eq_eqb _ _ e))
+  unless_none h e = ap (λ (x : Log). tried 0 x a) h ∙ sym (pick_true _ _ (eq-eqb _ _ e))
 
 -- ---- lines that are not refused before their steps
 
@@ -171,7 +171,7 @@ module _ (p : Plan) (g : Given) (e : Evening) (a : Account) where
 
   module _ {n : ℕ} (h : n ≡ refusal (try_refusals g.inflow e.log a)) (z : n ≡ 0) where
     tried_none : eqb (refusal (try_refusals g.inflow e.log a)) 0 ≡ true
-    tried_none = eq_eqb _ _ (sym h ∙ z)
+    tried_none = eq-eqb _ _ (sym h ∙ z)
 
     module _ {answer : Answer} {depths lasts records : List ℕ} (s : Steps p (step_given p g e a) (world_of e) answer depths lasts records) where
       number_is : {k : ℕ} → answer ≡ Refused k → (k ≡ step_number p (step_given p g e a) (world_of e)) × (step_number p (step_given p g e a) (world_of e) ≡ 0 → ⊥)
@@ -212,7 +212,7 @@ module _ (p : Plan) (g : Given) (e : Evening) (a : Account) where
           ∙ (ap (λ (d : List ℕ). at K B W.run d lasts records) s.depths_are
           ∙ (ap (λ (l : List ℕ). at K B W.run W.depths l records) s.lasts_are
           ∙ (ap (λ (c : List ℕ). at K B W.run W.depths W.lasts c) s.records_are
-          ∙ (sym (pick_true _ _ (eq_eqb _ _ m.1)) ∙ sym (pick_true _ _ tried_none))))))))
+          ∙ (sym (pick_true _ _ (eq-eqb _ _ m.1)) ∙ sym (pick_true _ _ tried_none))))))))
         where
           W : World
           W = stepped p (step_given p g e a) (world_of e)
@@ -275,7 +275,7 @@ module _ (p : Plan) (e : Evening) (a : Account) (count : ℕ) where
       ∙ (ap (λ (b : Account). came (backs p e a count).number (after_back p nothing_given e count) b)
       (x
       ∙ (ap (λ (j : ℕ). given_back a j e.log.run.newest k) q ∙ ap (λ (j : ℕ). given_back a (room_slots p e.records) e.log.run.newest j) s))
-      ∙ sym (pick_true _ _ (eq_eqb _ _ z))))
+      ∙ sym (pick_true _ _ (eq-eqb _ _ z))))
 
 -- ---- take-backs
 

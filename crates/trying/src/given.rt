@@ -6,7 +6,7 @@ ghost use Rattle.trying.specs.Given.{AccountOpened, AccountParted, AccountWhole,
 pub const MOST_SLOTS: usize = 256;
 
 // The water at the start, what the tables gave the standing steps, and beside the slot of each record what they had given before its step.
-#[derive(Drop)]
+#[derive(Clone, Copy)]
 pub struct Account {
     pub start: u64,
     pub given: u64,
@@ -14,7 +14,7 @@ pub struct Account {
 }
 
 // An account without what was given before each step kept: what a step hands on, while the ring of the others is lent to it.
-#[derive(Drop)]
+#[derive(Clone, Copy)]
 pub struct Totals {
     pub start: u64,
     pub given: u64,

@@ -34,7 +34,7 @@ use rule::rules::Rules;
 use stands::saved::MOST_GIVEN;
 
 // What came of a line: the number that it is refused with, 0 for none, the log and the account after it.
-#[derive(Drop)]
+#[derive(Clone, Copy)]
 pub struct Tried {
     pub number: u32,
     pub log: Log,
@@ -42,7 +42,7 @@ pub struct Tried {
 }
 
 // What came of a step: the number that it is refused with, 0 for none, the log and the account's totals after it.
-#[derive(Drop)]
+#[derive(Clone, Copy)]
 pub struct Outcome {
     pub number: u32,
     pub log: Log,

@@ -2,7 +2,7 @@
 -- Assumes nothing.
 use mathlib.Core.Path.{sym, ap, ◌∙◌}
 use mathlib.Core.Bool.{not}
-use borrow.Author.Tests.{eq_eqb, ne_eqb}
+use borrow.Author.Tests.{eq-eqb, ne_eqb}
 use borrow.Author.Rules.{rules}
 use Rattle.reckon.proofs.TestLaws.{refusal_here, refusal_later, passed_refusal}
 use Rattle.ledger.specs.Record.{room_slots}
@@ -45,7 +45,7 @@ returns-4 c =
     sym
     (refusal_later 1 _ (holds_by c.before.before.before.before.before.before.before.fresh-sizes-fine.ensures c.before.before.before.before.before.before.if1.false)
     ∙ (refusal_later 2 _ (holds_by c.before.before.before.before.before.marks-fine.ensures c.before.before.before.before.if2.false)
-    ∙ (refusal_later 5 _ (holds_by c.before.before.before.rules-fine.ensures c.before.before.if3.false) ∙ refusal_here 6 _ (ap not (eq_eqb _ _ (sym c.before.slots_of.ensures ∙ c.if4.true))))))
+    ∙ (refusal_later 5 _ (holds_by c.before.before.before.rules-fine.ensures c.before.before.if3.false) ∙ refusal_here 6 _ (ap not (eq-eqb _ _ (sym c.before.slots_of.ensures ∙ c.if4.true))))))
 
 returns-5 : tie.Need-returns-5
 unfolding fresh_number fresh_refusals room_slots

@@ -1,7 +1,7 @@
 -- `display_exports::boards::run_told` meets its contract: each slice has its size, or the call is refused by 1.
 -- Assumes nothing.
 use mathlib.Core.Path.{refl}
-use borrow.Author.Tests.{eq_eqb, ne_eqb}
+use borrow.Author.Tests.{eq-eqb, ne_eqb}
 use borrow.Author.Rules.{rules}
 use Rattle.reckon.proofs.TestLaws.{each_every, every_fails}
 use Rattle.exports.proofs.NumberLaws.{given_of, world-of}
@@ -54,7 +54,7 @@ returns-4 c =
     let at-if3 = at-rules.before in
     let at-if2 = at-if3.before in
     held-told _ _ _ _ _ _ _ _
-    (each_every _ (eq_eqb _ _ at-if2.before.if1.false, (eq_eqb _ _ at-if2.if2.false, (eq_eqb _ _ at-if3.if3.false, tt))))
+    (each_every _ (eq-eqb _ _ at-if2.before.if1.false, (eq-eqb _ _ at-if2.if2.false, (eq-eqb _ _ at-if3.if3.false, tt))))
     refl (given_of at-rules.rules-from.ensures) (world-of at-run.run-from.ensures) at-run-boards.run_boards.ensures
     at-tell-ran.tell-ran.ensures
 

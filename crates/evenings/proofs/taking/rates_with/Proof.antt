@@ -1,7 +1,7 @@
 -- `evenings::taking::rates_with` meets its contract.
 -- Assumes nothing.
 use mathlib.Core.Path.{sym}
-use borrow.Author.Tests.{eq_eqb, ne_eqb}
+use borrow.Author.Tests.{eq-eqb, ne_eqb}
 use Rattle.reckon.proofs.TestLaws.{pick_true, pick_false}
 use borrow.Author.Rules.{rules}
 use Rattle.evenings.proofs.taking.rates_with.Statement.{statement}
@@ -20,7 +20,7 @@ array-write-next : tie.Need-array-write-next
 array-write-next c = search rules
 
 returns-2 : tie.Need-returns-2
-returns-2 c = sym (pick_true _ _ (eq_eqb _ _ c.if1.false))
+returns-2 c = sym (pick_true _ _ (eq-eqb _ _ c.if1.false))
 
 pub rates-with-spec : {M : Type 1} → statement M
 rates-with-spec = tie.close (tie.spec returns sub-place mul_next array-write-next returns-2)

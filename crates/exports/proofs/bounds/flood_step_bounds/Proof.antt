@@ -1,6 +1,6 @@
 -- `exports::bounds::flood_step_bounds` meets its contract: each slice has its size, or the call is refused by 1.
 -- Assumes nothing.
-use borrow.Author.Tests.{eq_eqb, ne_eqb}
+use borrow.Author.Tests.{eq-eqb, ne_eqb}
 use Rattle.reckon.proofs.TestLaws.{each_every, every_fails}
 use Rattle.exports.proofs.BoundsLaws.{bounds_unsized, bounds-sized}
 use borrow.Author.Rules.{rules}
@@ -32,7 +32,7 @@ returns-3 c =
     let at-rules = at-step-bounds.before in
     let at-if2 = at-rules.before in
     bounds-sized _ _ _ _
-    (each_every _ (eq_eqb _ _ at-if2.before.if1.false, (eq_eqb _ _ at-if2.if2.false, tt)))
+    (each_every _ (eq-eqb _ _ at-if2.before.if1.false, (eq-eqb _ _ at-if2.if2.false, tt)))
     at-rules.rules-from.ensures at-step-bounds.step_bounds.ensures at-tell-bounds.tell-bounds.ensures
 
 pub flood-step-bounds-spec : {M : Type 1} → statement M

@@ -1,6 +1,6 @@
 -- `exports::sights::flood_arrow` meets its contract: each slice has its size, or the call is refused by 1.
 -- Assumes nothing.
-use borrow.Author.Tests.{eq_eqb, ne_eqb}
+use borrow.Author.Tests.{eq-eqb, ne_eqb}
 use Rattle.reckon.proofs.TestLaws.{each_every, every_fails}
 use Rattle.exports.proofs.NumberLaws.{plan_of, world-of}
 use Rattle.exports.proofs.SightLaws.{arrow_unsized, arrow_told}
@@ -38,7 +38,7 @@ returns-3 c =
     let at-run = at-arrow.before in
     let at-if2 = at-run.before.before in
     arrow_told _ _ _ _ _ _ _
-    (each_every _ (eq_eqb _ _ at-if2.before.if1.false, (eq_eqb _ _ at-if2.if2.false, tt)))
+    (each_every _ (eq-eqb _ _ at-if2.before.if1.false, (eq-eqb _ _ at-if2.if2.false, tt)))
     (plan_of at-run.before.shape-from.ensures) (world-of at-run.run-from.ensures)
     at-arrow.arrow.ensures at-tell-sight.tell-sight.ensures
 

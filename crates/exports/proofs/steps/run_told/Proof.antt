@@ -1,6 +1,6 @@
 -- `exports::steps::run_told` meets its contract: each slice has its size, or the call is refused by 1.
 -- Assumes nothing.
-use borrow.Author.Tests.{eq_eqb, ne_eqb}
+use borrow.Author.Tests.{eq-eqb, ne_eqb}
 use Rattle.reckon.proofs.TestLaws.{each_every, every_fails}
 use Rattle.exports.proofs.NumberLaws.{plan_of, given_of, world-of}
 use Rattle.exports.proofs.StepLaws.{run_unsized, run-told}
@@ -59,7 +59,7 @@ returns-4 c =
     let at-if3 = at-rules.before.before in
     let at-if2 = at-if3.before in
     run-told _ _ _ _ _ _ _
-    (each_every _ (eq_eqb _ _ at-if2.before.if1.false, (eq_eqb _ _ at-if2.if2.false, (eq_eqb _ _ at-if3.if3.false, tt))))
+    (each_every _ (eq-eqb _ _ at-if2.before.if1.false, (eq-eqb _ _ at-if2.if2.false, (eq-eqb _ _ at-if3.if3.false, tt))))
     (plan_of at-rules.before.shape-from.ensures) (given_of at-rules.rules-from.ensures) (world-of at-run.run-from.ensures)
     at-run-to.run-to.ensures at-tell-ran.tell-ran.ensures
 

@@ -1,6 +1,6 @@
 -- `grid::marks::mark_fine` meets its contract: a mark above 2 fails, an exit is judged by the rim, any other mark passes.
 -- Assumes nothing.
-use borrow.Author.Tests.{eq_eqb, ne_eqb, le-leb, lt-leb}
+use borrow.Author.Tests.{eq-eqb, ne_eqb, le-leb, lt-leb}
 use borrow.Author.Rules.{rules}
 use Rattle.grid.specs.Marks.{exit, mark_fine}
 use Rattle.grid.proofs.marks.mark_fine.Statement.{statement}
@@ -19,7 +19,7 @@ on-rim-requires c κs = search rules
 returns-2 : tie.Need-returns-2
 unfolding mark_fine exit
 returns-2 c =
-    rw (le-leb _ _ c.before.before.if1.false, eq_eqb _ _ c.before.if2.true) c.on-rim.ensures
+    rw (le-leb _ _ c.before.before.if1.false, eq-eqb _ _ c.before.if2.true) c.on-rim.ensures
 
 returns-3 : tie.Need-returns-3
 unfolding mark_fine exit

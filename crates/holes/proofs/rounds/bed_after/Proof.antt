@@ -1,7 +1,7 @@
 -- `holes::rounds::bed_after` meets its contract: an unknown bed takes the lowest beside it, and a known one stays.
 -- Assumes nothing.
 use mathlib.Core.Path.{sym, ◌∙◌}
-use borrow.Author.Tests.{eq_eqb, ne_eqb}
+use borrow.Author.Tests.{eq-eqb, ne_eqb}
 use borrow.Author.Rules.{rules}
 use Rattle.reckon.proofs.TestLaws.{pick_true, pick_false}
 use Rattle.holes.proofs.rounds.bed_after.Statement.{statement}
@@ -18,7 +18,7 @@ lowest-beside-requires c κs = search rules
 
 returns : tie.Need-returns
 returns c =
-    c.lowest-beside.ensures ∙ sym (pick_true _ _ (eq_eqb _ _ c.before.if1.true))
+    c.lowest-beside.ensures ∙ sym (pick_true _ _ (eq-eqb _ _ c.before.if1.true))
 
 returns-2 : tie.Need-returns-2
 returns-2 c =

@@ -1,7 +1,7 @@
 -- `holes::rounds::note_square` meets its contract: a bed that changed is noted.
 -- Assumes nothing.
 use mathlib.Core.Path.{sym}
-use borrow.Author.Tests.{eq_eqb, ne_eqb}
+use borrow.Author.Tests.{eq-eqb, ne_eqb}
 use borrow.Author.Rules.{rules}
 use Rattle.reckon.proofs.TestLaws.{pick_true, pick_false}
 use Rattle.holes.proofs.rounds.note_square.Statement.{statement}
@@ -21,7 +21,7 @@ shared-slice-read-if1-2 c = search rules
 
 returns : tie.Need-returns
 returns c =
-    sym (pick_true _ _ (eq_eqb _ _ c.if1.true))
+    sym (pick_true _ _ (eq-eqb _ _ c.if1.true))
 
 mul-turns : tie.Need-overflow-mul-turns
 mul-turns c = search rules

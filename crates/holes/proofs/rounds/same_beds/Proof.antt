@@ -6,7 +6,7 @@ use Prim.Native.Nat.{◌-◌, ◌≤◌}
 use native.Mathlib.Omega.{arith}
 use lib.Dec.{eqb}
 use lib.ListN.{length, get_or}
-use borrow.Author.Tests.{eq_eqb, ne_eqb}
+use borrow.Author.Tests.{eq-eqb, ne_eqb}
 use Rattle.reckon.specs.Tests.{all_below}
 use Rattle.reckon.proofs.TestLaws.{all_none, all_more, all_fails, all_whole}
 use Rattle.holes.proofs.rounds.same_beds.Statement.{statement}
@@ -54,7 +54,7 @@ loop-less c =
 
 loop-again : tie.Need-loop-preserved invariant-loop decreases-loop
 loop-again c =
-    (omega (arith, c.before.before.before.loop-test.true), all_more _ _ c.before.before.before.before.loop.invariant.1 (eq_eqb _ _ c.if1.false))
+    (omega (arith, c.before.before.before.loop-test.true), all_more _ _ c.before.before.before.before.loop.invariant.1 (eq-eqb _ _ c.if1.false))
 
 returns-2 : tie.Need-returns-2 invariant-loop decreases-loop
 returns-2 c =

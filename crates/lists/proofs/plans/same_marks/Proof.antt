@@ -4,7 +4,7 @@ use mathlib.Core.Path.{◌≡◌, sym}
 use mathlib.Core.Bool.{true}
 use Prim.Native.Nat.{◌-◌, ◌≤◌}
 use native.Mathlib.Omega.{arith}
-use borrow.Author.Tests.{eq_eqb, ne_eqb}
+use borrow.Author.Tests.{eq-eqb, ne_eqb}
 use Rattle.reckon.proofs.TestLaws.{all_none, all_more, all_fails, all_whole}
 use Rattle.lists.specs.Sheets.{same_marks}
 use Rattle.lists.proofs.plans.same_marks.Statement.{statement}
@@ -40,7 +40,7 @@ loop-less c = omega (arith, c.before.before.before.loop-test.true)
 
 loop-again : tie.Need-loop-preserved invariant-loop decreases-loop
 unfolding same_marks
-loop-again c = (omega (arith, c.before.before.before.loop-test.true), all_more _ _ c.before.before.before.before.loop.invariant.1 (eq_eqb _ _ c.if1.false))
+loop-again c = (omega (arith, c.before.before.before.loop-test.true), all_more _ _ c.before.before.before.before.loop.invariant.1 (eq-eqb _ _ c.if1.false))
 
 returns-2 : tie.Need-returns-2 invariant-loop decreases-loop
 unfolding same_marks

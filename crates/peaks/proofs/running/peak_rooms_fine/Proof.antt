@@ -3,7 +3,7 @@
 use lib.ListN.{length}
 use lib.Dec.{eqb}
 use mathlib.Core.Path.{sym, ap, ◌∙◌}
-use borrow.Author.Tests.{eq_eqb, ne_eqb}
+use borrow.Author.Tests.{eq-eqb, ne_eqb}
 use Rattle.reckon.proofs.TestLaws.{every_fails}
 use Rattle.grid.proofs.SquareLaws.{ranges_of_fine}
 use Rattle.checks.proofs.CheckLaws.{fails_by, holds_by, every_decided}
@@ -33,7 +33,7 @@ returns-3 c =
     (λ t. (
       holds_by c.before.before.before.shape-fine.ensures c.before.before.if1.false,
       (
-        eq_eqb _ _ (c.if2.false ∙ c.before.squares_of.ensures),
+        eq-eqb _ _ (c.if2.false ∙ c.before.squares_of.ensures),
         (ap (eqb (length start.args.clocks.now)) (sym c.before.squares_of.ensures) ∙ t, tt),
       ),
     ))

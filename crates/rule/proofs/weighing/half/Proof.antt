@@ -1,7 +1,7 @@
 -- `rule::weighing::half` meets its contract: a side without a drop has no share.
 -- Assumes nothing.
 use mathlib.Core.Path.{sym}
-use borrow.Author.Tests.{eq_eqb, ne_eqb}
+use borrow.Author.Tests.{eq-eqb, ne_eqb}
 use Rattle.reckon.proofs.TestLaws.{pick_true, pick_false}
 use Rattle.rule.specs.Inner.Totals.{half_of}
 use Rattle.rule.proofs.weighing.half.Statement.{statement}
@@ -9,7 +9,7 @@ use Rattle.rule.proofs.weighing.half.Tie as tie
 
 returns : tie.Need-returns
 unfolding half_of
-returns c = sym (pick_true _ _ (eq_eqb _ _ c.if1.true))
+returns c = sym (pick_true _ _ (eq-eqb _ _ c.if1.true))
 
 returns-2 : tie.Need-returns-2
 unfolding half_of

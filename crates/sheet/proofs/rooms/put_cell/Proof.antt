@@ -1,7 +1,7 @@
 -- `sheet::rooms::put_cell` meets its contract: a closed square's other numbers stay.
 -- Assumes nothing.
 use mathlib.Core.Path.{refl, sym}
-use borrow.Author.Tests.{eq_eqb, ne_eqb}
+use borrow.Author.Tests.{eq-eqb, ne_eqb}
 use borrow.Author.Rules.{rules}
 use Rattle.reckon.proofs.TestLaws.{pick_true, pick_false}
 use Rattle.sheet.proofs.rooms.put_cell.Statement.{statement}
@@ -14,7 +14,7 @@ same_length : tie.Need-same-length
 same_length c = search rules
 
 returns : tie.Need-returns
-returns c = let e = eq_eqb _ _ c.if1.true in (refl, sym (pick_true _ _ e), sym (pick_true _ _ e), sym (pick_true _ _ e), sym (pick_true _ _ e))
+returns c = let e = eq-eqb _ _ c.if1.true in (refl, sym (pick_true _ _ e), sym (pick_true _ _ e), sym (pick_true _ _ e), sym (pick_true _ _ e))
 
 mul-beds : tie.Need-overflow-mul-beds
 mul-beds c = search rules

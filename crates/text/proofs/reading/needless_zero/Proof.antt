@@ -2,7 +2,7 @@
 -- Assumes nothing.
 use native.Mathlib.Omega.{arith}
 use borrow.Author.Rules.{rules}
-use borrow.Author.Tests.{eq_eqb, ne_eqb}
+use borrow.Author.Tests.{eq-eqb, ne_eqb}
 use Rattle.text.proofs.ReadingLaws.{digit-within}
 use Rattle.text.proofs.reading.needless_zero.Statement.{statement}
 use Rattle.text.proofs.reading.needless_zero.Tie as tie
@@ -23,7 +23,7 @@ is-digit-requires : tie.Need-is-digit-requires
 is-digit-requires c κs = search rules
 
 returns-2 : tie.Need-returns-2
-returns-2 c = rw (eq_eqb _ _ c.before.if1.false) c.is_digit.ensures
+returns-2 c = rw (eq-eqb _ _ c.before.if1.false) c.is_digit.ensures
 
 pub needless-zero-spec : {M : Type 1} → statement M
 needless-zero-spec = tie.close (tie.spec shared-slice-read-if1 returns add-is-digit is-digit-requires returns-2)

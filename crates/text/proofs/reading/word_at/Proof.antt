@@ -5,7 +5,7 @@ use mathlib.Core.Bool.{true}
 use mathlib.Core.Path.{◌≡◌, sym}
 use native.Mathlib.Omega.{arith}
 use lib.ListN.{length}
-use borrow.Author.Tests.{eq_eqb}
+use borrow.Author.Tests.{eq-eqb}
 use Rattle.reckon.specs.Tests.{all_below}
 use Rattle.reckon.proofs.TestLaws.{all_none, all_more, all_whole}
 use Rattle.text.specs.Reading.{same_at}
@@ -58,7 +58,7 @@ loop-less c = omega arith
 
 loop-again : tie.Need-loop-preserved invariant-loop decreases-loop
 loop-again c =
-    (omega arith, omega arith, all_more _ _ c.before.before.before.before.loop.invariant.2 (eq_eqb _ _ c.if3.false))
+    (omega arith, omega arith, all_more _ _ c.before.before.before.before.loop.invariant.2 (eq-eqb _ _ c.if3.false))
 
 returns-4 : tie.Need-returns-4 invariant-loop decreases-loop
 returns-4 c =
