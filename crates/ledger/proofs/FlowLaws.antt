@@ -3,7 +3,7 @@
 use mathlib.Core.Path.{◌≡◌, refl, sym, ap, ap₂, ◌∙◌}
 use mathlib.Core.Bool.{false}
 use mathlib.Core.List.{List}
-use Prim.Native.Nat.{ℕ, ◌+◌, ◌-◌, ◌*◌, ◌≤◌, ◌<◌}
+use Prim.Native.Nat.{ℕ, ◌+◌, ◌*◌, ◌≤◌, ◌<◌}
 use native.Mathlib.Omega.{arith}
 use lib.ListN.{length, get_or}
 use borrow.Author.Tests.{lt-ltb, le-ltb}
@@ -11,7 +11,7 @@ use Rattle.reckon.specs.Tests.{pick}
 use Rattle.reckon.specs.Lists.{sum_below}
 use Rattle.reckon.proofs.TestLaws.{pick_true, pick_false, pick_same, pick_both}
 use Rattle.reckon.proofs.ListLaws.{sum_le}
-use Rattle.grid.specs.Squares.{north, east, south, west, sides, squares, within, beside, opposite, on_rim}
+use Rattle.grid.specs.Squares.{north, east, south, west, sides, squares, beside, opposite, on_rim}
 use Rattle.grid.proofs.SquareLaws.{each_within}
 use Rattle.grid.proofs.MarkLaws.{closed_past}
 use Rattle.ledger.specs.Runs.{Plan}

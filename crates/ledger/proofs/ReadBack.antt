@@ -7,7 +7,6 @@ use Prim.Native.Nat.{ℕ, zero, suc, ◌+◌, ◌*◌, ◌<◌}
 use native.Mathlib.Omega.{arith}
 use lib.ListN.{length, get_or, get_or-replicate}
 use lib.Seq.{get_or-append-add}
-use Rattle.reckon.specs.Tests.{◌unless◌}
 use Rattle.reckon.specs.Lists.{joined}
 use Rattle.reckon.proofs.TestLaws.{pick_true, pick_false, pick_both}
 use Rattle.reckon.proofs.ListLaws.{length-joined, get_or-joined, sum_ext}

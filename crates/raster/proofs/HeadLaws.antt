@@ -30,9 +30,9 @@ pub only_none : (n q : ℕ) → (n ≡ 0 → ⊥) → only_zero (Is n q) ≡ Not
 unfolding only_zero
 only_none n q d = pick_false _ _ (ne_eqb n 0 d)
 
-pub only_zero : (n q : ℕ) → n ≡ 0 → only_zero (Is n q) ≡ Is n q
+pub only_kept : (n q : ℕ) → n ≡ 0 → only_zero (Is n q) ≡ Is n q
 unfolding only_zero
-only_zero n q e = pick_true _ _ (eq-eqb n 0 e)
+only_kept n q e = pick_true _ _ (eq-eqb n 0 e)
 
 -- a line, by where its value starts
 module _ (s : List ℕ) (p : ℕ) (word : List ℕ) (value : ℕ → Number) {start : ℕ} (e : start ≡ value_start s p word) where

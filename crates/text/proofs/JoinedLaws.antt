@@ -76,7 +76,7 @@ pub joined_stands :
     StandsAt s (start_of p f i) (f i) (start_of p f (suc i))
 unfolding joined
 joined_stands zero f a i h = absurd (not-suc-le-zero h)
-joined_stands {s} {p} {q} (suc n) f a i h = go (ℕ_discrete i n) (λ l. joined_stands n f (stands_first (joined n f) (f n) a) i l)
+joined_stands {s} {p} {q} (suc n) f a i h = go (ℕ_discrete i n) (λ l. joined_stands {q = p + length (joined n f)} n f (stands_first (joined n f) (f n) a) i l)
   where
     go : Dec (i ≡ n) → (i < n → StandsAt s (start_of p f i) (f i) (start_of p f (suc i))) → StandsAt s (start_of p f i) (f i) (start_of p f (suc i))
     go (yes e) g = rw e (subst (λ (k : ℕ). StandsAt s (start_of p f n) (f n) k) a.after (stands_second (joined n f) (f n) a))

@@ -282,7 +282,7 @@ fields_back {s} {p} {q} (v ∷ vs) a =
       readable = (a.readable.0, tt);
     }) in
     let ih : read_fields s (p + length (field_text v)) (length vs) ≡ read vs q =
-    fields_back vs (record { stands = rest; alone = a.alone; readable = a.readable.1 }) in
+    fields_back {p = p + length (field_text v)} vs (record { stands = rest; alone = a.alone; readable = a.readable.1 }) in
     fields_more s p (length vs) v (p + length (field_text v)) here ∙ ap (before (v ∷ [])) ih
 
 not-read : {A : Type 0} {vs : List ℕ} {q : ℕ} → unread ≡ read vs q → A

@@ -3,7 +3,7 @@
 use mathlib.Core.Path.{◌≡◌, refl, sym, ap, ap₂, ◌∙◌, subst}
 use mathlib.Core.Bool.{true}
 use mathlib.Core.Logic.{◌≢◌}
-use Prim.Native.Nat.{ℕ, suc, ◌-◌, ◌<◌}
+use Prim.Native.Nat.{ℕ, suc, ◌<◌}
 use native.Mathlib.Omega.{arith}
 use Rattle.trials.specs.Ring.{slot_after, slot_before, slot_ago, kept_after}
 use Rattle.trials.specs.Inner.Series.{Outcome, refused, done, and_then, Engine, State, fine, stepped, step, restored, take_back}

@@ -1,0 +1,58 @@
+-- `settling::reach::cover_row` meets its contract: a row of which nothing is reached is right already; else its columns are covered.
+-- Assumes nothing.
+use Rattle.std.proofs.Common.{◌≡◌, ℕ, ◌+◌, ◌-◌, ◌<◌, false, get_or, refl, ap, ◌∙◌, subst, arith}
+use Rattle.grid.specs.Squares.{squares}
+use Rattle.grid.specs.Marks.{closed}
+use Rattle.grid.specs.Masks.{bit_at}
+use Rattle.grid.proofs.RestLaws.{zero_bit}
+use Rattle.settling.proofs.ReachLaws.{one_written, right_written, same_written, then_written}
+use Rattle.settling.proofs.reach.cover_row.Goals as goal
+use Rattle.settling.proofs.reach.cover_row.Goals.{In-loop-column}
+
+-- ---- the places, each from the one after it
+
+-- ---- what is known there
+
+-- in a turn: the column's square is on the grid
+on_grid : (c : In-loop-column) → c.args.first + c.loop-column.column < squares c.args.shape
+on_grid c = omega (arith, c.loop-column-test.true, c.requires.shape_in_range.1.fits)
+
+pub returns-then-reached-eq0 : goal.returns-then-reached-eq0
+returns-then-reached-eq0 c =
+    right_written
+    (λ i x y o.
+    let at : c.args.first + (i - c.args.first) ≡ i = omega arith in
+    subst (λ (j : ℕ). closed c.args.marks.now j ≡ false → get_or c.args.list.now j 0 ≡ get_or c.args.from.now j 0) at
+    (c.requires.where_clear (i - c.args.first) (omega arith) (ap (λ (m : ℕ). bit_at m (i - c.args.first)) c.if-reached-eq0.true ∙ zero_bit (i - c.args.first))) o)
+
+pub loop-column-init : goal.loop-column-init
+loop-column-init c = (omega arith, right_written (λ i x y o. absurd (omega arith)))
+
+pub overflow_add-first : goal.overflow_add-first
+overflow_add-first c = omega (arith, on_grid c, c.requires.shape_in_range.0.few)
+
+pub cover_one-requires : goal.cover_one-requires
+cover_one-requires c = (
+  omega (arith, on_grid (goal.at.cover_one-requires c).In-loop-column, c.requires.shape_in_range.2),
+  omega (arith, on_grid (goal.at.cover_one-requires c).In-loop-column, c.requires.shape_in_range.3),
+  omega (arith, on_grid (goal.at.cover_one-requires c).In-loop-column, c.requires.shape_in_range.4, c.loop-column.invariant.1.long),
+)
+
+pub overflow_add-column : goal.overflow_add-column
+overflow_add-column c = omega (arith, c.loop-column-test.true, c.requires.shape_in_range.0.columns_high)
+
+pub loop-column-smaller : goal.loop-column-smaller
+loop-column-smaller c = omega (arith, c.loop-column-test.true)
+
+pub loop-column-preserved : goal.loop-column-preserved
+loop-column-preserved c =
+    let own =
+    one_written {skips = closed c.args.marks.now} {amount = λ i. get_or c.args.from.now i 0}
+    (omega (arith, on_grid (goal.at.loop-column-preserved c).In-loop-column, c.requires.shape_in_range.4, c.loop-column.invariant.1.long)) refl c.cover_one.ensures refl in
+    (omega (arith, c.loop-column-test.true), same_written (then_written (omega arith) (omega arith) c.loop-column.invariant.1 own) (omega arith))
+
+pub shape_of-list : goal.shape_of-list
+shape_of-list c = c.loop-column.invariant.1.long
+
+pub returns : goal.returns
+returns c = same_written c.loop-column.invariant.1 (omega (arith, c.loop-column-test.false, c.loop-column.invariant.0))
