@@ -20,6 +20,22 @@ class Struct(SimpleNamespace):
     """A struct's fields by name."""
 
 
+class Printer:
+    """What a program's `main` is handed: it keeps what is printed by it."""
+
+    def __init__(self):
+        self.parts = []
+
+    def write_all(self, text):
+        self.parts.append(text.decode("ascii"))
+
+    def print(self, value):
+        self.parts.append(str(value))
+
+    def printed(self):
+        return "".join(self.parts)
+
+
 def sources_of(crate):
     """The text of a program's source files, without comments."""
     paths = sorted((TOP / "crates" / crate / "src").glob("*.rt"))
@@ -30,6 +46,7 @@ def python_of(text):
     """An expression of Rattle as one of Python."""
     text = re.sub(r"\s+", " ", text.strip())
     text = re.sub(r"&(mut )?", "", text)
+    text = re.sub(r'print!\((\w+); "\{(\w+)\}"\)', r"\1.print(\2)", text)
     text = re.sub(r"\b(\d[\d_]*)(u8|u32|u64|usize)\b", r"\1", text)
     text = re.sub(r" as \w+", "", text)
     text = re.sub(r"\b[a-z]\w*::", "", text)
