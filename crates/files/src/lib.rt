@@ -1,6 +1,7 @@
 // Files by name and the standard input, read into a lent room: what comes lies at the room's start, and the rest of the room stays. Files
 // written whole. Which bytes the system gives or takes no contract can say.
 //
+//   read_all     what a reader still has
 //   read_input   the standard input
 //   read_file    the file of a name
 //   read_named   the file whose name is a line of a list of names
