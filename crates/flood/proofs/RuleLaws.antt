@@ -1,6 +1,5 @@
 -- The flood's rule is a rule of the ledger's engine.
 -- Assumes nothing.
-use Rattle.rule.proofs.LengthLaws.{length_from, length_to, lasts_from, lasts_to}
 use Rattle.ledger.specs.Runs.{Plan}
 use Rattle.ledger.specs.Inner.Engine.{Owed}
 use Rattle.moves.specs.Moves.{step_duration}

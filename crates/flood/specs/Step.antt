@@ -1,6 +1,6 @@
 -- Document 01, "The step" and "Numbers given back on refusal": a step, refused or made.
 -- Assumes nothing.
-use Rattle.std.specs.Prelude.{List, ℕ, ◌+◌, ◌≡◌, ◌++◌, eqb}
+use Rattle.std.specs.Prelude.{List, ℕ, ◌≡◌, ◌++◌, eqb}
 use Rattle.reckon.specs.Tests.{pick, refusal}
 use Rattle.ledger.specs.Runs.{Plan, World, answered, seen_of}
 use Rattle.ledger.specs.After.{late_refusals, world_after}

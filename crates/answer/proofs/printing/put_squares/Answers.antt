@@ -1,7 +1,7 @@
 -- `answer::printing::put_squares` meets its contract: the lines so far stand at the place.
 -- Assumes nothing.
 use mathlib.Core.List.{List}
-use Prim.Native.Nat.{ℕ, ◌+◌, ◌-◌, ◌≤◌}
+use Prim.Native.Nat.{ℕ, ◌+◌, ◌≤◌}
 use native.Mathlib.Omega.{arith}
 use lib.ListN.{length}
 use Rattle.reckon.specs.Lists.{joined}
@@ -32,9 +32,9 @@ loop-square-init c = (omega arith, none_written _ _ _)
 
 pub put_square-next-requires : goal.put_square-next-requires
 put_square-next-requires c = record {
-      shape_in_range = (c.requires.shape_in_range.0, omega (arith, c.squares_of-squares.ensures, c.requires.shape_in_range.1), omega (arith, c.squares_of-squares.ensures, c.requires.shape_in_range.2));
-      square_in_bounds = line_fits (cell_text (P (goal.at.put_square-next-requires c).After-squares_of-squares) (D (goal.at.put_square-next-requires c).After-squares_of-squares)) (squares c.args.shape) c.args.at c.args.out.now (fits (goal.at.put_square-next-requires c).After-squares_of-squares) c.loop-square.square c.loop-square.invariant.1 (omega (arith, c.squares_of-squares.ensures));
-    }
+  shape_in_range = (c.requires.shape_in_range.0, omega (arith, c.squares_of-squares.ensures, c.requires.shape_in_range.1), omega (arith, c.squares_of-squares.ensures, c.requires.shape_in_range.2));
+  square_in_bounds = line_fits (cell_text (P (goal.at.put_square-next-requires c).After-squares_of-squares) (D (goal.at.put_square-next-requires c).After-squares_of-squares)) (squares c.args.shape) c.args.at c.args.out.now (fits (goal.at.put_square-next-requires c).After-squares_of-squares) c.loop-square.square c.loop-square.invariant.1 (omega (arith, c.squares_of-squares.ensures));
+}
 
 pub loop-square-preserved : goal.loop-square-preserved
 loop-square-preserved c = (omega arith, line_written (cell_text (P (goal.at.loop-square-preserved c).After-squares_of-squares) (D (goal.at.loop-square-preserved c).After-squares_of-squares)) (squares c.args.shape) c.args.at c.args.out.now (fits (goal.at.loop-square-preserved c).After-squares_of-squares) c.loop-square.square c.loop-square.invariant.1 (omega (arith, c.squares_of-squares.ensures)) c.put_square-next.ensures)

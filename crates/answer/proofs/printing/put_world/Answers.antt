@@ -16,9 +16,9 @@ D c = c.args.depths.now
 
 pub put_squares-next-requires : goal.put_squares-next-requires
 put_squares-next-requires c = record {
-      shape_in_range = c.requires.shape_in_range;
-      depths_in_bounds = cells_fit (P (goal.at.put_squares-next-requires c).Start) (D (goal.at.put_squares-next-requires c).Start) c.args.run c.args.steps c.args.at c.args.out.now c.requires.steps_in_bounds;
-    }
+  shape_in_range = c.requires.shape_in_range;
+  depths_in_bounds = cells_fit (P (goal.at.put_squares-next-requires c).Start) (D (goal.at.put_squares-next-requires c).Start) c.args.run c.args.steps c.args.at c.args.out.now c.requires.steps_in_bounds;
+}
 
 pub put_totals-requires : goal.put_totals-requires
 put_totals-requires c = totals_fit (P (goal.at.put_totals-requires c).Start) (D (goal.at.put_totals-requires c).Start) c.args.run c.args.steps c.args.at c.args.out.now c.requires.steps_in_bounds c.put_squares-next.ensures

@@ -1,6 +1,5 @@
 -- `moves::drops::drops_by_sides` meets its contract: side by side.
 -- Assumes nothing.
-use borrow.Author.Rules.{rules}
 use Rattle.ledger.specs.Runs.{plan}
 use Rattle.moves.proofs.DropLaws.{drops_made}
 use Rattle.moves.proofs.drops.drops_by_sides.Goals as goal

@@ -2,7 +2,6 @@
 -- Assumes nothing.
 use mathlib.Core.Path.{sym, ◌∙◌, ap}
 use native.Mathlib.Omega.{arith}
-use borrow.Author.Rules.{rules}
 use Rattle.rule.specs.Drops.{drop_off}
 use Rattle.ledger.specs.Runs.{Plan, plan}
 use Rattle.moves.proofs.DropLaws.{drop_there, drop-exit, drop_rim}

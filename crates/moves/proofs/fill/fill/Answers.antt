@@ -2,7 +2,6 @@
 -- stand already.
 -- Assumes nothing.
 use mathlib.Core.Path.{refl, ◌∙◌}
-use borrow.Author.Rules.{rules}
 use Rattle.ledger.specs.Runs.{Plan, plan}
 use Rattle.checks.specs.Given.{Ground, ground}
 use Rattle.moves.specs.Inner.Fill.{FilledTo}
@@ -33,21 +32,21 @@ head_put c =
 
 pub fill_rows-requires : goal.fill_rows-requires
 fill_rows-requires c = record {
-      fills = fills_still (c.put_head.auto.rec ∙ c.clear.auto.rec) c.requires.fills;
-      unstirred_by = (
-        idle_by c.args.way.walk (p (goal.at.fill_rows-requires c).Start) c.args.depths.now c.args.lasts.now c.args.added.now c.requires.fills.flows.lies.sited.fine c.mark_worked.ensures,
-        c.mark_worked.auto.worked ∙ c.requires.held_le_most_length.2,
-        c.requires.held_le_most_length.1,
-        c.requires.held_le_most_length.3,
-      );
-    }
+  fills = fills_still (c.put_head.auto.rec ∙ c.clear.auto.rec) c.requires.fills;
+  unstirred_by = (
+    idle_by c.args.way.walk (p (goal.at.fill_rows-requires c).Start) c.args.depths.now c.args.lasts.now c.args.added.now c.requires.fills.flows.lies.sited.fine c.mark_worked.ensures,
+    c.mark_worked.auto.worked ∙ c.requires.held_le_most_length.2,
+    c.requires.held_le_most_length.1,
+    c.requires.held_le_most_length.3,
+  );
+}
 
 pub returns : goal.returns
 returns c = (
-      filled_whole refl (c.fill_rows.ensures.0 c.args.span.held (head_put (goal.at.returns c).After-put_head)),
-      c.mark_worked.ensures,
-      c.fill_rows.ensures.2,
-      left-kept c.args.way.walk (p (goal.at.returns c).Start) c.args.depths.now c.args.lasts.now c.args.added.now (o (goal.at.returns c).Start) c.args.span.duration
-          c.fill_rows.new.left c.requires.fills.flows.lies.sited.fine c.mark_worked.ensures
-          c.fill_rows.ensures.1,
-    )
+  filled_whole refl (c.fill_rows.ensures.0 c.args.span.held (head_put (goal.at.returns c).After-put_head)),
+  c.mark_worked.ensures,
+  c.fill_rows.ensures.2,
+  left-kept c.args.way.walk (p (goal.at.returns c).Start) c.args.depths.now c.args.lasts.now c.args.added.now (o (goal.at.returns c).Start) c.args.span.duration
+      c.fill_rows.new.left c.requires.fills.flows.lies.sited.fine c.mark_worked.ensures
+      c.fill_rows.ensures.1,
+)

@@ -84,9 +84,9 @@ overflow_add-square c = omega (arith, c.requires.in_row.0.fits, c.requires.fills
 
 pub fill_square-sent-requires : goal.fill_square-sent-requires
 fill_square-sent-requires c = record {
-      fills = fills_still c.loop-rest.invariant.0 c.requires.fills;
-      on_square = (row-column c.args.way.shape c.requires.fills.flows.lies.sited.fine c.requires.in_row.0 (within (goal.at.fill_square-sent-requires c).After-lowest_set-column), room_long (goal.at.fill_square-sent-requires c).After-lowest_set-column);
-    }
+  fills = fills_still c.loop-rest.invariant.0 c.requires.fills;
+  on_square = (row-column c.args.way.shape c.requires.fills.flows.lies.sited.fine c.requires.in_row.0 (within (goal.at.fill_square-sent-requires c).After-lowest_set-column), room_long (goal.at.fill_square-sent-requires c).After-lowest_set-column);
+}
 
 pub sender_bit-senders-requires : goal.sender_bit-senders-requires
 sender_bit-senders-requires c = omega (arith, within (goal.at.sender_bit-senders-requires c).After-lowest_set-column, high (goal.at.sender_bit-senders-requires c).Start)
@@ -102,10 +102,10 @@ loop-rest-smaller c = walk_less c.loop-rest-test.true c.without_lowest-rest.ensu
 
 pub loop-rest-preserved : goal.loop-rest-preserved
 loop-rest-preserved c = (
-      c.fill_square-sent.auto.rec ∙ c.loop-rest.invariant.0,
-      c.fill_square-sent.auto.left ∙ c.loop-rest.invariant.1,
-      walk_on c.loop-rest.invariant.2 (high (goal.at.loop-rest-preserved c).Start) c.loop-rest-test.true c.lowest_set-column.ensures c.without_lowest-rest.ensures (one_more (goal.at.loop-rest-preserved c).After-sender_bit-senders),
-    )
+  c.fill_square-sent.auto.rec ∙ c.loop-rest.invariant.0,
+  c.fill_square-sent.auto.left ∙ c.loop-rest.invariant.1,
+  walk_on c.loop-rest.invariant.2 (high (goal.at.loop-rest-preserved c).Start) c.loop-rest-test.true c.lowest_set-column.ensures c.without_lowest-rest.ensures (one_more (goal.at.loop-rest-preserved c).After-sender_bit-senders),
+)
 
 pub shape_of-rec : goal.shape_of-rec
 shape_of-rec c = c.loop-rest.invariant.0

@@ -2,7 +2,7 @@
 -- are the senders'.
 -- Assumes nothing.
 use mathlib.Core.Path.{◌≡◌, refl, ◌∙◌, subst}
-use Prim.Native.Nat.{ℕ, ◌-◌}
+use Prim.Native.Nat.{ℕ}
 use native.Mathlib.Omega.{arith}
 use lib.ListN.{length, get_or}
 use Rattle.grid.specs.Walks.{bit_of}
@@ -35,13 +35,13 @@ long c = rowed_long _ _ _ _ c.loop-row.invariant.5 ∙ c.requires.unstirred_by.3
 
 pub loop-row-init : goal.loop-row-init
 loop-row-init c = (
-      rows_begin _ _,
-      refl,
-      refl,
-      (λ held f. f),
-      left_none (p (goal.at.loop-row-init c).Start) (o (goal.at.loop-row-init c).Start) c.args.depths.now c.args.lasts.now c.args.added.now c.args.span.start c.args.span.duration c.args.worked.now c.args.left.now,
-      rowed_none _ _ _,
-    )
+  rows_begin _ _,
+  refl,
+  refl,
+  (λ held f. f),
+  left_none (p (goal.at.loop-row-init c).Start) (o (goal.at.loop-row-init c).Start) c.args.depths.now c.args.lasts.now c.args.added.now c.args.span.start c.args.span.duration c.args.worked.now c.args.left.now,
+  rowed_none _ _ _,
+)
 
 pub offset_bounds-worked-row : goal.offset_bounds-worked-row
 offset_bounds-worked-row c = record { fits = omega (arith, c.requires.fills.flows.lies.sited.fine.rows_high, c.loop-row-test.true) }
@@ -52,14 +52,14 @@ bounds-worked-row c = omega (arith, c.requires.unstirred_by.1, c.loop-row-test.t
 pub fill_row-requires : goal.fill_row-requires
 unfolding bit_of
 fill_row-requires c = record {
-      fills = fills_still c.loop-row.invariant.1 c.requires.fills;
-      in_row = (
-        row_here c.args.way.shape c.loop-row.invariant.0 c.loop-row-test.true,
-        by_row c.args.way.shape c.loop-row.row c.loop-row.invariant.0.begins (λ r. get_or c.args.worked.now r 0)
-            (UnstirredAt (p (goal.at.fill_row-requires c).Start) c.args.depths.now c.args.lasts.now c.args.added.now) c.loop-row-test.true refl c.requires.unstirred_by.0,
-        c.loop-row.invariant.2 ∙ c.requires.unstirred_by.2,
-      );
-    }
+  fills = fills_still c.loop-row.invariant.1 c.requires.fills;
+  in_row = (
+    row_here c.args.way.shape c.loop-row.invariant.0 c.loop-row-test.true,
+    by_row c.args.way.shape c.loop-row.row c.loop-row.invariant.0.begins (λ r. get_or c.args.worked.now r 0)
+        (UnstirredAt (p (goal.at.fill_row-requires c).Start) c.args.depths.now c.args.lasts.now c.args.added.now) c.loop-row-test.true refl c.requires.unstirred_by.0,
+    c.loop-row.invariant.2 ∙ c.requires.unstirred_by.2,
+  );
+}
 
 pub offset_bounds-senders-row : goal.offset_bounds-senders-row
 offset_bounds-senders-row c = record { fits = omega (arith, c.requires.fills.flows.lies.sited.fine.rows_high, c.loop-row-test.true) }
@@ -78,8 +78,7 @@ loop-row-smaller c = omega (arith, c.loop-row-test.true)
 
 pub loop-row-preserved : goal.loop-row-preserved
 loop-row-preserved c =
-    let inv = c.loop-row.invariant in
-    (
+    let inv = c.loop-row.invariant in (
       row_next inv.0 c.loop-row-test.true,
       c.fill_row.auto.rec ∙ inv.1,
       c.fill_row.auto.left ∙ inv.2,

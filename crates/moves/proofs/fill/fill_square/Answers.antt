@@ -2,7 +2,6 @@
 -- Assumes nothing.
 use mathlib.Core.Path.{◌≡◌, refl, sym, ◌∙◌}
 use mathlib.Core.Bool.{false}
-use borrow.Author.Rules.{rules}
 use Rattle.reckon.proofs.TestLaws.{not_both, pick_true}
 use Rattle.ledger.specs.Runs.{Plan, plan}
 use Rattle.ledger.specs.Flows.{shut}
@@ -54,9 +53,9 @@ returns-then-depths-square-eq0 c =
 
 pub work_square-requires : goal.work_square-requires
 work_square-requires c = record {
-      fills = c.requires.fills;
-      on_square = (c.requires.on_square.0, is_open (goal.at.work_square-requires c).Else-is_closed, c.requires.on_square.1);
-    }
+  fills = c.requires.fills;
+  on_square = (c.requires.on_square.0, is_open (goal.at.work_square-requires c).Else-is_closed, c.requires.on_square.1);
+}
 
 pub returns : goal.returns
 returns c = c.work_square.ensures

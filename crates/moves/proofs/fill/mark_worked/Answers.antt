@@ -1,6 +1,5 @@
 -- `moves::fill::mark_worked` meets its contract: row after row, what is filled so far is the masks of the rows passed.
 -- Assumes nothing.
-use Prim.Native.Nat.{◌-◌}
 use native.Mathlib.Omega.{arith}
 use Rattle.grid.proofs.MaskLaws.{rowed_none, rowed_long, rowed_more}
 use Rattle.grid.proofs.SquareLaws.{row_fits, rows_begin, row_next}
@@ -42,9 +41,9 @@ loop-row-smaller c = omega (arith, c.loop-row-test.true)
 
 pub loop-row-preserved : goal.loop-row-preserved
 loop-row-preserved c = (
-      row_next c.loop-row.invariant.0 c.loop-row-test.true,
-      rowed_more _ _ _ _ c.loop-row.invariant.1 c.loop-row.invariant.0.begins (omega (arith, c.requires.rows_long, c.loop-row-test.true)) c.worked_row.ensures,
-    )
+  row_next c.loop-row.invariant.0 c.loop-row-test.true,
+  rowed_more _ _ _ _ c.loop-row.invariant.1 c.loop-row.invariant.0.begins (omega (arith, c.requires.rows_long, c.loop-row-test.true)) c.worked_row.ensures,
+)
 
 pub shape_of-worked : goal.shape_of-worked
 shape_of-worked c = rowed_long _ _ _ _ c.loop-row.invariant.1

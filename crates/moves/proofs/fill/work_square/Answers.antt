@@ -5,7 +5,6 @@ use mathlib.Core.List.{List}
 use Prim.Native.Nat.{ℕ, ◌≤◌, ◌<◌}
 use native.Mathlib.Omega.{arith}
 use lib.ListN.{length, get_or}
-use borrow.Author.Rules.{rules}
 use Rattle.reckon.specs.Ranges.{most_depth}
 use Rattle.reckon.proofs.TestLaws.{not_both}
 use Rattle.grid.specs.Squares.{most_squares}
@@ -100,10 +99,10 @@ overflow_sub-depth c = left (goal.at.overflow_sub-depth c).After-four_leaving-go
 
 pub soaks-soaked-requires : goal.soaks-soaked-requires
 soaks-soaked-requires c = record {
-      rate_to = omega (arith, c.number-3.ensures, c.requires.fills.flows.rates_to c.args.at.square c.requires.on_square.0.inside c.requires.on_square.1);
-      ordered = omega arith;
-      end_to = c.requires.fills.end_to;
-    }
+  rate_to = omega (arith, c.number-3.ensures, c.requires.fills.flows.rates_to c.args.at.square c.requires.on_square.0.inside c.requires.on_square.1);
+  ordered = omega arith;
+  end_to = c.requires.fills.end_to;
+}
 
 pub offset_bounds-lasts-square : goal.offset_bounds-lasts-square
 offset_bounds-lasts-square c = record { fits = omega (arith, few (goal.at.offset_bounds-lasts-square c).After-soaks-soaked) }
@@ -119,11 +118,11 @@ bounds-added-square c = inside-added (goal.at.bounds-added-square c).After-soaks
 
 pub put_square-requires : goal.put_square-requires
 put_square-requires c = record {
-      square_words_in_bounds = omega (arith, c.requires.fills.record_long, c.requires.on_square.0.inside);
-      north_bound = words_fit c.args.way.rules c.number.result c.number-2.result c.args.span.duration
-          c.drops_of-drops.result {d = c.number-depth.result} (omega (arith, shallow (goal.at.put_square-requires c).After-weigh-leaves, c.number-depth.ensures))
-          (omega (arith, c.soaks-soaked.ensures)) c.weigh-leaves.ensures;
-    }
+  square_words_in_bounds = omega (arith, c.requires.fills.record_long, c.requires.on_square.0.inside);
+  north_bound = words_fit c.args.way.rules c.number.result c.number-2.result c.args.span.duration
+      c.drops_of-drops.result {d = c.number-depth.result} (omega (arith, shallow (goal.at.put_square-requires c).After-weigh-leaves, c.number-depth.ensures))
+      (omega (arith, c.soaks-soaked.ensures)) c.weigh-leaves.ensures;
+}
 
 -- what left fits a word, and the square is one of the room's
 pub overflow_cast-left : goal.overflow_cast-left

@@ -1,4 +1,3 @@
-use Prim.Native.Nat.{◌-◌}
 use Rattle.grid.proofs.MaskLaws.{Built}
 use Rattle.moves.specs.Inner.Fill.{works_on}
 use Rattle.moves.proofs.fill.worked_row.Given as goal

@@ -1,7 +1,7 @@
 -- `moves::length::least_in_row` meets its contract: the columns passed over have no candidate.
 -- Assumes nothing.
 use mathlib.Core.Path.{◌≡◌, ap, ◌∙◌}
-use Prim.Native.Nat.{ℕ, ◌+◌, ◌-◌}
+use Prim.Native.Nat.{ℕ, ◌+◌}
 use native.Mathlib.Omega.{arith}
 use Rattle.grid.specs.Inner.Visits.{Passes}
 use Rattle.grid.proofs.SquareLaws.{row-column}
@@ -47,9 +47,9 @@ overflow_add-square c = omega (arith, c.requires.in_row.0.fits, c.requires.meado
 
 pub shorter_by-best-requires : goal.shorter_by-best-requires
 shorter_by-best-requires c = (
-      c.requires.meadow_in_range,
-      row-column c.args.way.shape c.requires.meadow_in_range.sited.fine c.requires.in_row.0 c.loop-column-test.true,
-    )
+  c.requires.meadow_in_range,
+  row-column c.args.way.shape c.requires.meadow_in_range.sited.fine c.requires.in_row.0 c.loop-column-test.true,
+)
 
 pub next_after-column-requires : goal.next_after-column-requires
 next_after-column-requires c = (c.loop-column-test.true, c.requires.meadow_in_range.sited.fine.columns_high)

@@ -1,7 +1,6 @@
 -- `moves::length::least_of_all` meets its contract: the least of the squares passed.
 -- Assumes nothing.
 use mathlib.Core.Path.{sym}
-use Prim.Native.Nat.{◌-◌}
 use native.Mathlib.Nat.{zero-mod}
 use native.Mathlib.Omega.{arith}
 use Rattle.grid.proofs.SquareLaws.{carried, column-within}
@@ -40,11 +39,11 @@ next_column-column-requires c =
 
 pub loop-square-preserved : goal.loop-square-preserved
 loop-square-preserved c = (
-      omega arith,
-      carried c.args.way.shape c.loop-square.square c.loop-square.invariant.1 c.next_column-column.ensures,
-      least_more (p (goal.at.loop-square-preserved c).Start) (o (goal.at.loop-square-preserved c).Start) c.args.depths.now c.args.way.rules.longest c.loop-square.square c.loop-square.invariant.2
-          c.shorter_by-best.ensures,
-    )
+  omega arith,
+  carried c.args.way.shape c.loop-square.square c.loop-square.invariant.1 c.next_column-column.ensures,
+  least_more (p (goal.at.loop-square-preserved c).Start) (o (goal.at.loop-square-preserved c).Start) c.args.depths.now c.args.way.rules.longest c.loop-square.square c.loop-square.invariant.2
+      c.shorter_by-best.ensures,
+)
 
 pub returns : goal.returns
 returns c = least_all (p (goal.at.returns c).Start) (o (goal.at.returns c).Start) c.args.depths.now c.args.way.rules.longest c.loop-square.invariant.2 (omega arith)

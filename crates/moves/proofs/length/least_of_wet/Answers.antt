@@ -1,7 +1,6 @@
 -- `moves::length::least_of_wet` meets its contract: row after row, the least of the squares passed.
 -- Assumes nothing.
 use mathlib.Core.Path.{refl}
-use Prim.Native.Nat.{◌-◌}
 use native.Mathlib.Omega.{arith}
 use Rattle.grid.proofs.SquareLaws.{row_fits, rows_begin, row_here, row_next, rows_end}
 use Rattle.ledger.specs.Runs.{Plan, plan}
@@ -38,10 +37,10 @@ row_mask-wet-requires c =
 
 pub least_in_row-best-requires : goal.least_in_row-best-requires
 least_in_row-best-requires c = record {
-      meadow_in_range = c.requires;
-      in_row = (row_here c.args.way.shape c.loop-row.invariant.0 c.loop-row-test.true, c.row_mask-wet.ensures);
-      longer_value = c.loop-row.invariant.1;
-    }
+  meadow_in_range = c.requires;
+  in_row = (row_here c.args.way.shape c.loop-row.invariant.0 c.loop-row-test.true, c.row_mask-wet.ensures);
+  longer_value = c.loop-row.invariant.1;
+}
 
 pub overflow_add-row : goal.overflow_add-row
 overflow_add-row c = omega (arith, c.requires.sited.fine.rows_high, c.loop-row-test.true)

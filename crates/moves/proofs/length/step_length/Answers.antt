@@ -1,7 +1,6 @@
 -- `moves::length::step_length` meets its contract: a length that starts at the longest is the list's.
 -- Assumes nothing.
 use mathlib.Core.Path.{sym, ◌∙◌, ap}
-use borrow.Author.Rules.{rules}
 use Rattle.rule.specs.Length.{held_between}
 use Rattle.rule.proofs.LengthLaws.{fresh-held}
 use Rattle.moves.proofs.LengthLaws.{length_afresh, length-kept}
