@@ -43,7 +43,7 @@ unfolding held_to
 held_more boards i = ap (held_to boards) (sym (add-one i))
 
 module _ (boards : List Board) where
-  pub held_count : (i : ℕ) → (held_to boards i).count ≡ i
+  held_count : (i : ℕ) → (held_to boards i).count ≡ i
   unfolding held_to with_board
   held_count zero = refl
   held_count (suc i) = add-one (held_to boards i).count ∙ ap suc (held_count i)

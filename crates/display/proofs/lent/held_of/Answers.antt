@@ -1,9 +1,9 @@
 -- `display::lent::held_of` meets its contract: what is kept after so many boards is what the list keeps of them.
 -- Assumes nothing.
-use Rattle.std.proofs.Common.{◌≡◌, ◌∙◌, ap, arith, length, slice_index_or}
+use Rattle.std.proofs.Common.{◌≡◌, ◌<◌, ◌^◌, ◌∙◌, ap, arith, length, slice_index_or}
 use Rattle.display.specs.Boards.{no_board, with_board}
 use Rattle.display.specs.declared.boards.Boards.{Boards}
-use Rattle.display.proofs.LentLaws.{held_to, held_none, held_more, held_count, held_all}
+use Rattle.display.proofs.LentLaws.{held_to, held_none, held_more, held_fits, held_all}
 use Rattle.display.proofs.lent.held_of.Goals as goal
 
 pub loop-i-init : goal.loop-i-init
@@ -11,8 +11,9 @@ loop-i-init c = record { so_far = c.no_boards-held.ensures ∙ held_none c.args.
 
 pub with_board-held-requires : goal.with_board-held-requires
 with_board-held-requires c =
-    let count : c.loop-i.held.count ≡ c.loop-i.i = ap (λ (h : Boards). h.count) c.loop-i.invariant.so_far ∙ held_count c.args.boards.now c.loop-i.i in
-    omega arith
+    let small : length c.args.boards.now < 2 ^ 64 = omega arith in
+    let fits = held_fits c.args.boards.now c.loop-i-test.true small in
+    rw c.loop-i.invariant.so_far fits
 
 pub loop-i-preserved : goal.loop-i-preserved
 loop-i-preserved c = record {

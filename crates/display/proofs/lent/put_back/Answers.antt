@@ -1,6 +1,6 @@
 -- `display::lent::put_back` meets its contract: the list is the one with so many boards put back.
 -- Assumes nothing.
-use Rattle.std.proofs.Common.{◌≡◌, ◌<◌, ◌≤◌, ◌∙◌, ap, arith, List, length, slice_set, slice_index_or}
+use Rattle.std.proofs.Common.{◌<◌, ◌≤◌, ◌∙◌, ap, arith, List, length, slice_set, slice_index_or}
 use Rattle.display.specs.Boards.{no_board}
 use Rattle.display.specs.Inner.Lent.{board_at}
 use Rattle.display.specs.declared.boards.Board.{Board}

@@ -1,13 +1,10 @@
 -- `display::watch::watch_on` meets its contract: where the loop has come to, the run from there is the whole run, and the boards show all states
 -- so far.
 -- Assumes nothing.
-use mathlib.Core.Path.{◌≡◌, refl, sym, ◌∙◌}
-use mathlib.Core.List.{List}
-use Prim.Native.Nat.{ℕ, ◌-◌, ◌≤◌}
+use mathlib.Core.Path.{refl, sym, ◌∙◌}
+use Prim.Native.Nat.{ℕ, ◌≤◌}
 use native.Mathlib.Omega.{arith}
-use lib.ListN.{length, take, length-replicate}
-use lib.Seq.{length-take-le, length_front}
-use borrow.Author.Rules.{rules}
+use lib.ListN.{length-replicate}
 use Rattle.grid.specs.Squares.{ShapeInRange, most_along, most_squares}
 use Rattle.ledger.specs.Runs.{Plan, World, plan, world}
 use Rattle.checks.specs.Given.{Given, ground, given}
