@@ -13,11 +13,11 @@ from meadow.counted import Checks
 # function gives, and four inside.
 PROJECT = {
     "crates.txt": "# crates\nlow:\nflood: low\ndemands: low flood\nshow: low\n",
-    "crates/low/specs/Lib.antt": "pub mod Water\npub mod Worked\npub mod inner\n",
-    "crates/low/specs/inner.antt": "pub mod Asked\npub mod Determined\n",
+    "crates/low/specs/Lib.antt": "pub mod Water\npub mod Worked\npub mod Inner\n",
+    "crates/low/specs/Inner.antt": "pub mod Asked\npub mod Determined\n",
     "crates/low/specs/Water.antt": """-- Water, of which `idle` is only a word here.
-use Prim.Native.Nat.{ℕ, _+_}
-use Rattle·low·specs.specs.declared.squares.Shape.{Shape}
+use Rattle.std.specs.Prelude.{ℕ, ◌+◌}
+use Rattle.low.specs.declared.squares.Shape.{Shape}
 
 module _ (s : Shape) where
   -- how deep
@@ -28,62 +28,62 @@ module _ (s : Shape) where
 pub data Seen : Type 0 where
   wet : ℕ → Seen
 
-infix 70 _over_
-abbrev pub _over_ : ℕ → ℕ → ℕ
+infix 70 ◌over◌
+abbrev pub ◌over◌ : ℕ → ℕ → ℕ
 a over b = a + b
 
 abbrev pub Judged : ℕ → Type 0
 Judged r = r ≡ 1
 """,
     "crates/low/specs/Worked.antt": "pub record Cases : Type 0 where\n  pub one : 1 ≡ 1\n",
-    "crates/low/specs/inner/Asked.antt": "abbrev pub Asked : Type 0\nAsked = Unit\n",
-    "crates/low/specs/inner/Determined.antt": """use Rattle·low·specs.specs.Water.{Judged}
-use Rattle·low·specs.specs.inner.Asked.{Asked}
+    "crates/low/specs/Inner/Asked.antt": "abbrev pub Asked : Type 0\nAsked = Unit\n",
+    "crates/low/specs/Inner/Determined.antt": """use Rattle.low.specs.Water.{Judged}
+use Rattle.low.specs.Inner.Asked.{Asked}
 
 pub record LowDetermined : Type 0 where
   pub judge : Asked → Judged 1
 """,
-    "crates/low/src/lib.rt": """ghost use Rattle·low·specs.specs.Water.{Judged};
-ghost use Rattle·low·specs.specs.inner.Asked.{Asked};
+    "crates/low/src/lib.rt": """ghost use Rattle.low.specs.Water.{Judged};
+ghost use Rattle.low.specs.Inner.Asked.{Asked};
 
 // A layer.
 pub fn judge(depth: u64) -> u64
-    requires { ⌜ Asked ⌝ }
-    ensures { λ r. ⌜ Judged r ⌝ }
+    requires asked { Asked }
+    ensures { Judged result }
 {
     1
 }
 """,
     "crates/flood/specs/Lib.antt": "pub mod Step\n",
-    "crates/flood/specs/Step.antt": """use Rattle·low.specs.Water as Water
-use Rattle·low.specs.Water.{_over_}
+    "crates/flood/specs/Step.antt": """use Rattle.low.specs.Water as Water
+use Rattle.low.specs.Water.{◌over◌}
 
 pub record Steps (n : ℕ) (r : List ℕ) : Type 0 where
   pub answer : n ≡ Water.depth over 1
 """,
-    "crates/flood/src/step.rt": """ghost use Rattle·flood·specs.specs.Step.{Steps};
+    "crates/flood/src/step.rt": """ghost use Rattle.flood.specs.Step.{Steps};
 
 pub fn step(
     shape: Shape,
     depths: &mut [u32],
 ) -> u32
-    ensures { λ r. ⌜ Steps r (now (depths .exit)) ⌝ }
+    ensures { Steps result depths.new }
 {
     1
 }
 """,
     "crates/demands/specs/Lib.antt": "pub mod Demand1\n",
-    "crates/demands/specs/Demand1.antt": """use Rattle·low.specs.Water.Seen.{wet}
+    "crates/demands/specs/Demand1.antt": """use Rattle.low.specs.Water.Seen.{wet}
 
 pub record Demand1 : Type 0 where
   pub seen : (a : ℕ) → wet a ≡ wet a
 """,
-    "crates/show/src/main.rt": "ghost use Rattle·low.specs.Water.{Judged};\n\npub fn main() {\n}\n",
+    "crates/show/src/main.rt": "ghost use Rattle.low.specs.Water.{Judged};\n\npub fn main() {\n}\n",
 }
 WATER, STEP, DEMAND = "crates/low/specs/Water.antt", "crates/flood/specs/Step.antt", "crates/demands/specs/Demand1.antt"
 IDLE = "abbrev pub idle : ℕ\nidle = 2\n"
-GIVES_IT = "fn more() -> u64\n    ensures { λ r. ⌜ r ≡ idle ⌝ }\n{\n    2\n}\n"
-NAMES_IT = "use Rattle·low.specs.Water.{idle}\n"
+GIVES_IT = "fn more() -> u64\n    ensures { result ≡ idle }\n{\n    2\n}\n"
+NAMES_IT = "use Rattle.low.specs.Water.{idle}\n"
 NO_CONTRACT = "is reached by no contract:\n  low/specs/Water.antt: idle\n"
 
 
@@ -137,6 +137,7 @@ def hold_reach(checks):
     reaches = {
         "a demand": [(DEMAND, "  pub more : idle ≡ 2\n")],
         "an entry point's definition": [(STEP, "  pub more : n ≡ idle\n")],
+        "a field of it": [(STEP, "  pub more : n ≡ idle.depth\n")],
         "a layer's contract": [("crates/low/src/more.rt", f"ghost {NAMES_IT[:-1]};\n\npub {GIVES_IT}")],
     }
     for name, additions in reaches.items():
@@ -148,11 +149,12 @@ def hold_reach(checks):
         "nothing": [],
         "a comment": [(STEP, "  -- idle\n")],
         "a text": [(STEP, '  pub more : n ≡ length "idle"\n')],
-        "a field looked into": [(STEP, "  pub more : n ≡ r .idle\n")],
+        "a field looked into": [(STEP, "  pub more : n ≡ r.idle\n")],
+        "a field of what brackets hold": [(STEP, "  pub more : n ≡ (f r).idle\n")],
         "a field's own name": [(STEP, "  pub idle : n ≡ 1\n")],
         "a private function": [("crates/low/src/lib.rt", f"\n{GIVES_IT}")],
         "a program": [("crates/show/src/more.rt", f"pub {GIVES_IT}")],
-        "a determinacy record": [("crates/low/specs/inner/Determined.antt", "  pub more : idle ≡ 2\n")],
+        "a determinacy record": [("crates/low/specs/Inner/Determined.antt", "  pub more : idle ≡ 2\n")],
         "a definition that is idle itself": [(WATER, "abbrev pub other : ℕ\nother = idle\n")],
         "a worked case": [("crates/low/specs/Worked.antt", "  pub more : idle ≡ 2\n")],
     }
@@ -167,18 +169,18 @@ def hold_reach(checks):
 
 def hold_faults(checks):
     """Each fault is found, and as many lines as may be are none."""
-    asked = "use Rattle·low·specs.specs.inner.Asked.{Asked}\n"
-    inside = "use Rattle·low.specs.inner.Asked as Inside\n"
+    asked = "use Rattle.low.specs.Inner.Asked.{Asked}\n"
+    inside = "use Rattle.low.specs.Inner.Asked as Inside\n"
     lines = believed.MOST - 10
     faults = {
-        "looks into specs/inner/:\n  low/specs/Water.antt imports low/specs/inner/Asked.antt\n": changed(WATER, "use Prim", asked + "use Prim"),
-        "must be believed, and stands in specs/inner/:\n  low/specs/inner/Asked.antt: Asked\n": added(
+        "looks into specs/Inner/:\n  low/specs/Water.antt imports low/specs/Inner/Asked.antt\n": changed(WATER, "use Rattle.std", asked + "use Rattle.std"),
+        "must be believed, and stands in specs/Inner/:\n  low/specs/Inner/Asked.antt: Asked\n": added(
             (STEP, inside + "  pub more : Inside.Asked\n")
         ),
         NO_CONTRACT: added((WATER, IDLE)),
         "lines are too many:\n  1\n": added((STEP, "  pub more : n ≡ 1\n" * (lines + 1))),
         "no definition must be believed:": {
-            name: re.sub(r"⌜.*⌝", "⌜ r ≡ 1 ⌝", text) for name, text in PROJECT.items() if "demands" not in name and "specs" not in name
+            name: re.sub(r"ensures \{.*\}", "ensures { result ≡ 1 }", text) for name, text in PROJECT.items() if "demands" not in name and "specs" not in name
         },
     }
     for fault, project in faults.items():

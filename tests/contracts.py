@@ -7,12 +7,14 @@ import re
 
 from meadow.counted import Checks
 from meadow.programs import TOP
-from rattle import DEMANDS, imported, statements
-from rattle.functions import library_functions
+from rattle import DEMANDS, imported, statements, statics
+from rattle.functions import exported_functions, library_functions
 from rattle.specs import Specs
 
 # the exported functions have this before the name of the call
 EXPORTED = "flood_"
+# and the static library that exports a library's functions has this after the library's name
+OF_EXPORTS = "_c"
 # Rooms of which a contract promises nothing, because nobody reads what is left in them (docs/CONTRACTS.md says why), and slices that a
 # `requires` asks to say only what the record says already, so that nothing depends on them.
 IN_ROOMS = (
@@ -34,13 +36,7 @@ NOT_SAID.add(("files", "write_named", "text"))
 OF_THE_SYSTEM = ("files",)
 # what a field says of its relation; of these two, which leave parts of a room open, it says the rest in full
 ONE = ("reckon", "Outcomes", "One")
-IN_PART = {("adding", "add-water"), ("moves", "fill")}
-
-
-def claim(clause):
-    """The name of what is handed back in an `ensures`, and what is said."""
-    found = re.fullmatch(r"\s*λ (\w+)\. ⌜ (.*) ⌝\s*", clause, re.S)
-    return found.groups() if found else ("", clause)
+IN_PART = {("adding", "add_water"), ("moves", "fill")}
 
 
 def conjuncts(text):
@@ -76,7 +72,7 @@ class Records:
                 if found:
                     self.names.setdefault(crate, []).append(each.name)
                     for field, text in re.findall(r"^ *pub (\S+) : (.*(?:\n {5,}.*)*)", "\n".join(each.lines), re.M):
-                        self.fields[crate, found[1].lower(), field] = (module, text)
+                        self.fields[crate, found[1].lower(), field.replace("-", "_")] = (module, text)
 
     def named(self, place):
         """The definitions that a field names, those behind the names of its own file included."""
@@ -96,23 +92,21 @@ def is_relation(specs, key):
 def place(function):
     """The field of a function: a layer function's stands in its own crate, an entry point's in the demands."""
     home = DEMANDS if function.is_entry else function.crate
-    return home, function.crate.replace("_", ""), function.name.removeprefix(EXPORTED).replace("_", "-")
+    return home, function.crate.replace("_", ""), function.name.removeprefix(EXPORTED)
 
 
 def hold_contract(hold, function):
     """A contract, on all that the function gives and all that it is lent."""
     name = f"{function.crate}::{function.path}"
-    said = [claim(clause) for clause in function.ensures]
-    hold(said, f"{name} has no contract on what it gives")
-    text = " ".join(words for _, words in said)
+    hold(function.ensures, f"{name} has no contract on what it gives")
+    text = " ".join(function.ensures)
     if function.result:
-        answers = any(re.search(rf"(?<![\w.]){answer}(?!\w)", words) for answer, words in said if answer not in ("", "_"))
-        hold(answers, f"the contract of {name} says nothing of its answer")
+        hold(re.search(r"(?<![\w.])result(?!\w)", text), f"the contract of {name} says nothing of its answer")
     for slice, written in function.slices.items():
-        when = "exit" if written else "entry"
-        told = re.search(rf"\(«?{slice}»? \.{when}\)", text) is not None
+        when = "new" if written else "now"
+        told = re.search(rf"(?<![\w.])«?{slice}»?\.{when}(?!\w)", text) is not None
         promised = (function.crate, function.path, slice) not in NOT_SAID
-        hold(told == promised, f"the contract of {name} says nothing of {slice} .{when}, or says what the list of exceptions leaves out")
+        hold(told == promised, f"the contract of {name} says nothing of {slice}.{when}, or says what the list of exceptions leaves out")
 
 
 def hold_field(hold, specs, records, function):
@@ -120,12 +114,36 @@ def hold_field(hold, specs, records, function):
     name, field = f"{function.crate}::{function.path}", place(function)
     if not hold(field in records.fields, f"no determinacy record of {field[0]} has a field for {name}"):
         return
-    said = [specs.named(head(part), function.imports) for clause in function.ensures for part in conjuncts(claim(clause)[1])]
+    said = [specs.named(head(part), function.imports) for clause in function.ensures for part in conjuncts(clause.strip())]
     heads, named = set().union(*said), records.named(field)
     hold((ONE in named) != (field[1:] in IN_PART), f"the field of {name} does not say that there is one outcome")
     hold(heads and all(said) and heads <= named, f"the field of {name} is not over the relation of its contract: {sorted(heads - named)}")
     others = {key for key in named - heads - {ONE} if is_relation(specs, key)}
     hold(not others, f"the field of {name} is over a relation that its contract does not name: {sorted(others)}")
+
+
+def hold_exported(hold, functions, exported, calls):
+    """What other languages call stands under its plain name in a static library: each function of one only calls the function of its name in the
+    library below it, with the same parameters and the same contract; and every function for other languages has one."""
+    below = {(function.crate, function.name): function for function in functions}
+    for function in exported:
+        told = below.get((function.crate.removesuffix(OF_EXPORTS), function.name))
+        if not hold(told, f"{function.crate}::{function.path} is no function of the library below it"):
+            continue
+        said = [(each.parameters, each.result, each.requires, each.ensures) for each in (function, told)]
+        hold(said[0] == said[1], f"{function.crate}::{function.path} says something else than what it calls")
+        words = re.fullmatch(rf"(?:\w+::)*{function.name}\(([\w\s,]*)\)", calls.get((function.crate, function.name), ""))
+        hold(words and re.findall(r"\w+", words[1]) == list(function.parameters), f"{function.crate}::{function.path} is not one call of the function of its name")
+    made = {(function.crate.removesuffix(OF_EXPORTS), function.name) for function in exported}
+    for place in sorted(place for place in below if place[1].startswith(EXPORTED) and f"{place[0]}{OF_EXPORTS}" in statics(TOP)):
+        hold(place in made, f"no static library exports {place[1]} of {place[0]}")
+
+
+def exported_bodies(top):
+    """{(crate, function): its body} of the static libraries' exports."""
+    texts = [(crate, path.read_text(encoding="utf-8")) for crate in statics(top) for path in sorted((top / "crates" / crate / "src").glob("*.rt"))]
+    head = r'^#\[unsafe\(no_mangle\)\]\npub extern "C" fn (\w+)\(.*?^\{\n(.*?)^\}'
+    return {(crate, name): body.strip() for crate, text in texts for name, body in re.findall(head, text, re.M | re.S)}
 
 
 def hold_tied(hold, functions, calls):
@@ -175,26 +193,36 @@ def determinacy_proofs(top):
 
 def faults(functions):
     """Functions that the test must find fault with, and what the fault is."""
-    one = next(function for function in functions if function.is_entry and any(function.slices.values()) and not all(function.slices.values()))
+    one = next(function for function in functions if function.is_entry and len(function.ensures) == 1 and any(function.slices.values()) and not all(function.slices.values()))
     written = next(name for name, writes in one.slices.items() if writes)
     lent = next(name for name, writes in one.slices.items() if not writes)
     (clause,) = one.ensures
-    answer, words = claim(clause)
-    relation = head(words)
+    relation = head(clause)
     names, modules = one.imports
     other = next(name for name in names if name != relation)
-    ends = lambda text: f" λ {answer}. ⌜ {text} ⌝ "
     yield "no contract", one._replace(ensures=[])
-    yield "nothing said of what is written", one._replace(ensures=[clause.replace(f"({written} .exit)", f"({written} .entry)")])
-    yield "nothing said of what is lent", one._replace(ensures=[clause.replace(f"({lent} .entry)", f"({written} .entry)")])
-    yield "nothing said of the answer", one._replace(ensures=[re.sub(rf" {answer} ", " 0 ", clause.replace(f"λ {answer}.", "λ _."))])
-    yield "another relation", one._replace(ensures=[ends(words.replace(relation, other, 1))])
-    yield "a relation besides", one._replace(ensures=[clause, ends(f"{other} {answer}")])
+    yield "nothing said of what is written", one._replace(ensures=[clause.replace(f"{written}.new", f"{written}.old")])
+    yield "nothing said of what is lent", one._replace(ensures=[clause.replace(f"{lent}.now", f"{written}.old")])
+    yield "nothing said of the answer", one._replace(ensures=[re.sub(r"(?<![\w.])result(?!\w)", "0", clause)])
+    yield "another relation", one._replace(ensures=[clause.replace(relation, other, 1)])
+    yield "a relation besides", one._replace(ensures=[clause, f" {other} result "])
     yield "a relation of that name from elsewhere", one._replace(imports=({**names, relation: ("nowhere", "Nothing")}, modules))
     yield "no field", one._replace(name="nosuch")
-    yield "a layer function's field in place of an entry point's", one._replace(requires=[" ⌜ ⊥ ⌝ "])
+    yield "a layer function's field in place of an entry point's", one._replace(requires=[" ⊥ "])
     layer = next(function for function in functions if function.requires and function._replace(requires=[]).is_entry)
     yield "an entry point's field in place of a layer function's", layer._replace(requires=[])
+
+
+def exported_faults(exported, exports):
+    """Exported functions and their bodies that the test must find fault with, and what the fault is."""
+    for one in exported[:1]:
+        others, key = exported[1:], (one.crate, one.name)
+        yield "an export is missing", others, exports
+        yield "an export says less", [one._replace(ensures=one.ensures[1:]), *others], exports
+        yield "an export asks more", [one._replace(requires=[*one.requires, " ⊥ "]), *others], exports
+        yield "an export of another name", [one._replace(name="flood_nosuch"), *others], exports
+        yield "an export calls another function", exported, {**exports, key: exports[key].replace(one.name, "flood_nosuch")}
+        yield "an export that is not for other languages", exported, {name: body for name, body in exports.items() if name != key}
 
 
 def main():
@@ -215,6 +243,12 @@ def main():
         found = []
         hold_tied(lambda right, _: found.append(bool(right)), functions, {**calls, name: "0"})
         checks.hold(not all(found), f"a fault is not found: {name} makes no call")
+    exported, exports = list(exported_functions(TOP)), exported_bodies(TOP)
+    hold_exported(checks.hold, functions, exported, exports)
+    for fault, others, bodies_of in exported_faults(exported, exports):
+        found = []
+        hold_exported(lambda right, _: found.append(bool(right)) or right, functions, others, bodies_of)
+        checks.hold(not all(found), f"a fault is not found: {fault}")
     for fault, function in faults(functions):
         found = []
         hold = lambda right, _: found.append(bool(right)) or right

@@ -2,7 +2,6 @@
 passes that was skipped or not counted, two tests run at a time and are told in order, what cannot be installed is said, and a program is
 built again when a source is newer."""
 import os
-import platform
 import shutil
 import subprocess
 import tempfile
@@ -13,7 +12,7 @@ from meadow.counted import Checks
 from meadow.programs import TOP
 
 VERDICT = "12 passed, 0 failed"
-PROVED = "rt: all proved"
+PROVED = "rt: ok; handles allowed: none; must-fail edits: 4 refused; every proof and must-fail edit was done in this run"
 NOTE = "Proof.antt:1:1: note: large solution: the implicit argument"
 LINTED = 'print("linters: 2 checks, 0 skipped, 0 failed")'
 PASSES = 'print("one: 3 checks, 0 skipped, 0 failed")'
@@ -100,6 +99,53 @@ def gate(checks, room):
     room.write("tests/linters.py", LINTED)
     room.stand_in("rt", kit + "; exit 1")
     hold_gate(checks, room, "rt ci fails", False, ["gate: rt ci did not pass: status 1"])
+    verdicts(checks, room)
+
+
+def verdicts(checks, room):
+    """What rt ci says at its end, where its status is 0."""
+    kept_away = "gate: rt ci did not pass: status 0"
+    ends = {
+        "an edit is bad": (PROVED.replace("refused;", "refused, 3 bad;"), VERDICT, False, "gate: must-fail edits that are bad: 3"),
+        "an edit is bad, none refused": (PROVED.replace("4 refused;", "0 refused, 10 bad;"), VERDICT, False, "gate: must-fail edits that are bad: 10"),
+        "an edit is bad, one refused by a limit": (PROVED.replace("refused;", "refused, 1 of them only by a limit, 2 bad;"), VERDICT, False, "gate: must-fail edits that are bad: 2"),
+        "no edit is bad": (PROVED.replace("refused;", "refused, 1 of them only by a limit, 0 bad;"), VERDICT, True, VERDICT),
+        "rt ci does not say ok": ("rt: all proved", VERDICT, False, "gate: rt ci does not say 'rt: ok'"),
+        "one failed": (PROVED, "11 passed, 1 failed", False, kept_away),
+        "some crates alone": (PROVED, f"{VERDICT} (low and the crates below alone: not the gate)", False, kept_away),
+        "no last line": (PROVED, "", False, kept_away),
+    }
+    for name, (said, last, passes, end) in ends.items():
+        room.stand_in("rt", f'echo "{said}"; echo "{last}"')
+        hold_gate(checks, room, name, passes, [end])
+    room.stand_in("rt", f'echo "$#: $*" >>asked; ls >there; echo "{PROVED}"; echo "{VERDICT}"')
+    hold_gate(checks, room, "rt ci is plain", True, [VERDICT])
+    checks.hold((room.top / "asked").read_text() == "1: ci\n", f"the kit is asked {(room.top / 'asked').read_text()!r}")
+    checks.hold((room.top / "there").read_text().split() == sorted([path.name for path in room.top.iterdir() if not path.name.startswith(".")]), "rt ci runs elsewhere, or something is away meanwhile")
+
+
+def to_come(checks, room):
+    """While PORTING-LEFT.md is there, tests whose crates are not listed are left out and named; without it, none is."""
+    room.stand_in("rt", f'echo "{PROVED}"; echo "{VERDICT}"')
+    room.write("bin/setup", "exit 0")
+    room.write("tests/outside/build.sh", "tools() { :; }; archive() { :; }")
+    room.write("tests/linters.py", LINTED)
+    room.write("tests/one.py", PASSES)
+    room.write("tests/two.sh", 'echo "two: 0 checks, 0 skipped, 1 failed"; exit 1')
+    (room.top / "crates.txt").write_text("# tool: low\nlow:\nbound staticlib: low\n")
+    needs = room.top / "tests" / "support" / "needs.txt"
+    needs.write_text("# what tests need\none: low bound\ntwo: low tool bound nosuch\n")
+    failed = "gate: tests/two.sh did not pass: status 1"
+    hold_gate(checks, room, "all is there", False, [failed])
+    (room.top / "PORTING-LEFT.md").write_text("tool\n")
+    said = "gate: left out for now, by PORTING-LEFT.md: tests/two.sh, which needs tool nosuch"
+    hold_gate(checks, room, "some are to come", True, [said, "gate: 2 tests, 5 checks, 0 skipped; 1 tests left out for now", VERDICT])
+    needs.write_text("one: low bound\ntwo: low bound\n")
+    hold_gate(checks, room, "some are to come that no test needs", False, [failed])
+    wanted = sorted(path.stem for path in (TOP / "tests").iterdir() if path.suffix in (".py", ".sh"))
+    own = TOP / "tests" / "support" / "needs.txt"
+    told = [line.partition(":")[0] for line in own.read_text().splitlines() if not line.startswith("#")] if own.exists() else []
+    checks.hold(len(told) == len(set(told)) and set(told) <= set(wanted), f"tests/support/needs.txt names {sorted(set(told) - set(wanted))}, or a test twice")
 
 
 def two_at_a_time(checks, room):
@@ -127,17 +173,17 @@ def two_at_a_time(checks, room):
 
 
 def crates_at_once(checks, room):
-    """What rt ci is told of how many crates to take at once: three or eight on two cores with memory for them, else nothing."""
-    room.stand_in("rt", f'echo "jobs: ${{RT_JOBS:-}}"; echo "{VERDICT}"')
+    """How many crates rt ci takes at once is its own to choose, by the cores and the memory, or for whoever calls the gate to say."""
+    room.stand_in("rt", f'echo "jobs: ${{RT_JOBS:-}}"; echo "{PROVED}"; echo "{VERDICT}"')
     room.write("bin/setup", "exit 0")
     room.write("tests/outside/build.sh", "tools() { :; }; archive() { :; }")
     room.write("tests/linters.py", LINTED)
     room.write("tests/one.py", PASSES)
-    for cores, kilobytes, jobs in ((2, 24000000, "8"), (2, 12000000, "3"), (2, 8000000, ""), (1, 24000000, ""), (8, 64000000, "")):
+    for cores, kilobytes in ((2, 24000000), (2, 8000000), (1, 24000000), (8, 64000000)):
         room.stand_in("nproc", f"echo {cores}")
         room.stand_in("awk", f"echo {kilobytes}")
         printed = room.ran("bash", ".ci/run")[1].splitlines()
-        checks.hold(f"jobs: {jobs}" in printed, f"{cores} cores and {kilobytes} kB: rt ci is told {printed[:4]}")
+        checks.hold("jobs: " in printed, f"{cores} cores and {kilobytes} kB: rt ci is told {printed[:4]}")
     checks.hold("jobs: 5" in room.ran("bash", ".ci/run", RT_JOBS="5")[1].splitlines(), "the gate does not leave RT_JOBS as it is set")
 
 
@@ -161,23 +207,32 @@ def runner(checks, room):
     """bin/run with a kit that only says what it is asked, and a program that is a file of its own."""
     room.write("crates/low/src/lib.rt", "")
     room.write("crates/tool/src/main.rt", "")
-    (room.top / "crates.txt").write_text("low:\ntool: low io libc\n")
-    kit = room.top / "kit"
-    room.write(f"kit/on/{platform.machine()}/toolchain/lib/ld-linux-x86-64.so.2", 'echo "ran $(basename "$3")"')
-    proves = 'mkdir -p target/bin; touch target/bin/"$2"; chmod +x target/bin/"$2"; echo "rt: low proved (1 s)"; echo "rt: tool proved (1 s)"'
-    room.stand_in("rt", f'case $1 in doc) echo "{kit}/docs/START" ;; check) {proves} ;; esac')
+    (room.top / "crates.txt").write_text("low:\ntool may_wait=2: low io\n")
+    room.stand_in("uname", "echo x86_64")
+    proves = """[ "$*" = run ] || exit 2
+for name in low tool; do echo "rt: chose --jobs 2 for $name"; echo "fn $name::main: proved"; echo "logic=proved functions=3 sum=1"; done >&2
+mkdir -p out
+printf '#!/bin/sh\\necho ran tool\\n' >out/tool
+chmod +x out/tool
+echo "rt: running out/tool; to give it other input, run that file yourself" >&2
+echo "what the program says of no input"
+exit 3"""
+    room.stand_in("rt", proves)
     status, printed = room.ran("bin/run", "nosuch")
     checks.hold(status == 2 and "one of: tool" in printed, f"bin/run nosuch: status {status}, {printed!r}")
-    building = ["bin/run: low proved (1 s)", "bin/run: tool proved (1 s)", "ran tool"]
+    building = ["bin/run: low proved (functions: 3)", "bin/run: tool proved (functions: 3)", "ran tool"]
     told = lambda: room.ran("bin/run", "tool")[1].splitlines()
     checks.hold(told()[1:] == building, "bin/run does not build what is not built, crate by crate")
     checks.hold(told() == ["ran tool"], "bin/run builds what is up to date")
     words = room.ran("bin/run", "--words", "tool")[1].splitlines()
-    checks.hold(words[-1:] == [str(room.top / "target/bin/tool")] and "ran tool" not in words, f"bin/run --words tool says {words}")
+    checks.hold(words[-1:] == [str(room.top / "crates/tool/out/tool")] and "ran tool" not in words, f"bin/run --words tool says {words}")
     again = subprocess.run(words, capture_output=True, text=True).stdout
     checks.hold(again == "ran tool\n", f"the words of bin/run --words tool print {again!r}")
     os.utime(room.top / "crates/low/src/lib.rt", (2**33, 2**33))
     checks.hold(told()[1:] == building, "bin/run does not build again when a source below is newer")
+    room.stand_in("rt", 'echo "rt: chose --jobs 2 for low" >&2; echo "src/lib.rt:2:1: error: no proof" >&2; exit 1')
+    status, printed = room.ran("bin/run", "tool")
+    checks.hold(status == 1 and "bin/run: tool is not proved:\n" in printed and "no proof" in printed and "ran tool" not in printed, f"bin/run of what is not proved: {status}, {printed!r}")
     checks.hold(sorted(path.name for path in room.top.glob(".*")) == [".ci"], "bin/run leaves something behind")
     without_the_kit(checks, room)
 
@@ -186,8 +241,8 @@ def without_the_kit(checks, room):
     """What is built runs without the kit on x86-64; what is not, and what wants the emulator, says so. `--build` runs nothing."""
     (room.stand_ins / "rt").unlink()
     path = os.pathsep.join([str(room.stand_ins), path_without(room.stand_ins.parent, KIT, EMULATOR)])
-    room.write("target/bin/tool", 'echo "ran bare"')
-    os.utime(room.top / "target/bin/tool", (2**33 + 10, 2**33 + 10))
+    room.write("crates/tool/out/tool", 'echo "ran bare"')
+    os.utime(room.top / "crates/tool/out/tool", (2**33 + 10, 2**33 + 10))
     cases = {"x86_64": (0, "ran bare\n"), ARM: (1, "bin/run: tool is a program for x86-64, and on this machine it needs an emulator: Debian's")}
     for machine, wanted in cases.items():
         room.stand_in("uname", f"echo {machine}")
@@ -219,7 +274,7 @@ def without_sources(checks, path, room):
 
 def main():
     checks = Checks("gate")
-    for part in (gate, two_at_a_time, crates_at_once, setup, runner):
+    for part in (gate, to_come, two_at_a_time, crates_at_once, setup, runner):
         with tempfile.TemporaryDirectory() as folder:
             part(checks, Room(folder))
     checks.end()

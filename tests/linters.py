@@ -3,6 +3,8 @@ The gate runs this first, since it needs nothing that is built. A linter that is
 import re
 import shutil
 import subprocess
+import tempfile
+from pathlib import Path
 
 from meadow.counted import Checks
 from meadow.programs import TOP
@@ -10,6 +12,8 @@ from meadow.programs import TOP
 FOLDERS = (".ci", "bin", "examples", "python", "samples", "tests", "tools", "validation")
 # what is read from another file is looked up there
 SHELLCHECK, PYFLAKES = ["shellcheck", "-x", "-f", "gcc"], ["pyflakes3"]
+PARTS = ("src", "specs", "proofs")
+LAID_OUT = re.compile(r"^rt: formatted (\w+)/(\w+)/(.*)$", re.M)
 FINDING = re.compile(r"(.*?):\d+:\d+:? .*")
 
 
@@ -25,12 +29,16 @@ def scripts():
 
 
 def hold_layout(checks):
-    """One check of all sources: `rt fmt` names those that are laid out otherwise."""
+    """One check of all sources: `rt fmt` would lay none of them out otherwise. It only writes, so it is given copies, all as one crate's."""
     if not shutil.which("rt"):
         checks.skip("the layout of the Rattle sources", "no rt on the path")
         return
-    told = subprocess.run(["rt", "fmt", "--check"], cwd=TOP, stdout=subprocess.PIPE, stderr=subprocess.STDOUT, text=True)
-    checks.hold(told.returncode == 0, f"rt fmt --check ends with {told.returncode}:\n{told.stdout}")
+    with tempfile.TemporaryDirectory() as folder:
+        for part in (part for kind in PARTS for part in sorted((TOP / "crates").glob(f"*/{kind}"))):
+            shutil.copytree(part, Path(folder) / part.name / part.parent.name)
+        told = subprocess.run(["rt", "fmt"], cwd=folder, stdout=subprocess.PIPE, stderr=subprocess.STDOUT, text=True)
+    other = "".join(f"  crates/{crate}/{kind}/{rest}\n" for kind, crate, rest in LAID_OUT.findall(told.stdout))
+    checks.hold(told.returncode == 0 and not other, f"rt fmt ends with {told.returncode}, and lays out otherwise:\n{other or told.stdout}")
 
 
 def hold_clean(checks, linter, files):

@@ -2,6 +2,7 @@
 there, its ranges and its worked square are those of document 01 in Python, pictures and tables of crates are as made, no table has a cell too long to read,
 every path and every name in backticks is there, each edit says which fact refuses it and where, README's first sheet gives README's answer,
 docs/SPEED.md has the tables that bin/speed makes, and `meadow` is as large as it says."""
+import os
 import re
 from pathlib import Path
 
@@ -50,10 +51,12 @@ LINK = re.compile(r"\]\((?!http|#)([^)#]+)\)")
 FENCED = re.compile(r"^```.*?^```", re.S | re.M)
 NAME = re.compile(r"[A-Za-z_][\w′'-]*")
 SOURCES = (".ci", "bin", "crates", "examples", "python", "rust", "samples", "tests", "tools", "validation")
+# folders in which rt and cargo leave what they build
+BUILT = ("out", "target")
 # docs/CHANGES.md tells what was, with names that have gone since
 OF_THE_PAST = {"CHANGES.md"}
 # names of the kit, which stand in no source of this project
-OF_THE_KIT = {"rattle-kit-5b"}
+OF_THE_KIT = {"rattle-kit-13f", "version"}
 
 
 def cells(line):
@@ -182,7 +185,7 @@ def hold_edits(checks):
     for edit in found:
         name = f"{edit.crate}/must-fail/{edit.name}.edit"
         checks.hold(edit.fact and edit.where, f"crates/{name} does not say which fact refuses it, and where")
-        sources = [path for kind in ("rt", "antt") for path in (CRATES / edit.crate).rglob(f"*.{kind}")]
+        sources = [path for path in files_below(CRATES / edit.crate) if path.suffix in (".rt", ".antt")]
         there = {path.stem for path in sources}.union(*(NAME.findall(path.read_text(encoding="utf-8")) for path in sources))
         checks.hold(" " in edit.where or edit.where in there, f"crates/{name} says {edit.where}, and its crate has no such name")
     checks.hold(edits.page() == CONTRACTS.read_text(encoding="utf-8"), "docs/CONTRACTS.md has not the table of edits that tools/edits.py makes")
@@ -193,12 +196,19 @@ def hold_edits(checks):
         checks.hold(name in there, f"docs/DEMANDS.md cites the edit {name}, which is not there")
 
 
+def files_below(folder):
+    """Every file of a folder, but for what rt and cargo build, which may come and go meanwhile."""
+    for place, folders, names in os.walk(folder):
+        folders[:] = sorted(name for name in folders if name not in BUILT)
+        yield from (Path(place, name) for name in sorted(names))
+
+
 def source_names():
-    """Every word that stands in a source or is the name of one, but for this file, for what edits say and for what cargo builds."""
+    """Every word that stands in a source or is the name of one, but for this file, for what edits say and for what rt and cargo build."""
     names = set(NAME.findall((TOP / "crates.txt").read_text(encoding="utf-8")))
-    for path in (path for folder in SOURCES for path in (TOP / folder).rglob("*") if TOP / "rust" / "target" not in path.parents):
-        names |= {path.name, path.stem}
-        if path.is_file() and path.suffix not in (".pyc", ".edit") and path != Path(__file__).resolve():
+    for path in (path for folder in SOURCES for path in files_below(TOP / folder)):
+        names |= {path.name, path.stem, *path.relative_to(TOP).parts}
+        if path.suffix not in (".pyc", ".edit") and path != Path(__file__).resolve():
             names |= {name.rstrip("'-") for name in NAME.findall(path.read_text(encoding="utf-8"))}
     return names
 
@@ -271,8 +281,8 @@ def hold_speed(checks):
 
 def hold_size(checks):
     """README says how large the program is that may be copied elsewhere."""
-    told = re.search(r"`target/bin/meadow` has some (\d+)0 kilobytes", (TOP / "README.md").read_text(encoding="utf-8"))
-    size = (TOP / "target" / "bin" / "meadow").stat().st_size
+    told = re.search(r"`crates/meadow/out/meadow` has some (\d+)0 kilobytes", (TOP / "README.md").read_text(encoding="utf-8"))
+    size = (TOP / "crates" / "meadow" / "out" / "meadow").stat().st_size
     checks.hold(told and int(told[1]) == round(size / 10_000), f"README.md does not say that meadow has some {round(size / 1000)} kilobytes")
 
 

@@ -7,66 +7,94 @@ import places
 import unused
 from meadow.counted import Checks
 
-SAID = """fn low::first: proved
+SAID = """rt: chose --jobs 2 for low
+fn low::first: proved
 fn low::second: not proved
-    Rattle·low·proofs.proofs.Laws.deep is not lib.Seq.wide
+    Rattle.low.proofs.Laws.deep is not lib.Seq.wide
     (computed from:
       a long term
 note: what antt said about it
   and more of that
-help: write crates/low/proofs/third/Proof.antt with these lines
+statements core: modules loaded=161 checked=0
+help: write ./proofs/third/Answers.antt with these lines
     use Low.{third}
-
+    
     returns c = ?
+help: write ./proofs/third/Invariants.antt with these lines, and check again: a hole is asked for
+    decreases-loop l = ?
 error: 1 not proved"""
 READABLE = """fn low::second: not proved
     Laws.deep is not wide
-help: write crates/low/proofs/third/Proof.antt with these lines
+help: write ./proofs/third/Answers.antt with these lines
+help: write ./proofs/third/Invariants.antt with these lines, and check again: a hole is asked for
 error: 1 not proved"""
-SKELETON = "use Low.{third}\n\nreturns c = ?\n"
+SKELETONS = {"proofs/third/Answers.antt": "use Low.{third}\n\nreturns c = ?\n", "proofs/third/Invariants.antt": "decreases-loop l = ?\n"}
 
-GENERATED = """pub record At-start where
-  pub args : Args
-pub record At-if where
-  pub before : At-start
-  pub if1 : Taken
-Need-add = fits
-  (c : At-start)
-Need-returns =
-  (c : At-if)
-"""
-TOLD = ["add : args@0", "returns : if1@0 args@1"]
-PROOF = "use Low.{f}\n\nInv-1 x = ?\nadd c = ?\nreturns c =\n  ?\nlast = done\n"
-ANSWERS = "use Laws.{le}\nuse Low.{f}\n== Inv-1\nx < 3\n== add returns unfolding step\nle («args» .good)\n"
+STARTED = """note: `invariant-loop-i` of proofs/f/Invariants.antt is yours to choose
+  names you can use, by step:
+  | l: .x, .i
+  | l.initial: same as l
+./proofs/f/Answers.antt:10:5: `add` is not admitted: has-holes
+./proofs/f/Answers.antt:11:25: goal ? in `add`
+    c : goal.Loop-i
+  ⊢ Fits w64 c.args.x
+  names you can use, by step:
+    c: .well_formed
+    c.args: .x
+    c.loop-i: .x, .auto {.x-fits}
+  the newest fields, with their types:
+    c.loop-i.x : ℕ
+./proofs/f/Answers.antt:14:5: `returns` is not admitted: has-holes
+./proofs/f/Answers.antt:15:13: goal ? in `returns`
+    c : goal.Else-i
+  ⊢ c.args.x ≡ 1
+  names you can use: as in `add` above
+logic /opt: libraries=16"""
+TOLD = [
+    "invariant-loop-i : l.x l.i",
+    "add : c.well_formed c.args.x c.loop-i.x c.loop-i.auto c.loop-i.auto.x-fits",
+    "returns : c.well_formed c.args.x c.loop-i.x c.loop-i.auto c.loop-i.auto.x-fits",
+]
+PROOF = "use Low.{f}\n\npub add : goal.add\nadd c = ?\n\npub returns : goal.returns\nunfolding other\nreturns c =\n  ?\nlast = done\n"
+INVARIANTS = "abbrev pub invariant-loop-i : goal.invariant-loop-i\ninvariant-loop-i l = ?\n"
+ANSWERS = "use Laws.{le}\nuse Low.{f}\n== invariant-loop-i\n«i» < 3\n== add returns unfolding step\nle («x» «args.x»)\n"
 FILLED = """use Laws.{le}
 use Low.{f}
 
-Inv-1 x =
-    x < 3
+pub add : goal.add
 unfolding step
 add c =
-    le (c .args .good)
+    le (c.loop-i.x c.args.x)
+
+pub returns : goal.returns
 unfolding step
 returns c =
-    le (c .before .args .good)
+    le (c.loop-i.x c.args.x)
 last = done
+"""
+CHOSEN = """use Laws.{le}
+use Low.{f}
+abbrev pub invariant-loop-i : goal.invariant-loop-i
+invariant-loop-i l =
+    l.i < 3
 """
 
 SOURCES = {
-    "crates/low/specs/Water.antt": "use Lists.{take, drop as skip, _++_}\n-- skip\npub deep : ℕ\ndeep = take 1\npub wide : ℕ\nwide = deep\n",
+    "crates/low/specs/Water.antt": "use Lists.{take, drop as skip, ◌++◌}\n-- skip\npub deep : ℕ\ndeep = take 1\npub wide : ℕ\nwide = deep\n",
     "crates/low/src/lib.rt": "use low::first;\nuse low::second;\nfn third() { first(); }\n",
 }
-IDLE = {"crates/low/specs/Water.antt": ["skip", "_++_"], "crates/low/src/lib.rt": ["second"]}
+IDLE = {"crates/low/specs/Water.antt": ["skip", "◌++◌"], "crates/low/src/lib.rt": ["second"]}
 
 
 def main():
     checks = Checks("proving")
     text, skeletons = dev.readable(SAID)
     checks.hold(text == READABLE, f"tools/dev.py prints {text!r}")
-    checks.hold(skeletons == {"crates/low/proofs/third/Proof.antt": SKELETON}, f"tools/dev.py writes {skeletons}")
-    found = places.Places(GENERATED)
+    checks.hold(skeletons == SKELETONS, f"tools/dev.py writes {skeletons}")
+    found = places.Places(STARTED)
     checks.hold(found.told() == TOLD, f"tools/places.py says {found.told()}")
     checks.hold(found.filled(PROOF, ANSWERS) == FILLED, f"tools/places.py makes {found.filled(PROOF, ANSWERS)!r}")
+    checks.hold(found.filled(INVARIANTS, ANSWERS) == CHOSEN, f"tools/places.py makes {found.filled(INVARIANTS, ANSWERS)!r}")
     for answers in ("== add\n«if1»\n", "== missing\nx\n"):
         try:
             found.filled(PROOF, answers)

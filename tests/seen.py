@@ -4,36 +4,31 @@
 """
 
 import lent
-from sources import program
+from sources import Terminal, program
 from stored import hold
 
 OUT = []
 
 
-def write_all(_to, text):
-    OUT.append(text.decode("ascii"))
+def tell(rt, sight):
+    rt.print(f"{sight}\n")
 
 
-def tell(sight):
-    OUT.append(f"{sight}\n")
-
-
-def tell_arrows(run, depths, records):
+def tell_arrows(rt, run, depths, records):
     """The arrow of each square."""
     shape, marks = SEEN["SHAPE"], SEEN["MARKS"]
     for square in range(len(marks)):
         place = divmod(square, shape.columns)
-        tell(f"square {square} {lent.arrow(shape, SEEN['RULES'].square_side, run, marks, depths, records, *place)}")
+        tell(rt, f"square {square} {lent.arrow(shape, SEEN['RULES'].square_side, run, marks, depths, records, *place)}")
 
 
-def tell_rows(marks, depths, wet_depth, rows):
+def tell_rows(rt, marks, depths, wet_depth, rows):
     """The wet rows, and what the row slice holds afterwards."""
     count = lent.wet_rows(SEEN["SHAPE"], marks, depths, wet_depth, rows)
-    tell(f"{count} rows {' '.join(map(str, rows))}")
+    tell(rt, f"{count} rows {' '.join(map(str, rows))}")
 
 
 GIVEN = {
-    "write_all": write_all,
     "tell": tell,
     "tell_arrows": tell_arrows,
     "tell_rows": tell_rows,
@@ -48,5 +43,5 @@ SEEN = program("seen", GIVEN)
 
 
 if __name__ == "__main__":
-    SEEN["main"]()
+    SEEN["main"](Terminal(OUT))
     hold("seen", "".join(OUT))

@@ -1,35 +1,37 @@
-"""The walks by hand are what their tables make: each function that holds a reference to boards has its walk in proofs/, as tools/walks.py writes it,
-and no other function has a proof of that kind. A table of one call in another crate makes a walk of it; on a context made for it the lines find
-every entry where it lies."""
+"""The walks by hand are what their tables make: the functions that hold a reference to boards are those of the tables; where one of them still has a
+walk by hand in proofs/, in place of today's answers, it is as tools/walks.py writes it, and no other function has a proof of that kind. A table of one
+call in another crate makes a walk of it; on a context made for it the lines find every entry where it lies."""
 import re
 
 from meadow.counted import Checks
 from meadow.programs import TOP
+from rattle import statics
 from rattle.walks.context import Context
 from rattle.walks.tables import RUN_TO_BOARDS, WALKS, alone
 
 # what only a walk says
-BY_HAND = "walk-meets"
+BY_HAND = re.compile(r"\bwalk[-_][mM]eets\b")
 HOLDS = re.compile(r"^(?:pub )?(?:extern \"C\" )?fn (\w+)\((?:[^{]*?)&(?:mut )?\[Board\]", re.M)
 
 
 def hold_made(checks):
-    """Each walk stands in proofs/ as it is made."""
+    """Each walk that stands in proofs/ is as it is made."""
     for walk in WALKS:
         path = TOP / walk.path_in_crates
-        stands = path.read_text(encoding="utf-8") if path.exists() else ""
-        checks.hold(stands == walk.text(), f"{path.relative_to(TOP)} is not what its table makes: python3 tools/walks.py --write")
+        holds = not path.exists() or path.read_text(encoding="utf-8") == walk.text()
+        checks.hold(holds, f"{path.relative_to(TOP)} is not what its table makes: the kit finds the walk itself, with the answers that are wanted")
 
 
 def hold_all(checks):
-    """The functions that are lent boards, and the proofs by hand, are those of the tables."""
-    sources = sorted((TOP / "crates").glob("*/src/*.rt"))
+    """The functions that are lent boards, but for exports that only hand them on, are those of the tables, and no others are proved by hand."""
+    exports = statics(TOP)
+    sources = [path for path in sorted((TOP / "crates").glob("*/src/*.rt")) if path.parent.parent.name not in exports]
     lent = {(path.parent.parent.name, name) for path in sources for name in HOLDS.findall(path.read_text(encoding="utf-8"))}
     proofs = sorted((TOP / "crates").glob("*/proofs/**/Proof.antt"))
-    walked = {path.relative_to(TOP) for path in proofs if BY_HAND in path.read_text(encoding="utf-8")}
+    walked = {path.relative_to(TOP) for path in proofs if BY_HAND.search(path.read_text(encoding="utf-8"))}
     checks.hold(lent == {(walk.crate, walk.function) for walk in WALKS}, f"other functions are lent boards than are walked: {sorted(lent)}")
     made = {walk.path_in_crates for walk in WALKS}
-    checks.hold(walked == made, f"other proofs are by hand than the tables make: {sorted(map(str, walked ^ made))}")
+    checks.hold(walked <= made, f"other proofs are by hand than the tables make: {sorted(map(str, walked - made))}")
 
 
 def hold_alone(checks):

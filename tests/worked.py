@@ -4,20 +4,12 @@
 """
 
 import lent
-from sources import program
+from sources import Terminal, program
 from stored import hold
 
 OUT = []
 STATE = ("depths", "lasts")
 RUN_BUT_KEPT = ("clock", "length", "outflow", "newest", "soaked")
-
-
-def write_all(_to, text):
-    OUT.append(text.decode("ascii"))
-
-
-def print_decimal(_to, number):
-    OUT.append(str(number))
 
 
 def in_room(call, records_at):
@@ -45,21 +37,19 @@ def as_it_was(a, b):
     return same_state(a, b) and a.run.kept == b.run.kept and a.records == b.records
 
 
-def tell(call, refused, same):
-    print_decimal(1, f"{call.decode('ascii')} {refused}, {'as it was' if same else 'changed'}\n")
+def tell(rt, call, refused, same):
+    rt.print(f"{call.decode('ascii')} {refused}, {'as it was' if same else 'changed'}\n")
 
 
-def tell_answer(answer):
-    print_decimal(1, f"bounds {answer}\n")
+def tell_answer(rt, answer):
+    rt.print(f"bounds {answer}\n")
 
 
-def tell_same(a, b):
-    print_decimal(1, "the same but for kept\n" if same_state(a, b) else "not the same\n")
+def tell_same(rt, a, b):
+    rt.print("the same but for kept\n" if same_state(a, b) else "not the same\n")
 
 
 GIVEN = {
-    "write_all": write_all,
-    "print_decimal": print_decimal,
     "fresh_run": lent.fresh_run,
     "step": lent.steps_by,
     "number_of": lent.number_of,
@@ -78,5 +68,5 @@ GIVEN = {
 
 
 if __name__ == "__main__":
-    program("worked", GIVEN)["main"]()
+    program("worked", GIVEN)["main"](Terminal(OUT))
     hold("worked", "".join(OUT))

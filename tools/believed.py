@@ -4,11 +4,11 @@
     python3 tools/believed.py [--idle] [TOP]
 
 What must be believed is what the demands and the contracts of the entry points reach, name by name, through the definitions of specs/.
-Beside it stand the lines that only contracts of layer functions reach, and those of specs/inner/ (what only our own functions ask and
+Beside it stand the lines that only contracts of layer functions reach, and those of specs/Inner/ (what only our own functions ask and
 give). Imports, lists of modules, comments and blank lines are not counted, nor is a Worked.antt (cases worked by hand, which are proved).
 The crate `demands` restates the letter and is counted apart, as is every crate above it.
 
-With --idle the definitions that no demand and no entry point reaches are named. Ends with status 1 where a file outside specs/inner/ looks
+With --idle the definitions that no demand and no entry point reaches are named. Ends with status 1 where a file outside specs/Inner/ looks
 into it, a definition that must be believed stands in it, a definition outside it is reached by no contract at all, or what must be believed
 has more than MOST lines.
 """
@@ -19,6 +19,7 @@ from pathlib import Path
 from begin import ended
 from rattle import crates, imported, statements
 from rattle.functions import library_functions
+from rattle.specs import INNER as INSIDE
 from rattle.specs import Specs
 
 TOP = Path(__file__).resolve().parent.parent
@@ -41,7 +42,7 @@ def roots(top, specs):
 
 
 def places(top, specs):
-    """Where each definition that is counted belongs, and what must be believed although it stands in specs/inner/."""
+    """Where each definition that is counted belongs, and what must be believed although it stands in specs/Inner/."""
     first, second = roots(top, specs)
     needed, known = specs.reached(first), specs.reached(second)
     found, hidden, said = {}, [], statements(top)
@@ -57,11 +58,11 @@ def places(top, specs):
 
 
 def looks_inside(specs):
-    """Each file outside specs/inner/ that imports from it."""
+    """Each file outside specs/Inner/ that imports from it."""
     for (crate, name), module in specs.modules.items():
-        if not name.startswith("inner."):
+        if not name.startswith(f"{INSIDE}."):
             names, modules = imported(module.text)
-            seen = {where for where in [*names.values(), *modules.values()] if where[1].startswith("inner.")}
+            seen = {where for where in [*names.values(), *modules.values()] if where[1].startswith(f"{INSIDE}.")}
             yield from (f"{crate}/specs/{name}.antt imports {where[0]}/specs/{where[1].replace('.', '/')}.antt" for where in sorted(seen))
 
 
@@ -101,8 +102,8 @@ def main(words):
         for place in (LAYER, IDLE):
             print(f"{place}:", *by_module(key for key in found if found[key] == place and specs.definitions[key].is_named), sep="\n")
     faults = {
-        "looks into specs/inner/": [f"  {told}" for told in looks_inside(specs)],
-        "must be believed, and stands in specs/inner/": by_module(hidden),
+        "looks into specs/Inner/": [f"  {told}" for told in looks_inside(specs)],
+        "must be believed, and stands in specs/Inner/": by_module(hidden),
         "is reached by no contract": by_module(key for key in found if found[key] == IDLE and specs.definitions[key].is_named),
         "lines are too many": [f"  {total - MOST}"] if total > MOST else [],
         "no definition must be believed": ["  0 lines"] if total == 0 else [],

@@ -1,9 +1,9 @@
 #!/usr/bin/env python3
-"""dev.py CRATE [WORDS ..]: `rt dev CRATE WORDS`, said so that it can be read: what is proved is left out, and so are the long prefixes of
+"""dev.py CRATE [WORDS ..]: `rt check WORDS` of a crate, said so that it can be read: what is proved is left out, and so are the long prefixes of
 modules. All that rt said is kept in target/said/CRATE.out.
 
-For each function that has no Proof.antt yet, the skeleton that rt prints is written there; with --no-write it is only named. Run it at the
-root of a repository of Rattle. SAID_AT_MOST=N: so many characters are printed, the last ones (9,000).
+For each file of a proof that rt prints with holes and that is not there yet, the skeleton is written; with --no-write it is only named. Run it at
+the root of a repository of Rattle. SAID_AT_MOST=N: so many characters are printed, the last ones (9,000).
 """
 import os
 import re
@@ -13,21 +13,21 @@ from pathlib import Path
 
 from begin import ended
 
-SKELETON = re.compile(r"help: write (\S+/Proof\.antt) with these lines")
+SKELETON = re.compile(r"help: write (?:\./)?(proofs/\S+\.antt) with these lines")
 # what begins a new thing that rt says, and those of them that nobody needs in the loop
-BEGINS = re.compile(r"fn |struct |enum |note:|/|\./|logic|crate |holes|error|warning|help:")
-NEEDLESS = ("note: what antt said", "note: antt's advice", "library ", "logic /")
+BEGINS = re.compile(r"fn |struct |enum |note:|/|\./|logic|library |statements |axioms |crate |rt: |checked |empty |holes|error|warning|help:")
+NEEDLESS = ("note: what antt said", "note: antt's advice", "library ", "statements ", "axioms ", "logic /", "rt: chose --jobs", "rt: rt ", "checked ")
 COMPUTED = "    (computed from:"
 # modules of the project and of the kit whose names stand before nearly every word
 PREFIXES = re.compile(
-    r"Rattle·\w+·(?:proofs|specs)\.(?:proofs|specs)\."
+    r"Rattle\.\w+\.(?:proofs|specs)\."
     r"|\b(?:lib\.ListN|lib\.Seq|lib\.Dec|Prim\.Native\.Nat|mathlib\.Core\.(?:Path|List|Bool)"
     r"|borrow\.Table\.Row|borrow\.Rule\.Scalar|mir\.Val|mir\.Syntax|denote\.Ref)\."
 )
 
 
 def skeletons_apart(lines):
-    """The lines without the printed skeletons, each of which leaves its head; and the skeletons, by the path of their file."""
+    """The lines without the printed skeletons, each of which leaves its head; and the skeletons, by the path of their file in the crate."""
     kept, skeletons, body = [], {}, None
     for line in lines:
         found = SKELETON.match(line)
@@ -64,20 +64,20 @@ def main():
     if not words:
         print(__doc__, file=sys.stderr)
         return 2
-    around = {"RT_JOBS": "1", **os.environ, "RT_CUT": "0"}
-    done = subprocess.run(["rt", "dev", *words], env=around, text=True, stdout=subprocess.PIPE, stderr=subprocess.STDOUT)
+    crate = Path("crates", words[0])
+    done = subprocess.run(["rt", "check", *words[1:]], cwd=crate, text=True, stdin=subprocess.DEVNULL, stdout=subprocess.PIPE, stderr=subprocess.STDOUT)
     kept = Path("target", "said", f"{words[0]}.out")
     kept.parent.mkdir(parents=True, exist_ok=True)
     kept.write_text(done.stdout, encoding="utf-8")
     text, skeletons = readable(done.stdout)
     most = int(os.environ.get("SAID_AT_MOST", "9000"))
     print(text if len(text) <= most else "..\n" + text[-most:])
-    for path, skeleton in skeletons.items():
-        if "--no-write" in sys.argv[1:] or Path(path).exists():
+    for path, skeleton in ((crate / name, skeleton) for name, skeleton in skeletons.items()):
+        if "--no-write" in sys.argv[1:] or path.exists():
             print(f"a skeleton is wanted: {path}")
         else:
-            Path(path).parent.mkdir(parents=True, exist_ok=True)
-            Path(path).write_text(skeleton, encoding="utf-8")
+            path.parent.mkdir(parents=True, exist_ok=True)
+            path.write_text(skeleton, encoding="utf-8")
             print(f"a skeleton is written: {path}")
     return done.returncode
 

@@ -24,10 +24,11 @@ IN_C = {"bool": "bool", "u8": "uint8_t", "u32": "uint32_t", "u64": "uint64_t", "
 BYTES = {"bool": 1, "u8": 1, "u32": 4, "u64": 8, "usize": 8, "f64": 8}
 
 FUNCTION = re.compile(
-    r"((?://[^\n]*\n)+)#\[no_mangle\]\npub extern \"C\" fn (\w+)\((.*?)\) -> (\w+)\n", re.DOTALL
+    r"((?://[^\n]*\n)+)#\[unsafe\(no_mangle\)\]\npub extern \"C\" fn (\w+)\((.*?)\) -> (\w+)\n", re.DOTALL
 )
 SLICE = re.compile(r"&(mut )?\[(\w+)\]")
-STRUCT = re.compile(r"((?://[^\n]*\n)+)#\[repr\(C\)\]\npub struct (\w+) \{\n(.*?)\}\n", re.DOTALL)
+DERIVES = r"(?:#\[derive\([^\n]*\)\]\n)*"
+STRUCT = re.compile(rf"((?://[^\n]*\n)+){DERIVES}#\[repr\(C\)\]\n{DERIVES}pub struct (\w+) \{{\n(.*?)\}}\n", re.DOTALL)
 
 # ---------------------------------------------------------------- what the headers say besides the functions
 
@@ -267,8 +268,8 @@ class Library(NamedTuple):
     structs: tuple = ()
 
     def sources(self):
-        """Where the functions stand."""
-        return CRATES / self.crate / "src"
+        """Where the exported functions stand: in the static library over the crate, each under its plain name."""
+        return CRATES / f"{self.crate}_c" / "src"
 
 
 FLOOD = Library(
@@ -335,7 +336,7 @@ def first_words(library):
 
 def heading_places():
     """Where the rules stand in a heading, so that they go into a call from there, and what stands after them."""
-    source = (FLOOD.sources() / "answers.rt").read_text()
+    source = (CRATES / FLOOD.crate / "src" / "answers.rt").read_text()
     for name, value in HEADING.items():
         (at,) = re.findall(rf"room\[(\d+)\] = {re.escape(value)};", source)
         yield name, int(at)

@@ -128,7 +128,7 @@ def counted(words, given):
 
 
 def words_by(way, name):
-    """What starts a program; where bin/run starts it by the kit's emulator, Debian's takes its place."""
+    """What starts a program; where bin/run starts it by the emulator, that of bin/speed takes its place."""
     words = [KEEPER, str(KEPT)] if name == KEEPING else [word for word in words_of(name) if not word.endswith("qemu-x86_64")]
     return [*EMULATOR, *words] if way == "emulated" else words
 

@@ -17,11 +17,11 @@ TOP = Path(__file__).resolve().parent.parent
 # folders that come in whole, under their own names
 WHOLE = ("bin", "docs", "examples", "python", "rust", "samples", "tools", "validation")
 # what is of no use without the sources, or is packed elsewhere
-LEFT_OUT = {"docs/RELEASE.md", "docs/man", "python/rattle"}
+LEFT_OUT = {"docs/RELEASE.md", "docs/PORT.md", "docs/man", "python/rattle"}
 LEFT_OUT |= {f"bin/{name}" for name in ("release", "setup", "speed", "test")}
 LEFT_OUT |= {
     f"tools/{name}.py"
-    for name in ("architecture", "believed", "dev", "edits", "header", "manual", "pictures", "places", "program_speed", "release", "speed", "unused", "walks")
+    for name in ("architecture", "believed", "dev", "edits", "header", "manual", "pictures", "places", "program_speed", "release", "spelling", "speed", "unused", "walks")
 }
 # what stands elsewhere in the archive: its folder there, and the files here
 MOVED = {
@@ -89,7 +89,7 @@ def contents():
         paths |= {name: TOP / name for name in names if not is_left_out(name)}
     for folder, names in MOVED.items():
         paths |= {os.path.normpath(f"{folder}/{Path(name).name}"): TOP / name for name in names}
-    paths |= {f"programs/{name}": TOP / "target" / "bin" / name for name in programs()}
+    paths |= {f"programs/{name}": TOP / "crates" / name / "out" / name for name in programs()}
     paths |= {f"man/man1/{path.name}": path for path in (TOP / "docs" / "man").glob("*.1")}
     found = {name: (path.read_bytes(), os.access(path, os.X_OK)) for name, path in paths.items()}
     found["README.md"] = (readme().encode("utf-8"), False)

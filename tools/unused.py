@@ -14,9 +14,15 @@ IMPORT = {
     ".rt": re.compile(r"^(?:ghost )?use (?:[^;]*?\{([^}]*)\}|[\w:]*::(\w+);)", re.M),
 }
 IMPORT_LINE = re.compile(r"^(?:pub )?(?:ghost )?use [^\n]*$", re.M)
-DEFINED = re.compile(r"^\s*(?:unfoldable |abbrev )*pub (?:record |data |unfoldable |abbrev )*([\w·′-]+) (?::|\()", re.M)
-HEADED = r"^\s*(?:unfoldable |abbrev |pub |record |data )*{}(?![\w·′-])"
-WORD = re.compile(r"[\w·′][\w·′-]*")
+DEFINED = re.compile(r"^\s*(?:unfoldable |abbrev )*pub (?:record |data |unfoldable |abbrev )*([\w'-]+) (?::|\()", re.M)
+HEADED = r"^\s*(?:unfoldable |abbrev |pub |record |data )*{}(?![\w'-])"
+WORD = re.compile(r"\w[\w'-]*")
+# where an operator has its arguments
+HOLE = "◌"
+# where the sources of a kind stand in a crate
+PARTS = {"rt": ("src",), "antt": ("specs", "proofs")}
+# files of a proof, whose names are those of goals
+OF_GOALS = ("Proof.antt", "Answers.antt", "Invariants.antt")
 
 
 def plain(text):
@@ -26,9 +32,9 @@ def plain(text):
 
 def is_used(name, body):
     """Whether a text uses a name; of an operator, whether it has its signs."""
-    if name.startswith("_") or name.endswith("_") or "_" in name and not re.fullmatch(r"[\w·′-]+", name):
-        return all(sign in body for sign in name.split("_") if sign)
-    return re.search(rf"(?<![\w·′-]){re.escape(name)}(?![\w·′-])", body) is not None
+    if HOLE in name:
+        return all(sign in body for sign in name.split(HOLE) if sign)
+    return re.search(rf"(?<![\w'-]){re.escape(name)}(?![\w'-])", body) is not None
 
 
 def imports(path, text):
@@ -54,7 +60,7 @@ def lone_names(texts):
     """{name: the files that define it}, for public names that stand only where they are defined."""
     defined = defaultdict(set)
     for path, text in texts.items():
-        if path.suffix == ".antt" and path.name != "Proof.antt":
+        if path.suffix == ".antt" and path.name not in OF_GOALS:
             for name in DEFINED.findall(text):
                 defined[name].add(path)
     without = {path: plain(text) for path, text in texts.items()}
@@ -65,7 +71,7 @@ def lone_names(texts):
 
 def main():
     top = Path(sys.argv[1]) if len(sys.argv) > 1 else TOP
-    paths = [path for kind in ("rt", "antt") for path in sorted((top / "crates").rglob(f"*.{kind}"))]
+    paths = [path for kind, folders in PARTS.items() for folder in folders for path in sorted((top / "crates").glob(f"*/{folder}/**/*.{kind}"))]
     texts = {path.relative_to(top): path.read_text(encoding="utf-8") for path in paths}
     idle, lone = idle_imports(texts), lone_names(texts)
     print(f"imported and not used: {sum(map(len, idle.values()))} names in {len(idle)} files")

@@ -3,7 +3,9 @@ them names. Tools and tests that look after the project rest on it."""
 import re
 
 DEMANDS = "demands"
-MODULE = re.compile(r"Rattle·(\w+?)(?:·specs)?\.specs\.(\S+)")
+# the library's own specs have the same form
+MODULE = re.compile(r"Rattle\.(?!(?:std|core)\.)(\w+)\.specs\.(\S+)")
+STATIC = "staticlib"
 
 
 def module_of(path):
@@ -12,11 +14,23 @@ def module_of(path):
     return found.groups() if found else None
 
 
+def listed(top):
+    """Each crate's words before the colon, its name first, and those after it, as crates.txt has them."""
+    lines = (top / "crates.txt").read_text(encoding="utf-8").splitlines()
+    for line in (line.partition("#")[0] for line in lines):
+        if line.strip():
+            words, _, others = line.partition(":")
+            yield words.split(), others.split()
+
+
 def crates(top):
     """{crate: those that it may look at}, as crates.txt lists them, the lowest first."""
-    lines = (top / "crates.txt").read_text(encoding="utf-8").splitlines()
-    rows = [line.partition(":") for line in lines if line.strip() and not line.startswith("#")]
-    return {name: others.split() for name, _, others in rows}
+    return {words[0]: others for words, others in listed(top)}
+
+
+def statics(top):
+    """The crates that are static libraries: what other languages link."""
+    return [words[0] for words, _ in listed(top) if STATIC in words[1:]]
 
 
 def statements(top):

@@ -2,10 +2,11 @@
 import re
 from typing import NamedTuple
 
-from . import crates, imported, statements
+from . import crates, imported, statements, statics
 
-HEAD = re.compile(r'^pub (?:extern "C" )?(?:const )?fn (\w+)\(', re.M)
-CLAUSE = re.compile(r"^    (requires|ensures) \{(.*?)\}$", re.M | re.S)
+HEAD = re.compile(r'^pub (?:extern "C" )?(?:const )?fn (\w+)(?:<[^(]*>)?\(', re.M)
+# a clause may have a name
+CLAUSE = re.compile(r"^    (requires|ensures)(?: \w+)? \{(.*?)\}$", re.M | re.S)
 SLICE = re.compile(r"&(mut )?\[")
 # crates of which only our own crates call the functions, but for those named; every other function that asks nothing is an entry point
 LAYERS = ("reckon", "trials", "grid", "rule", "ledger", "settling", "adding", "account", "moves", "text", "raster", "files", "sheet", "programs", "display", "hatches", "evenings", "frames", "stands", "trying", "desks")
@@ -74,10 +75,21 @@ def functions_of(crate, path):
         yield Function(crate, path.stem, found[1], parameters, result.strip(), clauses["requires"], clauses["ensures"], imports)
 
 
-def library_functions(top):
-    """Every public function of every library."""
-    for crate in (name for name in crates(top) if name not in statements(top)):
+def public_functions(top, names):
+    """Every public function of these crates, but of programs."""
+    for crate in names:
         source = top / "crates" / crate / "src"
         if not (source / "main.rt").exists():
             for path in sorted(source.glob("*.rt")):
                 yield from functions_of(crate, path)
+
+
+def library_functions(top):
+    """Every public function of every library that crates may look at."""
+    apart = {*statements(top), *statics(top)}
+    yield from public_functions(top, (name for name in crates(top) if name not in apart))
+
+
+def exported_functions(top):
+    """Every public function of the static libraries, which only call those of a library."""
+    yield from public_functions(top, statics(top))

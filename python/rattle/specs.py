@@ -4,7 +4,10 @@ from dataclasses import dataclass, field
 
 from . import crates, imported
 
-LISTS = ("Lib.antt", "inner.antt")
+LISTS = ("Lib.antt", "Inner.antt")
+INNER = "Inner"
+# where an operator has its arguments
+HOLE = "◌"
 ITEM = re.compile(r"(?:(?:abbrev|unfoldable|pub|private) )*(?:(record|data|module) )?([^\s(){}:]+)")
 BEGINS = re.compile(r"(abbrev|unfoldable|pub|private|record|data|module)\b|\S+ : ")
 # what only gives a name: a field, a label, what a bracket binds
@@ -29,7 +32,7 @@ class Definition:
     @property
     def is_inner(self):
         """Whether only our own functions ask and give it."""
-        return self.module.split(".")[0] == "inner"
+        return self.module.split(".")[0] == INNER
 
     @property
     def is_named(self):
@@ -78,11 +81,12 @@ def items(module):
 
 
 def words(text):
-    """The names that a text may be using, but for fields that it only looks into."""
+    """The names that a text may be using, but for fields that it only looks into; of a name with a field behind it also the name alone."""
     text = re.sub(r'"[^"]*"', "", text)
     for label in LABELS:
         text = label.sub("", text)
-    return {word.strip(".") for word in re.split(r"[\s(){}\[\],;«»⌜⌝]+", text) if not word.startswith(".")}
+    found = {word.strip(".") for word in re.split(r"[\s(){}\[\],;«»]+", text) if not word.startswith(".")}
+    return found | {word.partition(".")[0] for word in found}
 
 
 class Specs:
@@ -120,7 +124,7 @@ class Specs:
         used = words(text)
         keys = set()
         for name, where in names.items():
-            parts = [part for part in name.split("_") if part] if name.startswith("_") or name.endswith("_") else [name]
+            parts = [part for part in name.split(HOLE) if part]
             if all(part in used for part in parts):
                 keys.add(self.found(where, name))
         for word in used:

@@ -34,15 +34,16 @@ emulator() {
     emulate=(qemu-x86_64 -E "GLIBC_TUNABLES=glibc.cpu.x86_rep_stosb_threshold=$never:glibc.cpu.x86_rep_movsb_threshold=$never")
 }
 
-# the crates that other languages call, each a static library of its own: libexports.a and libdisplay_exports.a, in target/staticlib
+# the crates that other languages call: libexports.a and libdisplay_exports.a, in target/staticlib, each made by a static library over it, NAME_c
 libraries=(exports display_exports)
 
 # one_archive NAME: proves and builds target/staticlib/libNAME.a, unless it is newer than everything that it is made of
 one_archive() {
-    local made_of=(crates.txt crates '(' -type d -o -name '*.rt' -o -name '*.antt' -o -name crates.txt ')')
-    [ -n "$(find "${made_of[@]}" -newer "target/staticlib/lib$1.a" 2>&1 | head -n 1)" ] || return 0
-    if ! rt staticlib "$1" >"$built/staticlib.log" 2>&1; then
-        echo "outside: rt staticlib $1 failed:"
+    local archive=target/staticlib/lib$1.a made=crates/$1_c/out/lib$1_c.a
+    local made_of=(crates.txt crates -name out -prune -o '(' -type d -path 'crates/*/*' -o -name '*.rt' -o -name '*.antt' -o -name crates.txt ')')
+    [ -n "$(find "${made_of[@]}" -newer "$archive" -print 2>&1 | head -n 1)" ] || return 0
+    if ! { (cd "crates/$1_c" && rt lib </dev/null) && mkdir -p "${archive%/*}" && cp "$made" "$archive"; } >"$built/staticlib.log" 2>&1; then
+        echo "outside: rt lib of $1_c failed:"
         tail -n 20 "$built/staticlib.log"
         return 1
     fi

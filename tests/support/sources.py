@@ -13,11 +13,25 @@ BRANCHES = re.compile(r"\b(if|match|while|for|loop|return)\b")
 FUNCTION = re.compile(r"\bfn (\w+)\(([^()]*)\)[^{]*\{")
 CONSTANT = re.compile(r"\bconst (\w+): [^=]+= (.*?);\n", re.S)
 BINDING = re.compile(r"(?:let (?:mut )?)?([\w.\[\]]+)(?:: [^=]+)? = (.*)", re.S)
+PRINTED = re.compile(r'\bprint!\((\w+); ("[^"]*")\)')
 STRUCT = re.compile(r"\b([A-Z][A-Za-z]*) \{([^{}]*)\}")
 
 
 class Struct(SimpleNamespace):
     """A struct's fields by name."""
+
+
+class Terminal:
+    """What a program is handed to print by: its parts are kept in a list."""
+
+    def __init__(self, out):
+        self.out = out
+
+    def write_all(self, text):
+        self.out.append(text.decode("ascii"))
+
+    def print(self, text):
+        self.out.append(text)
 
 
 def sources_of(crate):
@@ -30,6 +44,7 @@ def python_of(text):
     """An expression of Rattle as one of Python."""
     text = re.sub(r"\s+", " ", text.strip())
     text = re.sub(r"&(mut )?", "", text)
+    text = PRINTED.sub(r"\1.print(f\2)", text)
     text = re.sub(r"\b(\d[\d_]*)(u8|u32|u64|usize)\b", r"\1", text)
     text = re.sub(r" as \w+", "", text)
     text = re.sub(r"\b[a-z]\w*::", "", text)

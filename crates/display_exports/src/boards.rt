@@ -131,8 +131,7 @@ fn run_told(
 }
 
 // Steps by the wet walk to an end of the clock, and how many were made, with a list of boards refreshed at the start and after each step.
-#[unsafe(no_mangle)]
-pub extern "C" fn flood_run_to_boards(
+pub fn flood_run_to_boards(
     rows: usize,
     columns: usize,
     rules: &[u64],

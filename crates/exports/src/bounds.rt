@@ -30,8 +30,7 @@ fn tell_bounds(answer: Bounds, bounds: &mut [u64]) -> u32
 }
 
 // The most and the least steps of a run from a clock to an end, before it is made.
-#[unsafe(no_mangle)]
-pub extern "C" fn flood_step_bounds(rules: &[u64], clock: u64, end: u64, bounds: &mut [u64]) -> u32
+pub fn flood_step_bounds(rules: &[u64], clock: u64, end: u64, bounds: &mut [u64]) -> u32
     ensures { ExportsBounds clock end rules.now bounds.old result bounds.new }
 {
     if rules.len() != RULES_NUMBERS {

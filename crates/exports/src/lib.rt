@@ -1,4 +1,4 @@
-// The flood program for other languages: numbers and slices only, each function under its plain name in a static library. Nothing is asked
+// The flood program for other languages: numbers and slices only; `exports_c` is the static library of these functions. Nothing is asked
 // of a caller: a call is refused by its number, 0 being none. Rules go in and a run goes in and comes out as slices of exactly their size,
 // and so does what a call gives besides; a slice of another size is refusal 1, before all else. flood.h says the same in C.
 //   steps    flood_fresh, flood_step, flood_step_wet, flood_run_to, flood_run_to_wet, flood_take_back

@@ -30,8 +30,7 @@ fn tell_sheet(sheet: Sheet, heading: &mut [u64], line: &mut [u64]) -> u32
 }
 
 // Reads a sheet into rooms.
-#[unsafe(no_mangle)]
-pub extern "C" fn flood_read_sheet(
+pub fn flood_read_sheet(
     text: &[u8],
     marks: &mut [u8],
     beds: &mut [u32],
@@ -56,8 +55,7 @@ pub extern "C" fn flood_read_sheet(
 }
 
 // What `meadow` prints of a text, at the start of out, and its length; 0 and nothing where out is shorter than what always suffices.
-#[unsafe(no_mangle)]
-pub extern "C" fn flood_meadow(text: &[u8], out: &mut [u8]) -> usize
+pub fn flood_meadow(text: &[u8], out: &mut [u8]) -> usize
     ensures { ExportsMeadow text.now out.old result out.new }
 {
     if out.len() < OUT_ROOM {

@@ -39,8 +39,7 @@ fn tell_sight(sight: Sight, speeds: &mut [f64]) -> u32
 }
 
 // The flow arrow of the square in a row and a column, after the newest step kept.
-#[unsafe(no_mangle)]
-pub extern "C" fn flood_arrow(
+pub fn flood_arrow(
     rows: usize,
     columns: usize,
     square_side: u64,
@@ -88,8 +87,7 @@ fn tell_wet(wet: Wet, count: &mut [u64]) -> u32
 }
 
 // The wet rows, and their count.
-#[unsafe(no_mangle)]
-pub extern "C" fn flood_wet_rows(
+pub fn flood_wet_rows(
     rows: usize,
     columns: usize,
     marks: &[u8],

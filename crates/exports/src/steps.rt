@@ -52,8 +52,7 @@ fn tell_ran(ran: Ran, run: &mut [u64], steps: &mut [u64]) -> u32
 }
 
 // A fresh run: the last leaving of squares not closed becomes 0, and the run is told.
-#[unsafe(no_mangle)]
-pub extern "C" fn flood_fresh(
+pub fn flood_fresh(
     rows: usize,
     columns: usize,
     rules: &[u64],
@@ -124,8 +123,7 @@ fn step_told(
 }
 
 // One step: every square is worked.
-#[unsafe(no_mangle)]
-pub extern "C" fn flood_step(
+pub fn flood_step(
     rows: usize,
     columns: usize,
     rules: &[u64],
@@ -161,8 +159,7 @@ pub extern "C" fn flood_step(
 }
 
 // One step by the wet walk: only the sides of squares with water are worked.
-#[unsafe(no_mangle)]
-pub extern "C" fn flood_step_wet(
+pub fn flood_step_wet(
     rows: usize,
     columns: usize,
     rules: &[u64],
@@ -247,8 +244,7 @@ fn run_told(
 }
 
 // Steps to an end of the clock, and how many were made: every square is worked at each.
-#[unsafe(no_mangle)]
-pub extern "C" fn flood_run_to(
+pub fn flood_run_to(
     rows: usize,
     columns: usize,
     rules: &[u64],
@@ -288,8 +284,7 @@ pub extern "C" fn flood_run_to(
 }
 
 // Steps by the wet walk to an end of the clock, and how many were made: only the sides of squares with water are worked at each.
-#[unsafe(no_mangle)]
-pub extern "C" fn flood_run_to_wet(
+pub fn flood_run_to_wet(
     rows: usize,
     columns: usize,
     rules: &[u64],
@@ -329,8 +324,7 @@ pub extern "C" fn flood_run_to_wet(
 }
 
 // The newest step taken back.
-#[unsafe(no_mangle)]
-pub extern "C" fn flood_take_back(
+pub fn flood_take_back(
     rows: usize,
     columns: usize,
     marks: &[u8],

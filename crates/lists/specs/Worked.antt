@@ -52,18 +52,18 @@ whole_text = "0\t0\t2\t12000\t4\n2\t2\n1\t12\n3\t14\n"
 
 pub record ListCases : Type 0 where
   -- a depth, then a name a line; a last one without its newline is a name; a list may have none
-  pub two_names : listed (bytes_of "250\n_a\nBB\n") ≡ list 0 0 250 2
-  pub open_end : listed (bytes_of "250\n_a\nBB") ≡ list 0 0 250 2
-  pub bare_line : listed (bytes_of "250\n\n_a\n") ≡ list 0 0 250 2
+  pub two_names : listed (bytes_of "250\nA\nBB\n") ≡ list 0 0 250 2
+  pub open_end : listed (bytes_of "250\nA\nBB") ≡ list 0 0 250 2
+  pub bare_line : listed (bytes_of "250\n\nA\n") ≡ list 0 0 250 2
   pub no_name : listed (bytes_of "250\n") ≡ list 0 0 250 0
   -- "a first line that can't be read is 12, line 1"
   pub no_depth : listed (bytes_of "A\nBB\n") ≡ list 12 1 0 0
   pub no_line : listed (bytes_of "250") ≡ list 12 1 0 0
-  pub two_fields : listed (bytes_of "250\t3\n_a\n") ≡ list 12 1 0 0
+  pub two_fields : listed (bytes_of "250\t3\nA\n") ≡ list 12 1 0 0
   pub nothing : listed [] ≡ list 12 1 0 0
   -- "a depth out of range is 5; over 200 sheets is 16", in this order
-  pub too_deep : listed (bytes_of "100000001\n_a\n") ≡ list 5 0 100_000_001 1
-  pub deep : listed (bytes_of "100000000\n_a\n") ≡ list 0 0 100_000_000 1
+  pub too_deep : listed (bytes_of "100000001\nA\n") ≡ list 5 0 100_000_001 1
+  pub deep : listed (bytes_of "100000000\nA\n") ≡ list 0 0 100_000_000 1
   pub too_many : list_number 100_000_000 201 ≡ 16
   pub both : list_number 100_000_001 201 ≡ 5
   pub many : list_number 100_000_000 200 ≡ 0
@@ -75,7 +75,7 @@ pub record ListCases : Type 0 where
   pub other_mark : same_plan meadow (plan (record { rows = 2; columns = 3 }) (0 ∷ 1 ∷ 2 ∷ 1 ∷ 1 ∷ 2 ∷ [])) ≡ false
   pub other_closed : same_plan meadow (plan (record { rows = 2; columns = 3 }) (1 ∷ 1 ∷ 2 ∷ 1 ∷ 1 ∷ 1 ∷ [])) ≡ false
   -- "a sheet that can't be opened counts as refused with 12", the first one and a later one
-  pub not_opened : file_number false no_plan not_opened ≡ 12
+  pub not_opened_first : file_number false no_plan not_opened ≡ 12
   pub not_opened_later : file_number true meadow not_opened ≡ 12
   -- "at least that deep": reached exactly, and not by one
   pub reached : drowned 0 70 sheets ≡ 2

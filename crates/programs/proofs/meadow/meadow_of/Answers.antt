@@ -9,21 +9,21 @@ use Rattle.programs.proofs.EndedLaws.{refused_printed}
 use Rattle.programs.proofs.HeldLaws.{read_as, read_holds}
 use Rattle.programs.proofs.MeadowLaws.{meadow-refused, meadow-run}
 use Rattle.programs.proofs.meadow.meadow_of.Goals as goal
-use Rattle.programs.proofs.meadow.meadow_of.Goals.{After-read_within-sheet, In-Read-2}
+use Rattle.programs.proofs.meadow.meadow_of.Goals.{After-read_within-sheet, In-Read}
 
 -- the rooms after the reader, and that it has read them
 abbrev rooms-read : After-read_within-sheet → Rooms
 rooms-read c =
     let l = c.read_within-sheet.new in
-    rooms l.1.1.0 l.1.1.1.0 l.1.1.1.1.0 l.1.1.1.1.1.0 l.1.1.1.1.1.1.0 l.1.1.1.1.1.1.1.0 l.1.1.1.1.1.1.1.1.0
+    rooms l.marks l.beds l.roughness l.rates l.depths l.rain l.inflow
 
 reads :
-    (c : In-Read-2) →
-    ReadsWithin most_text c.args.text.now program_rooms (Read c.in-Read.heading) (rooms-read (goal.at.In-Read-2 c).After-read_within-sheet)
+    (c : In-Read) →
+    ReadsWithin most_text c.args.text.now program_rooms (Read c.in-Read.heading) (rooms-read (goal.at.In-Read c).After-read_within-sheet)
 reads c = read_as c.in-Read.is c.read_within-sheet.ensures
 
 pub print_run-requires : goal.print_run-requires
-print_run-requires c = (read_holds most_text program_squares _ (reads (goal.at.print_run-requires c).In-Read-2), omega arith)
+print_run-requires c = (read_holds most_text program_squares _ (reads (goal.at.print_run-requires c).In-Read), omega arith)
 
 pub returns-in-Refused : goal.returns-in-Refused
 returns-in-Refused c =
@@ -31,4 +31,4 @@ returns-in-Refused c =
     (refused_printed (omega arith) (omega arith) (omega arith) c.put_refused.ensures)
 
 pub returns-in-Read : goal.returns-in-Read
-returns-in-Read c = meadow-run c.args.text.now (reads (goal.at.returns-in-Read c).In-Read-2) c.print_run.ensures
+returns-in-Read c = meadow-run c.args.text.now (reads (goal.at.returns-in-Read c).In-Read) c.print_run.ensures

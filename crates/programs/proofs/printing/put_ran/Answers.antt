@@ -25,9 +25,9 @@ returns-then-ran-ne0 c = ran-refused (P (goal.at.returns-then-ran-ne0 c).Start) 
 
 pub put_world-requires : goal.put_world-requires
 put_world-requires c = record {
-      shape_in_range = c.requires.shape_in_range;
-      steps_in_bounds = omega (arith, c.requires.shape_in_bounds, made_fits (P (goal.at.put_world-requires c).Start) c.args.depths.now c.args.ran c.requires.shape_in_range.0.few (words (goal.at.put_world-requires c).After-shared_slice_known-2-1));
-    }
+  shape_in_range = c.requires.shape_in_range;
+  steps_in_bounds = omega (arith, c.requires.shape_in_bounds, made_fits (P (goal.at.put_world-requires c).Start) c.args.depths.now c.args.ran c.requires.shape_in_range.0.few (words (goal.at.put_world-requires c).After-shared_slice_known-2-1));
+}
 
 pub returns : goal.returns
 returns c = ran_made (P (goal.at.returns c).Start) c.args.depths.now c.args.ran c.requires.shape_in_range.0.few (words (goal.at.returns c).After-shared_slice_known-2-1) c.if-ran-ne0.false c.put_world.ensures

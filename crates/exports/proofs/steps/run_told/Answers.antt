@@ -1,0 +1,23 @@
+-- `exports::steps::run_told` meets its contract: each slice has its size, or the call is refused by 1.
+-- Assumes nothing.
+use borrow.Author.Tests.{eq-eqb, ne_eqb}
+use Rattle.reckon.proofs.TestLaws.{each_every, every_fails}
+use Rattle.exports.proofs.NumberLaws.{plan_of, given_of, world-of}
+use Rattle.exports.proofs.StepLaws.{run_unsized, run-told}
+use Rattle.exports.proofs.steps.run_told.Goals as goal
+
+pub returns-then-rules-ne-RULES_NUMBERS : goal.returns-then-rules-ne-RULES_NUMBERS
+returns-then-rules-ne-RULES_NUMBERS c = run_unsized _ _ _ _ _ _ _ (every_fails _ 0 (ne_eqb _ _ c.if-rules-ne-RULES_NUMBERS.true))
+
+pub returns-then-run-ne-RUN_NUMBERS : goal.returns-then-run-ne-RUN_NUMBERS
+returns-then-run-ne-RUN_NUMBERS c = run_unsized _ _ _ _ _ _ _ (every_fails _ 1 (ne_eqb _ _ c.if-run-ne-RUN_NUMBERS.true))
+
+pub returns-then-steps-ne-STEPS_NUMBERS : goal.returns-then-steps-ne-STEPS_NUMBERS
+returns-then-steps-ne-STEPS_NUMBERS c = run_unsized _ _ _ _ _ _ _ (every_fails _ 2 (ne_eqb _ _ c.if-steps-ne-STEPS_NUMBERS.true))
+
+pub returns : goal.returns
+returns c =
+    run-told _ _ _ _ _ _ _
+    (each_every _ (eq-eqb _ _ c.if-rules-ne-RULES_NUMBERS.false, (eq-eqb _ _ c.if-run-ne-RUN_NUMBERS.false, (eq-eqb _ _ c.if-steps-ne-STEPS_NUMBERS.false, tt))))
+    (plan_of c.shape_from.ensures) (given_of c.rules_from.ensures) (world-of c.run_from.ensures)
+    c.run_to-ran.ensures c.tell_ran.ensures
