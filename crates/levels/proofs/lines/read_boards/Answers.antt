@@ -1,6 +1,5 @@
 -- `levels::lines::read_boards` meets its contract: each line passed is a board's.
 -- Assumes nothing.
-use Prim.Native.Nat.{◌-◌}
 use native.Mathlib.Omega.{arith}
 use borrow.Author.Tests.{not-true, not-false}
 use Rattle.levels.proofs.LineLaws.{read_none, read_forth, count_fits, read_stop, read_more, read_end}

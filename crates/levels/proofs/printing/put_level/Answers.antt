@@ -32,6 +32,6 @@ put_byte-requires c = end_fits c.args.board (fits (goal.at.put_byte-requires c).
 
 pub returns : goal.returns
 returns c = record {
-      wrote = level-written c.args.board (fits (goal.at.returns c).Start) c.put_word-word.ensures c.put_fields-fields.ensures c.put_first-first.ensures c.put_byte.ensures;
-      fits = level-short c.args.board (words (goal.at.returns c).Start);
-    }
+  wrote = level-written c.args.board (fits (goal.at.returns c).Start) c.put_word-word.ensures c.put_fields-fields.ensures c.put_first-first.ensures c.put_byte.ensures;
+  fits = level-short c.args.board (words (goal.at.returns c).Start);
+}

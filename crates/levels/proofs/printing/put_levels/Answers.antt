@@ -1,7 +1,7 @@
 -- `levels::printing::put_levels` meets its contract: the lines so far stand at the room's start.
 -- Assumes nothing.
 use mathlib.Core.Path.{refl}
-use Prim.Native.Nat.{◌-◌, ◌<◌}
+use Prim.Native.Nat.{◌<◌}
 use native.Mathlib.Omega.{arith}
 use Rattle.display.specs.Boards.{most_boards}
 use Rattle.levels.proofs.LevelLaws.{levels_none, levels_long, level-room, levels_more, levels_listed}

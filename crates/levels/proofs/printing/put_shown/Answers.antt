@@ -16,15 +16,15 @@ words s =
     }
 
 pub returns-then-ran-ne0 : goal.returns-then-ran-ne0
-returns-then-ran-ne0 c = shown-refused c.args.shown (words (c)) c.requires.1 c.if-ran-ne0.true c.put_refused.ensures
+returns-then-ran-ne0 c = shown-refused c.args.shown (words (goal.at.returns-then-ran-ne0 c).Start) c.requires.1 c.if-ran-ne0.true c.put_refused.ensures
 
 pub put_levels-next-requires : goal.put_levels-next-requires
 put_levels-next-requires c = (c.requires.0 c.if-ran-ne0.false, omega (arith, c.requires.1))
 
 pub put_counts-requires : goal.put_counts-requires
-put_counts-requires c = counts_follow c.args.shown (words (c)) c.requires.1 c.put_levels-next.ensures
+put_counts-requires c = counts_follow c.args.shown (words (goal.at.put_counts-requires c).Start) c.requires.1 c.put_levels-next.ensures
 
 pub returns : goal.returns
 returns c =
-    shown_made c.args.shown (words (c)) c.requires.1 c.put_levels-next.ensures c.if-ran-ne0.false
+    shown_made c.args.shown (words (goal.at.returns c).Start) c.requires.1 c.put_levels-next.ensures c.if-ran-ne0.false
     c.put_counts.ensures

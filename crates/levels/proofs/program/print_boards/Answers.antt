@@ -13,7 +13,7 @@ use Rattle.levels.proofs.program.print_boards.Goals as goal
 pub returns-then-found-ne0 : goal.returns-then-found-ne0
 returns-then-found-ne0 c =
     text_refused c.args.heading _ c.args.text.now c.read_boards-found.ensures c.if-found-ne0.true
-    (refused_printed c.requires.1 (omega arith) (omega (arith, c.struct_known-1.given)) c.put_refused.ensures)
+    (refused_printed c.requires.1 (omega arith) (omega arith) c.put_refused.ensures)
 
 pub run_sheet_boards-shown-requires : goal.run_sheet_boards-shown-requires
 run_sheet_boards-shown-requires c =
