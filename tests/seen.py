@@ -4,10 +4,8 @@
 """
 
 import lent
-from sources import Terminal, program
+from sources import Printer, program
 from stored import hold
-
-OUT = []
 
 
 def tell(rt, sight):
@@ -43,5 +41,6 @@ SEEN = program("seen", GIVEN)
 
 
 if __name__ == "__main__":
-    SEEN["main"](Terminal(OUT))
-    hold("seen", "".join(OUT))
+    told = Printer()
+    SEEN["main"](told)
+    hold("seen", told.printed())

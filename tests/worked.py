@@ -4,10 +4,9 @@
 """
 
 import lent
-from sources import Terminal, program
+from sources import Printer, program
 from stored import hold
 
-OUT = []
 STATE = ("depths", "lasts")
 RUN_BUT_KEPT = ("clock", "length", "outflow", "newest", "soaked")
 
@@ -68,5 +67,6 @@ GIVEN = {
 
 
 if __name__ == "__main__":
-    program("worked", GIVEN)["main"](Terminal(OUT))
-    hold("worked", "".join(OUT))
+    told = Printer()
+    program("worked", GIVEN)["main"](told)
+    hold("worked", told.printed())

@@ -13,7 +13,6 @@ BRANCHES = re.compile(r"\b(if|match|while|for|loop|return)\b")
 FUNCTION = re.compile(r"\bfn (\w+)\(([^()]*)\)[^{]*\{")
 CONSTANT = re.compile(r"\bconst (\w+): [^=]+= (.*?);\n", re.S)
 BINDING = re.compile(r"(?:let (?:mut )?)?([\w.\[\]]+)(?:: [^=]+)? = (.*)", re.S)
-PRINTED = re.compile(r'\bprint!\((\w+); ("[^"]*")\)')
 STRUCT = re.compile(r"\b([A-Z][A-Za-z]*) \{([^{}]*)\}")
 
 
@@ -21,17 +20,20 @@ class Struct(SimpleNamespace):
     """A struct's fields by name."""
 
 
-class Terminal:
-    """What a program is handed to print by: its parts are kept in a list."""
+class Printer:
+    """What a program's `main` is handed: it keeps what is printed by it."""
 
-    def __init__(self, out):
-        self.out = out
+    def __init__(self):
+        self.parts = []
 
     def write_all(self, text):
-        self.out.append(text.decode("ascii"))
+        self.parts.append(text.decode("ascii"))
 
-    def print(self, text):
-        self.out.append(text)
+    def print(self, value):
+        self.parts.append(str(value))
+
+    def printed(self):
+        return "".join(self.parts)
 
 
 def sources_of(crate):
@@ -44,7 +46,7 @@ def python_of(text):
     """An expression of Rattle as one of Python."""
     text = re.sub(r"\s+", " ", text.strip())
     text = re.sub(r"&(mut )?", "", text)
-    text = PRINTED.sub(r"\1.print(f\2)", text)
+    text = re.sub(r'print!\((\w+); "\{(\w+)\}"\)', r"\1.print(\2)", text)
     text = re.sub(r"\b(\d[\d_]*)(u8|u32|u64|usize)\b", r"\1", text)
     text = re.sub(r" as \w+", "", text)
     text = re.sub(r"\b[a-z]\w*::", "", text)

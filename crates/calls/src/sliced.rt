@@ -4,8 +4,8 @@ ghost use Rattle.calls.specs.Library.{AfterMeadow};
 use programs::limits::OUT_ROOM;
 use slices::meadow::meadow_told;
 
-pub fn after_meadow_told(text: &[u8], out: &mut [u8; OUT_ROOM]) -> usize
+pub fn after_meadow_told(rt: &impl Eprint, text: &[u8], out: &mut [u8; OUT_ROOM]) -> usize
     ensures { AfterMeadow text.now out.old out.new result }
 {
-    meadow_told(text, out)
+    meadow_told(rt, text, out)
 }

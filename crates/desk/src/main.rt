@@ -12,7 +12,9 @@ use desks::state::{
     DESK_ALONG, DESK_NUMBERS, DESK_OUT, DESK_RATES, DESK_SQUARES, DESK_TEXT, Desk, desk_of,
     empty_desk, going_of,
 };
+use files::read_all;
 use reckon::tables::{INFLOW_ROOM, RAIN_ROOM};
+use std::io::Read;
 
 // A line has at most so many bytes, its newline counted.
 const MOST_LINE: usize = 127;
@@ -36,11 +38,14 @@ struct Turn {
     desk: Desk,
 }
 
-fn next_byte() -> Byte {
+fn next_byte(input: &mut impl Read) -> Byte {
     let mut one = [0u8; 1];
-    let got = libc::read(0, &mut one);
+    let came = match input.read(&mut one) {
+        Err(_) => false,
+        Ok(got) => got > 0,
+    };
     Byte {
-        came: got > 0,
+        came: came,
         byte: one[0],
     }
 }
@@ -56,11 +61,11 @@ fn keep(line: &mut [u8], length: usize, byte: u8) -> usize {
 
 // A line with its newline, none at the end of the input; of one that is too long its first bytes, which have none. A proved loop has to end: it
 // counts down from a number that no evening uses up.
-fn read_line(line: &mut [u8]) -> usize {
+fn read_line(input: &mut impl Read, line: &mut [u8]) -> usize {
     let mut length: usize = 0;
     let mut turns = u64::MAX;
     while turns > 0 {
-        let next = next_byte();
+        let next = next_byte(input);
         if !next.came {
             return length;
         }
@@ -80,11 +85,12 @@ fn wanted_after(line: &[u8], length: usize) -> usize {
 }
 
 // The text that comes after a line; none of one that is too long.
-fn read_text(text: &mut [u8], wants: usize) -> usize {
+fn read_text(input: &mut impl Read, text: &mut [u8], wants: usize) -> usize {
     if text.len() < wants {
         return 0;
     }
-    io::read_full(0, &mut text[..wants])
+    let came = read_all(input, &mut text[..wants]);
+    came.length
 }
 
 fn least(a: usize, b: usize) -> usize
@@ -104,15 +110,16 @@ fn record_room() -> [u32; DESK_NUMBERS]
 }
 
 // Writes an answer, which always lies within its room.
-fn tell(out: &[u8], bytes: usize) {
+fn tell(rt: &impl Print, out: &[u8], bytes: usize) {
     if bytes <= out.len() {
-        io::write_all(1, &out[..bytes]);
+        let _ = rt.write_all(&out[..bytes]);
     }
 }
 
 // The steps of a line `step`, each with its frame, all in the same working rooms: the first is checked, and each that was made leaves what the next
 // may go by.
 fn make_steps(
+    rt: &impl Print,
     begun: Desk,
     marks: &[u8; DESK_SQUARES],
     beds: &[u32; DESK_SQUARES],
@@ -164,7 +171,7 @@ fn make_steps(
             &mut senders,
             &mut room,
         );
-        tell(out, going.length);
+        tell(rt, out, going.length);
         checked = true;
         calls += 1;
     }
@@ -212,6 +219,8 @@ fn answer(
 
 // A line, the text after it, and all that they ask for.
 fn take_line(
+    rt: &impl Print,
+    input: &mut impl Read,
     desk: Desk,
     text: &mut [u8; DESK_TEXT],
     marks: &mut [u8; DESK_SQUARES],
@@ -227,7 +236,7 @@ fn take_line(
     out: &mut [u8; DESK_OUT],
 ) -> Turn {
     let mut line = [0u8; MOST_LINE];
-    let length = read_line(&mut line);
+    let length = read_line(input, &mut line);
     if length == 0 {
         return Turn {
             more: false,
@@ -235,14 +244,14 @@ fn take_line(
         };
     }
     let wants = wanted_after(&line, length);
-    let got = read_text(text, wants);
+    let got = read_text(input, text, wants);
     let after = answer(
         desk, &line, length, text, got, marks, beds, roughness, rates, rain, inflow, depths, lasts,
         records, began, out,
     );
-    tell(out, after.length);
+    tell(rt, out, after.length);
     let stepped = make_steps(
-        after, marks, beds, roughness, rates, rain, inflow, depths, lasts, records, began, out,
+        rt, after, marks, beds, roughness, rates, rain, inflow, depths, lasts, records, began, out,
     );
     Turn {
         more: got == wants,
@@ -251,7 +260,8 @@ fn take_line(
 }
 
 // The lines of an evening, each answered before the next is read.
-fn evening() {
+fn evening(rt: &(impl Input + Print)) {
+    let mut input = rt.reader();
     let mut text = [0u8; DESK_TEXT];
     let mut marks = [0u8; DESK_SQUARES];
     let mut beds = [0u32; DESK_SQUARES];
@@ -268,6 +278,8 @@ fn evening() {
     let mut turns = u64::MAX;
     while turns > 0 {
         let turn = take_line(
+            rt,
+            &mut input,
             desk,
             &mut text,
             &mut marks,
@@ -290,6 +302,6 @@ fn evening() {
     }
 }
 
-fn main() {
-    evening();
+fn main(rt: HostRuntime) {
+    evening(&rt);
 }

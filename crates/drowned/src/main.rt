@@ -9,9 +9,11 @@ use lists::names::{Listed, MOST_SHEETS, read_list};
 use lists::printing::put_drowned;
 use lists::tally::{Tally, begin_tally, take_sheet};
 use programs::limits::{OUT_ROOM, PROGRAM_SQUARES, TEXT_ROOM};
+use std::rt::Files;
 
 // Takes one name of a list, on a line of its own: its file's bytes, or that they did not all come.
 fn take_name(
+    rt: &impl Files,
     tally: Tally,
     list: &[u8],
     line: usize,
@@ -22,7 +24,7 @@ fn take_name(
     numbers: &mut [u32; MOST_SHEETS],
 ) -> Tally {
     let mut text = [0u8; TEXT_ROOM];
-    let came = read_named(list, line, &mut text);
+    let came = read_named(rt, list, line, &mut text);
     let length = came.length;
     take_sheet(
         tally,
@@ -37,7 +39,7 @@ fn take_name(
 }
 
 // Takes the names of a list in turn, the first of them on its line 1, and writes what they came to.
-fn take_list(list: &[u8], listed: Listed) {
+fn take_list(rt: &(impl Files + Print), list: &[u8], listed: Listed) {
     let mut marks = [0u8; PROGRAM_SQUARES];
     let mut counts = [0u8; PROGRAM_SQUARES];
     let mut deepest = [0u32; PROGRAM_SQUARES];
@@ -48,6 +50,7 @@ fn take_list(list: &[u8], listed: Listed) {
     while place < listed.names {
         place += 1;
         tally = take_name(
+            rt,
             tally,
             list,
             place,
@@ -62,24 +65,24 @@ fn take_list(list: &[u8], listed: Listed) {
     let bytes = put_drowned(
         tally, &marks, &counts, &deepest, &places, &numbers, &mut out,
     );
-    io::write_all(1, &out[..bytes]);
+    let _ = rt.write_all(&out[..bytes]);
 }
 
 // Writes the list's refusal.
-fn refuse(number: u32, line: usize) {
+fn refuse(rt: &impl Print, number: u32, line: usize) {
     let mut out = [0u8; OUT_ROOM];
     let length = put_refused(&mut out, 0, number, line);
-    io::write_all(1, &out[..length]);
+    let _ = rt.write_all(&out[..length]);
 }
 
-fn main() {
+fn main(rt: HostRuntime) {
     let mut list = [0u8; TEXT_ROOM];
-    let came = read_input(&mut list);
+    let came = read_input(&rt, &mut list);
     let length = came.length;
     let listed = read_list(&list[..length]);
     let number = listed.number;
     if number != 0 {
-        return refuse(number, listed.line);
+        return refuse(&rt, number, listed.line);
     }
-    take_list(&list[..length], listed);
+    take_list(&rt, &list[..length], listed);
 }

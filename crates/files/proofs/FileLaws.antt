@@ -7,6 +7,7 @@ use Prim.Native.Nat.{ℕ, ◌+◌, ◌-◌, ◌≤◌, ◌<◌}
 use native.Mathlib.Omega.{arith}
 use lib.Dec.{ltb}
 use lib.ListN.{length, take, drop, drop_of_length-le, length-drop}
+use Rattle.std.proofs.lemmas.List.{length-take}
 use lib.Seq.{drop-drop, drop_at, drop-append_seam, length-take-le}
 use borrow.Author.Tests.{lt-ltb}
 use Rattle.reckon.specs.Tests.{pick}
@@ -38,6 +39,10 @@ put_came {t} {old} {new} {at} {r} h w =
       within = omega (arith, w.next);
       rest = rw (w.room, w.next) (drop-placed old at t h);
     }
+
+-- what came of a read is no more than was asked for, so it fits
+pub came_fits : (long at got most : ℕ) (s : List ℕ) → at ≤ long → most ≤ long - at → got ≤ most → at + length (take got s) ≤ long
+came_fits long at got most s h f k = omega (arith, length-take got s)
 
 pub none_came : (old : List ℕ) (at : ℕ) → at ≤ length old → CameOn at at old old
 none_came old at h = record { long = refl; on = omega arith; within = h; rest = refl }

@@ -1,6 +1,7 @@
 // Files by name and the standard input, read into a lent room: what comes lies at the room's start, and the rest of the room stays. Files
 // written whole. Which bytes the system gives or takes no contract can say.
 //
+//   read_all     what a reader still has
 //   read_input   the standard input
 //   read_file    the file of a name
 //   read_named   the file whose name is a line of a list of names
@@ -17,6 +18,10 @@ ghost use Rattle.reckon.specs.Tests.{pick};
 ghost use Rattle.files.specs.Files.{InputCame, FileCame, NamedCame, HandedOn, OneCame, TwoCame, NamedWritten, most_name, not_read};
 ghost use Rattle.files.specs.Inner.Reading.{ReadOn, handed_of};
 
+use std::fs::OpenOptions;
+use std::io::{Read, Write};
+use std::rt::Files;
+use std::{fs, str};
 use text::lines::nth_line;
 use text::writing::put_word;
 
@@ -45,6 +50,9 @@ struct Next {
 // The most bytes of a name that the system takes.
 const MOST_NAME: usize = 4_095;
 
+// One read asks for at most so many bytes.
+const CHUNK: usize = 4_096;
+
 // Room for the lines of the standard input: one byte more than is taken of it.
 pub const NAMES_ROOM: usize = 65_537;
 
@@ -64,28 +72,26 @@ fn least(a: usize, b: usize) -> usize
 }
 
 // One read of a file into a room at a position, as much of it as fits; by way of a room of its own, so that the rest of the lent one stays.
-fn read_on(file: i32, room: &mut [u8], at: usize) -> Next
+fn read_on<R: Read>(file: &mut R, room: &mut [u8], at: usize) -> Next
     requires { at ≤ length room.old }
     ensures { ReadOn at room.old room.new result }
 {
-    let mut chunk = io::buffer();
-    let moved = libc::read(file, &mut chunk);
-    if moved < 0 {
-        return Next {
+    let mut chunk = [0u8; CHUNK];
+    let fits = least(CHUNK, room.len() - at);
+    match file.read(&mut chunk[..fits]) {
+        Err(_) => Next {
             failed: true,
             at: at,
-        };
-    }
-    let got = least(io::count(moved, &chunk), room.len() - at);
-    let next = put_word(room, at, &chunk[..got]);
-    Next {
-        failed: false,
-        at: next,
+        },
+        Ok(got) => Next {
+            failed: false,
+            at: put_word(room, at, &chunk[..got]),
+        },
     }
 }
 
-// An open file from its start, until it ends, the room is full or a read fails.
-fn read_all(file: i32, room: &mut [u8]) -> Came
+// What a reader still has, until it ends, the room is full or a read fails; of the reader no more is taken than the room holds.
+pub fn read_all<R: Read>(file: &mut R, room: &mut [u8]) -> Came
     ensures { InputCame room.old room.new result }
 {
     let mut at: usize = 0;
@@ -112,29 +118,31 @@ fn read_all(file: i32, room: &mut [u8]) -> Came
     }
 }
 
-pub fn read_input(room: &mut [u8]) -> Came
+pub fn read_input(rt: &impl Input, room: &mut [u8]) -> Came
     ensures { InputCame room.old room.new result }
 {
-    read_all(0, room)
+    let mut input = rt.reader();
+    read_all(&mut input, room)
 }
 
-pub fn read_file(name: &[u8], room: &mut [u8]) -> Came
+// A name is text: one that is not UTF-8 cannot be opened.
+pub fn read_file(rt: &impl Files, name: &[u8], room: &mut [u8]) -> Came
     ensures { FileCame name.now room.old room.new result }
 {
     if MOST_NAME < name.len() {
         return not_read();
     }
-    let file = os::open_read(name);
-    if file < 0 {
+    let Ok(path) = str::from_utf8(name) else {
         return not_read();
+    };
+    match fs::open(rt, path) {
+        Err(_) => not_read(),
+        Ok(mut file) => read_all(&mut file, room),
     }
-    let came = read_all(file, room);
-    libc::close(file);
-    came
 }
 
 // A last line without its newline names no file.
-pub fn read_named(names: &[u8], k: usize, room: &mut [u8]) -> Came
+pub fn read_named(rt: &impl Files, names: &[u8], k: usize, room: &mut [u8]) -> Came
     ensures { NamedCame names.now k room.old room.new result }
 {
     let line = nth_line(names, k);
@@ -143,7 +151,7 @@ pub fn read_named(names: &[u8], k: usize, room: &mut [u8]) -> Came
     }
     let from = line.from;
     let to = line.to;
-    read_file(&names[from..to], room)
+    read_file(rt, &names[from..to], room)
 }
 
 // How many bytes of a room are handed on: all of it where the file did not come whole. A room has one byte more than its caller takes, so that
@@ -167,31 +175,31 @@ fn handed_last(came: Came, more: bool, room: usize) -> usize
     handed(came, room)
 }
 
-pub fn read_names(room: &mut [u8]) -> usize
+pub fn read_names(rt: &impl Input, room: &mut [u8]) -> usize
     ensures { HandedOn room.old room.new result }
 {
-    let came = read_input(room);
+    let came = read_input(rt, room);
     handed(came, room.len())
 }
 
 // The whole room where a line follows the last of the names, or where the file did not come whole.
-pub fn read_of(names: &[u8], k: usize, of: usize, room: &mut [u8]) -> usize
+pub fn read_of(rt: &impl Files, names: &[u8], k: usize, of: usize, room: &mut [u8]) -> usize
     ensures { OneCame names.now k of room.old room.new result }
 {
-    let came = read_named(names, k, room);
+    let came = read_named(rt, names, k, room);
     let after = nth_line(names, of);
     let more = after.from < names.len();
     handed_last(came, more, room.len())
 }
 
 // Two files, of which the standard input has the names, one a line, and no line after them.
-pub fn read_two(first: &mut [u8], second: &mut [u8]) -> Two
+pub fn read_two(rt: &(impl Files + Input), first: &mut [u8], second: &mut [u8]) -> Two
     ensures { TwoCame first.old first.new second.old second.new result }
 {
     let mut names = [0u8; NAMES_ROOM];
-    let count = read_names(&mut names);
-    let first_length = read_of(&names[..count], 0, 2, first);
-    let second_length = read_of(&names[..count], 1, 2, second);
+    let count = read_names(rt, &mut names);
+    let first_length = read_of(rt, &names[..count], 0, 2, first);
+    let second_length = read_of(rt, &names[..count], 1, 2, second);
     Two {
         first: first_length,
         second: second_length,
@@ -199,28 +207,41 @@ pub fn read_two(first: &mut [u8], second: &mut [u8]) -> Two
 }
 
 // A file that is there is opened and left as it is; one that is not there is made and taken away again.
-fn can_open(name: &[u8]) -> bool
+fn can_open(rt: &impl Files, name: &[u8]) -> bool
     ensures { most_name < length name.now → result ≡ false }
 {
     if MOST_NAME < name.len() {
         return false;
     }
-    let there = os::open_append(name);
-    if 0 <= there {
-        libc::close(there);
+    let Ok(path) = str::from_utf8(name) else {
+        return false;
+    };
+    if can_append(rt, path) {
         return true;
     }
-    let made = os::create(name);
-    if made < 0 {
+    if !can_create(rt, path) {
         return false;
     }
-    libc::close(made);
-    os::unlink(name);
+    let _ = fs::remove_file(rt, path);
     true
 }
 
+// Whether a file that is there can be opened for writing.
+fn can_append(rt: &impl Files, path: &str) -> bool {
+    OpenOptions::new().append(true).open(rt, path).is_ok()
+}
+
+// Makes a file that is not there, empty.
+fn can_create(rt: &impl Files, path: &str) -> bool {
+    OpenOptions::new()
+        .write(true)
+        .create_new(true)
+        .open(rt, path)
+        .is_ok()
+}
+
 // A last line without its newline names no file.
-pub fn can_write(names: &[u8], k: usize) -> bool
+pub fn can_write(rt: &impl Files, names: &[u8], k: usize) -> bool
     ensures { NamedWritten names.now k result }
 {
     let line = nth_line(names, k);
@@ -229,26 +250,26 @@ pub fn can_write(names: &[u8], k: usize) -> bool
     }
     let from = line.from;
     let to = line.to;
-    can_open(&names[from..to])
+    can_open(rt, &names[from..to])
 }
 
 // A file of a name, emptied or made, and then written: whether all of the text was taken.
-fn write_file(name: &[u8], text: &[u8]) -> bool
+fn write_file(rt: &impl Files, name: &[u8], text: &[u8]) -> bool
     ensures { most_name < length name.now → result ≡ false }
 {
     if MOST_NAME < name.len() {
         return false;
     }
-    let file = os::open_overwrite(name);
-    if file < 0 {
+    let Ok(path) = str::from_utf8(name) else {
         return false;
+    };
+    match fs::create(rt, path) {
+        Err(_) => false,
+        Ok(mut file) => file.write_all(text).is_ok(),
     }
-    let whole = io::write_all(file, text);
-    libc::close(file);
-    whole
 }
 
-pub fn write_named(names: &[u8], k: usize, text: &[u8]) -> bool
+pub fn write_named(rt: &impl Files, names: &[u8], k: usize, text: &[u8]) -> bool
     ensures { NamedWritten names.now k result }
 {
     let line = nth_line(names, k);
@@ -257,5 +278,5 @@ pub fn write_named(names: &[u8], k: usize, text: &[u8]) -> bool
     }
     let from = line.from;
     let to = line.to;
-    write_file(&names[from..to], text)
+    write_file(rt, &names[from..to], text)
 }

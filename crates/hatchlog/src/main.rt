@@ -11,6 +11,7 @@ use reckon::tables::{INFLOW_ROOM, RAIN_ROOM};
 
 // Takes the lines that are left, and writes what is printed of each.
 fn take_lines(
+    rt: &impl Print,
     begun: Night,
     log: &[u8],
     marks: &[u8; PROGRAM_SQUARES],
@@ -32,12 +33,12 @@ fn take_lines(
             &mut out,
         );
         let bytes = night.length;
-        io::write_all(1, &out[..bytes]);
+        let _ = rt.write_all(&out[..bytes]);
     }
 }
 
 // Opens the log over the sheet, in rooms of its own.
-fn run_log(sheet: &[u8], log: &[u8]) {
+fn run_log(rt: &impl Print, sheet: &[u8], log: &[u8]) {
     let mut marks = [0u8; PROGRAM_SQUARES];
     let mut beds = [0u32; PROGRAM_SQUARES];
     let mut roughness = [0u32; PROGRAM_SQUARES];
@@ -65,8 +66,9 @@ fn run_log(sheet: &[u8], log: &[u8]) {
         &mut out,
     );
     let bytes = night.length;
-    io::write_all(1, &out[..bytes]);
+    let _ = rt.write_all(&out[..bytes]);
     take_lines(
+        rt,
         night,
         log,
         &marks,
@@ -82,11 +84,11 @@ fn run_log(sheet: &[u8], log: &[u8]) {
     );
 }
 
-fn main() {
+fn main(rt: HostRuntime) {
     let mut sheet = [0u8; TEXT_ROOM];
     let mut log = [0u8; TEXT_ROOM];
-    let handed = read_two(&mut sheet, &mut log);
+    let handed = read_two(&rt, &mut sheet, &mut log);
     let sheet_length = handed.first;
     let log_length = handed.second;
-    run_log(&sheet[..sheet_length], &log[..log_length]);
+    run_log(&rt, &sheet[..sheet_length], &log[..log_length]);
 }

@@ -3,13 +3,15 @@
 
 #![tactic(auto)]
 
+use files::read_input;
 use holes::repairing::{REPAIR_ROOM, repair_of};
 use programs::limits::TEXT_ROOM;
 
-fn main() {
+fn main(rt: HostRuntime) {
     let mut text = [0u8; TEXT_ROOM];
-    let got = io::read_full(0, &mut text);
+    let came = read_input(&rt, &mut text);
+    let got = came.length;
     let mut out = [0u8; REPAIR_ROOM];
     let length = repair_of(&text[..got], &mut out);
-    io::write_all(1, &out[..length]);
+    let _ = rt.write_all(&out[..length]);
 }

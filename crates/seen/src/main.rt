@@ -45,88 +45,92 @@ const DEPTHS: [u32; 9] = [30_000, 10_000, 9, 20_000, 0, 500, 7000, 400, 77];
 // Two records of this meadow.
 const ROOM: usize = 130;
 
-fn words(text: &[u8]) {
-    io::write_all(1, text);
+fn words(rt: &impl Print, text: &[u8]) {
+    let _ = rt.write_all(text);
 }
 
-fn numbered(text: &[u8], number: u64) {
-    words(text);
-    io::print_decimal(1, number);
+fn numbered(rt: &impl Print, text: &[u8], number: u64) {
+    words(rt, text);
+    let _ = print!(rt; "{number}");
 }
 
 // A speed's bit pattern.
-fn speed(name: &[u8], speed: f64) {
-    words(name);
+fn speed(rt: &impl Print, name: &[u8], speed: f64) {
+    words(rt, name);
     if speed != speed {
-        words(b" not a number");
+        words(rt, b" not a number");
         return;
     }
-    io::print_hex(1, f64::to_bits(speed), 16);
+    let bits = speed.to_bits();
+    let _ = print!(rt; "{bits:016x}");
 }
 
-fn moving(arrow: Arrow) {
-    speed(b"moving east ", arrow.east);
-    speed(b" north ", arrow.north);
+fn moving(rt: &impl Print, arrow: Arrow) {
+    speed(rt, b"moving east ", arrow.east);
+    speed(rt, b" north ", arrow.north);
 }
 
-fn tell(sight: Sight) {
+fn tell(rt: &impl Print, sight: Sight) {
     match sight {
-        Sight::Closed => words(b"closed"),
-        Sight::Dry => words(b"dry"),
-        Sight::Still => words(b"still"),
-        Sight::Moving(arrow) => moving(arrow),
-        Sight::Refused(number) => numbered(b"refused ", number as u64),
+        Sight::Closed => words(rt, b"closed"),
+        Sight::Dry => words(rt, b"dry"),
+        Sight::Still => words(rt, b"still"),
+        Sight::Moving(arrow) => moving(rt, arrow),
+        Sight::Refused(number) => numbered(rt, b"refused ", number as u64),
     };
-    words(b"\n");
+    words(rt, b"\n");
 }
 
 // The arrow of each square.
-fn tell_arrows(run: Run, depths: &[u32], records: &[u32]) {
+fn tell_arrows(rt: &impl Print, run: Run, depths: &[u32], records: &[u32]) {
     let marks = MARKS;
     let mut square: usize = 0;
     while square < 9 {
-        numbered(b"square ", square as u64);
-        words(b" ");
-        tell(arrow(
-            SHAPE,
-            1,
-            run,
-            &marks,
-            depths,
-            records,
-            square / 3,
-            square % 3,
-        ));
+        numbered(rt, b"square ", square as u64);
+        words(rt, b" ");
+        tell(
+            rt,
+            arrow(
+                SHAPE,
+                1,
+                run,
+                &marks,
+                depths,
+                records,
+                square / 3,
+                square % 3,
+            ),
+        );
         square += 1;
     }
 }
 
 // The wet rows, and what the row slice holds afterwards.
-fn tell_rows(marks: &[u8], depths: &[u32], wet_depth: u32, rows: &mut [u64; 3]) {
+fn tell_rows(rt: &impl Print, marks: &[u8], depths: &[u32], wet_depth: u32, rows: &mut [u64; 3]) {
     match wet_rows(SHAPE, marks, depths, wet_depth, rows) {
-        Wet::Count(count) => numbered(b"wet ", count),
-        Wet::Refused(number) => numbered(b"wet refused ", number as u64),
+        Wet::Count(count) => numbered(rt, b"wet ", count),
+        Wet::Refused(number) => numbered(rt, b"wet refused ", number as u64),
     };
-    numbered(b" rows ", rows[0]);
-    numbered(b" ", rows[1]);
-    numbered(b" ", rows[2]);
-    words(b"\n");
+    numbered(rt, b" rows ", rows[0]);
+    numbered(rt, b" ", rows[1]);
+    numbered(rt, b" ", rows[2]);
+    words(rt, b"\n");
 }
 
 // The wet rows in a row slice that was 7 in each place.
-fn tell_wet(marks: &[u8], depths: &[u32], wet_depth: u32) {
+fn tell_wet(rt: &impl Print, marks: &[u8], depths: &[u32], wet_depth: u32) {
     let mut rows = [7u64; 3];
-    tell_rows(marks, depths, wet_depth, &mut rows);
+    tell_rows(rt, marks, depths, wet_depth, &mut rows);
 }
 
-fn tell_all(title: &[u8], run: Run, depths: &[u32], records: &[u32]) {
-    words(title);
-    tell_arrows(run, depths, records);
+fn tell_all(rt: &impl Print, title: &[u8], run: Run, depths: &[u32], records: &[u32]) {
+    words(rt, title);
+    tell_arrows(rt, run, depths, records);
     let marks = MARKS;
-    tell_wet(&marks, depths, 0);
-    tell_wet(&marks, depths, 1);
-    tell_wet(&marks, depths, 7000);
-    tell_wet(&marks, depths, 100_000_000);
+    tell_wet(rt, &marks, depths, 0);
+    tell_wet(rt, &marks, depths, 1);
+    tell_wet(rt, &marks, depths, 7000);
+    tell_wet(rt, &marks, depths, 100_000_000);
 }
 
 fn run_after(answer: Answer, before: Run) -> Run {
@@ -173,65 +177,71 @@ fn too_deep() -> [u32; 9] {
 }
 
 // Refusal 1: no side, and a square off the grid.
-fn arrow_refused_1(run: Run, depths: &[u32], records: &[u32]) {
+fn arrow_refused_1(rt: &impl Print, run: Run, depths: &[u32], records: &[u32]) {
     let marks = MARKS;
-    tell(arrow(SHAPE, 0, run, &marks, depths, records, 0, 0));
-    tell(arrow(SHAPE, 1, run, &marks, depths, records, 3, 0));
+    tell(rt, arrow(SHAPE, 0, run, &marks, depths, records, 0, 0));
+    tell(rt, arrow(SHAPE, 1, run, &marks, depths, records, 3, 0));
 }
 
-fn arrow_refused_2(run: Run, depths: &[u32], records: &[u32]) {
+fn arrow_refused_2(rt: &impl Print, run: Run, depths: &[u32], records: &[u32]) {
     let marks = with_a_mark_of_3();
-    tell(arrow(SHAPE, 1, run, &marks, depths, records, 0, 0));
+    tell(rt, arrow(SHAPE, 1, run, &marks, depths, records, 0, 0));
 }
 
-fn arrow_refused_3(run: Run, records: &[u32]) {
+fn arrow_refused_3(rt: &impl Print, run: Run, records: &[u32]) {
     let marks = MARKS;
     let depths = too_deep();
-    tell(arrow(SHAPE, 1, run, &marks, &depths, records, 0, 0));
+    tell(rt, arrow(SHAPE, 1, run, &marks, &depths, records, 0, 0));
 }
 
 // Refusals 6 and 10: a run without a length, and one that keeps nothing.
-fn arrow_refused_6_and_10(run: Run, depths: &[u32], records: &[u32]) {
+fn arrow_refused_6_and_10(rt: &impl Print, run: Run, depths: &[u32], records: &[u32]) {
     let marks = MARKS;
     let mut no_length = run;
     no_length.length = 0;
-    tell(arrow(SHAPE, 1, no_length, &marks, depths, records, 0, 0));
+    tell(
+        rt,
+        arrow(SHAPE, 1, no_length, &marks, depths, records, 0, 0),
+    );
     let mut none_kept = run;
     none_kept.kept = 0;
-    tell(arrow(SHAPE, 1, none_kept, &marks, depths, records, 0, 0));
+    tell(
+        rt,
+        arrow(SHAPE, 1, none_kept, &marks, depths, records, 0, 0),
+    );
 }
 
 // Refusal 11: a forged record, which lasted 0.
-fn arrow_refused_11(run: Run, depths: &[u32]) {
+fn arrow_refused_11(rt: &impl Print, run: Run, depths: &[u32]) {
     let marks = MARKS;
     let forged = [0u32; ROOM];
-    tell(arrow(SHAPE, 1, run, &marks, depths, &forged, 0, 0));
+    tell(rt, arrow(SHAPE, 1, run, &marks, depths, &forged, 0, 0));
 }
 
 // The refusals of an arrow.
-fn tell_arrow_refusals(run: Run, depths: &[u32], records: &[u32]) {
-    words(b"arrow\n");
-    arrow_refused_1(run, depths, records);
-    arrow_refused_2(run, depths, records);
-    arrow_refused_3(run, records);
-    arrow_refused_6_and_10(run, depths, records);
-    arrow_refused_11(run, depths);
+fn tell_arrow_refusals(rt: &impl Print, run: Run, depths: &[u32], records: &[u32]) {
+    words(rt, b"arrow\n");
+    arrow_refused_1(rt, run, depths, records);
+    arrow_refused_2(rt, run, depths, records);
+    arrow_refused_3(rt, run, records);
+    arrow_refused_6_and_10(rt, run, depths, records);
+    arrow_refused_11(rt, run, depths);
 }
 
 // The refusals of the wet rows, 1, 2, 3 and 5: each leaves the row slice as it was.
-fn tell_wet_refusals(depths: &[u32]) {
-    words(b"wet rows\n");
+fn tell_wet_refusals(rt: &impl Print, depths: &[u32]) {
+    words(rt, b"wet rows\n");
     let marks = MARKS;
     let no_marks: [u8; 0] = [];
-    tell_wet(&no_marks, depths, 1);
+    tell_wet(rt, &no_marks, depths, 1);
     let marked_3 = with_a_mark_of_3();
-    tell_wet(&marked_3, depths, 1);
+    tell_wet(rt, &marked_3, depths, 1);
     let deep = too_deep();
-    tell_wet(&marks, &deep, 1);
-    tell_wet(&marks, depths, 100_000_001);
+    tell_wet(rt, &marks, &deep, 1);
+    tell_wet(rt, &marks, depths, 100_000_001);
 }
 
-fn main() {
+fn main(rt: HostRuntime) {
     let marks = MARKS;
     let mut depths = DEPTHS;
     let mut lasts = [0u32; 9];
@@ -240,16 +250,16 @@ fn main() {
         fresh(SHAPE, RULES, &marks, &mut lasts, &records),
         fresh_run(RULES, 1),
     );
-    tell_all(b"fresh\n", run, &depths, &records);
+    tell_all(&rt, b"fresh\n", run, &depths, &records);
     run = stepped(run, &mut depths, &mut lasts, &mut records);
-    tell_all(b"a step\n", run, &depths, &records);
+    tell_all(&rt, b"a step\n", run, &depths, &records);
     run = stepped(run, &mut depths, &mut lasts, &mut records);
-    tell_all(b"another step\n", run, &depths, &records);
-    tell_arrow_refusals(run, &depths, &records);
-    tell_wet_refusals(&depths);
+    tell_all(&rt, b"another step\n", run, &depths, &records);
+    tell_arrow_refusals(&rt, run, &depths, &records);
+    tell_wet_refusals(&rt, &depths);
     run = run_after(
         take_back(SHAPE, run, &marks, &mut depths, &mut lasts, &records),
         run,
     );
-    tell_all(b"a take-back\n", run, &depths, &records);
+    tell_all(&rt, b"a take-back\n", run, &depths, &records);
 }

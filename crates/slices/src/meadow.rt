@@ -16,6 +16,7 @@ use sheet::reading::{Heading, Sheet};
 
 // What is printed of a sheet that was read into the rooms.
 fn print_told(
+    rt: &impl Eprint,
     out: &mut [u8],
     heading: Heading,
     marks: &[u8],
@@ -36,6 +37,7 @@ fn print_told(
     let rain_end = RAIN_WIDTH * heading.rain_rows;
     let inflow_end = INFLOW_WIDTH * heading.inflow_rows;
     let ran = run_slices(
+        rt,
         heading,
         &marks[..squares],
         &beds[..squares],
@@ -58,7 +60,7 @@ fn print_told(
 }
 
 // What is printed of a text, at the start of out; the answer is its length. It is `meadow_of`'s.
-pub fn meadow_told(text: &[u8], out: &mut [u8; OUT_ROOM]) -> usize
+pub fn meadow_told(rt: &impl Eprint, text: &[u8], out: &mut [u8; OUT_ROOM]) -> usize
     ensures { Prints (meadow_text text.now) out.old out.new result }
 {
     let mut marks = [0u8; PROGRAM_SQUARES];
@@ -82,6 +84,7 @@ pub fn meadow_told(text: &[u8], out: &mut [u8; OUT_ROOM]) -> usize
     match sheet {
         Sheet::Refused(number, line) => put_refused(out, 0, number, line),
         Sheet::Read(heading) => print_told(
+            rt,
             out,
             heading,
             &marks,

@@ -9,6 +9,7 @@ use checks::fresh::fresh_run;
 use flood::run::{Ran, run_to};
 use grid::walks::Walk;
 use sheet::reading::Heading;
+use std::str;
 use text::writing::put_line;
 
 // A run has at most so many slices, each a whole number of update times: an end between them would be refused.
@@ -41,19 +42,22 @@ fn put_told(out: &mut [u8], steps: u64, clock: u64) -> usize
 }
 
 // Tells how far a run has come, if the time for it is there; the answer is how often it was by then.
-fn tell_reached(told: u64, steps: u64, clock: u64) -> u64 {
+fn tell_reached(rt: &impl Eprint, told: u64, steps: u64, clock: u64) -> u64 {
     let due = steps / STEPS_APART;
     if due <= told {
         return told;
     }
     let mut out = [0u8; TOLD_ROOM];
     let length = put_told(&mut out, steps, clock);
-    io::write_all(2, &out[..length]);
+    if let Ok(line) = str::from_utf8(&out[..length]) {
+        let _ = rt.eprint(line);
+    }
     due
 }
 
 // Lent is what `run_sheet` is lent, and what it gives is `run_sheet`'s.
 pub fn run_slices(
+    rt: &impl Eprint,
     heading: Heading,
     marks: &[u8],
     beds: &[u32],
@@ -104,7 +108,7 @@ pub fn run_slices(
                 run: at,
             };
         }
-        told = tell_reached(told, steps, clock);
+        told = tell_reached(rt, told, steps, clock);
     }
     Ran {
         refused: 0,

@@ -6,6 +6,7 @@
 use answer::printing::put_refused;
 use files::{NAMES_ROOM, can_write, read_names, read_of, write_named};
 use programs::limits::OUT_ROOM;
+use std::rt::Files;
 use survey::moving::{MOST_FILE, Moved, Part, to_part};
 
 // A room that holds one byte more than a file may have, so that one that is too long is seen to be.
@@ -14,10 +15,10 @@ const FILE_ROOM: usize = MOST_FILE + 1;
 // How many files there are, the sheet first.
 const FILES: usize = 6;
 
-fn say_refused(number: u32, line: usize) {
+fn say_refused(rt: &impl Print, number: u32, line: usize) {
     let mut out = [0u8; OUT_ROOM];
     let end = put_refused(&mut out, 0, number, line);
-    io::write_all(1, &out[..end]);
+    let _ = rt.write_all(&out[..end]);
 }
 
 // The part that goes to the file at a place among the names.
@@ -31,10 +32,10 @@ fn part_at(place: usize) -> Part {
     }
 }
 
-fn all_writable(names: &[u8]) -> bool {
+fn all_writable(rt: &impl Files, names: &[u8]) -> bool {
     let mut place: usize = 1;
     while place < FILES {
-        if !can_write(names, place) {
+        if !can_write(rt, names, place) {
             return false;
         }
         place += 1;
@@ -43,18 +44,18 @@ fn all_writable(names: &[u8]) -> bool {
 }
 
 // One part written to its file: whether it was.
-fn write_part(text: &[u8], names: &[u8], place: usize) -> bool {
+fn write_part(rt: &impl Files, text: &[u8], names: &[u8], place: usize) -> bool {
     let mut out = [0u8; MOST_FILE];
     match to_part(text, part_at(place), &mut out) {
         Moved::Refused(_number, _line) => false,
-        Moved::Wrote(length) => write_named(names, place, &out[..length]),
+        Moved::Wrote(length) => write_named(rt, names, place, &out[..length]),
     }
 }
 
-fn write_parts(text: &[u8], names: &[u8]) -> bool {
+fn write_parts(rt: &impl Files, text: &[u8], names: &[u8]) -> bool {
     let mut place: usize = 1;
     while place < FILES {
-        if !write_part(text, names, place) {
+        if !write_part(rt, text, names, place) {
             return false;
         }
         place += 1;
@@ -64,26 +65,26 @@ fn write_parts(text: &[u8], names: &[u8]) -> bool {
 
 // A sheet that is refused is told so before any file is looked at. A file that cannot be opened, or takes only some of its text, is told as one
 // that cannot be opened.
-fn move_out(text: &[u8], names: &[u8]) {
+fn move_out(rt: &(impl Files + Print), text: &[u8], names: &[u8]) {
     let mut out = [0u8; MOST_FILE];
     match to_part(text, Part::Note, &mut out) {
-        Moved::Refused(number, line) => say_refused(number, line),
+        Moved::Refused(number, line) => say_refused(rt, number, line),
         Moved::Wrote(_length) => {
-            if !all_writable(names) {
-                say_refused(12, 0);
+            if !all_writable(rt, names) {
+                say_refused(rt, 12, 0);
                 return;
             }
-            if !write_parts(text, names) {
-                say_refused(12, 0);
+            if !write_parts(rt, text, names) {
+                say_refused(rt, 12, 0);
             }
         }
     }
 }
 
-fn main() {
+fn main(rt: HostRuntime) {
     let mut names = [0u8; NAMES_ROOM];
     let mut sheet = [0u8; FILE_ROOM];
-    let count = read_names(&mut names);
-    let length = read_of(&names[..count], 0, FILES, &mut sheet);
-    move_out(&sheet[..length], &names[..count]);
+    let count = read_names(&rt, &mut names);
+    let length = read_of(&rt, &names[..count], 0, FILES, &mut sheet);
+    move_out(&rt, &sheet[..length], &names[..count]);
 }

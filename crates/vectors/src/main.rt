@@ -96,34 +96,42 @@ const VECTORS: [[u64; 10]; ROWS] = [
     [1, 0, 1000, DEEP, 10_000, 838, 98_101_102, 1, 0, 0],
 ];
 
-fn field(n: u64) {
-    io::print_decimal(1, n);
-    io::write_all(1, b" ");
+fn field(rt: &impl Print, n: u64) {
+    let _ = print!(rt; "{n}");
+    let _ = rt.write_all(b" ");
 }
 
-fn end_line(n: u64) {
-    io::print_decimal(1, n);
-    io::write_all(1, b"\n");
+fn end_line(rt: &impl Print, n: u64) {
+    let _ = print!(rt; "{n}");
+    let _ = rt.write_all(b"\n");
 }
 
-fn out_of_range() {
-    io::write_all(1, b"out of range\n");
+fn out_of_range(rt: &impl Print) {
+    let _ = rt.write_all(b"out of range\n");
 }
 
 // The line of a row whose numbers are in range.
-fn answer(rules: Rules, depth: u64, last: u64, roughness: u64, lasts: u64, drops: [u64; 4])
+fn answer(
+    rt: &impl Print,
+    rules: Rules,
+    depth: u64,
+    last: u64,
+    roughness: u64,
+    lasts: u64,
+    drops: [u64; 4],
+)
     requires { (Weighable rules depth last roughness lasts drops) × (Candidacy rules depth roughness drops) }
 {
     let leaves = weigh(rules, depth, last, roughness, lasts, drops);
-    field(leaves[0]);
-    field(leaves[1]);
-    field(leaves[2]);
-    field(leaves[3]);
-    end_line(shorter(rules, 60_000, depth, roughness, drops));
+    field(rt, leaves[0]);
+    field(rt, leaves[1]);
+    field(rt, leaves[2]);
+    field(rt, leaves[3]);
+    end_line(rt, shorter(rules, 60_000, depth, roughness, drops));
 }
 
 // The line of a row by one edition.
-fn edition_line(row: [u64; 10], edition: u64) {
+fn edition_line(rt: &impl Print, row: [u64; 10], edition: u64) {
     let rules = Rules {
         square_side: row[0],
         tolerance: row[1],
@@ -139,55 +147,55 @@ fn edition_line(row: [u64; 10], edition: u64) {
     let lasts = row[5];
     let drops = [row[6], row[7], row[8], row[9]];
     if rules.square_side < 1 {
-        return out_of_range();
+        return out_of_range(rt);
     }
     if 100 < rules.square_side {
-        return out_of_range();
+        return out_of_range(rt);
     }
     if 10_000 < rules.tolerance {
-        return out_of_range();
+        return out_of_range(rt);
     }
     if DEEP < depth {
-        return out_of_range();
+        return out_of_range(rt);
     }
     if DEEP < last {
-        return out_of_range();
+        return out_of_range(rt);
     }
     if roughness < 1 {
-        return out_of_range();
+        return out_of_range(rt);
     }
     if 10_000 < roughness {
-        return out_of_range();
+        return out_of_range(rt);
     }
     if 60_000 < lasts {
-        return out_of_range();
+        return out_of_range(rt);
     }
     if HIGH < drops[0] {
-        return out_of_range();
+        return out_of_range(rt);
     }
     if HIGH < drops[1] {
-        return out_of_range();
+        return out_of_range(rt);
     }
     if HIGH < drops[2] {
-        return out_of_range();
+        return out_of_range(rt);
     }
     if HIGH < drops[3] {
-        return out_of_range();
+        return out_of_range(rt);
     }
-    answer(rules, depth, last, roughness, lasts, drops);
+    answer(rt, rules, depth, last, roughness, lasts, drops);
 }
 
 // The lines of a row, one for each edition.
-fn line(row: [u64; 10]) {
-    edition_line(row, 1);
-    edition_line(row, 2);
-    edition_line(row, 3);
+fn line(rt: &impl Print, row: [u64; 10]) {
+    edition_line(rt, row, 1);
+    edition_line(rt, row, 2);
+    edition_line(rt, row, 3);
 }
 
-fn main() {
+fn main(rt: HostRuntime) {
     let mut i: usize = 0;
     while i < ROWS {
-        line(VECTORS[i]);
+        line(&rt, VECTORS[i]);
         i += 1;
     }
 }

@@ -20,15 +20,15 @@ fn start() -> Run {
 }
 
 // The answer, and the first two depths.
-fn line(name: &[u8], answer: Answer, first: u32, second: u32) {
-    field(name, number_of(answer) as u64);
-    run_fields(run_after(answer, start()));
-    field(b" depths", first as u64);
-    field(b"", second as u64);
-    end_line();
+fn line(rt: &impl Print, name: &[u8], answer: Answer, first: u32, second: u32) {
+    field(rt, name, number_of(answer) as u64);
+    run_fields(rt, run_after(answer, start()));
+    field(rt, b" depths", first as u64);
+    field(rt, b"", second as u64);
+    end_line(rt);
 }
 
-fn columns_64() {
+fn columns_64(rt: &impl Print) {
     let shape = Shape {
         rows: 1,
         columns: 64,
@@ -58,10 +58,10 @@ fn columns_64() {
         &mut lasts,
         &mut records,
     );
-    line(b"64 columns refused", answer, depths[0], depths[1]);
+    line(rt, b"64 columns refused", answer, depths[0], depths[1]);
 }
 
-fn columns_65() {
+fn columns_65(rt: &impl Print) {
     let shape = Shape {
         rows: 1,
         columns: 65,
@@ -91,10 +91,10 @@ fn columns_65() {
         &mut lasts,
         &mut records,
     );
-    line(b"65 columns refused", answer, depths[0], depths[1]);
+    line(rt, b"65 columns refused", answer, depths[0], depths[1]);
 }
 
-pub(crate) fn column_limit() {
-    columns_64();
-    columns_65();
+pub(crate) fn column_limit(rt: &impl Print) {
+    columns_64(rt);
+    columns_65(rt);
 }

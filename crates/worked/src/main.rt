@@ -11,14 +11,14 @@ mod refusals;
 mod same;
 mod series;
 
-fn main() {
-    columns::column_limit();
-    series::depth_limit();
-    series::one_record();
-    refusals::refusals();
-    series::refused_midway();
-    series::three_records();
-    series::changing();
-    series::soaking();
-    bounds::bounds();
+fn main(rt: HostRuntime) {
+    columns::column_limit(&rt);
+    series::depth_limit(&rt);
+    series::one_record(&rt);
+    refusals::refusals(&rt);
+    series::refused_midway(&rt);
+    series::three_records(&rt);
+    series::changing(&rt);
+    series::soaking(&rt);
+    bounds::bounds(&rt);
 }

@@ -316,20 +316,20 @@ pub(crate) fn taken_back(m: Meadow) -> Meadow {
 }
 
 // A line: what was called, the number given, the run, depths and last leavings.
-pub(crate) fn show(call: &[u8], m: Meadow) {
-    words(call);
-    field(b" refused", m.refused as u64);
+pub(crate) fn show(rt: &impl Print, call: &[u8], m: Meadow) {
+    words(rt, call);
+    field(rt, b" refused", m.refused as u64);
     let run = m.run;
-    run_fields(run);
+    run_fields(rt, run);
     let depths = m.depths;
-    fields(b" depths", depths);
+    fields(rt, b" depths", depths);
     let lasts = m.lasts;
-    fields(b" lasts", lasts);
-    end_line();
+    fields(rt, b" lasts", lasts);
+    end_line(rt);
 }
 
 // The same for a run to an end, with the steps made.
-pub(crate) fn show_run(m: Meadow) {
-    field(b"run steps", m.steps);
-    show(b"", m);
+pub(crate) fn show_run(rt: &impl Print, m: Meadow) {
+    field(rt, b"run steps", m.steps);
+    show(rt, b"", m);
 }

@@ -5,61 +5,61 @@ use crate::meadow::{
 use crate::printing::words;
 use crate::same::same_state;
 
-fn show_fresh(m: Meadow) -> Meadow {
+fn show_fresh(rt: &impl Print, m: Meadow) -> Meadow {
     let new = freshened(m);
-    show(b"fresh", new);
+    show(rt, b"fresh", new);
     new
 }
 
-fn show_step(m: Meadow) -> Meadow {
+fn show_step(rt: &impl Print, m: Meadow) -> Meadow {
     let new = stepped(m);
-    show(b"step", new);
+    show(rt, b"step", new);
     new
 }
 
-fn show_back(m: Meadow) -> Meadow {
+fn show_back(rt: &impl Print, m: Meadow) -> Meadow {
     let new = taken_back(m);
-    show(b"take-back", new);
+    show(rt, b"take-back", new);
     new
 }
 
-fn tell_same(a: Meadow, b: Meadow) {
+fn tell_same(rt: &impl Print, a: Meadow, b: Meadow) {
     if same_state(a, b) {
-        words(b"the same but for kept\n");
+        words(rt, b"the same but for kept\n");
         return;
     }
-    words(b"not the same\n");
+    words(rt, b"not the same\n");
 }
 
 // Depth 100,000,000 is taken; 100,000,001 is refused with 3.
-pub(crate) fn depth_limit() {
-    words(b"depth limit\n");
-    let mut m = show_fresh(sheet(ROOM));
+pub(crate) fn depth_limit(rt: &impl Print) {
+    words(rt, b"depth limit\n");
+    let mut m = show_fresh(rt, sheet(ROOM));
     m.depths[0] = 100_000_000;
-    show_step(m);
+    show_step(rt, m);
     m.depths[0] = 100_000_001;
-    show_step(m);
+    show_step(rt, m);
 }
 
 // K = 1: step, step, take-back, take-back.
-pub(crate) fn one_record() {
-    words(b"one record\n");
-    let start = show_fresh(sheet(30));
-    let one = show_step(start);
-    let two = show_step(one);
-    let back = show_back(two);
-    show_back(back);
+pub(crate) fn one_record(rt: &impl Print) {
+    words(rt, b"one record\n");
+    let start = show_fresh(rt, sheet(30));
+    let one = show_step(rt, start);
+    let two = show_step(rt, one);
+    let back = show_back(rt, two);
+    show_back(rt, back);
 }
 
 // A run whose third step would raise a depth above 100,000,000.
-pub(crate) fn refused_midway() {
-    words(b"refused midway\n");
-    let mut m = show_fresh(sheet(ROOM));
+pub(crate) fn refused_midway(rt: &impl Print) {
+    words(rt, b"refused midway\n");
+    let mut m = show_fresh(rt, sheet(ROOM));
     m.depths[0] = 99_999_975;
     m.depths[1] = 99_999_970;
     m.rain[1] = 60_000;
     m.rain[2] = 36_000;
-    show_run(ran(m, 5000));
+    show_run(rt, ran(m, 5000));
 }
 
 // A closed square, an exit, rain and inflow.
@@ -83,24 +83,24 @@ fn varied() -> Meadow {
     m
 }
 
-fn two_steps(m: Meadow) -> Meadow {
-    show_step(show_step(m))
+fn two_steps(rt: &impl Print, m: Meadow) -> Meadow {
+    show_step(rt, show_step(rt, m))
 }
 
-fn three_steps(m: Meadow) -> Meadow {
-    show_step(two_steps(m))
+fn three_steps(rt: &impl Print, m: Meadow) -> Meadow {
+    show_step(rt, two_steps(rt, m))
 }
 
-fn three_back(m: Meadow) -> Meadow {
-    show_back(show_back(show_back(m)))
+fn three_back(rt: &impl Print, m: Meadow) -> Meadow {
+    show_back(rt, show_back(rt, show_back(rt, m)))
 }
 
 // K = 3: five steps and three take-backs, then a fresh run with the two steps that stand.
-pub(crate) fn three_records() {
-    words(b"three records\n");
-    let back = three_back(two_steps(three_steps(show_fresh(varied()))));
-    let stand = two_steps(show_fresh(varied()));
-    tell_same(back, stand);
+pub(crate) fn three_records(rt: &impl Print) {
+    words(rt, b"three records\n");
+    let back = three_back(rt, two_steps(rt, three_steps(rt, show_fresh(rt, varied()))));
+    let stand = two_steps(rt, show_fresh(rt, varied()));
+    tell_same(rt, back, stand);
 }
 
 // Other rules, beds and tables.
@@ -131,25 +131,25 @@ fn third(m: Meadow) -> Meadow {
     new
 }
 
-fn changed(start: Meadow) -> Meadow {
-    let two = show_step(second(show_step(start)));
-    show_step(third(two))
+fn changed(rt: &impl Print, start: Meadow) -> Meadow {
+    let two = show_step(rt, second(show_step(rt, start)));
+    show_step(rt, third(two))
 }
 
 // Rules, beds and tables that differ from step to step, and none of them asked for by the take-backs.
-pub(crate) fn changing() {
-    words(b"changing\n");
-    let start = show_fresh(varied());
-    tell_same(three_back(changed(start)), start);
+pub(crate) fn changing(rt: &impl Print) {
+    words(rt, b"changing\n");
+    let start = show_fresh(rt, varied());
+    tell_same(rt, three_back(rt, changed(rt, start)), start);
 }
 
 // What soaks is due by the clock: half a micrometre a step comes to one every other step. The due of a dry square is lost, what arrives is
 // not soaked in its step, and a closed square's rate does not matter; taken back, all of it returns.
-pub(crate) fn soaking() {
-    words(b"soaking\n");
+pub(crate) fn soaking(rt: &impl Print) {
+    words(rt, b"soaking\n");
     let mut m = sheet(ROOM);
     m.rates[0] = 1800;
     m.rates[1] = 1_000_000;
-    let start = show_fresh(m);
-    tell_same(three_back(three_steps(start)), start);
+    let start = show_fresh(rt, m);
+    tell_same(rt, three_back(rt, three_steps(rt, start)), start);
 }
