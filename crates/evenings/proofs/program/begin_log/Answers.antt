@@ -49,24 +49,18 @@ room-3 c = search rules
 
 reads : (c : After-read) → Reads c.args.sheet.now program_rooms c.read.result (rooms-read c)
 reads c =
-    let at-clear-sheet =
-    c.clear_sheet in
-    read_zero (at-clear-sheet).ensures c.read.ensures
+    read_zero c.clear_sheet.ensures c.read.ensures
 
 pub returns-then-sheet-gt-MOST_TEXT : goal.returns-then-sheet-gt-MOST_TEXT
 returns-then-sheet-gt-MOST_TEXT c =
-    let at-clear-sheet = c.clear_sheet in
-    let s = (c) in
-    begin_long s.args.sheet.now s.args.log.now (zero-lasts (c)) (zero-records (c))
-    (zero-began (goal.at.returns-then-sheet-gt-MOST_TEXT c).After-clear-3) (at-clear-sheet).ensures c.if-sheet-gt-MOST_TEXT.true
+    begin_long c.args.sheet.now c.args.log.now (zero-lasts (goal.at.returns-then-sheet-gt-MOST_TEXT c).After-clear) (zero-records (goal.at.returns-then-sheet-gt-MOST_TEXT c).After-clear-2)
+    (zero-began (goal.at.returns-then-sheet-gt-MOST_TEXT c).After-clear-3) c.clear_sheet.ensures c.if-sheet-gt-MOST_TEXT.true
     c.no_night.ensures (refused_printed (room-1 (goal.at.returns-then-sheet-gt-MOST_TEXT c).After-put_refused-arg-1) (omega arith) (omega arith) c.put_refused.ensures)
 
 pub returns-then-log-gt-MOST_TEXT : goal.returns-then-log-gt-MOST_TEXT
 returns-then-log-gt-MOST_TEXT c =
-    let at-clear-sheet = c.clear_sheet in
-    let s = (c) in
-    begin_longer s.args.sheet.now s.args.log.now (zero-lasts (c)) (zero-records (c))
-    (zero-began (goal.at.returns-then-log-gt-MOST_TEXT c).After-clear-3) c.if-sheet-gt-MOST_TEXT.false (at-clear-sheet).ensures
+    begin_longer c.args.sheet.now c.args.log.now (zero-lasts (goal.at.returns-then-log-gt-MOST_TEXT c).After-clear) (zero-records (goal.at.returns-then-log-gt-MOST_TEXT c).After-clear-2)
+    (zero-began (goal.at.returns-then-log-gt-MOST_TEXT c).After-clear-3) c.if-sheet-gt-MOST_TEXT.false c.clear_sheet.ensures
     c.if-log-gt-MOST_TEXT.true c.no_night-then-log-gt-MOST_TEXT.ensures
     (refused_printed (room-2 (goal.at.returns-then-log-gt-MOST_TEXT c).After-put_refused-arg-then-log-gt-MOST_TEXT-1) (omega arith) (omega arith) c.put_refused-then-log-gt-MOST_TEXT.ensures)
 
@@ -78,9 +72,6 @@ returns-in-Refused c = begin_refused c.args.sheet.now c.args.log.now (zero-lasts
 
 pub returns-in-Read : goal.returns-in-Read
 returns-in-Read c =
-    let at-if1 = c.if-sheet-gt-MOST_TEXT in
-    let at-if2 = c.if-log-gt-MOST_TEXT in
-    let s = (c) in
-    begin_opened s.args.sheet.now s.args.log.now (zero-lasts (c)) (zero-records (c)) (zero-began (c))
-    (at-if1).false (at-if2).false (read_as c.in-Read.is (reads (goal.at.returns-in-Read c).After-read))
+    begin_opened c.args.sheet.now c.args.log.now (zero-lasts (goal.at.returns-in-Read c).After-clear) (zero-records (goal.at.returns-in-Read c).After-clear-2) (zero-began (goal.at.returns-in-Read c).After-clear-3)
+    c.if-sheet-gt-MOST_TEXT.false c.if-log-gt-MOST_TEXT.false (read_as c.in-Read.is (reads (goal.at.returns-in-Read c).After-read))
     c.first_night.ensures

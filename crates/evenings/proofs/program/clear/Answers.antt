@@ -1,6 +1,5 @@
 -- `evenings::program::clear` meets its contract: the room is cleared up to a place.
 -- Assumes nothing.
-use Prim.Native.Nat.{◌-◌}
 use native.Mathlib.Omega.{arith}
 use Rattle.reckon.proofs.ListLaws.{filled_none}
 use Rattle.evenings.proofs.NightLaws.{clear_more, clear_long, clear_whole}

@@ -54,5 +54,5 @@ zero-depths c = zeros_of program_squares c.args.depths.now (long_depths (goal.at
 
 pub returns : goal.returns
 returns c =
-    rooms_zero (zero-marks (c)) (zero-beds (c)) (zero-roughness (c)) (zero-rates (c)) (zero-depths c)
+    rooms_zero (zero-marks (goal.at.returns c).After-clear_bytes) (zero-beds (goal.at.returns c).After-clear) (zero-roughness (goal.at.returns c).After-clear-2) (zero-rates (goal.at.returns c).After-clear-3) (zero-depths c)
     (zero-rain (goal.at.returns c).After-clear-4) (zero-inflow (goal.at.returns c).After-clear-5)

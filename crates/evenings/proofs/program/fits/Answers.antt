@@ -23,4 +23,4 @@ pub sizes_of-sizes-requires : goal.sizes_of-sizes-requires
 sizes_of-sizes-requires c = holds_by c.night_fine.ensures (ap not c.if-not-night_fine.false)
 
 pub returns : goal.returns
-returns c = let s = (c) in c.rooms_fit.ensures ∙ fits_are s.args.night (R s) (holds_by c.night_fine.ensures (ap not c.if-not-night_fine.false)) c.sizes_of-sizes.ensures
+returns c = c.rooms_fit.ensures ∙ fits_are c.args.night (R (goal.at.returns c).Start) (holds_by c.night_fine.ensures (ap not c.if-not-night_fine.false)) c.sizes_of-sizes.ensures

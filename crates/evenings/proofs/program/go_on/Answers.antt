@@ -25,27 +25,17 @@ room : (c : After-put_refused-arg-1) → most_printed ≤ length c.args.out.now
 room c = search rules
 
 pub returns-then-not-is_left : goal.returns-then-not-is_left
-returns-then-not-is_left c = let s = (c) in night_none s.args.text.now s.args.night (R s) (left_is s.args.text.now s.args.night (fails_by c.is_left.ensures (ap not c.if-not-is_left.true))) c.over.ensures
+returns-then-not-is_left c = night_none c.args.text.now c.args.night (R (goal.at.returns-then-not-is_left c).Start) (left_is c.args.text.now c.args.night (fails_by c.is_left.ensures (ap not c.if-not-is_left.true))) c.over.ensures
 
 pub fits-requires : goal.fits-requires
-fits-requires c =
-    let at-is-left = c.is_left in
-    let s = (c) in omega (arith, left_at s.args.text.now s.args.night (left_is s.args.text.now s.args.night (holds_by (at-is-left).ensures (ap not c.if-not-is_left.false))))
+fits-requires c = omega (arith, left_at c.args.text.now c.args.night (left_is c.args.text.now c.args.night (holds_by c.is_left.ensures (ap not c.if-not-is_left.false))))
 
 pub returns-then-not-fits : goal.returns-then-not-fits
 returns-then-not-fits c =
-    let at-is-left = c.is_left in
-    let at-if1 = c.if-not-is_left in
-    let s = (c) in
-    night_refused s.args.text.now s.args.night (R s)
-    (left_is s.args.text.now s.args.night (holds_by (at-is-left).ensures (at-if1).false))
-    (fails_by {t = night_fits s.args.night (R s)} c.fits.ensures (ap not c.if-not-fits.true))
+    night_refused c.args.text.now c.args.night (R (goal.at.returns-then-not-fits c).Start)
+    (left_is c.args.text.now c.args.night (holds_by c.is_left.ensures (ap not c.if-not-is_left.false)))
+    (fails_by {t = night_fits c.args.night (R (goal.at.returns-then-not-fits c).Start)} c.fits.ensures (ap not c.if-not-fits.true))
     c.over-then-not-fits.ensures (refused_printed (room (goal.at.returns-then-not-fits c).After-put_refused-arg-1) (omega arith) (omega arith) c.put_refused.ensures)
 
 pub take_held-requires : goal.take_held-requires
-take_held-requires c =
-    let at-is-left = c.is_left in
-    let at-if1 = c.if-not-is_left in
-    let at-fits2 = c.fits in
-    let at-if2 = c.if-not-fits in
-    let s = (c) in ((left_is s.args.text.now s.args.night (holds_by (at-is-left).ensures (at-if1).false)), holds_by {t = night_fits s.args.night (R s)} (at-fits2).ensures (at-if2).false)
+take_held-requires c = ((left_is c.args.text.now c.args.night (holds_by c.is_left.ensures (ap not c.if-not-is_left.false))), holds_by {t = night_fits c.args.night (R (goal.at.take_held-requires c).Start)} c.fits.ensures (ap not c.if-not-fits.false))

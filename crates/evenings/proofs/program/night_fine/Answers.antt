@@ -35,12 +35,11 @@ returns-then-heading-gt-MOST_TABLE_ROWS-2 c = sym (every_fails _ 3 (lt-leb _ _ c
 pub returns : goal.returns
 unfolding night_fine
 returns c =
-    let s = (c) in
     every_decided _ 4 _ refl
     (λ t. (
       holds_by c.shape_fine.ensures (ap not c.if-not-shape_fine.false),
       (
-        le-leb (squares s.args.night.heading.shape) program_squares (omega (arith, c.squares_of.ensures, c.if-squares_of-gt-PROGRAM_SQUARES.false)),
+        le-leb (squares c.args.night.heading.shape) program_squares (omega (arith, c.squares_of.ensures, c.if-squares_of-gt-PROGRAM_SQUARES.false)),
         (le-leb _ _ c.if-heading-gt-MOST_TABLE_ROWS.false, (le-leb _ _ c.if-heading-gt-MOST_TABLE_ROWS-2.false, (t, tt))),
       ),
     ))

@@ -18,82 +18,56 @@ pub sizes_of-sizes-requires : goal.sizes_of-sizes-requires
 sizes_of-sizes-requires c = fits_fine c.args.night (R (goal.at.sizes_of-sizes-requires c).Start) c.requires.1
 
 pub slice_bounds-take_line-end : goal.slice_bounds-take_line-end
-slice_bounds-take_line-end c = let s = (c) in part_long _ s.args.marks.now (held_fit s.args.night (R s) c.sizes_of-sizes.ensures s.requires.1).marks
+slice_bounds-take_line-end c = part_long _ c.args.marks.now (held_fit c.args.night (R (goal.at.slice_bounds-take_line-end c).Start) c.sizes_of-sizes.ensures c.requires.1).marks
 
 pub slice_bounds-take_line-end-2 : goal.slice_bounds-take_line-end-2
-slice_bounds-take_line-end-2 c = let s = (c) in part_long _ s.args.beds.now (held_fit s.args.night (R s) c.sizes_of-sizes.ensures s.requires.1).beds
+slice_bounds-take_line-end-2 c = part_long _ c.args.beds.now (held_fit c.args.night (R (goal.at.slice_bounds-take_line-end-2 c).Start) c.sizes_of-sizes.ensures c.requires.1).beds
 
 pub slice_bounds-take_line-end-3 : goal.slice_bounds-take_line-end-3
-slice_bounds-take_line-end-3 c = let s = (c) in part_long _ s.args.roughness.now (held_fit s.args.night (R s) c.sizes_of-sizes.ensures s.pre.1).roughness
+slice_bounds-take_line-end-3 c = part_long _ c.args.roughness.now (held_fit c.args.night (R (goal.at.slice_bounds-take_line-end-3 c).Start) c.sizes_of-sizes.ensures c.requires.1).roughness
 
 pub slice_bounds-take_line-end-4 : goal.slice_bounds-take_line-end-4
-slice_bounds-take_line-end-4 c =
-    let at-sizes-of = c.sizes_of-sizes in
-    let s = (c) in part_long _ s.args.rates.now (held_fit s.args.night (R s) (at-sizes-of).ensures s.pre.1).rates
+slice_bounds-take_line-end-4 c = part_long _ c.args.rates.now (held_fit c.args.night (R (goal.at.slice_bounds-take_line-end-4 c).Start) c.sizes_of-sizes.ensures c.requires.1).rates
 
 pub slice_bounds-take_line-end-5 : goal.slice_bounds-take_line-end-5
-slice_bounds-take_line-end-5 c =
-    let at-sizes-of = c.sizes_of-sizes in
-    let s = (c) in part_long _ s.args.rain.now (held_fit s.args.night (R s) (at-sizes-of).ensures s.pre.1).rain
+slice_bounds-take_line-end-5 c = part_long _ c.args.rain.now (held_fit c.args.night (R (goal.at.slice_bounds-take_line-end-5 c).Start) c.sizes_of-sizes.ensures c.requires.1).rain
 
 pub slice_bounds-take_line-end-6 : goal.slice_bounds-take_line-end-6
-slice_bounds-take_line-end-6 c =
-    let at-sizes-of = c.sizes_of-sizes in
-    let s = (c) in part_long _ s.args.inflow.now (held_fit s.args.night (R s) (at-sizes-of).ensures s.pre.1).inflow
+slice_bounds-take_line-end-6 c = part_long _ c.args.inflow.now (held_fit c.args.night (R (goal.at.slice_bounds-take_line-end-6 c).Start) c.sizes_of-sizes.ensures c.requires.1).inflow
 
 pub slice_bounds-take_line-end-7 : goal.slice_bounds-take_line-end-7
-slice_bounds-take_line-end-7 c =
-    let at-sizes-of = c.sizes_of-sizes in
-    let s = (c) in (held_fit s.args.night (R s) (at-sizes-of).ensures s.pre.1).depths
+slice_bounds-take_line-end-7 c = (held_fit c.args.night (R (goal.at.slice_bounds-take_line-end-7 c).Start) c.sizes_of-sizes.ensures c.requires.1).depths
 
 pub slice_bounds-take_line-end-8 : goal.slice_bounds-take_line-end-8
-slice_bounds-take_line-end-8 c =
-    let at-sizes-of = c.sizes_of-sizes in
-    let s = (c) in part_long _ s.args.depths.now (held_fit s.args.night (R s) (at-sizes-of).ensures s.pre.1).depths
+slice_bounds-take_line-end-8 c = part_long _ c.args.depths.now (held_fit c.args.night (R (goal.at.slice_bounds-take_line-end-8 c).Start) c.sizes_of-sizes.ensures c.requires.1).depths
 
 pub slice_bounds-take_line-end-9 : goal.slice_bounds-take_line-end-9
-slice_bounds-take_line-end-9 c =
-    let at-sizes-of = c.sizes_of-sizes in
-    let s = (c) in (held_fit s.args.night (R s) (at-sizes-of).ensures s.pre.1).lasts
+slice_bounds-take_line-end-9 c = (held_fit c.args.night (R (goal.at.slice_bounds-take_line-end-9 c).Start) c.sizes_of-sizes.ensures c.requires.1).lasts
 
 pub slice_bounds-take_line-end-10 : goal.slice_bounds-take_line-end-10
-slice_bounds-take_line-end-10 c =
-    let at-sizes-of = c.sizes_of-sizes in
-    let s = (c) in part_long _ s.args.lasts.now (held_fit s.args.night (R s) (at-sizes-of).ensures s.pre.1).lasts
+slice_bounds-take_line-end-10 c = part_long _ c.args.lasts.now (held_fit c.args.night (R (goal.at.slice_bounds-take_line-end-10 c).Start) c.sizes_of-sizes.ensures c.requires.1).lasts
 
 pub slice_bounds-take_line-end-11 : goal.slice_bounds-take_line-end-11
-slice_bounds-take_line-end-11 c =
-    let at-sizes-of = c.sizes_of-sizes in
-    let s = (c) in (held_fit s.args.night (R s) (at-sizes-of).ensures s.pre.1).records
+slice_bounds-take_line-end-11 c = (held_fit c.args.night (R (goal.at.slice_bounds-take_line-end-11 c).Start) c.sizes_of-sizes.ensures c.requires.1).records
 
 pub slice_bounds-take_line-end-12 : goal.slice_bounds-take_line-end-12
-slice_bounds-take_line-end-12 c =
-    let at-sizes-of = c.sizes_of-sizes in
-    let s = (c) in part_long _ s.args.records.now (held_fit s.args.night (R s) (at-sizes-of).ensures s.pre.1).records
+slice_bounds-take_line-end-12 c = part_long _ c.args.records.now (held_fit c.args.night (R (goal.at.slice_bounds-take_line-end-12 c).Start) c.sizes_of-sizes.ensures c.requires.1).records
 
 pub slice_bounds-take_line-end-13 : goal.slice_bounds-take_line-end-13
-slice_bounds-take_line-end-13 c =
-    let at-sizes-of = c.sizes_of-sizes in
-    let s = (c) in (held_fit s.args.night (R s) (at-sizes-of).ensures s.pre.1).began
+slice_bounds-take_line-end-13 c = (held_fit c.args.night (R (goal.at.slice_bounds-take_line-end-13 c).Start) c.sizes_of-sizes.ensures c.requires.1).began
 
 pub slice_bounds-take_line-end-14 : goal.slice_bounds-take_line-end-14
-slice_bounds-take_line-end-14 c =
-    let at-sizes-of = c.sizes_of-sizes in
-    let s = (c) in part_long _ s.args.began.now (held_fit s.args.night (R s) (at-sizes-of).ensures s.pre.1).began
+slice_bounds-take_line-end-14 c = part_long _ c.args.began.now (held_fit c.args.night (R (goal.at.slice_bounds-take_line-end-14 c).Start) c.sizes_of-sizes.ensures c.requires.1).began
 
 pub next_night-requires : goal.next_night-requires
-next_night-requires c = let s = (c) in omega (arith, (fine_is s.args.night (fits_fine s.args.night (R s) s.pre.1)).line, left_at s.args.text.now s.args.night s.pre.0)
+next_night-requires c = omega (arith, (fine_is c.args.night (fits_fine c.args.night (R (goal.at.next_night-requires c).Start) c.requires.1)).line, left_at c.args.text.now c.args.night c.requires.0)
 
 pub returns : goal.returns
 returns c =
-    let at-sizes-of =
-    c.sizes_of-sizes in
-    let at-take-line = c.take_line-taken in
-    let s = (c) in
-    let f = held_fit s.args.night (R s) (at-sizes-of).ensures s.pre.1 in
-    night_taken s.args.text.now s.args.night (R s) (at-sizes-of).ensures f s.pre.0 s.pre.1
-    ((at-take-line).auto.1.1.1.1.1.1.1.1.1.1.1.1.0 ∙ sym (part_long _ s.args.depths.now f.depths))
-    ((at-take-line).auto.1.1.1.1.1.1.1.1.1.1.1.1.1.0 ∙ sym (part_long _ s.args.lasts.now f.lasts))
-    ((at-take-line).auto.1.1.1.1.1.1.1.1.1.1.1.1.1.1.0 ∙ sym (part_long _ s.args.records.now f.records))
-    ((at-take-line).auto.1.1.1.1.1.1.1.1.1.1.1.1.1.1.1.0 ∙ sym (part_long _ s.args.began.now f.began))
-    (at-take-line).ensures c.next_night.ensures
+    let f = held_fit c.args.night (R (goal.at.returns c).Start) c.sizes_of-sizes.ensures c.requires.1 in
+    night_taken c.args.text.now c.args.night (R (goal.at.returns c).Start) c.sizes_of-sizes.ensures f c.requires.0 c.requires.1
+    (c.take_line-taken.auto.depths ∙ sym (part_long _ c.args.depths.now f.depths))
+    (c.take_line-taken.auto.lasts ∙ sym (part_long _ c.args.lasts.now f.lasts))
+    (c.take_line-taken.auto.records ∙ sym (part_long _ c.args.records.now f.records))
+    (c.take_line-taken.auto.began ∙ sym (part_long _ c.args.began.now f.began))
+    c.take_line-taken.ensures c.next_night.ensures

@@ -25,12 +25,11 @@ rates_back-litres-requires c =
     (λ l. omega (arith, k, backs_newest _ _ _ c.take_backs-back.ensures l), omega (arith, k, c.requires.shape_in_range.1))
 
 pub overflow_sub-log : goal.overflow_sub-log
-overflow_sub-log c = let s = (c) in omega (arith, backs_few _ _ _ c.take_backs-back.ensures, standing_is s.args.log s.pre.1.0, back_kept s.args.log s.args.count s.pre.1.1)
+overflow_sub-log c = omega (arith, backs_few _ _ _ c.take_backs-back.ensures, standing_is c.args.log c.requires.log_value.0, back_kept c.args.log c.args.count c.requires.log_value.1)
 
 pub returns : goal.returns
 returns c =
-    let s = (c) in
     λ g.
-    back_done (P s) g (E s) s.args.count c.take_backs-back.ensures
-    (slots_are (P s) s.args.records.now c.record_size.ensures c.slots_in-slots.ensures)
+    back_done (P (goal.at.returns c).Start) g (E (goal.at.returns c).Start) c.args.count c.take_backs-back.ensures
+    (slots_are (P (goal.at.returns c).Start) c.args.records.now c.record_size.ensures c.slots_in-slots.ensures)
     c.rates_back-litres.ensures c.further.ensures

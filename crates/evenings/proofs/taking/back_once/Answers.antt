@@ -6,14 +6,12 @@ use Rattle.evenings.proofs.taking.back_once.Goals as goal
 
 pub returns-in-Done : goal.returns-in-Done
 returns-in-Done c =
-    let s = (c) in
-    back_done (plan s.args.shape s.args.marks.now)
-    (world s.args.depths.now s.args.lasts.now s.args.records.now s.args.run) c.take_back.ensures
+    back_done (plan c.args.shape c.args.marks.now)
+    (world c.args.depths.now c.args.lasts.now c.args.records.now c.args.run) c.take_back.ensures
     c.in-Done.is
 
 pub returns-in-Refused : goal.returns-in-Refused
 returns-in-Refused c =
-    let s = (c) in
-    back_refused (plan s.args.shape s.args.marks.now)
-    (world s.args.depths.now s.args.lasts.now s.args.records.now s.args.run) c.take_back.ensures
+    back_refused (plan c.args.shape c.args.marks.now)
+    (world c.args.depths.now c.args.lasts.now c.args.records.now c.args.run) c.take_back.ensures
     c.in-Refused.is

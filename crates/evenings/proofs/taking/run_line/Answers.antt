@@ -61,15 +61,14 @@ slice_bounds-run_to-end c =
 
 pub keep_made-requires : goal.keep_made-requires
 keep_made-requires c =
-    let s = (c) in
-    let k = slots_are (P s) s.args.records.now c.record_size.ensures c.slots_in-slots.ensures in
-    (nine s, λ l. omega (arith, k, run_newest _ _ _ _ c.run_to-ran.ensures.ends l), omega (arith, k, (entered s).lent.room))
+    let k = slots_are (P (goal.at.keep_made-requires c).Start) c.args.records.now c.record_size.ensures c.slots_in-slots.ensures in
+    (nine (goal.at.keep_made-requires c).Start, λ l. omega (arith, k, run_newest _ _ _ _ c.run_to-ran.ensures.ends l), omega (arith, k, (entered (goal.at.keep_made-requires c).Start).lent.room))
 
 pub rates_with-written-requires : goal.rates_with-written-requires
-rates_with-written-requires c = let s = (c) in rate_number _ _ _ _ _ (entered s).line
+rates_with-written-requires c = rate_number _ _ _ _ _ (entered (goal.at.rates_with-written-requires c).Start).line
 
 pub overflow_add-log : goal.overflow_add-log
-overflow_add-log c = let s = (c) in omega (arith, run_few _ _ _ _ c.run_to-ran.ensures.ends, (entered s).steps_few, rate_clock _ _ _ _ _ (entered s).line)
+overflow_add-log c = omega (arith, run_few _ _ _ _ c.run_to-ran.ensures.ends, (entered (goal.at.overflow_add-log c).Start).steps_few, rate_clock _ _ _ _ _ (entered (goal.at.overflow_add-log c).Start).line)
 
 pub shape_of-depths : goal.shape_of-depths
 shape_of-depths c = c.run_to-ran.auto.depths
@@ -85,11 +84,10 @@ shape_of-began c = c.keep_made.auto.began
 
 pub returns : goal.returns
 returns c =
-    let s = (c) in
-    rate_done (P s) (G s) (E s) s.args.clock s.args.number s.args.rate
+    rate_done (P (goal.at.returns c).Start) (G (goal.at.returns c).Start) (E (goal.at.returns c).Start) c.args.clock c.args.number c.args.rate
     (c.run_to-ran.ensures.ends
     ∙ ap
-    (λ (t : List ℕ). run_to (P s) (given (G s).lie (G s).rain t) s.args.clock (world s.args.depths.now s.args.lasts.now s.args.records.now s.args.log.run))
-    (table_is s.args.inflow.now s.args.log.hatches s.args.log.litres c.fill_table-length.ensures))
-    (slots_are (P s) s.args.records.now c.record_size.ensures c.slots_in-slots.ensures) c.keep_made.ensures
+    (λ (t : List ℕ). run_to (P (goal.at.returns c).Start) (given (G (goal.at.returns c).Start).lie (G (goal.at.returns c).Start).rain t) c.args.clock (world c.args.depths.now c.args.lasts.now c.args.records.now c.args.log.run))
+    (table_is c.args.inflow.now c.args.log.hatches c.args.log.litres c.fill_table-length.ensures))
+    (slots_are (P (goal.at.returns c).Start) c.args.records.now c.record_size.ensures c.slots_in-slots.ensures) c.keep_made.ensures
     c.rates_with-written.ensures c.further.ensures

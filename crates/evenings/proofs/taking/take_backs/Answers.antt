@@ -1,7 +1,6 @@
 -- `evenings::taking::take_backs` meets its contract: what is still to be taken back, from where the loop has come to, is the whole.
 -- Assumes nothing.
 use mathlib.Core.Path.{refl, ◌∙◌}
-use Prim.Native.Nat.{◌-◌}
 use native.Mathlib.Omega.{arith}
 use Rattle.evenings.proofs.BackLaws.{backing_first, backing_on, backing_stops, backing_ends}
 use Rattle.evenings.proofs.taking.take_backs.Goals as goal
@@ -29,10 +28,10 @@ loop-steps-smaller c = omega (arith, c.loop-steps-test.true)
 
 pub loop-steps-preserved : goal.loop-steps-preserved
 loop-steps-preserved c = (
-      backing_on _ _ _ c.loop-steps.invariant.0 c.loop-steps-test.true c.back_once-back.ensures c.if-refused-ne0.false,
-      c.back_once-back.auto.depths ∙ c.loop-steps.invariant.1,
-      c.back_once-back.auto.lasts ∙ c.loop-steps.invariant.2,
-    )
+  backing_on _ _ _ c.loop-steps.invariant.0 c.loop-steps-test.true c.back_once-back.ensures c.if-refused-ne0.false,
+  c.back_once-back.auto.depths ∙ c.loop-steps.invariant.1,
+  c.back_once-back.auto.lasts ∙ c.loop-steps.invariant.2,
+)
 
 pub shape_of-depths : goal.shape_of-depths
 shape_of-depths c = c.loop-steps.invariant.1

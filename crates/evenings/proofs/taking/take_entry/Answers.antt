@@ -1,7 +1,6 @@
 -- `evenings::taking::take_entry` meets its contract: the checks, and then what the kind of line does.
 -- Assumes nothing.
 use mathlib.Core.Path.{◌≡◌, sym, ap, ◌∙◌}
-use borrow.Author.Rules.{rules}
 use Rattle.reckon.specs.Tests.{refusal}
 use Rattle.ledger.specs.Runs.{Plan, plan}
 use Rattle.checks.specs.Given.{Given, ground, given}
@@ -27,27 +26,27 @@ passed : (c : Else-refused-ne0) → refusal (entry_refusals (P (goal.at.Else-ref
 passed c = sym (c.entry_number-refused.ensures _ _ _ _ _) ∙ c.if-refused-ne0.false
 
 pub returns-then-refused-ne0 : goal.returns-then-refused-ne0
-returns-then-refused-ne0 c = take-refused (P c) (G c) (E c) _ (c.entry_number-refused.ensures _ _ _ _ _) c.if-refused-ne0.true
+returns-then-refused-ne0 c = take-refused (P (goal.at.returns-then-refused-ne0 c).Start) (G (goal.at.returns-then-refused-ne0 c).Start) (E (goal.at.returns-then-refused-ne0 c).Start) _ (c.entry_number-refused.ensures _ _ _ _ _) c.if-refused-ne0.true
 
 pub name_hatch-requires : goal.name_hatch-requires
 name_hatch-requires c =
     hatch_number c.args.rules c.args.log _ _ _
-    (ap (line_fine c.args.rules c.args.log) (sym c.in-Hatch.is) ∙ (entered_is (P c) (G c) (E c) _ (passed (goal.at.name_hatch-requires c).Else-refused-ne0)).line)
+    (ap (line_fine c.args.rules c.args.log) (sym c.in-Hatch.is) ∙ (entered_is (P (goal.at.name_hatch-requires c).Start) (G (goal.at.name_hatch-requires c).Start) (E (goal.at.name_hatch-requires c).Start) _ (passed (goal.at.name_hatch-requires c).Else-refused-ne0)).line)
 
 pub run_line-requires : goal.run_line-requires
-run_line-requires c = let s = (c) in ap (λ (x : Entry). refusal (entry_refusals (P s) (G s) (E s) x)) (sym c.in-Rate.is) ∙ (passed (c))
+run_line-requires c = ap (λ (x : Entry). refusal (entry_refusals (P (goal.at.run_line-requires c).Start) (G (goal.at.run_line-requires c).Start) (E (goal.at.run_line-requires c).Start) x)) (sym c.in-Rate.is) ∙ (passed (goal.at.run_line-requires c).Else-refused-ne0)
 
 pub back_line-requires : goal.back_line-requires
-back_line-requires c = let h = let s = (c) in entered_back (P s) (G s) (E s) (passed (c)) c.in-Back.is in record { shape_in_range = h.0; log_value = h.1 }
+back_line-requires c = let h = entered_back (P (goal.at.back_line-requires c).Start) (G (goal.at.back_line-requires c).Start) (E (goal.at.back_line-requires c).Start) (passed (goal.at.back_line-requires c).Else-refused-ne0) c.in-Back.is in record { shape_in_range = h.0; log_value = h.1 }
 
 pub returns-in-Hatch : goal.returns-in-Hatch
-returns-in-Hatch c = let s = (c) in took_hatch (P s) (G s) (E s) (passed (goal.at.returns-in-Hatch c).Else-refused-ne0) c.in-Hatch.is c.name_hatch.ensures
+returns-in-Hatch c = took_hatch (P (goal.at.returns-in-Hatch c).Start) (G (goal.at.returns-in-Hatch c).Start) (E (goal.at.returns-in-Hatch c).Start) (passed (goal.at.returns-in-Hatch c).Else-refused-ne0) c.in-Hatch.is c.name_hatch.ensures
 
 pub returns-in-Rate : goal.returns-in-Rate
-returns-in-Rate c = let s = (c) in took_rate (P s) (G s) (E s) (passed (c)) c.in-Rate.is c.run_line.ensures
+returns-in-Rate c = took_rate (P (goal.at.returns-in-Rate c).Start) (G (goal.at.returns-in-Rate c).Start) (E (goal.at.returns-in-Rate c).Start) (passed (goal.at.returns-in-Rate c).Else-refused-ne0) c.in-Rate.is c.run_line.ensures
 
 pub returns-in-Back : goal.returns-in-Back
-returns-in-Back c = let s = (c) in took_back (P s) (G s) (E s) (passed (c)) c.in-Back.is (c.back_line.ensures (G s))
+returns-in-Back c = took_back (P (goal.at.returns-in-Back c).Start) (G (goal.at.returns-in-Back c).Start) (E (goal.at.returns-in-Back c).Start) (passed (goal.at.returns-in-Back c).Else-refused-ne0) c.in-Back.is (c.back_line.ensures (G (goal.at.returns-in-Back c).Start))
 
 pub returns-in-Unread : goal.returns-in-Unread
-returns-in-Unread c = took_none (P c) (G c) (E c) (passed (goal.at.returns-in-Unread c).Else-refused-ne0) c.in-Unread.is
+returns-in-Unread c = took_none (P (goal.at.returns-in-Unread c).Start) (G (goal.at.returns-in-Unread c).Start) (E (goal.at.returns-in-Unread c).Start) (passed (goal.at.returns-in-Unread c).Else-refused-ne0) c.in-Unread.is

@@ -26,46 +26,42 @@ put_refused-requires c = omega (arith, c.requires.1)
 
 pub returns-then-number-eq12 : goal.returns-then-number-eq12
 returns-then-number-eq12 c =
-    let s = (c) in
-    λ lasts records began. shown_line (P s) s.args.entry s.args.line (evening (D s) lasts records began s.args.log)
+    λ lasts records began. shown_line (P (goal.at.returns-then-number-eq12 c).Start) c.args.entry c.args.line (evening (D (goal.at.returns-then-number-eq12 c).Start) lasts records began c.args.log)
     c.if-number-eq12.true
-    (refused_printed s.requires.1 (omega arith) (omega arith) c.put_refused.ensures)
+    (refused_printed c.requires.1 (omega arith) (omega arith) c.put_refused.ensures)
 
 pub put_refused-requires-then-number-ne0 : goal.put_refused-requires-then-number-ne0
 put_refused-requires-then-number-ne0 c = omega (arith, c.requires.1)
 
 pub returns-then-number-ne0 : goal.returns-then-number-ne0
 returns-then-number-ne0 c =
-    let s = (c) in
-    λ lasts records began. shown-refused (P s) s.args.entry s.args.line (evening (D s) lasts records began s.args.log)
+    λ lasts records began. shown-refused (P (goal.at.returns-then-number-ne0 c).Start) c.args.entry c.args.line (evening (D (goal.at.returns-then-number-ne0 c).Start) lasts records began c.args.log)
     c.if-number-ne0.true c.if-number-eq12.false
-    (refused_printed s.requires.1 (omega arith) (omega arith) c.put_refused-then-number-ne0.ensures)
+    (refused_printed c.requires.1 (omega arith) (omega arith) c.put_refused-then-number-ne0.ensures)
 
 pub returns-then-not-is_shown : goal.returns-then-not-is_shown
 returns-then-not-is_shown c = λ lasts records began. shown_nothing (P (goal.at.returns-then-not-is_shown c).Start) c.args.entry c.args.line (evening (D (goal.at.returns-then-not-is_shown c).Start) lasts records began c.args.log) c.if-number-ne0.false (fails_by c.is_shown.ensures (ap not c.if-not-is_shown.true))
 
 pub put_world-requires : goal.put_world-requires
 put_world-requires c =
-    let s = (c) in
-    let l = s.requires.0 c.if-number-ne0.false in
-    let g = s.well-formed in record {
+    let l = c.requires.0 c.if-number-ne0.false in
+    let g = c.well_formed in record {
       shape_in_range = (l.0, sym l.2, sym l.3);
       steps_in_bounds = omega (
         arith,
-        s.requires.1,
-        made_fits (P s) (D s) s.args.log.run s.args.log.steps l.1 (λ i. omega (arith, c.type_inv.depths i))
-            (omega (arith, s.well-formed)) (omega (arith, s.well-formed)) (omega (arith, s.well-formed)) (omega (arith, s.well-formed)),
+        c.requires.1,
+        made_fits (P (goal.at.put_world-requires c).Start) (D (goal.at.put_world-requires c).Start) c.args.log.run c.args.log.steps l.1 (λ i. omega (arith, c.type_inv.depths i))
+            (omega (arith, c.well_formed)) (omega (arith, c.well_formed)) (omega (arith, c.well_formed)) (omega (arith, c.well_formed)),
       );
     }
 
 pub returns : goal.returns
 returns c =
-    let s = (c) in
-    let l = s.requires.0 c.if-number-ne0.false in
+    let l = c.requires.0 c.if-number-ne0.false in
     λ lasts records began.
-    shown-world (P s) s.args.entry s.args.line (evening (D s) lasts records began s.args.log) c.if-number-ne0.false
+    shown-world (P (goal.at.returns c).Start) c.args.entry c.args.line (evening (D (goal.at.returns c).Start) lasts records began c.args.log) c.if-number-ne0.false
     (holds_by c.is_shown.ensures (ap not c.if-not-is_shown.false))
-    (prints s.requires.1
-    (made_fits (P s) (D s) s.args.log.run s.args.log.steps l.1 (λ i. omega (arith, c.type_inv.depths i))
-    (omega (arith, s.well-formed)) (omega (arith, s.well-formed)) (omega (arith, s.well-formed)) (omega (arith, s.well-formed)))
+    (prints c.requires.1
+    (made_fits (P (goal.at.returns c).Start) (D (goal.at.returns c).Start) c.args.log.run c.args.log.steps l.1 (λ i. omega (arith, c.type_inv.depths i))
+    (omega (arith, c.well_formed)) (omega (arith, c.well_formed)) (omega (arith, c.well_formed)) (omega (arith, c.well_formed)))
     c.put_world.ensures)

@@ -21,14 +21,13 @@ E s = evening s.args.depths.now s.args.lasts.now s.args.records.now s.args.began
 
 pub put_entry-length-requires : goal.put_entry-length-requires
 put_entry-length-requires c = (
-      λ z.
-          let l = shown_lent (P c) (G c) (E c) _ c.take_entry-came.ensures.number_is z in
-          (l.shape, l.few, l.marks_long, c.take_entry-came.auto.depths ∙ l.depths_long),
-      search rules,
-    )
+  λ z.
+      let l = shown_lent (P (goal.at.put_entry-length-requires c).Start) (G (goal.at.put_entry-length-requires c).Start) (E (goal.at.put_entry-length-requires c).Start) _ c.take_entry-came.ensures.number_is z in
+      (l.shape, l.few, l.marks_long, c.take_entry-came.auto.depths ∙ l.depths_long),
+  search rules,
+)
 
 pub returns : goal.returns
 returns c =
-    let s = (c) in
-    shown_whole (P s) (G s) s.args.text.now s.args.at s.args.line (E s) c.log_line-read.ensures c.take_entry-came.ensures
+    shown_whole (P (goal.at.returns c).Start) (G (goal.at.returns c).Start) c.args.text.now c.args.at c.args.line (E (goal.at.returns c).Start) c.log_line-read.ensures c.take_entry-came.ensures
     (c.put_entry-length.ensures _ _ _)

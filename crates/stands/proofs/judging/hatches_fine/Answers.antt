@@ -2,8 +2,7 @@
 -- Assumes nothing.
 use mathlib.Core.Path.{ap}
 use mathlib.Core.Path.{sym}
-use mathlib.Core.Bool.{true, false, not}
-use Prim.Native.Nat.{◌-◌}
+use mathlib.Core.Bool.{not}
 use native.Mathlib.Omega.{arith}
 use Rattle.reckon.proofs.TestLaws.{all_none, all_more, all_fails, all_whole}
 use Rattle.checks.proofs.CheckLaws.{fails_by, holds_by}

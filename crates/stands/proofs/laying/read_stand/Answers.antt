@@ -24,9 +24,9 @@ shape_of-lasts c = ap length c.store_squares.ensures.1 ∙ length-filled _ _ _ _
 
 pub returns : goal.returns
 returns c = record {
-      answer = c.decide-verdict.ensures.laid_is;
-      rooms_are =
-          water_laid (plan c.args.shape c.args.marks.now) c.args.text.now _ _ _ c.if-laid-ne0.false c.decide-verdict.ensures.at_is
-          c.store_squares.ensures.0
-          c.store_squares.ensures.1;
-    }
+  answer = c.decide-verdict.ensures.laid_is;
+  rooms_are =
+      water_laid (plan c.args.shape c.args.marks.now) c.args.text.now _ _ _ c.if-laid-ne0.false c.decide-verdict.ensures.at_is
+      c.store_squares.ensures.0
+      c.store_squares.ensures.1;
+}

@@ -1,7 +1,6 @@
 -- `stands::naming::read_hatches` meets its contract: the places passed so far are named as their lines say.
 -- Assumes nothing.
 use mathlib.Core.Path.{◌≡◌, ap, ◌∙◌}
-use Prim.Native.Nat.{◌-◌}
 use native.Mathlib.Omega.{arith}
 use Rattle.hatches.specs.Log.{most_hatches}
 use Rattle.stands.specs.Laying.{named_from}

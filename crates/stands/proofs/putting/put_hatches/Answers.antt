@@ -1,6 +1,5 @@
 -- `stands::putting::put_hatches` meets its contract: the lines so far stand at the place.
 -- Assumes nothing.
-use Prim.Native.Nat.{◌-◌}
 use native.Mathlib.Omega.{arith}
 use Rattle.hatches.specs.Log.{most_hatches}
 use Rattle.stands.specs.Texts.{hatch_text, hatches_text}
@@ -16,10 +15,10 @@ put_hatch-next-requires c = (omega arith, lines_fit most_hatch (hatch_text c.arg
 
 pub loop-hatch-preserved : goal.loop-hatch-preserved
 loop-hatch-preserved c = (
-      omega arith,
-      lines_more most_hatch (hatch_text c.args.hatches c.args.litres) c.args.at c.args.out.now most_hatches c.requires
-          c.loop-hatch.invariant.1 (omega arith) c.put_hatch-next.ensures,
-    )
+  omega arith,
+  lines_more most_hatch (hatch_text c.args.hatches c.args.litres) c.args.at c.args.out.now most_hatches c.requires
+      c.loop-hatch.invariant.1 (omega arith) c.put_hatch-next.ensures,
+)
 
 pub shape_of-out : goal.shape_of-out
 shape_of-out c = lines_long most_hatch (hatch_text c.args.hatches c.args.litres) c.args.at c.args.out.now most_hatches c.requires c.loop-hatch.invariant.1 (omega arith)

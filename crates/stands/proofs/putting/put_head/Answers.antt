@@ -15,17 +15,17 @@ put_total-third-requires c = (omega arith, soak_fits c.args.saved c.args.at c.ar
 
 pub put_total-fourth-requires : goal.put_total-fourth-requires
 put_total-fourth-requires c = (
-      omega arith,
-      start_fits c.args.saved c.args.at c.args.out.now c.requires c.put_first-first.ensures c.put_total-second.ensures
-          c.put_total-third.ensures,
-    )
+  omega arith,
+  start_fits c.args.saved c.args.at c.args.out.now c.requires c.put_first-first.ensures c.put_total-second.ensures
+      c.put_total-third.ensures,
+)
 
 pub put_total-requires : goal.put_total-requires
 put_total-requires c = (
-      omega arith,
-      given_fits c.args.saved c.args.at c.args.out.now c.requires c.put_first-first.ensures c.put_total-second.ensures
-          c.put_total-third.ensures c.put_total-fourth.ensures,
-    )
+  omega arith,
+  given_fits c.args.saved c.args.at c.args.out.now c.requires c.put_first-first.ensures c.put_total-second.ensures
+      c.put_total-third.ensures c.put_total-fourth.ensures,
+)
 
 pub returns : goal.returns
 returns c =

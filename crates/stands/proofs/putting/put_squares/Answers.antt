@@ -1,6 +1,5 @@
 -- `stands::putting::put_squares` meets its contract: the lines so far stand at the place.
 -- Assumes nothing.
-use Prim.Native.Nat.{◌-◌}
 use native.Mathlib.Omega.{arith}
 use Rattle.grid.specs.Squares.{squares}
 use Rattle.ledger.specs.Runs.{plan}

@@ -1,5 +1,4 @@
 use Prim.Native.Nat.{◌-◌, ◌≤◌}
-use Rattle.grid.specs.Squares.{squares}
 use Rattle.ledger.specs.Runs.{plan}
 use Rattle.stands.specs.Texts.{square_text}
 use Rattle.stands.specs.Inner.Putting.{most_square}

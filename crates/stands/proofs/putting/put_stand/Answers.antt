@@ -15,10 +15,10 @@ put_hatches-named-requires c =
 
 pub put_squares-requires : goal.put_squares-requires
 put_squares-requires c = record {
-      shape_in_range = c.requires.shape_in_range;
-      shape_in_bounds = squares_fit (plan c.args.shape c.args.marks.now) c.args.depths.now c.args.lasts.now c.args.saved c.args.at
-          c.args.out.now c.requires.shape_in_range.0 c.requires.most_stand_in_bounds c.put_head-head.ensures c.put_hatches-named.ensures;
-    }
+  shape_in_range = c.requires.shape_in_range;
+  shape_in_bounds = squares_fit (plan c.args.shape c.args.marks.now) c.args.depths.now c.args.lasts.now c.args.saved c.args.at
+      c.args.out.now c.requires.shape_in_range.0 c.requires.most_stand_in_bounds c.put_head-head.ensures c.put_hatches-named.ensures;
+}
 
 pub returns : goal.returns
 returns c =

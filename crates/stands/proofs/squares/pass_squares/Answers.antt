@@ -1,6 +1,5 @@
 -- `stands::squares::pass_squares` meets its contract: every square passed so far has its line.
 -- Assumes nothing.
-use Prim.Native.Nat.{◌-◌}
 use native.Mathlib.Omega.{arith}
 use borrow.Author.Tests.{not-true, not-false}
 use Rattle.stands.proofs.SquareLaws.{passing_none, passing_more, passing_stop, passing_all, line_few}

@@ -1,7 +1,6 @@
 -- `stands::squares::store_squares` meets its contract: the rooms are filled with the lines passed.
 -- Assumes nothing.
 use mathlib.Core.Path.{ap, ◌∙◌}
-use Prim.Native.Nat.{◌-◌}
 use native.Mathlib.Omega.{arith}
 use lib.ListN.{length}
 use Rattle.reckon.proofs.ListLaws.{filled_none, length-filled}

@@ -3,11 +3,8 @@
 use mathlib.Core.Path.{ap}
 use mathlib.Core.Bool.{not}
 use mathlib.Core.Path.{sym, ◌∙◌}
-use mathlib.Core.Bool.{true}
-use Prim.Native.Nat.{◌-◌}
 use native.Mathlib.Omega.{arith}
 use Rattle.reckon.proofs.TestLaws.{all_none, all_more, all_fails, all_whole}
-use Rattle.reckon.specs.Ranges.{water_fine}
 use Rattle.ledger.specs.Runs.{plan}
 use Rattle.checks.proofs.CheckLaws.{fails_by, holds_by}
 use Rattle.stands.proofs.SquareLaws.{start_none, start_more, water_here, waters_as}
@@ -30,11 +27,11 @@ returns-then-not-water_fine c =
 
 pub loop-square-preserved : goal.loop-square-preserved
 loop-square-preserved c = (
-      omega arith,
-      start_more _ _ _ _ c.loop-square.invariant.1 c.square_line-line.ensures,
-      all_more _ _ c.loop-square.invariant.2
-          (holds_by (water_here _ _ _ _ c.loop-square.invariant.1 c.square_line-line.ensures c.water_fine.ensures) (ap not c.if-not-water_fine.false)),
-    )
+  omega arith,
+  start_more _ _ _ _ c.loop-square.invariant.1 c.square_line-line.ensures,
+  all_more _ _ c.loop-square.invariant.2
+      (holds_by (water_here _ _ _ _ c.loop-square.invariant.1 c.square_line-line.ensures c.water_fine.ensures) (ap not c.if-not-water_fine.false)),
+)
 
 pub returns : goal.returns
 returns c =
