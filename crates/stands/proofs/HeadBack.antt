@@ -35,11 +35,11 @@ abbrev first_as : ℕ → ℕ → ℕ → Bool → ℕ → StandLine
 first_as steps clock length opening next =
     record { found = true; steps = steps; clock = clock; length = length; opening = opening; next = next }
 
-as_first : (steps clock length q : ℕ) (b : Bool) →
+as_first_lem : (steps clock length q : ℕ) (b : Bool) →
     as_first (as_fields 0 (read (steps ∷ clock ∷ length ∷ pick {A = ℕ} b 1 0 ∷ []) q)) ≡ first_as steps clock length b q
 unfolding as_first as_fields padded tabulate pick
-as_first steps clock length q true = refl
-as_first steps clock length q false = refl
+as_first_lem steps clock length q true = refl
+as_first_lem steps clock length q false = refl
 
 -- ---- a total
 
@@ -126,7 +126,7 @@ module _ {s : List ℕ} {q : ℕ} (a : Saved) (w : Written a) (stands : StandsAt
       (line_read stand_word (a.log.steps ∷ a.log.run.clock ∷ a.log.run.length ∷ pick {A = ℕ} a.log.opening 1 0 ∷ [])
       (w.steps_small, (w.clock_small, (w.length_small, (low, tt))))
       (stands_first (first_text a) (t₂ ++ (t₃ ++ (t₄ ++ t₅))) all))
-      ∙ as_first a.log.steps a.log.run.clock a.log.run.length p₁ a.log.opening
+      ∙ as_first_lem a.log.steps a.log.run.clock a.log.run.length p₁ a.log.opening
 
   pub head_back : head_of s ≡ head_as a q
   unfolding refusal pick

@@ -3,13 +3,11 @@
 use mathlib.Core.Path.{ap}
 use mathlib.Core.Bool.{not}
 use mathlib.Core.Path.{sym}
-use mathlib.Core.Bool.{true}
-use Prim.Native.Nat.{◌-◌}
 use native.Mathlib.Omega.{arith}
 use borrow.Author.Tests.{le-leb, lt-leb}
 use Rattle.reckon.proofs.TestLaws.{each_every, every_fails, all_none, all_more, all_fails, all_whole}
 use Rattle.checks.proofs.CheckLaws.{fails_by, holds_by}
-use Rattle.display.specs.Boards.{board_fine, boards_fine}
+use Rattle.display.specs.Boards.{boards_fine}
 use Rattle.display.proofs.BoardLaws.{counted-fine}
 use Rattle.display.proofs.watch.boards_fine.Goals as goal
 

@@ -1,7 +1,6 @@
 -- `display::watch::refresh` meets its contract: every board passed so far is after the state, and the rest as it was.
 -- Assumes nothing.
 use mathlib.Core.Path.{sym}
-use Prim.Native.Nat.{◌-◌}
 use native.Mathlib.Omega.{arith}
 use Rattle.display.proofs.FirstLaws.{first_none, next_on, pass_more, pass_whole}
 use Rattle.display.proofs.watch.refresh.Goals as goal

@@ -1,17 +1,14 @@
 -- `display::watch::watch_on` meets its contract: where the loop has come to, the run from there is the whole run, and the boards show all states
 -- so far.
 -- Assumes nothing.
-use mathlib.Core.Path.{◌≡◌, refl, sym, ◌∙◌}
-use mathlib.Core.List.{List}
-use Prim.Native.Nat.{ℕ, ◌-◌, ◌≤◌}
+use mathlib.Core.Path.{refl, sym, ◌∙◌}
+use Prim.Native.Nat.{ℕ, ◌≤◌}
 use native.Mathlib.Omega.{arith}
-use lib.ListN.{length, take, length-replicate}
-use lib.Seq.{length-take-le, length_front}
-use borrow.Author.Rules.{rules}
+use lib.ListN.{length-replicate}
 use Rattle.grid.specs.Squares.{ShapeInRange, most_along, most_squares}
 use Rattle.ledger.specs.Runs.{Plan, World, plan, world}
 use Rattle.checks.specs.Given.{Given, ground, given}
-use Rattle.flood.proofs.StepLaws.{is_ready}
+use Rattle.flood.proofs.StepLaws.{is_ready, part, refilled}
 use Rattle.flood.proofs.RunToLaws.{running_starts, running_on, running_further, running_refused, running_ends}
 use Rattle.display.proofs.WatchLaws.{watching_starts, watching_on, watching_whole, first_on, still_on, told_with}
 use Rattle.display.proofs.watch.watch_on.Goals as goal
@@ -40,10 +37,6 @@ squares_fit c = omega (arith, c.squares_of-squares.ensures, (fine (goal.at.In-lo
 rows_fit : (c : In-loop-at) → c.args.way.shape.rows ≤ most_along
 rows_fit c = (fine (goal.at.In-loop-at c).Start).rows_high
 
--- a part of a room is as long as it should be
-part : {n most : ℕ} (room : List ℕ) → length room ≡ most → n ≤ most → length (take n room) ≡ n
-part room long h = length-take-le _ room (omega (arith, long, h))
-
 -- ---- the answers
 
 pub squares_of-squares-requires : goal.squares_of-squares-requires
@@ -54,16 +47,16 @@ refresh-shown-requires c = (c.requires.boards_on.0, (is_ready (p (goal.at.refres
 
 pub loop-at-init : goal.loop-at-init
 loop-at-init c = (
-      running_starts (p (goal.at.loop-at-init c).Start) (g (goal.at.loop-at-init c).Start) c.args.end (w (goal.at.loop-at-init c).Start) c.requires.passes.checked,
-      watching_starts (p (goal.at.loop-at-init c).Start) (g (goal.at.loop-at-init c).Start) (w (goal.at.loop-at-init c).Start) c.args.boards c.refresh-shown.ensures,
-      refl,
-      refl,
-      refl,
-      length-replicate {A = ℕ} most_squares 0,
-      length-replicate {A = ℕ} most_along 0,
-      length-replicate {A = ℕ} most_along 0,
-      length-replicate {A = ℕ} most_squares 0,
-    )
+  running_starts (p (goal.at.loop-at-init c).Start) (g (goal.at.loop-at-init c).Start) c.args.end (w (goal.at.loop-at-init c).Start) c.requires.passes.checked,
+  watching_starts (p (goal.at.loop-at-init c).Start) (g (goal.at.loop-at-init c).Start) (w (goal.at.loop-at-init c).Start) c.args.boards c.refresh-shown.ensures,
+  refl,
+  refl,
+  refl,
+  length-replicate {A = ℕ} most_squares 0,
+  length-replicate {A = ℕ} most_along 0,
+  length-replicate {A = ℕ} most_along 0,
+  length-replicate {A = ℕ} most_squares 0,
+)
 
 pub slice_bounds-left-end : goal.slice_bounds-left-end
 slice_bounds-left-end c = omega (arith, squares_fit (goal.at.slice_bounds-left-end c).In-loop-at, c.loop-at.invariant.5)
@@ -142,22 +135,16 @@ loop-at-smaller c =
 
 pub loop-at-preserved : goal.loop-at-preserved
 loop-at-preserved c =
-    let loop = c.loop-at in
-    let last = c.step_on-made.new.left in
-    let kept = c.step_on-made.auto.depths in
-    let rooms = kept.1.1.1 in
-    let many = c.squares_of-squares.result in
-    let high = c.args.way.shape.rows in
-    let inv = loop.inv in (
+    let inv = c.loop-at.invariant in (
       running_on (p (goal.at.loop-at-preserved c).Start) (g (goal.at.loop-at-preserved c).Start) c.args.end inv.0 c.loop-at-test.true c.step_on-made.ensures c.if-refused-ne0.false,
       watching_on (p (goal.at.loop-at-preserved c).Start) (g (goal.at.loop-at-preserved c).Start) (w (goal.at.loop-at-preserved c).Start) _ inv.1 c.step_on-made.ensures.world_is c.refresh-shown-in-loop-at.ensures,
-      kept.0 ∙ inv.2,
-      kept.1.0 ∙ inv.3,
-      kept.1.1.0 ∙ inv.4,
-      length_front loop.left last.0 many rooms.0 ∙ inv.5,
-      length_front loop.worked last.1.0 high rooms.1.0 ∙ inv.6,
-      length_front loop.senders last.1.1.0 high rooms.1.1.0 ∙ inv.7,
-      length_front loop.room last.1.1.1.0 many rooms.1.1.1.0 ∙ inv.8,
+      c.step_on-made.auto.depths ∙ inv.2,
+      c.step_on-made.auto.lasts ∙ inv.3,
+      c.step_on-made.auto.records ∙ inv.4,
+      refilled c.step_on-made.new.left c.loop-at.left c.step_on-made.auto.left inv.5 (squares_fit (goal.at.loop-at-preserved c).In-loop-at),
+      refilled c.step_on-made.new.worked c.loop-at.worked c.step_on-made.auto.worked inv.6 (rows_fit (goal.at.loop-at-preserved c).In-loop-at),
+      refilled c.step_on-made.new.senders c.loop-at.senders c.step_on-made.auto.senders inv.7 (rows_fit (goal.at.loop-at-preserved c).In-loop-at),
+      refilled c.step_on-made.new.room c.loop-at.room c.step_on-made.auto.room inv.8 (squares_fit (goal.at.loop-at-preserved c).In-loop-at),
     )
 
 pub shape_of-depths : goal.shape_of-depths

@@ -10,15 +10,11 @@ returns-in_default c = c.unread.ensures ∙ rate_none _ _ (sym c.in_default.is �
 
 pub returns-then-not-rest : goal.returns-then-not-rest
 returns-then-not-rest c =
-    let at-number-at = c.number_at in
-    let at_clock = c.clock-1 in
     c.unread-then-not-rest.ensures
-    ∙ rate_unread _ _ (sym at_clock.given.1 ∙ at-number-at.ensures) c.rest_of_line-rest.ensures
+    ∙ rate_unread _ _ (sym c.in-Is.is ∙ c.number_at.ensures) c.rest_of_line-rest.ensures
     (not-true _ c.if-not-rest.true)
 
 pub returns : goal.returns
 returns c =
-    let at-number-at = c.number_at in
-    let at_clock = c.clock-1 in
-    rate_read _ _ (sym at_clock.given.1 ∙ at-number-at.ensures) c.rest_of_line-rest.ensures
+    rate_read _ _ (sym c.in-Is.is ∙ c.number_at.ensures) c.rest_of_line-rest.ensures
     (not-false _ c.if-not-rest.false)

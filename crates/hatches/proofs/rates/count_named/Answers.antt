@@ -1,12 +1,11 @@
 -- `hatches::rates::count_named` meets its contract: so many of the first are named.
 -- Assumes nothing.
 use mathlib.Core.Path.{◌≡◌, ap, ◌∙◌}
-use mathlib.Core.Logic.{⊎_elim}
-use Prim.Native.Nat.{◌-◌}
 use native.Mathlib.Omega.{arith}
 use Rattle.hatches.specs.Log.{most_hatches}
 use Rattle.hatches.proofs.RowLaws.{named_below, named_none, named_more, named_same, named_few, rows_long}
 use Rattle.hatches.proofs.rates.count_named.Goals as goal
+use Rattle.hatches.proofs.rates.count_named.Goals.{then-named-hatch, else-named-hatch}
 
 pub loop-hatch-init : goal.loop-hatch-init
 loop-hatch-init c = (omega arith, named_none _)
@@ -21,7 +20,13 @@ pub loop-hatch-smaller : goal.loop-hatch-smaller
 loop-hatch-smaller c = omega (arith, c.loop-hatch-test.true)
 
 pub loop-hatch-preserved : goal.loop-hatch-preserved
-loop-hatch-preserved c = (omega (arith, c.loop-hatch-test.true), ⊎_elim (λ w. w.1 ∙ named_more _ _ c.loop-hatch.invariant.1 w.0.taken) (λ w. w.1 ∙ named_same _ _ c.loop-hatch.invariant.1 w.0.left) c.if-named-hatch.branch)
+loop-hatch-preserved c = (
+  omega (arith, c.loop-hatch-test.true),
+  elim c.if-named-hatch.branch [
+    | then-named-hatch w ↦ w.count-is ∙ named_more _ _ c.loop-hatch.invariant.1 w.if-named-hatch.true
+    | else-named-hatch w ↦ w.count-is ∙ named_same _ _ c.loop-hatch.invariant.1 w.if-named-hatch.false
+  ],
+)
 
 pub returns : goal.returns
 returns c =

@@ -1,6 +1,5 @@
 -- `hatches::rates::keep_rates` meets its contract: what is still to be kept, from where the loop has come to, is the whole.
 -- Assumes nothing.
-use Prim.Native.Nat.{◌-◌}
 use native.Mathlib.Omega.{arith}
 use Rattle.hatches.proofs.RatesLaws.{keeping-first, keeping_next, keeping-last, keeping-within}
 use Rattle.hatches.proofs.rates.keep_rates.Goals as goal
@@ -22,9 +21,7 @@ loop-step-smaller c = omega (arith, c.loop-step-test.true)
 
 pub loop-step-preserved : goal.loop-step-preserved
 loop-step-preserved c =
-    let at-loop = c.loop-step in
-    let at-loop-test = c.loop-step-test in
-    keeping_next at-loop.invariant at-loop-test.true c.requires.0 c.requires.2 c.slot_after-slot.ensures
+    keeping_next c.loop-step.invariant c.loop-step-test.true c.requires.0 c.requires.2 c.slot_after-slot.ensures
     c.keep_one.ensures
 
 pub shape_of-began : goal.shape_of-began

@@ -3,7 +3,6 @@
 use mathlib.Core.Path.{ap}
 use native.Mathlib.Omega.{arith}
 use lib.ListN.{length}
-use borrow.Author.Tests.{not-false}
 use Rattle.hatches.proofs.RowLaws.{row_none, row_named, row_put}
 use Rattle.hatches.proofs.rates.put_row.Goals as goal
 
@@ -11,9 +10,7 @@ pub returns-then-not-named-hatch : goal.returns-then-not-named-hatch
 returns-then-not-named-hatch c = row_none c.args.hatches c.args.litres c.args.hatch (c.if-not-named-hatch.true)
 
 pub copy_into-requires : goal.copy_into-requires
-copy_into-requires c = let s = (c) in omega (arith, s.requires.1, ap length (row_named s.args.hatches s.args.t2 s.args.hatch (c.if-not-named-hatch.false)))
+copy_into-requires c = let s = (c) in omega (arith, s.requires.1, ap length (row_named s.args.hatches s.args.litres s.args.hatch (c.if-not-named-hatch.false)))
 
 pub returns : goal.returns
-returns c =
-    let at-if1 = c.if-not-named-hatch in
-    let s = (c) in row_put s.args.hatches s.args.t2 s.args.hatch (not-false _ at-if1.false) c.copy_into.ensures
+returns c = let s = (c) in row_put s.args.hatches s.args.litres s.args.hatch (c.if-not-named-hatch.false) c.copy_into.ensures

@@ -1,6 +1,5 @@
 -- `hatches::rates::put_rows` meets its contract: the rows so far stand at the place.
 -- Assumes nothing.
-use Prim.Native.Nat.{◌-◌}
 use native.Mathlib.Omega.{arith}
 use Rattle.hatches.proofs.RowLaws.{rows_first, rows_room, row_fits, row_written, rows_written}
 use Rattle.hatches.proofs.rates.put_rows.Goals as goal
@@ -18,9 +17,7 @@ pub loop-hatch-smaller : goal.loop-hatch-smaller
 loop-hatch-smaller c = omega (arith, c.loop-hatch-test.true)
 
 pub loop-hatch-preserved : goal.loop-hatch-preserved
-loop-hatch-preserved c =
-    let at-loop = c.loop-hatch in
-    let s = (c) in (omega (arith, c.loop-hatch-test.true), row_written s.args.hatches s.args.litres s.args.at s.args.table.now s.requires at-loop.hatch at-loop.invariant.1 c.loop-hatch-test.true c.put_row-next.ensures)
+loop-hatch-preserved c = let s = (c) in (omega (arith, c.loop-hatch-test.true), row_written s.args.hatches s.args.litres s.args.at s.args.table.now s.requires c.loop-hatch.hatch c.loop-hatch.invariant.1 c.loop-hatch-test.true c.put_row-next.ensures)
 
 pub shape_of-table : goal.shape_of-table
 shape_of-table c = rows_room c.args.hatches c.args.litres c.args.at c.args.table.now c.requires c.loop-hatch.hatch c.loop-hatch.invariant.1 c.loop-hatch.invariant.0

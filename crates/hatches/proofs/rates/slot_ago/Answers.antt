@@ -1,7 +1,6 @@
 -- `hatches::rates::slot_ago` meets its contract: after so many turns the slot is so many places back.
 -- Assumes nothing.
 use mathlib.Core.Path.{sym, ap, ◌∙◌}
-use Prim.Native.Nat.{◌-◌}
 use native.Mathlib.Omega.{arith}
 use native.Mathlib.Numerals.{add-one}
 use Rattle.trials.specs.Ring.{slot_ago, slot_before}

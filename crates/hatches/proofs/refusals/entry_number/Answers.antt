@@ -57,17 +57,12 @@ returns-then-not-kept_fine c =
 pub returns : goal.returns
 unfolding entry_refusals
 returns c =
-    let at-line-fine = c.line_fine in
-    let at-if1 = c.if-not-line_fine in
-    let at-lent-fine = c.lent_fine in
-    let at-if2 = c.if-not-lent_fine in
-    let at-draw-fine = c.draw_fine in
     λ beds roughness rates rain lasts.
     sym
     (passed_refusal _ (
-      holds_by at-line-fine.ensures at-if1.false,
+      holds_by c.line_fine.ensures (ap not c.if-not-line_fine.false),
       (
-        holds_by at-lent-fine.ensures at-if2.false,
-        (holds_by at-draw-fine.ensures (ap not c.if-not-draw_fine.false), (holds_by c.standing_fine.ensures (ap not c.if-not-standing_fine.false), (holds_by c.kept_fine.ensures (ap not c.if-not-kept_fine.false), tt))),
+        holds_by c.lent_fine.ensures (ap not c.if-not-lent_fine.false),
+        (holds_by c.draw_fine.ensures (ap not c.if-not-draw_fine.false), (holds_by c.standing_fine.ensures (ap not c.if-not-standing_fine.false), (holds_by c.kept_fine.ensures (ap not c.if-not-kept_fine.false), tt))),
       ),
     ))

@@ -30,13 +30,12 @@ returns-then-is_closed c = λ number. sym (every_fails _ 2 (ap not (closed_at (p
 pub returns : goal.returns
 unfolding draw_fine
 returns c =
-    let at-if1 = c.if-shape-at_row in
     let s = (c) in
     let j = table_judged s.args.inflow.now s.args.log inflow_kind.width (c.table_fits.ensures s.args.log.litres) in
     λ number.
     every_decided _ 3 _ j
     (λ t. (
-      lt-ltb _ _ at-if1.false,
+      lt-ltb _ _ c.if-shape-at_row.false,
       (
         lt-ltb _ _ c.if-shape-at_column.false,
         (

@@ -6,7 +6,6 @@ use borrow.Author.Tests.{lt-leb, le-leb, not-true, not-false}
 use Rattle.reckon.proofs.TestLaws.{every_fails, each_every}
 use Rattle.checks.proofs.CheckLaws.{every_decided}
 use Rattle.hatches.specs.Log.{line_fine}
-use borrow.Author.Rules.{rules}
 use Rattle.hatches.proofs.refusals.hatch_line_fine.Goals as goal
 
 pub returns-then-not-log : goal.returns-then-not-log

@@ -47,21 +47,15 @@ record_size-requires c = ranges_of_fine _ (holds_by c.shape_fine.ensures (ap not
 pub returns : goal.returns
 unfolding lent_fine one_each
 returns c =
-    let at-shape-fine = c.shape_fine in
-    let at-if1 = c.if-not-shape_fine in
-    let at-squares-of = c.squares_of in
-    let at-if2 = c.if-squares_of-gt-PROGRAM_SQUARES in
-    let at-one-each = c.one_each in
-    let at-if3 = c.if-not-one_each in
     let s = (c) in
     let j = slots-judged (plan s.args.shape s.args.marks.now) s.args.records.now s.args.began.now c.record_size.ensures c.slots_in-slots.ensures c.slots_in.ensures in
     every_decided _ 4 _ j
     (λ t. (
-      holds_by at-shape-fine.ensures at-if1.false,
+      holds_by c.shape_fine.ensures (ap not c.if-not-shape_fine.false),
       (
-        le-leb (squares s.args.shape) program_squares (omega (arith, at-squares-of.ensures, at-if2.false)),
+        le-leb (squares s.args.shape) program_squares (omega (arith, c.squares_of.ensures, c.if-squares_of-gt-PROGRAM_SQUARES.false)),
         (
-          holds_by at-one-each.ensures at-if3.false,
+          holds_by c.one_each.ensures (ap not c.if-not-one_each.false),
           (holds_by c.one_each-2.ensures (ap not c.if-not-one_each-2.false), (j ∙ t, tt)),
         ),
       ),

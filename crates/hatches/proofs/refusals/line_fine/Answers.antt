@@ -2,7 +2,6 @@
 -- Assumes nothing.
 use mathlib.Core.Path.{sym, ap, ◌∙◌}
 use Rattle.hatches.specs.Log.{line_fine}
-use borrow.Author.Rules.{rules}
 use Rattle.hatches.proofs.refusals.line_fine.Goals as goal
 
 pub returns-in-Hatch : goal.returns-in-Hatch

@@ -24,12 +24,10 @@ returns-then-end-gt-LAST_CLOCK c = λ litres. sym (every_fails _ 2 (lt-leb _ _ c
 pub returns : goal.returns
 unfolding line_fine
 returns c =
-    let at-is-named = c.is_named in
-    let at-if1 = c.if-not-is_named in
     λ litres.
     every_decided _ 3 _ refl
     (λ t. (
-      holds_by at-is-named.ensures at-if1.false,
+      holds_by c.is_named.ensures (ap not c.if-not-is_named.false),
       (
         holds_by c.is_multiple.ensures (ap not c.if-not-is_multiple.false),
         (le-leb _ _ c.if-end-gt-LAST_CLOCK.false, (t, tt)),
