@@ -157,10 +157,10 @@ unfolding answered room_after
 text_moved t {old} {new} e m =
     (m.answer ∙ ap answered e, ap (take (length t)) (m.room ∙ ap (λ (o : Outcome (List ℕ)). room_after o old) e) ∙ take_put old t (length t) refl)
 
-part_moved : (s : List ℕ) (t : Set) (k : Part) {old new : List ℕ} {n : ℕ} → to_survey s ≡ moved t → MovesPart s k old
+part_moved_lem : (s : List ℕ) (t : Set) (k : Part) {old new : List ℕ} {n : ℕ} → to_survey s ≡ moved t → MovesPart s k old
     (Wrote n) new → take n new ≡ part_of k t
 unfolding part_moved
-part_moved s t k {old} {new} {n} e m =
+part_moved_lem s t k {old} {new} {n} e m =
     let a = text_moved (part_of k t) (ap (part_moved k) e) m in
     let z : n ≡ length (part_of k t) = wrote_same a.0 in
     ap (λ (i : ℕ). take i new) z ∙ a.1
@@ -183,8 +183,8 @@ unfolding part_of
 returns_parts s lent h e old n b d k r N B D K R mn mb md mk mr a before after m =
     let f : to_survey s ≡ moved (set_of h (said s)) = moves_there s lent h e in
     let same =
-    set_same (part_moved s (set_of h (said s)) Note f mn) (part_moved s (set_of h (said s)) Bed f mb) (part_moved s (set_of h (said s)) Depth f md)
-    (part_moved s (set_of h (said s)) Roughness f mk) (part_moved s (set_of h (said s)) Rate f mr) in
+    set_same (part_moved_lem s (set_of h (said s)) Note f mn) (part_moved_lem s (set_of h (said s)) Bed f mb) (part_moved_lem s (set_of h (said s)) Depth f md)
+    (part_moved_lem s (set_of h (said s)) Roughness f mk) (part_moved_lem s (set_of h (said s)) Rate f mr) in
     text_moved s (ap from_survey same ∙ returns_sheet s (set_of h (said s)) f) m
 
 pub returns : Returns

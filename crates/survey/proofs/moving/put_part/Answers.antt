@@ -18,33 +18,33 @@ held s =
 
 pub put_note-requires : goal.put_note-requires
 put_note-requires c = record {
-      shape_in_range = (c.requires.writable.shape, c.requires.writable.each.marks, c.requires.writable.say.marks_low);
-      rain_len = (c.requires.writable.say.rain_long, c.requires.writable.say.inflow_long, note_room c.args.heading (held (goal.at.put_note-requires c).Start) c.requires.writable c.args.out.now c.requires.most_file_in_bounds);
-    }
+  shape_in_range = (c.requires.writable.shape, c.requires.writable.each.marks, c.requires.writable.say.marks_low);
+  rain_len = (c.requires.writable.say.rain_long, c.requires.writable.say.inflow_long, note_room c.args.heading (held (goal.at.put_note-requires c).Start) c.requires.writable c.args.out.now c.requires.most_file_in_bounds);
+}
 
 pub put_grid-requires : goal.put_grid-requires
 put_grid-requires c = record {
-      shape_in_range = (c.requires.writable.shape, omega (arith, c.requires.writable.each.marks), omega (arith, c.requires.writable.each.beds));
-      side_in_bounds = omega (arith, bed_room c.args.heading (held (goal.at.put_grid-requires c).Start) c.requires.writable c.args.out.now c.requires.most_file_in_bounds);
-    }
+  shape_in_range = (c.requires.writable.shape, omega (arith, c.requires.writable.each.marks), omega (arith, c.requires.writable.each.beds));
+  side_in_bounds = omega (arith, bed_room c.args.heading (held (goal.at.put_grid-requires c).Start) c.requires.writable c.args.out.now c.requires.most_file_in_bounds);
+}
 
 pub put_grid-requires-in-Depth : goal.put_grid-requires-in-Depth
 put_grid-requires-in-Depth c = record {
-      shape_in_range = (c.requires.writable.shape, omega (arith, c.requires.writable.each.marks), omega (arith, c.requires.writable.each.depths));
-      side_in_bounds = omega (arith, depth-room c.args.heading (held (goal.at.put_grid-requires-in-Depth c).Start) c.requires.writable c.args.out.now c.requires.most_file_in_bounds);
-    }
+  shape_in_range = (c.requires.writable.shape, omega (arith, c.requires.writable.each.marks), omega (arith, c.requires.writable.each.depths));
+  side_in_bounds = omega (arith, depth-room c.args.heading (held (goal.at.put_grid-requires-in-Depth c).Start) c.requires.writable c.args.out.now c.requires.most_file_in_bounds);
+}
 
 pub put_grid-requires-in-Roughness : goal.put_grid-requires-in-Roughness
 put_grid-requires-in-Roughness c = record {
-      shape_in_range = (c.requires.writable.shape, omega (arith, c.requires.writable.each.marks), omega (arith, c.requires.writable.each.roughness));
-      side_in_bounds = omega (arith, roughness_room c.args.heading (held (goal.at.put_grid-requires-in-Roughness c).Start) c.requires.writable c.args.out.now c.requires.most_file_in_bounds);
-    }
+  shape_in_range = (c.requires.writable.shape, omega (arith, c.requires.writable.each.marks), omega (arith, c.requires.writable.each.roughness));
+  side_in_bounds = omega (arith, roughness_room c.args.heading (held (goal.at.put_grid-requires-in-Roughness c).Start) c.requires.writable c.args.out.now c.requires.most_file_in_bounds);
+}
 
 pub put_grid-requires-in-Rate : goal.put_grid-requires-in-Rate
 put_grid-requires-in-Rate c = record {
-      shape_in_range = (c.requires.writable.shape, omega (arith, c.requires.writable.each.marks), omega (arith, c.requires.writable.each.rates));
-      side_in_bounds = omega (arith, rate_room c.args.heading (held (goal.at.put_grid-requires-in-Rate c).Start) c.requires.writable c.args.out.now c.requires.most_file_in_bounds);
-    }
+  shape_in_range = (c.requires.writable.shape, omega (arith, c.requires.writable.each.marks), omega (arith, c.requires.writable.each.rates));
+  side_in_bounds = omega (arith, rate_room c.args.heading (held (goal.at.put_grid-requires-in-Rate c).Start) c.requires.writable c.args.out.now c.requires.most_file_in_bounds);
+}
 
 pub returns-in-Note : goal.returns-in-Note
 returns-in-Note c =

@@ -35,9 +35,9 @@ slice_bounds-put_part-end-7 c = part_long _ (omega (arith, c.requires.holds.0.in
 
 pub put_part-requires : goal.put_part-requires
 put_part-requires c = record {
-      writable = parts_writable c.args.heading (held c) c.squares_of-squares.ensures c.requires.holds.1;
-      most_file_in_bounds = c.requires.most_file_in_bounds;
-    }
+  writable = parts_writable c.args.heading (held (goal.at.put_part-requires c).Start) c.squares_of-squares.ensures c.requires.holds.1;
+  most_file_in_bounds = c.requires.most_file_in_bounds;
+}
 
 pub returns : goal.returns
-returns c = parts_wrote c.args.heading (held c) c.squares_of-squares.ensures c.args.part c.put_part.ensures
+returns c = parts_wrote c.args.heading (held (goal.at.returns c).Start) c.squares_of-squares.ensures c.args.part c.put_part.ensures

@@ -1,6 +1,5 @@
 -- `survey::notes::count_marks` meets its contract: each line passed has a mark, and the position is that of the next.
 -- Assumes nothing.
-use Prim.Native.Nat.{◌-◌}
 use native.Mathlib.Nat.{mul-le-mul}
 use native.Mathlib.Omega.{arith}
 use Rattle.raster.proofs.RangeLaws.{some_column}
@@ -33,9 +32,9 @@ loop-square-smaller c = omega (arith, c.loop-square-test.true)
 
 pub loop-square-preserved : goal.loop-square-preserved
 loop-square-preserved c = (
-      omega (arith, c.loop-square-test.true),
-      marking_more _ _ _ c.loop-square.invariant.1 c.mark_at.ensures c.if-mark_at-eq-NO_MARK.false c.next_line-next.ensures,
-    )
+  omega (arith, c.loop-square-test.true),
+  marking_more _ _ _ c.loop-square.invariant.1 c.mark_at.ensures c.if-mark_at-eq-NO_MARK.false c.next_line-next.ensures,
+)
 
 pub returns : goal.returns
 returns c =

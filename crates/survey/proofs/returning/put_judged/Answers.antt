@@ -16,9 +16,9 @@ returns-then-number-ne0 c = judged-refused c.args.heading (held (goal.at.returns
 
 pub put_sheet-requires : goal.put_sheet-requires
 put_sheet-requires c = record {
-      writable = c.requires.judged (sym c.judge-number.ensures ∙ c.if-number-ne0.false);
-      most_file_in_bounds = c.requires.shape_in_range.1;
-    }
+  writable = c.requires.judged (sym c.judge-number.ensures ∙ c.if-number-ne0.false);
+  most_file_in_bounds = c.requires.shape_in_range.1;
+}
 
 pub returns : goal.returns
 returns c = judged_put c.args.heading (held (goal.at.returns c).Start) c.judge-number.ensures c.if-number-ne0.false c.put_sheet.ensures

@@ -38,9 +38,9 @@ slice_bounds-put_judged-end-7 c = part_long _ (omega (arith, c.requires.lies.inf
 
 pub put_judged-requires : goal.put_judged-requires
 put_judged-requires c = record {
-      shape_in_range = (c.requires.lies.shape, c.requires.most_file_in_bounds);
-      judged = parts_judged c.args.heading (held c) c.squares_of-squares.ensures c.requires.lies.judged;
-    }
+  shape_in_range = (c.requires.lies.shape, c.requires.most_file_in_bounds);
+  judged = parts_judged c.args.heading (held (goal.at.put_judged-requires c).Start) c.squares_of-squares.ensures c.requires.lies.judged;
+}
 
 pub returns : goal.returns
-returns c = parts_moved c.args.heading (held c) c.squares_of-squares.ensures c.put_judged.ensures
+returns c = parts_moved c.args.heading (held (goal.at.returns c).Start) c.squares_of-squares.ensures c.put_judged.ensures

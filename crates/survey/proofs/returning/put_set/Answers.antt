@@ -28,23 +28,23 @@ fill_column-requires-4 c = (shape_in (files (goal.at.fill_column-requires-4 c).S
 
 pub fill_rows-requires : goal.fill_rows-requires
 fill_rows-requires c = record {
-      width_le_most_fields = (omega arith, plain_rain);
-      count_bound = rain_asked (files (goal.at.fill_rows-requires c).Start) c.requires.note_is.1 c.requires.note_is.0 c.looked_heading-looked.ensures;
-    }
+  width_le_most_fields = (omega arith, plain_rain);
+  count_bound = rain_asked (files (goal.at.fill_rows-requires c).Start) c.requires.note_is.1 c.requires.note_is.0 c.looked_heading-looked.ensures;
+}
 
 pub fill_rows-requires-2 : goal.fill_rows-requires-2
 fill_rows-requires-2 c = record {
-      width_le_most_fields = (omega arith, plain_inflow);
-      count_bound = inflow_asked (files (goal.at.fill_rows-requires-2 c).Start) c.requires.note_is.1 c.requires.note_is.0 c.looked_heading-looked.ensures;
-    }
+  width_le_most_fields = (omega arith, plain_inflow);
+  count_bound = inflow_asked (files (goal.at.fill_rows-requires-2 c).Start) c.requires.note_is.1 c.requires.note_is.0 c.looked_heading-looked.ensures;
+}
 
 pub put_lying-requires : goal.put_lying-requires
 put_lying-requires c = record {
-      lies = lies_by (files (goal.at.put_lying-requires c).Start) c.requires.note_is.1 c.requires.note_is.0 c.looked_heading-looked.ensures c.fill_marks.ensures
-          c.fill_column.ensures c.fill_column-2.ensures c.fill_column-3.ensures
-          c.fill_column-4.ensures c.fill_rows.ensures c.fill_rows-2.ensures;
-      most_file_in_bounds = c.requires.most_file_in_bounds;
-    }
+  lies = lies_by (files (goal.at.put_lying-requires c).Start) c.requires.note_is.1 c.requires.note_is.0 c.looked_heading-looked.ensures c.fill_marks.ensures
+      c.fill_column.ensures c.fill_column-2.ensures c.fill_column-3.ensures
+      c.fill_column-4.ensures c.fill_rows.ensures c.fill_rows-2.ensures;
+  most_file_in_bounds = c.requires.most_file_in_bounds;
+}
 
 pub returns : goal.returns
 returns c =

@@ -1,7 +1,6 @@
 -- `survey::sets::closed_agree` meets its contract: the squares passed agree, and both positions are those of the next.
 -- Assumes nothing.
 use mathlib.Core.Path.{sym, ◌∙◌}
-use Prim.Native.Nat.{◌-◌}
 use native.Mathlib.Nat.{mul-le-mul}
 use native.Mathlib.Omega.{arith}
 use Rattle.raster.proofs.RangeLaws.{some_column}
@@ -43,10 +42,10 @@ loop-square-smaller c = omega (arith, c.loop-square-test.true)
 
 pub loop-square-preserved : goal.loop-square-preserved
 loop-square-preserved c = (
-      omega (arith, c.loop-square-test.true),
-      agreeing_more _ _ _ _ _ _ c.loop-square.invariant.1 c.entry_at-entry.ensures c.mark_at.ensures
-          c.closed_same.ensures (c.if-not-closed_same.false) c.next_line-line.ensures,
-    )
+  omega (arith, c.loop-square-test.true),
+  agreeing_more _ _ _ _ _ _ c.loop-square.invariant.1 c.entry_at-entry.ensures c.mark_at.ensures
+      c.closed_same.ensures (c.if-not-closed_same.false) c.next_line-line.ensures,
+)
 
 pub returns : goal.returns
 returns c =

@@ -1,7 +1,6 @@
 -- `survey::sets::fill_column` meets its contract: the squares passed hold their numbers, and the position is that of the next.
 -- Assumes nothing.
 use mathlib.Core.Path.{ap, ◌∙◌}
-use Prim.Native.Nat.{◌-◌}
 use native.Mathlib.Omega.{arith}
 use Rattle.raster.specs.declared.reading.Entry.{Entry}
 use Rattle.raster.specs.declared.reading.Head.{Head}

@@ -1,6 +1,5 @@
 -- `survey::sets::fill_marks` meets its contract: the squares passed hold their marks, and the position is that of the next line.
 -- Assumes nothing.
-use Prim.Native.Nat.{◌-◌}
 use native.Mathlib.Omega.{arith}
 use Rattle.survey.proofs.SetLaws.{line_first, line_more, line_mark, filling_none, filling_long, filling_more, filling_all}
 use Rattle.survey.proofs.sets.fill_marks.Goals as goal

@@ -1,7 +1,6 @@
 -- `survey::sets::looked_heading` meets its contract: of each table as many rows as are looked at.
 -- Assumes nothing.
 use Rattle.survey.specs.Inner.Notes.{looked_heading}
-use borrow.Author.Rules.{rules}
 use Rattle.survey.proofs.sets.looked_heading.Goals as goal
 
 pub returns : goal.returns

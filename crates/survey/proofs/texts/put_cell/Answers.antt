@@ -31,10 +31,10 @@ ground s =
 
 pub put_line_head-end-requires : goal.put_line_head-end-requires
 put_line_head-end-requires c = (
-      c.requires.square_bound.0,
-      one_fits (head (goal.at.put_line_head-end-requires c).Start) (rest_text (ground_at (only_cells (held (goal.at.put_line_head-end-requires c).Start)) c.args.square)) (cell_is c.args.columns c.args.square (held (goal.at.put_line_head-end-requires c).Start))
-          c.args.at c.args.out.now c.requires.square_bound.1,
-    )
+  c.requires.square_bound.0,
+  one_fits (head (goal.at.put_line_head-end-requires c).Start) (rest_text (ground_at (only_cells (held (goal.at.put_line_head-end-requires c).Start)) c.args.square)) (cell_is c.args.columns c.args.square (held (goal.at.put_line_head-end-requires c).Start))
+      c.args.at c.args.out.now c.requires.square_bound.1,
+)
 
 pub put_byte-requires : goal.put_byte-requires
 put_byte-requires c =
@@ -53,11 +53,11 @@ returns-then-is_closed c =
 
 pub put_ground-requires : goal.put_ground-requires
 put_ground-requires c = record {
-      square_in_bounds = (c.requires.columns_nonzero.2, c.requires.columns_nonzero.3, c.requires.columns_nonzero.4, c.requires.columns_nonzero.5);
-      square_in_bounds_2 = two_fits (head (goal.at.put_ground-requires c).Start) (rest_text (ground (goal.at.put_ground-requires c).Start))
-          (open_cell_is c.args.columns c.args.square (held (goal.at.put_ground-requires c).Start) (sym c.is_closed.ensures ∙ c.if-is_closed.false))
-          c.args.at c.args.out.now c.requires.square_bound.1 c.put_line_head-end.ensures;
-    }
+  square_in_bounds = (c.requires.columns_nonzero.2, c.requires.columns_nonzero.3, c.requires.columns_nonzero.4, c.requires.columns_nonzero.5);
+  square_in_bounds_2 = two_fits (head (goal.at.put_ground-requires c).Start) (rest_text (ground (goal.at.put_ground-requires c).Start))
+      (open_cell_is c.args.columns c.args.square (held (goal.at.put_ground-requires c).Start) (sym c.is_closed.ensures ∙ c.if-is_closed.false))
+      c.args.at c.args.out.now c.requires.square_bound.1 c.put_line_head-end.ensures;
+}
 
 pub returns : goal.returns
 returns c =

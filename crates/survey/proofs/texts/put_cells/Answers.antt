@@ -1,7 +1,7 @@
 -- `survey::texts::put_cells` meets its contract: the lines so far stand at the place.
 -- Assumes nothing.
 use mathlib.Core.List.{List}
-use Prim.Native.Nat.{ℕ, ◌-◌}
+use Prim.Native.Nat.{ℕ}
 use native.Mathlib.Omega.{arith}
 use Rattle.grid.specs.Squares.{squares}
 use Rattle.text.proofs.JoinedLaws.{none_written, lines_length, line_fits, line_written, lines_whole}
@@ -24,27 +24,27 @@ loop-square-init c = (omega arith, none_written _ _ _)
 
 pub put_cell-next-requires : goal.put_cell-next-requires
 put_cell-next-requires c = record {
-      columns_nonzero = (
-        c.requires.shape_in_range.0.columns_low,
-        omega (arith, c.squares_of-squares.ensures, c.requires.shape_in_range.2.marks),
-        omega (arith, c.squares_of-squares.ensures, c.requires.shape_in_range.2.beds),
-        omega (arith, c.squares_of-squares.ensures, c.requires.shape_in_range.2.roughness),
-        omega (arith, c.squares_of-squares.ensures, c.requires.shape_in_range.2.rates),
-        omega (arith, c.squares_of-squares.ensures, c.requires.shape_in_range.2.depths),
-      );
-      square_bound = (
-        c.requires.shape_in_range.1 c.loop-square.square (omega (arith, c.squares_of-squares.ensures)),
-        line_fits (lines (goal.at.put_cell-next-requires c).Start) (squares c.args.shape) c.args.at c.args.out.now c.requires.depths_in_bounds c.loop-square.square c.loop-square.invariant.1
-            (omega (arith, c.squares_of-squares.ensures)),
-      );
-    }
+  columns_nonzero = (
+    c.requires.shape_in_range.0.columns_low,
+    omega (arith, c.squares_of-squares.ensures, c.requires.shape_in_range.2.marks),
+    omega (arith, c.squares_of-squares.ensures, c.requires.shape_in_range.2.beds),
+    omega (arith, c.squares_of-squares.ensures, c.requires.shape_in_range.2.roughness),
+    omega (arith, c.squares_of-squares.ensures, c.requires.shape_in_range.2.rates),
+    omega (arith, c.squares_of-squares.ensures, c.requires.shape_in_range.2.depths),
+  );
+  square_bound = (
+    c.requires.shape_in_range.1 c.loop-square.square (omega (arith, c.squares_of-squares.ensures)),
+    line_fits (lines (goal.at.put_cell-next-requires c).Start) (squares c.args.shape) c.args.at c.args.out.now c.requires.depths_in_bounds c.loop-square.square c.loop-square.invariant.1
+        (omega (arith, c.squares_of-squares.ensures)),
+  );
+}
 
 pub loop-square-preserved : goal.loop-square-preserved
 loop-square-preserved c = (
-      omega arith,
-      line_written (lines (goal.at.loop-square-preserved c).Start) (squares c.args.shape) c.args.at c.args.out.now c.requires.depths_in_bounds c.loop-square.square c.loop-square.invariant.1
-          (omega (arith, c.squares_of-squares.ensures)) c.put_cell-next.ensures,
-    )
+  omega arith,
+  line_written (lines (goal.at.loop-square-preserved c).Start) (squares c.args.shape) c.args.at c.args.out.now c.requires.depths_in_bounds c.loop-square.square c.loop-square.invariant.1
+      (omega (arith, c.squares_of-squares.ensures)) c.put_cell-next.ensures,
+)
 
 pub shape_of-out : goal.shape_of-out
 shape_of-out c =

@@ -1,6 +1,5 @@
 use Prim.Native.Nat.{◌-◌, ◌≤◌}
 use Rattle.reckon.specs.Lists.{joined}
-use Rattle.grid.specs.Squares.{squares}
 use Rattle.text.specs.Writing.{Wrote}
 use Rattle.sheet.specs.Sheet.{cells_rooms}
 use Rattle.sheet.specs.Written.{cell_written}

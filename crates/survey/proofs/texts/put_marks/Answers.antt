@@ -1,7 +1,7 @@
 -- `survey::texts::put_marks` meets its contract: the lines so far stand at the place.
 -- Assumes nothing.
 use mathlib.Core.List.{List}
-use Prim.Native.Nat.{ℕ, ◌-◌}
+use Prim.Native.Nat.{ℕ}
 use native.Mathlib.Omega.{arith}
 use lib.ListN.{get_or}
 use Rattle.grid.specs.Squares.{squares}
@@ -25,18 +25,18 @@ bounds-marks-square c = omega (arith, c.squares_of-squares.ensures, c.requires.s
 
 pub put_mark_line-next-requires : goal.put_mark_line-next-requires
 put_mark_line-next-requires c = (
-      c.requires.shape_in_range.0.columns_low,
-      c.requires.shape_in_range.2 c.loop-square.square (omega (arith, c.squares_of-squares.ensures)),
-      line_fits (lines (goal.at.put_mark_line-next-requires c).Start) (squares c.args.shape) c.args.at c.args.out.now c.requires.i_in_bounds c.loop-square.square c.loop-square.invariant.1
-          (omega (arith, c.squares_of-squares.ensures)),
-    )
+  c.requires.shape_in_range.0.columns_low,
+  c.requires.shape_in_range.2 c.loop-square.square (omega (arith, c.squares_of-squares.ensures)),
+  line_fits (lines (goal.at.put_mark_line-next-requires c).Start) (squares c.args.shape) c.args.at c.args.out.now c.requires.i_in_bounds c.loop-square.square c.loop-square.invariant.1
+      (omega (arith, c.squares_of-squares.ensures)),
+)
 
 pub loop-square-preserved : goal.loop-square-preserved
 loop-square-preserved c = (
-      omega arith,
-      line_written (lines (goal.at.loop-square-preserved c).Start) (squares c.args.shape) c.args.at c.args.out.now c.requires.i_in_bounds c.loop-square.square c.loop-square.invariant.1
-          (omega (arith, c.squares_of-squares.ensures)) c.put_mark_line-next.ensures,
-    )
+  omega arith,
+  line_written (lines (goal.at.loop-square-preserved c).Start) (squares c.args.shape) c.args.at c.args.out.now c.requires.i_in_bounds c.loop-square.square c.loop-square.invariant.1
+      (omega (arith, c.squares_of-squares.ensures)) c.put_mark_line-next.ensures,
+)
 
 pub shape_of-out : goal.shape_of-out
 shape_of-out c =

@@ -1,7 +1,6 @@
 use Prim.Native.Nat.{◌-◌, ◌≤◌}
 use lib.ListN.{get_or}
 use Rattle.reckon.specs.Lists.{joined}
-use Rattle.grid.specs.Squares.{squares}
 use Rattle.text.specs.Writing.{Wrote}
 use Rattle.survey.specs.Sets.{mark_line}
 use Rattle.survey.proofs.texts.put_marks.Given as goal

@@ -32,25 +32,25 @@ put_run_line-b-requires c = run_fits c.args.heading (held (goal.at.put_run_line-
 
 pub put_marks-c-requires : goal.put_marks-c-requires
 put_marks-c-requires c = record {
-      shape_in_range = c.requires.shape_in_range;
-      i_in_bounds = cells_fit c.args.heading (held (goal.at.put_marks-c-requires c).Start) (cell (goal.at.put_marks-c-requires c).Start) c.args.out.now (fits (goal.at.put_marks-c-requires c).Start) c.put_grid_line-a.ensures
-          c.put_run_line-b.ensures;
-    }
+  shape_in_range = c.requires.shape_in_range;
+  i_in_bounds = cells_fit c.args.heading (held (goal.at.put_marks-c-requires c).Start) (cell (goal.at.put_marks-c-requires c).Start) c.args.out.now (fits (goal.at.put_marks-c-requires c).Start) c.put_grid_line-a.ensures
+      c.put_run_line-b.ensures;
+}
 
 pub put_table-d-requires : goal.put_table-d-requires
 put_table-d-requires c = record {
-      rows_in_bounds = omega (arith, c.requires.rain_len.0);
-      table_in_bounds = rain_fits c.args.heading (held (goal.at.put_table-d-requires c).Start) (cell (goal.at.put_table-d-requires c).Start) c.args.out.now (fits (goal.at.put_table-d-requires c).Start) c.put_grid_line-a.ensures
-          c.put_run_line-b.ensures c.put_marks-c.ensures;
-    }
+  rows_in_bounds = omega (arith, c.requires.rain_len.0);
+  table_in_bounds = rain_fits c.args.heading (held (goal.at.put_table-d-requires c).Start) (cell (goal.at.put_table-d-requires c).Start) c.args.out.now (fits (goal.at.put_table-d-requires c).Start) c.put_grid_line-a.ensures
+      c.put_run_line-b.ensures c.put_marks-c.ensures;
+}
 
 pub put_table-requires : goal.put_table-requires
 put_table-requires c = record {
-      rows_in_bounds = omega (arith, c.requires.rain_len.1);
-      table_in_bounds = inflow_fits c.args.heading (held (goal.at.put_table-requires c).Start) (cell (goal.at.put_table-requires c).Start) c.args.out.now (fits (goal.at.put_table-requires c).Start)
-          c.put_grid_line-a.ensures c.put_run_line-b.ensures c.put_marks-c.ensures
-          c.put_table-d.ensures;
-    }
+  rows_in_bounds = omega (arith, c.requires.rain_len.1);
+  table_in_bounds = inflow_fits c.args.heading (held (goal.at.put_table-requires c).Start) (cell (goal.at.put_table-requires c).Start) c.args.out.now (fits (goal.at.put_table-requires c).Start)
+      c.put_grid_line-a.ensures c.put_run_line-b.ensures c.put_marks-c.ensures
+      c.put_table-d.ensures;
+}
 
 pub returns : goal.returns
 returns c =

@@ -1,6 +1,5 @@
 -- `survey::texts::put_numbers` meets its contract: what is left, put from here on, makes the whole.
 -- Assumes nothing.
-use Prim.Native.Nat.{◌-◌}
 use native.Mathlib.Omega.{arith}
 use Rattle.text.proofs.WritingLaws.{left_all}
 use Rattle.survey.proofs.PutLaws.{number_fits, number_put, numbers_put}
@@ -20,10 +19,10 @@ put_field-next-requires c = number_fits c.args.table.now c.args.first c.args.wid
 
 pub loop-i-preserved : goal.loop-i-preserved
 loop-i-preserved c = (
-      omega arith,
-      number_put c.args.table.now c.args.first c.args.width (omega arith) c.number.ensures c.loop-i.invariant.1
-          c.put_field-next.ensures,
-    )
+  omega arith,
+  number_put c.args.table.now c.args.first c.args.width (omega arith) c.number.ensures c.loop-i.invariant.1
+      c.put_field-next.ensures,
+)
 
 pub shape_of-out : goal.shape_of-out
 shape_of-out c = c.loop-i.invariant.1.long

@@ -26,10 +26,10 @@ overflow_mul-width c = omega (arith, c.requires.width_in_bounds)
 
 pub put_numbers-end-requires : goal.put_numbers-end-requires
 put_numbers-end-requires c = record {
-      width_in_bounds = c.requires.width_in_bounds;
-      k_in_bounds = second_fits c.args.word.now (values (goal.at.put_numbers-end-requires c).Start) (newline ∷ []) (same (goal.at.put_numbers-end-requires c).Start) c.args.at c.args.out.now c.requires.row_in_bounds
-          c.put_word-start.ensures;
-    }
+  width_in_bounds = c.requires.width_in_bounds;
+  k_in_bounds = second_fits c.args.word.now (values (goal.at.put_numbers-end-requires c).Start) (newline ∷ []) (same (goal.at.put_numbers-end-requires c).Start) c.args.at c.args.out.now c.requires.row_in_bounds
+      c.put_word-start.ensures;
+}
 
 pub put_byte-requires : goal.put_byte-requires
 put_byte-requires c =

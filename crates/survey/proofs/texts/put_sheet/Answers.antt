@@ -33,25 +33,25 @@ put_run_line-b-requires c = run_fits c.args.heading (held (goal.at.put_run_line-
 
 pub put_cells-c-requires : goal.put_cells-c-requires
 put_cells-c-requires c = record {
-      shape_in_range = (c.requires.writable.shape, c.requires.writable.say.marks_low, c.requires.writable.each);
-      depths_in_bounds = cells_fit c.args.heading (held (goal.at.put_cells-c-requires c).Start) (cell (goal.at.put_cells-c-requires c).Start) c.args.out.now (fits (goal.at.put_cells-c-requires c).Start) c.put_grid_line-a.ensures
-          c.put_run_line-b.ensures;
-    }
+  shape_in_range = (c.requires.writable.shape, c.requires.writable.say.marks_low, c.requires.writable.each);
+  depths_in_bounds = cells_fit c.args.heading (held (goal.at.put_cells-c-requires c).Start) (cell (goal.at.put_cells-c-requires c).Start) c.args.out.now (fits (goal.at.put_cells-c-requires c).Start) c.put_grid_line-a.ensures
+      c.put_run_line-b.ensures;
+}
 
 pub put_table-d-requires : goal.put_table-d-requires
 put_table-d-requires c = record {
-      rows_in_bounds = omega (arith, c.requires.writable.say.rain_long);
-      table_in_bounds = rain_fits c.args.heading (held (goal.at.put_table-d-requires c).Start) (cell (goal.at.put_table-d-requires c).Start) c.args.out.now (fits (goal.at.put_table-d-requires c).Start) c.put_grid_line-a.ensures
-          c.put_run_line-b.ensures c.put_cells-c.ensures;
-    }
+  rows_in_bounds = omega (arith, c.requires.writable.say.rain_long);
+  table_in_bounds = rain_fits c.args.heading (held (goal.at.put_table-d-requires c).Start) (cell (goal.at.put_table-d-requires c).Start) c.args.out.now (fits (goal.at.put_table-d-requires c).Start) c.put_grid_line-a.ensures
+      c.put_run_line-b.ensures c.put_cells-c.ensures;
+}
 
 pub put_table-requires : goal.put_table-requires
 put_table-requires c = record {
-      rows_in_bounds = omega (arith, c.requires.writable.say.inflow_long);
-      table_in_bounds = inflow_fits c.args.heading (held (goal.at.put_table-requires c).Start) (cell (goal.at.put_table-requires c).Start) c.args.out.now (fits (goal.at.put_table-requires c).Start)
-          c.put_grid_line-a.ensures c.put_run_line-b.ensures c.put_cells-c.ensures
-          c.put_table-d.ensures;
-    }
+  rows_in_bounds = omega (arith, c.requires.writable.say.inflow_long);
+  table_in_bounds = inflow_fits c.args.heading (held (goal.at.put_table-requires c).Start) (cell (goal.at.put_table-requires c).Start) c.args.out.now (fits (goal.at.put_table-requires c).Start)
+      c.put_grid_line-a.ensures c.put_run_line-b.ensures c.put_cells-c.ensures
+      c.put_table-d.ensures;
+}
 
 pub returns : goal.returns
 returns c =
