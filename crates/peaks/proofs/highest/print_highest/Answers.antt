@@ -16,9 +16,9 @@ held c = rooms c.args.marks.now c.args.beds.now c.args.roughness.now c.args.rate
 
 pub run_sheet_peaks-ran-requires : goal.run_sheet_peaks-ran-requires
 run_sheet_peaks-ran-requires c = record {
-      holds = c.requires.0;
-      peaks_len = (length-replicate {A = ℕ} program_squares 0, length-replicate {A = ℕ} program_squares 0);
-    }
+  holds = c.requires.0;
+  peaks_len = (length-replicate {A = ℕ} program_squares 0, length-replicate {A = ℕ} program_squares 0);
+}
 
 pub squares_of-squares-requires : goal.squares_of-squares-requires
 squares_of-squares-requires c = c.requires.0.shape
@@ -82,8 +82,8 @@ put_highest-requires c =
       shape_in_range = (h.shape, h.few, c.requires.1);
       shape_in_bounds = (
         omega (arith, n, part_long {n = c.squares_of-squares.result} c.args.marks.now (omega (arith, h.marks_long, n, h.few))),
-        omega (arith, n, part_long {n = c.squares_of-squares.result} at-run-sheet-peaks.new.1.1.1.1.1.1.1.1.0 (omega (arith, ran.peaks_long, zeros, n, h.few))),
-        omega (arith, n, part_long {n = c.squares_of-squares.result} at-run-sheet-peaks.new.1.1.1.1.1.1.1.1.1.0 (omega (arith, ran.clocks_long, zeros, n, h.few))),
+        omega (arith, n, part_long {n = c.squares_of-squares.result} at-run-sheet-peaks.new.peaks (omega (arith, ran.peaks_long, zeros, n, h.few))),
+        omega (arith, n, part_long {n = c.squares_of-squares.result} at-run-sheet-peaks.new.clocks (omega (arith, ran.clocks_long, zeros, n, h.few))),
       );
     }
 
@@ -91,6 +91,6 @@ pub returns : goal.returns
 returns c =
     let at-run-sheet-peaks = c.run_sheet_peaks-ran in
     let at-squares-of = c.squares_of-squares in
-    let s = (c) in
-    highest_printed s.args.heading (held s) at-run-sheet-peaks.ensures.told s.pre.0.few at-squares-of.ensures
+    let s = (goal.at.returns c).Start in
+    highest_printed s.args.heading (held s) at-run-sheet-peaks.ensures.told s.requires.0.few at-squares-of.ensures
     c.put_highest.ensures

@@ -31,9 +31,9 @@ returns-then-ran-ne0 c = high_refused (P (goal.at.returns-then-ran-ne0 c).Start)
 
 pub put_highs-next-requires : goal.put_highs-next-requires
 put_highs-next-requires c = record {
-      shape_in_range = (c.requires.shape_in_range.0, c.requires.shape_in_bounds.0, c.requires.shape_in_bounds.1, c.requires.shape_in_bounds.2);
-      clocks_in_bounds = omega (arith, c.requires.shape_in_range.2, highs_fit (P (goal.at.put_highs-next-requires c).Start) c.args.peaks.now c.args.clocks.now c.args.ran c.requires.shape_in_range.1 (words (goal.at.put_highs-next-requires c).After-shared_slice_known-3-1) (clocks-small (goal.at.put_highs-next-requires c).After-shared_slice_known-3-1));
-    }
+  shape_in_range = (c.requires.shape_in_range.0, c.requires.shape_in_bounds.0, c.requires.shape_in_bounds.1, c.requires.shape_in_bounds.2);
+  clocks_in_bounds = omega (arith, c.requires.shape_in_range.2, highs_fit (P (goal.at.put_highs-next-requires c).Start) c.args.peaks.now c.args.clocks.now c.args.ran c.requires.shape_in_range.1 (words (goal.at.put_highs-next-requires c).After-shared_slice_known-3-1) (clocks-small (goal.at.put_highs-next-requires c).After-shared_slice_known-3-1));
+}
 
 pub put_totals-requires : goal.put_totals-requires
 put_totals-requires c = totals_follow (P (goal.at.put_totals-requires c).Start) c.args.peaks.now c.args.clocks.now c.args.ran c.requires.shape_in_range.1 (words (goal.at.put_totals-requires c).After-shared_slice_known-3-1) (clocks-small (goal.at.put_totals-requires c).After-shared_slice_known-3-1) c.requires.shape_in_range.2 c.put_highs-next.ensures
@@ -42,6 +42,6 @@ pub returns : goal.returns
 returns c =
     let at-if1 = c.if-ran-ne0 in
     let at-put-highs = c.put_highs-next in
-    let k = (c) in
+    let k = (goal.at.returns c).After-shared_slice_known-3-1 in
     high_made (P (goal.at.returns c).Start) c.args.peaks.now c.args.clocks.now c.args.ran c.requires.shape_in_range.1 (words k) (clocks-small k) c.requires.shape_in_range.2
     at-if1.false at-put-highs.ensures c.put_totals.ensures

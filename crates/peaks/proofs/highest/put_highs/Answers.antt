@@ -1,7 +1,7 @@
 -- `peaks::highest::put_highs` meets its contract: the lines so far stand at the place.
 -- Assumes nothing.
 use mathlib.Core.List.{List}
-use Prim.Native.Nat.{ℕ, ◌+◌, ◌-◌, ◌≤◌}
+use Prim.Native.Nat.{ℕ, ◌+◌, ◌≤◌}
 use native.Mathlib.Omega.{arith}
 use lib.ListN.{length}
 use Rattle.reckon.specs.Lists.{joined}
@@ -38,7 +38,7 @@ pub loop-square-preserved : goal.loop-square-preserved
 loop-square-preserved c =
     let at-squares-of = c.squares_of-squares in
     let at-loop = c.loop-square in
-    let s = (c) in (
+    let s = (goal.at.loop-square-preserved c).Start in (
       omega arith,
       line_written (text_of s) (squares s.args.shape) s.args.at s.args.out.now (fits s) at-loop.square at-loop.invariant.1
           (omega (arith, at-squares-of.ensures)) c.put_high-next.ensures,

@@ -1,6 +1,5 @@
 use Prim.Native.Nat.{◌-◌, ◌≤◌}
 use Rattle.reckon.specs.Lists.{joined}
-use Rattle.grid.specs.Squares.{squares}
 use Rattle.ledger.specs.Runs.{plan}
 use Rattle.text.specs.Writing.{Wrote}
 use Rattle.peaks.specs.Highest.{high_text}

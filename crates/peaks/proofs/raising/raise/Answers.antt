@@ -1,6 +1,5 @@
 -- `peaks::raising::raise` meets its contract: the rooms are raised below the square reached, by eights and then by what is left.
 -- Assumes nothing.
-use Prim.Native.Nat.{◌-◌}
 use native.Mathlib.Omega.{arith}
 use Rattle.reckon.proofs.ListLaws.{filled_none}
 use Rattle.peaks.proofs.RaiseLaws.{raised_long, raised_whole}

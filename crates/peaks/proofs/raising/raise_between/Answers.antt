@@ -1,7 +1,6 @@
 -- `peaks::raising::raise_between` meets its contract: the squares from the start up to the one reached are raised.
 -- Assumes nothing.
 use mathlib.Core.Path.{◌≡◌, refl, ◌∙◌}
-use Prim.Native.Nat.{◌-◌}
 use native.Mathlib.Omega.{arith}
 use Rattle.peaks.proofs.RaiseLaws.{between_more}
 use Rattle.peaks.proofs.raising.raise_between.Goals as goal
@@ -16,12 +15,12 @@ raise_one-requires c =
 
 pub loop-square-preserved : goal.loop-square-preserved
 loop-square-preserved c = (
-      omega arith,
-      c.raise_one.auto.peaks ∙ c.loop-square.invariant.1,
-      c.raise_one.auto.clocks ∙ c.loop-square.invariant.2,
-      between_more c.args.first c.args.clock c.args.marks.now c.args.depths.now c.args.peaks.now c.args.clocks.now c.args.start c.loop-square.square
-          (omega (arith, c.requires, c.loop-square.invariant.1)) (omega (arith, c.requires, c.loop-square.invariant.2)) c.loop-square.invariant.3 c.raise_one.ensures,
-    )
+  omega arith,
+  c.raise_one.auto.peaks ∙ c.loop-square.invariant.1,
+  c.raise_one.auto.clocks ∙ c.loop-square.invariant.2,
+  between_more c.args.first c.args.clock c.args.marks.now c.args.depths.now c.args.peaks.now c.args.clocks.now c.args.start c.loop-square.square
+      (omega (arith, c.requires, c.loop-square.invariant.1)) (omega (arith, c.requires, c.loop-square.invariant.2)) c.loop-square.invariant.3 c.raise_one.ensures,
+)
 
 pub shape_of-peaks : goal.shape_of-peaks
 shape_of-peaks c = c.loop-square.invariant.1

@@ -2,10 +2,9 @@
 -- Assumes nothing.
 use mathlib.Core.Path.{◌≡◌, refl, sym, ◌∙◌}
 use mathlib.Core.List.{List}
-use Prim.Native.Nat.{ℕ, ◌+◌, ◌-◌, ◌≤◌}
+use Prim.Native.Nat.{ℕ, ◌+◌, ◌≤◌}
 use native.Mathlib.Omega.{arith}
 use lib.ListN.{length, length-replicate}
-use borrow.Author.Rules.{rules}
 use Rattle.grid.specs.Squares.{most_along, most_squares}
 use Rattle.ledger.specs.Runs.{Plan, World, plan, world}
 use Rattle.checks.specs.Given.{Given, ground, given}
@@ -83,16 +82,16 @@ raise-requires c = even-rooms (goal.at.raise-requires c).Start
 
 pub loop-at-init : goal.loop-at-init
 loop-at-init c = (
-      running_starts (p (goal.at.loop-at-init c).Start) (g (goal.at.loop-at-init c).Start) c.args.end (w (goal.at.loop-at-init c).Start) c.requires.passes.checked,
-      peaked_again (p (goal.at.loop-at-init c).Start) (g (goal.at.loop-at-init c).Start) (w (goal.at.loop-at-init c).Start) (starting (goal.at.loop-at-init c).After-raise),
-      refl,
-      refl,
-      refl,
-      length-replicate {A = ℕ} most_squares 0,
-      length-replicate {A = ℕ} most_along 0,
-      length-replicate {A = ℕ} most_along 0,
-      length-replicate {A = ℕ} most_squares 0,
-    )
+  running_starts (p (goal.at.loop-at-init c).Start) (g (goal.at.loop-at-init c).Start) c.args.end (w (goal.at.loop-at-init c).Start) c.requires.passes.checked,
+  peaked_again (p (goal.at.loop-at-init c).Start) (g (goal.at.loop-at-init c).Start) (w (goal.at.loop-at-init c).Start) (starting (goal.at.loop-at-init c).After-raise),
+  refl,
+  refl,
+  refl,
+  length-replicate {A = ℕ} most_squares 0,
+  length-replicate {A = ℕ} most_along 0,
+  length-replicate {A = ℕ} most_along 0,
+  length-replicate {A = ℕ} most_squares 0,
+)
 
 pub slice_bounds-left-end : goal.slice_bounds-left-end
 slice_bounds-left-end c = omega (arith, squares_fit (goal.at.slice_bounds-left-end c).In-loop-at, c.loop-at.invariant.5)

@@ -1,10 +1,11 @@
 -- `peaks::running::run_sheet_peaks` meets its contract: the parts that belong to the sheet lie in their rooms, and their run starts from nothing.
 -- Assumes nothing.
-use mathlib.Core.Path.{◌≡◌, refl, sym, ◌∙◌}
-use mathlib.Core.List.{List}
+use mathlib.Core.Path.{◌≡◌, refl, sym, ap, ◌∙◌}
+use mathlib.Core.List.{List, ◌++◌}
 use Prim.Native.Nat.{ℕ, ◌+◌, ◌*◌}
 use native.Mathlib.Omega.{arith}
-use lib.ListN.{length, take}
+use lib.ListN.{length, take, drop, length-append}
+use Rattle.std.proofs.lemmas.List.{take-append-drop}
 use Rattle.ledger.specs.Record.{head_words, square_words}
 use Rattle.sheet.specs.Sheet.{Rooms, rooms}
 use Rattle.sheet.proofs.JudgeLaws.{taken_long, zeros_are}
@@ -17,6 +18,11 @@ use Rattle.peaks.proofs.running.run_sheet_peaks.Goals.{Start}
 -- what the rooms hold
 abbrev held : Start → Rooms
 held c = rooms c.args.marks.now c.args.beds.now c.args.roughness.now c.args.rates.now c.args.depths.now c.args.rain.now c.args.inflow.now
+
+-- a room is as long as before once its first part has been written anew
+kept : (n : ℕ) (room part : List ℕ) → length part ≡ length (take n room) → length (part ++ drop n room) ≡ length room
+kept n room part e =
+    omega (arith, e, length-append part (drop n room), length-append (take n room) (drop n room), ap length (take-append-drop n room))
 
 pub squares_of-squares-requires : goal.squares_of-squares-requires
 squares_of-squares-requires c = c.requires.holds.shape
@@ -114,13 +120,13 @@ returns c =
     let at-record-size =
     c.record_size-size in
     let at-run-peaks = c.run_peaks in
-    let s = (c) in
-    let h = s.pre.0 in
+    let s = (goal.at.returns c).Start in
+    let h = s.requires.holds in
     let n = at-squares-of.ensures in
     let m = at-record-size.ensures in
     let long : (room : List ℕ) → length room ≡ program_squares → length (take at-squares-of.result room) ≡ at-squares-of.result = λ room e. sym (part_long room (omega (arith, e, n, h.few))) in
-    sheet-peaks s.args.heading (held s) h s.args.peaks.now s.args.clocks.now s.pre.1.0 s.pre.1.1 n
-    (from_nothing s.args.heading (parts_at at-squares-of.result s.args.heading (held s)) _ _ h.shape (long _ s.pre.1.0 ∙ n)
-    (long _ s.pre.1.1 ∙ n) (parts_pass {held = held s} h n) (zeros_are _ _ n h.few) (zeros_are _ _ m (record-in h))
+    sheet-peaks s.args.heading (held s) h s.args.peaks.now s.args.clocks.now s.requires.peaks_len.0 s.requires.peaks_len.1 n
+    (from_nothing s.args.heading (parts_at at-squares-of.result s.args.heading (held s)) _ _ h.shape (long _ s.requires.peaks_len.0 ∙ n)
+    (long _ s.requires.peaks_len.1 ∙ n) (parts_pass {held = held s} h n) (zeros_are _ _ n h.few) (zeros_are _ _ m (record-in h))
     at-fresh-run.ensures at-run-peaks.ensures)
-    (same-length-2 c) (same-length-3 c)
+    (kept _ _ _ c.run_peaks.auto.peaks) (kept _ _ _ c.run_peaks.auto.clocks)
