@@ -18,7 +18,6 @@ use Rattle.sight.specs.declared.arrows.Sight.{Sight}
 use Rattle.sight.specs.declared.arrows.Sight.TheVariants.{Closed, Dry, Still, Moving, Refused}
 use Rattle.sight.specs.declared.wet_rows.Wet.{Wet}
 use Rattle.sight.specs.declared.wet_rows.Wet.TheVariants.{Count}
-use Rattle.sight.specs.declared.wet_rows.Wet.TheVariants as Wet
 use Rattle.exports.specs.Numbers.{count_size}
 use Rattle.exports.specs.Refusals.{unless_refused}
 use Rattle.exports.specs.Sights.{sight_number, speeds_in, arrow_sized, ExportsArrow, wet_number_of, wet_gives, ExportsWet}

@@ -10,7 +10,6 @@ use Rattle.sight.specs.declared.arrows.Sight.{Sight}
 use Rattle.sight.specs.declared.arrows.Sight.TheVariants.{Closed, Dry, Still, Moving, Refused}
 use Rattle.sight.specs.declared.wet_rows.Wet.{Wet}
 use Rattle.sight.specs.declared.wet_rows.Wet.TheVariants.{Count}
-use Rattle.sight.specs.declared.wet_rows.Wet.TheVariants as Wet
 use Rattle.exports.specs.Numbers.{count_size, run_size, sized, speeds_size}
 use Rattle.exports.specs.Refusals.{number_if, unless_refused}
 

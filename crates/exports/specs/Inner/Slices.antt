@@ -5,7 +5,6 @@ use Rattle.ledger.specs.declared.runs.Answer.{Answer}
 use Rattle.ledger.specs.declared.runs.Answer.TheVariants.{Done, Refused}
 use Rattle.sight.specs.declared.wet_rows.Wet.{Wet}
 use Rattle.sight.specs.declared.wet_rows.Wet.TheVariants.{Count}
-use Rattle.sight.specs.declared.wet_rows.Wet.TheVariants as Wet
 use Rattle.exports.specs.Numbers.{run_numbers}
 
 -- ---- an answer that gives a run

@@ -24,7 +24,7 @@ returns-then-number-ne0 c =
 pub put_arrows-at-requires : goal.put_arrows-at-requires
 put_arrows-at-requires c = record {
       shape_in_range = (c.requires.0.fine, omega (arith, c.all_arrows-number.auto.kinds, c.requires.1), omega (arith, c.all_arrows-number.auto.east, c.requires.2), omega (arith, c.all_arrows-number.auto.north, c.requires.3));
-      north_in_bounds = omega (arith, (seen-short c.args.desk.heading.shape c.requires.0.fine (sights c.all_arrows-number.new.kinds c.all_arrows-number.new.east c.all_arrows-number.new.north) (record { east_fits = c.type_inv.east; north_fits = c.type_inv.north })), c.requires.0.out_long);
+      north_in_bounds = omega (arith, (seen-short c.args.desk.heading.shape c.requires.0.fine (sights c.all_arrows-number.new.kinds c.all_arrows-number.new.east c.all_arrows-number.new.north) (record { east_fits = c.slice_known-6-1.given; north_fits = c.slice_known-7-1.given })), c.requires.0.out_long);
     }
 
 -- src/lines.rt:361:9
@@ -33,7 +33,7 @@ put_ending-length-requires c =
     ending_fits most_arrows c.put_arrows-at.ensures
     (seen-short c.args.desk.heading.shape c.requires.0.fine
     (sights c.all_arrows-number.new.kinds c.all_arrows-number.new.east
-    c.all_arrows-number.new.north) (record { east_fits = c.type_inv.east; north_fits = c.type_inv.north }))
+    c.all_arrows-number.new.north) (record { east_fits = c.slice_known-6-1.given; north_fits = c.slice_known-7-1.given }))
     c.requires.0.out_long (omega arith)
 
 -- src/lines.rt:329:1
@@ -57,5 +57,5 @@ returns c =
     (text_told most_arrows c.put_arrows-at.ensures
     (seen-short a.desk.heading.shape c.requires.0.fine
     (sights c.all_arrows-number.new.kinds c.all_arrows-number.new.east
-    c.all_arrows-number.new.north) (record { east_fits = c.type_inv.east; north_fits = c.type_inv.north }))
+    c.all_arrows-number.new.north) (record { east_fits = c.slice_known-6-1.given; north_fits = c.slice_known-7-1.given }))
     c.requires.0.out_long (omega arith) c.put_ending-length.ensures c.desk_still.ensures)
