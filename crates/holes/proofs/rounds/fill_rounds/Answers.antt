@@ -1,7 +1,6 @@
 -- `holes::rounds::fill_rounds` meets its contract: so many rounds were made, and the last fills nothing or is as far on as there are squares.
 -- Assumes nothing.
 use mathlib.Core.Path.{refl, sym, ap, ◌∙◌}
-use Prim.Native.Nat.{◌-◌}
 use native.Mathlib.Omega.{arith}
 use lib.ListN.{length}
 use Rattle.holes.proofs.FillLaws.{going_none, going_end, going_long, round_long, copied, going_more, going_still}
