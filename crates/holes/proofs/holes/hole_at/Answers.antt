@@ -4,7 +4,6 @@ use mathlib.Core.Path.{sym, ap, ◌∙◌}
 use mathlib.Core.List.{[], ◌∷◌}
 use native.Mathlib.Omega.{arith}
 use lib.Seq.{length-take-le}
-use borrow.Author.Tests.{not-false}
 use Rattle.text.specs.Reading.{tab, word_at}
 use Rattle.text.proofs.ReadingLaws.{word_within}
 use Rattle.holes.specs.Holes.{question}
@@ -53,6 +52,9 @@ returns-then-word_at c =
     ∙ (sym c.word_at.ensures ∙ c.if-not-word_at.false))
     (omega (arith, at-put-place.ensures.next)) (sym c.word_at-2.ensures ∙ c.if-word_at.true)
 
+pub overflow_add-result : goal.overflow_add-result
+overflow_add-result c = omega (arith, word_within c.args.text.now _ (111 ∷ tab ∷ question ∷ tab ∷ []) (sym c.word_at-2.ensures ∙ c.if-word_at.true))
+
 pub overflow_add-result-then-word_at-2 : goal.overflow_add-result-then-word_at-2
 overflow_add-result-then-word_at-2 c = omega (arith, word_within c.args.text.now _ (101 ∷ tab ∷ question ∷ tab ∷ []) (sym c.word_at-3.ensures ∙ c.if-word_at-2.true))
 
@@ -63,7 +65,7 @@ returns-then-word_at-2 c =
     let at-word-at = c.word_at in
     let at-if1 = c.if-not-word_at in
     hole_exit a.text.now a.at a.row a.column
-    (ap (word_at a.text.now a.at) (sym (put_again at-put-place.ensures)) ∙ (sym at-word-at.ensures ∙ not-false _ at-if1.false))
+    (ap (word_at a.text.now a.at) (sym (put_again at-put-place.ensures)) ∙ (sym at-word-at.ensures ∙ at-if1.false))
     (omega (arith, at-put-place.ensures.next))
     (sym c.word_at-2.ensures ∙ c.if-word_at.false)
     (sym c.word_at-3.ensures ∙ c.if-word_at-2.true)
@@ -75,7 +77,7 @@ returns c =
     let at-word-at = c.word_at in
     let at-if1 = c.if-not-word_at in
     hole_none a.text.now a.at a.row a.column
-    (ap (word_at a.text.now a.at) (sym (put_again at-put-place.ensures)) ∙ (sym at-word-at.ensures ∙ not-false _ at-if1.false))
+    (ap (word_at a.text.now a.at) (sym (put_again at-put-place.ensures)) ∙ (sym at-word-at.ensures ∙ at-if1.false))
     (omega (arith, at-put-place.ensures.next))
     (sym c.word_at-2.ensures ∙ c.if-word_at.false)
     (sym c.word_at-3.ensures ∙ c.if-word_at-2.false)

@@ -1,7 +1,6 @@
 -- `holes::holes::put_from` meets its contract: the lines so far stand at the place, and the rest of the text follows the last.
 -- Assumes nothing.
 use mathlib.Core.Path.{sym, ap, ◌∙◌}
-use Prim.Native.Nat.{◌-◌}
 use native.Mathlib.Omega.{arith}
 use lib.ListN.{length, drop}
 use Rattle.reckon.specs.Lists.{joined}

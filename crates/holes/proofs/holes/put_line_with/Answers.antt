@@ -82,9 +82,8 @@ pub overflow_add-rest : goal.overflow_add-rest
 overflow_add-rest c =
     let at-next-line = c.next_line-end in
     let at-hole-at = c.hole_at in
-    let at-spot = c.spot-1 in
     let a = c.args in
-    let t = told_at a.text.now a.start a.row a.column (sym at-spot.given.1 ∙ at-hole-at.ensures) in
+    let t = told_at a.text.now a.start a.row a.column (sym c.in-At.is ∙ at-hole-at.ensures) in
     let k = hole_spot a.text.now a.start a.row a.column t.0 in
     omega (arith, t.1, k.before, k.inside, k.after, at-next-line.ensures, next-within a.text.now a.start c.requires.start_in_bounds)
 
@@ -92,9 +91,8 @@ pub slice_bounds-put_word-count-3 : goal.slice_bounds-put_word-count-3
 slice_bounds-put_word-count-3 c =
     let at-next-line = c.next_line-end in
     let at-hole-at = c.hole_at in
-    let at-spot = c.spot-1 in
     let a = c.args in
-    let t = told_at a.text.now a.start a.row a.column (sym at-spot.given.1 ∙ at-hole-at.ensures) in
+    let t = told_at a.text.now a.start a.row a.column (sym c.in-At.is ∙ at-hole-at.ensures) in
     let k = hole_spot a.text.now a.start a.row a.column t.0 in
     omega (arith, t.1, k.before, k.inside, k.after, at-next-line.ensures, next-within a.text.now a.start c.requires.start_in_bounds)
 
@@ -102,9 +100,8 @@ pub slice_bounds-put_word-start-3 : goal.slice_bounds-put_word-start-3
 slice_bounds-put_word-start-3 c =
     let at-next-line = c.next_line-end in
     let at-hole-at = c.hole_at in
-    let at-spot = c.spot-1 in
     let a = c.args in
-    let t = told_at a.text.now a.start a.row a.column (sym at-spot.given.1 ∙ at-hole-at.ensures) in
+    let t = told_at a.text.now a.start a.row a.column (sym c.in-At.is ∙ at-hole-at.ensures) in
     let k = hole_spot a.text.now a.start a.row a.column t.0 in
     omega (arith, t.1, k.before, k.inside, k.after, at-next-line.ensures, next-within a.text.now a.start c.requires.start_in_bounds)
 
@@ -112,9 +109,8 @@ pub slice_bounds-put_word-end-3 : goal.slice_bounds-put_word-end-3
 slice_bounds-put_word-end-3 c =
     let at-next-line = c.next_line-end in
     let at-hole-at = c.hole_at in
-    let at-spot = c.spot-1 in
     let a = c.args in
-    let t = told_at a.text.now a.start a.row a.column (sym at-spot.given.1 ∙ at-hole-at.ensures) in
+    let t = told_at a.text.now a.start a.row a.column (sym c.in-At.is ∙ at-hole-at.ensures) in
     let k = hole_spot a.text.now a.start a.row a.column t.0 in
     omega (arith, t.1, k.before, k.inside, k.after, at-next-line.ensures, next-within a.text.now a.start c.requires.start_in_bounds)
 
@@ -123,11 +119,10 @@ put_word-requires-2 c =
     let at-next-line =
     c.next_line-end in
     let at-hole-at = c.hole_at in
-    let at-spot = c.spot-1 in
     let at-put-word2 = c.put_word-before in
     let a = c.args in
-    let spot = at-spot.given.0.0 in
-    let t = told_at a.text.now a.start a.row a.column (sym at-spot.given.1 ∙ at-hole-at.ensures) in
+    let spot = c.in-At.spot in
+    let t = told_at a.text.now a.start a.row a.column (sym c.in-At.is ∙ at-hole-at.ensures) in
     third_fits (between a.text.now a.start spot) (bed_text a.bed) (between a.text.now (spot + 1) at-next-line.result)
     (line_parts a.text.now a.start a.row a.column (bed_text a.bed) t.0 t.1 at-next-line.ensures) a.at a.out.now
     c.requires.bed_in_bounds at-put-word2.ensures c.put_bed-next.ensures
@@ -138,12 +133,11 @@ returns c =
     c.next_line-end in
     let at-hole-at =
     c.hole_at in
-    let at-spot = c.spot-1 in
     let at-put-word2 = c.put_word-before in
     let at-put-bed = c.put_bed-next in
     let a = c.args in
-    let spot = at-spot.given.0.0 in
-    let t = told_at a.text.now a.start a.row a.column (sym at-spot.given.1 ∙ at-hole-at.ensures) in
+    let spot = c.in-At.spot in
+    let t = told_at a.text.now a.start a.row a.column (sym c.in-At.is ∙ at-hole-at.ensures) in
     three_put (between a.text.now a.start spot) (bed_text a.bed) (between a.text.now (spot + 1) at-next-line.result)
     (line_parts a.text.now a.start a.row a.column (bed_text a.bed) t.0 t.1 at-next-line.ensures) a.at a.out.now
     c.requires.bed_in_bounds at-put-word2.ensures at-put-bed.ensures c.put_word-2.ensures

@@ -1,7 +1,6 @@
 -- `holes::repairing::put_list` meets its contract: the lines so far stand at the place.
 -- Assumes nothing.
 use mathlib.Core.Path.{sym, ap, ◌∙◌}
-use Prim.Native.Nat.{◌-◌}
 use native.Mathlib.Omega.{arith}
 use lib.ListN.{length}
 use Rattle.text.proofs.WritingLaws.{written_as}

@@ -9,9 +9,9 @@ use Rattle.holes.proofs.repairing.put_repaired.Goals as goal
 
 pub mark_holes-requires : goal.mark_holes-requires
 mark_holes-requires c = (
-      looked c.args.text.now c.requires.0 c.squares_of-squares.ensures,
-      omega (arith, c.squares_of-squares.ensures, c.requires.0.beds_long),
-    )
+  looked c.args.text.now c.requires.0 c.squares_of-squares.ensures,
+  omega (arith, c.squares_of-squares.ensures, c.requires.0.beds_long),
+)
 
 pub slice_bounds-before-end : goal.slice_bounds-before-end
 slice_bounds-before-end c = omega (arith, c.squares_of-squares.ensures, c.requires.0.few)
@@ -42,7 +42,7 @@ put_with_beds-next-requires c =
         omega (arith, at-squares-of.ensures, (rooms_long a.text.now k at-squares-of.ensures at-mark-holes.ensures k.few at-fill-rounds.ensures).0),
       );
       beds_in_bounds = sheet_fits a.text.now k at-squares-of.ensures at-mark-holes.ensures k.few at-fill-rounds.ensures
-          (λ i. omega (arith, c.type_inv.beds i)) a.out.now c.requires.1;
+          (λ i. omega (arith, c.slice_known-4-1.given i)) a.out.now c.requires.1;
     }
 
 pub put_list-requires : goal.put_list-requires
@@ -53,7 +53,6 @@ put_list-requires c =
     let at-mark-holes =
     c.mark_holes in
     let at-fill-rounds = c.fill_rounds in
-    let at-slice-known4 = c.slice_known-1 in
     let at-put-with-beds = c.put_with_beds-next in
     let k = c.requires.0 in
     let long = rooms_long a.text.now k at-squares-of.ensures at-mark-holes.ensures k.few at-fill-rounds.ensures in record {
@@ -63,7 +62,7 @@ put_list-requires c =
         omega (arith, at-squares-of.ensures, long.1, k.few),
       );
       turns_in_bounds = list_fits a.text.now k at-squares-of.ensures at-mark-holes.ensures k.few at-fill-rounds.ensures
-          (λ i. omega (arith, at-slice-known4.given i)) a.out.now c.requires.1
+          (λ i. omega (arith, c.slice_known-4-1.given i)) a.out.now c.requires.1
           at-put-with-beds.ensures;
     }
 
@@ -75,9 +74,8 @@ returns c =
     c.mark_holes in
     let at-fill-rounds =
     c.fill_rounds in
-    let at-slice-known4 = c.slice_known-1 in
     let at-put-with-beds = c.put_with_beds-next in
     let k = c.requires.0 in
     repaired_put c.args.text.now k at-squares-of.ensures at-mark-holes.ensures k.few at-fill-rounds.ensures
-    (λ i. omega (arith, at-slice-known4.given i)) c.args.out.now c.requires.1
+    (λ i. omega (arith, c.slice_known-4-1.given i)) c.args.out.now c.requires.1
     at-put-with-beds.ensures c.put_list.ensures

@@ -97,7 +97,7 @@ put_repaired-requires c =
     let at-grid-line =
     c.grid_line-top in
     let s = c.args.text.now in
-    let short : length s ≤ most_text = omega (arith, at-if1.left) in (
+    let short : length s ≤ most_text = omega (arith, at-if1.false) in (
       repairable s short (reads (goal.at.put_repaired-requires c).After-read_within-sheet c.in-Read.is) (count (goal.at.put_repaired-requires c).After-read_within-sheet)
           (ap (λ (g : GridLine). g.shape) at-grid-line.ensures),
       omega arith,
@@ -108,14 +108,13 @@ returns-in-Refused c =
     let at-if1 =
     c.if-text-gt-MOST_TEXT in
     let s = c.args.text.now in
-    let short : length s ≤ most_text = omega (arith, at-if1.left) in
+    let short : length s ≤ most_text = omega (arith, at-if1.false) in
     repair_refused s short (reads (goal.at.returns-in-Refused c).After-read_within-sheet c.in-Refused.is) (omega arith) (omega arith) (omega arith) c.put_refused-in-Refused.ensures
 
 pub returns-in-Read : goal.returns-in-Read
 returns-in-Read c =
     let at-if1 =
     c.if-text-gt-MOST_TEXT in
-    let at-sheet2 = c.sheet-in-Read-1 in
     let s = c.args.text.now in
-    let short : length s ≤ most_text = omega (arith, at-if1.left) in
-    repair_read s short (reads (goal.at.returns-in-Read c).After-read_within-sheet at-sheet2.given.1) (count (goal.at.returns-in-Read c).After-read_within-sheet) (omega arith) c.put_repaired.ensures
+    let short : length s ≤ most_text = omega (arith, at-if1.false) in
+    repair_read s short (reads (goal.at.returns-in-Read c).After-read_within-sheet c.in-Read.is) (count (goal.at.returns-in-Read c).After-read_within-sheet) (omega arith) c.put_repaired.ensures

@@ -1,7 +1,6 @@
 -- `holes::rounds::fill_rounds` meets its contract: so many rounds were made, and the last fills nothing or is as far on as there are squares.
 -- Assumes nothing.
 use mathlib.Core.Path.{refl, sym, ap, ◌∙◌}
-use Prim.Native.Nat.{◌-◌}
 use native.Mathlib.Omega.{arith}
 use lib.ListN.{length}
 use Rattle.holes.proofs.FillLaws.{going_none, going_end, going_long, round_long, copied, going_more, going_still}
@@ -94,8 +93,8 @@ note_round-requires c =
     c.loop-turn-test in
     let at-copy-into = c.copy_into in
     let at-one-round = c.one_round in
-    let g = going_long a.shape a.marks.now a.beds.now c.requires.beds_seen at-loop.inv.2 in
-    let b = copied a.shape a.marks.now a.beds.now c.requires.beds_seen at-loop.inv.0 (omega (arith, at-loop-test.taken, at-squares-of.ensures)) at-loop.inv.2 at-loop.before (omega (arith, c.requires.shape_in_range.3, at-loop.inv.1)) at-copy-into.ensures in
+    let g = going_long a.shape a.marks.now a.beds.now c.requires.beds_seen at-loop.invariant.2 in
+    let b = copied a.shape a.marks.now a.beds.now c.requires.beds_seen at-loop.invariant.0 (omega (arith, at-loop-test.true, at-squares-of.ensures)) at-loop.invariant.2 at-loop.before (omega (arith, c.requires.shape_in_range.3, at-loop.invariant.1)) at-copy-into.ensures in
     let l = ap length at-one-round.ensures ∙ round_long a.shape a.marks.now a.beds.now c.requires.beds_seen _ in
     (omega (arith, ap length b, g.0, l), omega (arith, ap length b, g.0, g.1, c.requires.shape_in_range.2))
 
@@ -105,7 +104,7 @@ overflow_add-turn c =
     c.squares_of-squares in
     let at-loop-test =
     c.loop-turn-test in
-    omega (arith, at-loop-test.taken, at-squares-of.ensures, c.requires.shape_in_range.0.few)
+    omega (arith, at-loop-test.true, at-squares-of.ensures, c.requires.shape_in_range.0.few)
 
 pub loop-turn-smaller : goal.loop-turn-smaller
 loop-turn-smaller c = omega (arith, c.loop-turn-test.true)
@@ -122,12 +121,12 @@ loop-turn-preserved c =
     let at-copy-into =
     c.copy_into in
     let at-one-round = c.one_round in
-    let g = going_long a.shape a.marks.now a.beds.now c.requires.beds_seen at-loop.inv.2 in
-    let b = copied a.shape a.marks.now a.beds.now c.requires.beds_seen at-loop.inv.0 (omega (arith, at-loop-test.taken, at-squares-of.ensures)) at-loop.inv.2 at-loop.before (omega (arith, c.requires.shape_in_range.3, at-loop.inv.1)) at-copy-into.ensures in (
+    let g = going_long a.shape a.marks.now a.beds.now c.requires.beds_seen at-loop.invariant.2 in
+    let b = copied a.shape a.marks.now a.beds.now c.requires.beds_seen at-loop.invariant.0 (omega (arith, at-loop-test.true, at-squares-of.ensures)) at-loop.invariant.2 at-loop.before (omega (arith, c.requires.shape_in_range.3, at-loop.invariant.1)) at-copy-into.ensures in (
       omega arith,
       omega (arith, ap length b, g.0, c.requires.shape_in_range.3),
-      going_more a.shape a.marks.now a.beds.now c.requires.beds_seen at-loop.inv.0
-          (omega (arith, at-loop-test.taken, at-squares-of.ensures)) at-loop.inv.2 b at-one-round.ensures
+      going_more a.shape a.marks.now a.beds.now c.requires.beds_seen at-loop.invariant.0
+          (omega (arith, at-loop-test.true, at-squares-of.ensures)) at-loop.invariant.2 b at-one-round.ensures
           c.note_round.ensures,
     )
 

@@ -3,7 +3,7 @@
 use mathlib.Core.Path.{refl, sym, ap, ◌∙◌}
 use mathlib.Core.Bool.{false}
 use mathlib.Core.List.{List}
-use Prim.Native.Nat.{ℕ, ◌-◌}
+use Prim.Native.Nat.{ℕ}
 use native.Mathlib.Nat.{zero-mod}
 use native.Mathlib.Omega.{arith}
 use lib.ListN.{length, set}
@@ -21,10 +21,10 @@ loop-square-init c = (omega arith, sym (zero-mod _), filled_none _ _ _)
 
 pub bed_after-requires : goal.bed_after-requires
 bed_after-requires c = (
-      record { fine = c.requires.0; inside = omega (arith, c.loop-square-test.true, c.squares_of-squares.ensures); column_is = c.loop-square.invariant.1 },
-      c.requires.1,
-      c.requires.2,
-    )
+  record { fine = c.requires.0; inside = omega (arith, c.loop-square-test.true, c.squares_of-squares.ensures); column_is = c.loop-square.invariant.1 },
+  c.requires.1,
+  c.requires.2,
+)
 
 pub offset_bounds-beds-square : goal.offset_bounds-beds-square
 offset_bounds-beds-square c = omega (arith, c.loop-square-test.true, c.squares_of-squares.ensures, c.requires.0.few)
@@ -43,9 +43,9 @@ bounds-beds-square c =
 
 pub next_column-column-requires : goal.next_column-column-requires
 next_column-column-requires c = (
-      c.requires.0,
-      column-within c.args.shape c.loop-square.square c.requires.0.columns_low c.loop-square.invariant.1,
-    )
+  c.requires.0,
+  column-within c.args.shape c.loop-square.square c.requires.0.columns_low c.loop-square.invariant.1,
+)
 
 pub overflow_add-square : goal.overflow_add-square
 overflow_add-square c = omega (arith, c.loop-square-test.true)
@@ -55,13 +55,13 @@ loop-square-smaller c = omega (arith, c.loop-square-test.true)
 
 pub loop-square-preserved : goal.loop-square-preserved
 loop-square-preserved c = (
-      omega (arith, c.loop-square-test.true),
-      carried c.args.shape c.loop-square.square c.loop-square.invariant.1 c.next_column-column.ensures,
-      ap (λ (l : List ℕ). set l c.loop-square.square c.bed_after.result) c.loop-square.invariant.2
-          ∙ filled_store _ _ _ c.loop-square.square
-          (omega (arith, c.loop-square-test.true, c.squares_of-squares.ensures, c.requires.3)) refl
-          c.bed_after.ensures,
-    )
+  omega (arith, c.loop-square-test.true),
+  carried c.args.shape c.loop-square.square c.loop-square.invariant.1 c.next_column-column.ensures,
+  ap (λ (l : List ℕ). set l c.loop-square.square c.bed_after.result) c.loop-square.invariant.2
+      ∙ filled_store _ _ _ c.loop-square.square
+      (omega (arith, c.loop-square-test.true, c.squares_of-squares.ensures, c.requires.3)) refl
+      c.bed_after.ensures,
+)
 
 pub shape_of-beds : goal.shape_of-beds
 shape_of-beds c =

@@ -1,8 +1,6 @@
 -- `holes::rounds::same_beds` meets its contract: the squares passed have the same bed in both.
 -- Assumes nothing.
 use mathlib.Core.Path.{sym}
-use mathlib.Core.Bool.{true}
-use Prim.Native.Nat.{◌-◌}
 use native.Mathlib.Omega.{arith}
 use borrow.Author.Tests.{eq-eqb, ne_eqb}
 use Rattle.reckon.proofs.TestLaws.{all_none, all_more, all_fails, all_whole}
