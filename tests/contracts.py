@@ -22,11 +22,9 @@ IN_ROOMS = (
     ("flood", "step::step_on"),
     ("flood", "step::step_checked"),
     ("trying", "lines::step_once"),
-    ("desks", "command::make_step"),
+    ("desks", "command::make_further"),
 )
 NOT_SAID = {(*function, slice) for function in IN_ROOMS for slice in ("room", "left", "worked", "senders")}
-# what our own program calls in an entry point's place: both leave the same
-IN_PLACE_OF = {"make_step": "make_next"}
 # what becomes of a text that is written to a file is the system's to say
 NOT_SAID.add(("files", "write_named", "text"))
 
@@ -148,14 +146,14 @@ def exported_bodies(top):
 
 def hold_tied(hold, functions, calls):
     """Each entry point has its function above the demands, whose whole body is that call; every other function there makes several calls of the
-    libraries, one of them an entry point or what stands in its place."""
+    libraries, one of them an entry point."""
     wanted = {f"after_{function.name}": function for function in functions if function.is_entry}
     for name, function in wanted.items():
         hold(re.fullmatch(rf"{function.name}\((?:[\w\s,]|\.len\(\))*\)", calls.get(name, "")), f"no function above the demands makes the call {function.crate}::{function.path}")
     entries, public = ({function.name for function in each} for each in (wanted.values(), functions))
     for name in sorted(set(calls) - set(wanted)):
         made = [word for word in re.findall(r"(\w+)\(", calls[name]) if word in public]
-        hold(len(made) > 1 and entries & {IN_PLACE_OF.get(word, word) for word in made}, f"{name}, above the demands, makes fewer than two calls, or none of an entry point")
+        hold(len(made) > 1 and entries & set(made), f"{name}, above the demands, makes fewer than two calls, or none of an entry point")
 
 
 def bodies(top):

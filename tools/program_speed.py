@@ -2,9 +2,8 @@
 """program_speed.py [short] WAY..: what a step takes in each program that makes steps, on the same sheet; a way is `native` or `emulated`.
 
 A program runs the sheet to two ends that lie many steps apart, and the difference of its processor times, by the steps between, is a step: what is
-read and printed is the same both times. The desk, which prints a frame for a line, answers as many lines of 64 steps as of one. Beside them runs
-target/outside/keeping, which bin/speed builds: a run that keeps as many steps as the desk does. Programs take turns, and each turn gives a line of
-figures for tools/speed.py; where the emulator counts, one more says the instructions of a step.
+read and printed is the same both times. The desk, which prints a frame for a line, answers as many lines of 64 steps as of one. Programs take turns,
+and each turn gives a line of figures for tools/speed.py; where the emulator counts, one more says the instructions of a step.
 """
 import os
 import subprocess
@@ -20,9 +19,8 @@ from meadow.sheets.lines import Sheet, Unreadable
 
 # a step in ms, steps from one multiple of the update time to the next, squares along a side and along a block's, steps to the first end
 STEP, SPAN, SIZE, BLOCK, FEW, ROUGHNESS = 100, 50, 32, 8, 500, 350
-# the most steps of a desk's line, and the steps that it keeps of such a sheet
+# the most steps of a desk's line
 SERIES = 64
-KEPT = 1_572_864 // (2 + 7 * SIZE * SIZE)
 # turns, and the steps between the two ends: so many spans, and so many lines of the desk
 STEPS = SPAN * (SERIES - 1)
 NATIVE, EMULATED, SHORT, COUNTED = (9, 6 * STEPS), (3, STEPS), (1, STEPS), (1, STEPS)
@@ -95,17 +93,7 @@ class Room:
         return self.put(f"{steps}.lines", f"sheet\t{len(sheet)}\n{sheet}{lines}")
 
 
-# a run of the library that keeps as many steps as the desk
-KEEPING, KEEPER = f"run that keeps {KEPT}", TOP / "target" / "outside" / "keeping"
-PROGRAMS = {
-    "meadow": Room.sheet_file,
-    "highest": Room.sheet_file,
-    "drowned": Room.listed,
-    "boards": Room.boarded,
-    "hatchlog": Room.logged,
-    KEEPING: Room.sheet_file,
-    "desk": Room.asked,
-}
+PROGRAMS = {"meadow": Room.sheet_file, "highest": Room.sheet_file, "drowned": Room.listed, "boards": Room.boarded, "hatchlog": Room.logged, "desk": Room.asked}
 
 
 def ran(words, given):
@@ -129,7 +117,7 @@ def counted(words, given):
 
 def words_by(way, name):
     """What starts a program; where bin/run starts it by the emulator, that of bin/speed takes its place."""
-    words = [KEEPER, str(KEPT)] if name == KEEPING else [word for word in words_of(name) if not word.endswith("qemu-x86_64")]
+    words = [word for word in words_of(name) if not word.endswith("qemu-x86_64")]
     return [*EMULATOR, *words] if way == "emulated" else words
 
 
@@ -158,9 +146,7 @@ def measure(way, meadow, plan, kind, by, unit):
 
 def main():
     short = sys.argv[1:2] == ["short"]
-    built(*(name for name in PROGRAMS if name != KEEPING))
-    if not KEEPER.exists():
-        raise Unreadable(f"{KEEPER.relative_to(TOP)} is not built: bin/speed builds it")
+    built(*PROGRAMS)
     for meadow in MEADOWS:
         for way in sys.argv[1 + short :]:
             measure(way, meadow, SHORT if short else NATIVE if way == "native" else EMULATED, "program", ran, 1e9)

@@ -18,7 +18,6 @@ from begin import ended
 import pictures
 from meadow.programs import TOP
 from meadow.sheets.lines import Unreadable
-from program_speed import KEEPING
 
 PAGE = TOP / "docs" / "SPEED.md"
 LAST_RUN = TOP / "target" / "outside" / "speed.figures"
@@ -37,10 +36,8 @@ TARGETS = (
     (RIVAL, TENTH, 1.0, "wanted"),
     (RIVAL, AT_REST, 2.5, "wanted"),
 )
-# the program whose step all other programs' steps are held against, but for the desk's, which is held to a run that keeps as many steps; and how
-# often its time they may take
-RUN, DESK, MOST_OF_A_RUN = "meadow", "desk", 1.1
-RUNS = {RUN: f"`{RUN}`", KEEPING: f"a {KEEPING}"}
+# the program whose step all other programs' steps are held against, and how often its time they may take
+RUN, MOST_OF_A_RUN = "meadow", 1.1
 
 
 class Table(NamedTuple):
@@ -168,16 +165,16 @@ def calls(found):
         yield Table([f"dry ground, µs, {way}", "a call of one step", "a step of a run", "the difference"], rows)
 
 
-def against(taken, program, run=RUN):
+def against_a_run(taken, program):
     """How many times as long as a run's step a program's takes, turn by turn."""
-    return [a / b for a, b in zip(taken[program], taken[run])]
+    return [a / b for a, b in zip(taken[program], taken[RUN])]
 
 
 def program_rows(each):
     """For each sheet and program what a step takes, and how often that of a run."""
     for sheet, taken in each.programs("program").items():
         for program, times in taken.items():
-            yield [f"{sheet}, {program}", spread([time / 1000 for time in times]), spread(against(taken, program))]
+            yield [f"{sheet}, {program}", spread([time / 1000 for time in times]), spread(against_a_run(taken, program))]
 
 
 def programs(found):
@@ -202,9 +199,8 @@ def targets(found):
         return
     rows = [[f"of the {engine}; {meadow}: {matters}", figure(asked), judged(asked, each.ratios(meadow, engine))] for engine, meadow, asked, matters in TARGETS]
     for sheet, taken in each.programs("program").items():
-        for program in (program for program in taken if program not in (RUN, KEEPING)):
-            run = KEEPING if program == DESK else RUN
-            rows.append([f"a step of `{program}`, of one of {RUNS[run]}; {sheet}: asked", figure(MOST_OF_A_RUN), judged(MOST_OF_A_RUN, against(taken, program, run))])
+        for program in (program for program in taken if program != RUN):
+            rows.append([f"a step of `{program}`, of one of `{RUN}`; {sheet}: asked", figure(MOST_OF_A_RUN), judged(MOST_OF_A_RUN, against_a_run(taken, program))])
     yield Table(["target", "asked, at most", "is, native"], rows)
 
 
