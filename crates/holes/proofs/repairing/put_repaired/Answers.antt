@@ -42,7 +42,7 @@ put_with_beds-next-requires c =
         omega (arith, at-squares-of.ensures, (rooms_long a.text.now k at-squares-of.ensures at-mark-holes.ensures k.few at-fill-rounds.ensures).0),
       );
       beds_in_bounds = sheet_fits a.text.now k at-squares-of.ensures at-mark-holes.ensures k.few at-fill-rounds.ensures
-          (λ i. omega (arith, c.slice_known-4-1.given i)) a.out.now c.requires.1;
+          (λ i. grind arith) a.out.now c.requires.1;
     }
 
 pub put_list-requires : goal.put_list-requires
@@ -62,7 +62,7 @@ put_list-requires c =
         omega (arith, at-squares-of.ensures, long.1, k.few),
       );
       turns_in_bounds = list_fits a.text.now k at-squares-of.ensures at-mark-holes.ensures k.few at-fill-rounds.ensures
-          (λ i. omega (arith, c.slice_known-4-1.given i)) a.out.now c.requires.1
+          (λ i. grind arith) a.out.now c.requires.1
           at-put-with-beds.ensures;
     }
 
@@ -77,5 +77,5 @@ returns c =
     let at-put-with-beds = c.put_with_beds-next in
     let k = c.requires.0 in
     repaired_put c.args.text.now k at-squares-of.ensures at-mark-holes.ensures k.few at-fill-rounds.ensures
-    (λ i. omega (arith, c.slice_known-4-1.given i)) c.args.out.now c.requires.1
+    (λ i. grind arith) c.args.out.now c.requires.1
     at-put-with-beds.ensures c.put_list.ensures
