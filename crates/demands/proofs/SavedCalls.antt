@@ -197,7 +197,7 @@ frame_alike q p g x y s k = λ j.
       soaked = (s.seen j).soaked;
       kept = k;
       room = kept_slots q.shape;
-      ground = water q (s.seen j).depths;
+      on_ground = water q (s.seen j).depths;
       start = s.start j;
       given = s.given j;
     })

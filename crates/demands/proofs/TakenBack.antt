@@ -51,7 +51,7 @@ module _ (p : Plan) where
           let second = series_is p trial before up in
           let both = ap (Any.series (E p) second.0) first.1 ∙ second.1 in
           sym (ap (λ (t : Any.Trail (E p)). t.at.seen) (ap (Any.series (E p) (Standing.backs (E p) (length made))) both ∙ backs_are (length made) tried (high trial before up)))
-          ∙ (Standing.taken_back (E p) (engine_laws p (flood_rule p) (flood_owed p)) (state p f) (record { kept_none = F.kept_none; newest_last = F.newest_last })
+          ∙ (Standing.taken_back_lem (E p) (engine_laws p (flood_rule p) (flood_owed p)) (state p f) (record { kept_none = F.kept_none; newest_last = F.newest_last })
           first.0 second.0 made
           (ap (λ (t : Any.Trail (E p)). t.standing) both ∙ (e ∙ ap (λ (t : Any.Trail (E p)). made ++ t.standing) (sym first.1)))
           (subst (λ (t : Any.Trail (E p)). length made ≤ t.at.kept) (sym both) h)

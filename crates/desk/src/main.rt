@@ -7,10 +7,9 @@ ghost use Rattle.sheet.specs.Sheet.{rooms};
 ghost use Rattle.evenings.specs.Program.{stores};
 ghost use Rattle.desks.specs.Inner.Further.{FurtherSteps};
 
-use desks::command::{command, make_step, wanted};
+use desks::command::{command, make_further, make_next, wanted};
 use desks::state::{
-    DESK_ALONG, DESK_NUMBERS, DESK_OUT, DESK_RATES, DESK_SQUARES, DESK_TEXT, Desk, desk_of,
-    empty_desk, going_of,
+    DESK_ALONG, DESK_NUMBERS, DESK_OUT, DESK_RATES, DESK_SQUARES, DESK_TEXT, Desk, empty_desk,
 };
 use files::read_all;
 use reckon::tables::{INFLOW_ROOM, RAIN_ROOM};
@@ -116,8 +115,60 @@ fn tell(rt: &impl Print, out: &[u8], bytes: usize) {
     }
 }
 
-// The steps of a line `step`, each with its frame, all in the same working rooms: the first is checked, and each that was made leaves what the next
-// may go by.
+// The steps of a line `step` after its first, each with its frame, all in the same working rooms.
+fn further_steps(
+    rt: &impl Print,
+    begun: Desk,
+    marks: &[u8; DESK_SQUARES],
+    beds: &[u32; DESK_SQUARES],
+    roughness: &[u32; DESK_SQUARES],
+    rates: &[u32; DESK_SQUARES],
+    rain: &[u32; RAIN_ROOM],
+    inflow: &[u32; INFLOW_ROOM],
+    depths: &mut [u32; DESK_SQUARES],
+    lasts: &mut [u32; DESK_SQUARES],
+    records: &mut [u32; DESK_NUMBERS],
+    began: &mut [u32; DESK_RATES],
+    out: &mut [u8; DESK_OUT],
+) -> Desk
+    requires { FurtherSteps begun (stores (rooms marks.now beds.now roughness.now rates.now depths.old rain.now inflow.now) lasts.old records.old began.old) }
+{
+    let mut left = [0u32; DESK_SQUARES];
+    let mut worked = [0u64; DESK_ALONG];
+    let mut senders = [0u64; DESK_ALONG];
+    let mut room = [0u32; DESK_SQUARES];
+    let mut desk = begun;
+    let mut calls: u32 = 1;
+    while calls < MOST_CALLS {
+        let series = desk.series;
+        if !series.on {
+            return desk;
+        }
+        desk = make_further(
+            desk,
+            marks,
+            beds,
+            roughness,
+            rates,
+            rain,
+            inflow,
+            depths,
+            lasts,
+            records,
+            began,
+            out,
+            &mut left,
+            &mut worked,
+            &mut senders,
+            &mut room,
+        );
+        tell(rt, out, desk.length);
+        calls += 1;
+    }
+    desk
+}
+
+// The steps of a line `step`: the first is checked, and each that was made leaves what the next may go by.
 fn make_steps(
     rt: &impl Print,
     begun: Desk,
@@ -133,49 +184,17 @@ fn make_steps(
     began: &mut [u32; DESK_RATES],
     out: &mut [u8; DESK_OUT],
 ) -> Desk {
-    let asked = begun.series;
-    if !asked.on {
+    let series = begun.series;
+    if !series.on {
         return begun;
     }
-    let mut left = [0u32; DESK_SQUARES];
-    let mut worked = [0u64; DESK_ALONG];
-    let mut senders = [0u64; DESK_ALONG];
-    let mut room = [0u32; DESK_SQUARES];
-    let account = begun.account;
-    let mut before = account.before;
-    let mut going = going_of(begun);
-    let mut checked = false;
-    let mut calls: u32 = 0;
-    while calls < MOST_CALLS {
-        let series = going.series;
-        if !series.on {
-            return desk_of(going, before);
-        }
-        going = make_step(
-            checked,
-            going,
-            marks,
-            beds,
-            roughness,
-            rates,
-            rain,
-            inflow,
-            depths,
-            lasts,
-            records,
-            began,
-            &mut before,
-            out,
-            &mut left,
-            &mut worked,
-            &mut senders,
-            &mut room,
-        );
-        tell(rt, out, going.length);
-        checked = true;
-        calls += 1;
-    }
-    desk_of(going, before)
+    let first = make_next(
+        begun, marks, beds, roughness, rates, rain, inflow, depths, lasts, records, began, out,
+    );
+    tell(rt, out, first.length);
+    further_steps(
+        rt, first, marks, beds, roughness, rates, rain, inflow, depths, lasts, records, began, out,
+    )
 }
 
 // What a line does, with so many bytes of it and of the text after it.

@@ -1,6 +1,6 @@
 -- What several calls of the desk promise, one after the other, gives what their caller has.
 -- Assumes nothing.
-use mathlib.Core.Path.{◌≡◌, refl, sym, ap, ap₂, subst, ◌∙◌}
+use mathlib.Core.Path.{◌≡◌, sym, ap, ap₂, subst, ◌∙◌}
 use mathlib.Core.List.{List, [], ◌∷◌, ◌++◌, append_assoc}
 use Prim.Native.Nat.{ℕ, ◌-◌, ◌≤◌}
 use native.Mathlib.Omega.{arith}
@@ -9,14 +9,12 @@ use lib.Seq.{take_at}
 use Rattle.reckon.specs.Lists.{placed}
 use Rattle.evenings.specs.Program.{Stores}
 use Rattle.desks.specs.Orders.{order}
-use Rattle.desks.specs.State.{desk_out, going_of, desk_of}
+use Rattle.desks.specs.State.{desk_out}
 use Rattle.desks.specs.Lines.{done_text, ending_text}
 use Rattle.desks.specs.Command.{Left, Leaves, command_left, step_left}
 use Rattle.desks.specs.declared.orders.Order.{Order}
 use Rattle.desks.specs.declared.orders.Order.TheVariants.{Stand, Lay}
 use Rattle.desks.specs.declared.state.Desk.{Desk}
-use Rattle.desks.specs.declared.state.Going.{Going}
-use Rattle.desks.proofs.LeftLaws.{parted-step}
 use Rattle.demands.specs.DeskCalls.{Call, a_line, going_on, called, AllTry, after_calls, StepMade, AsBefore}
 use Rattle.demands.specs.DeskWalls.{SameDesks, SameLeft, answers}
 use Rattle.demands.specs.DeskSavedCalls.{calls_in_turn, stand_on, frame_keeping, SameSheet, laid_on, LaidAgain, ReadAgain}
@@ -105,13 +103,6 @@ after_turns d r line text d' r' line' text' {a} {a'} {b} {after} {later} {there}
 pub after-further : (d : Desk) (r : Stores) {a b : Desk} {after later : Stores} {old new next : List ℕ} → Leaves (step_left d r) a after old new →
     Leaves (step_left a after) b later new next → AfterFurther d r (left_with b later next)
 after-further d r {a} {b} {after} v w = record { is_call = step_left a after w ∙ ap₂ step_left v.desk_is v.rooms_are }
-
--- of a desk taken apart before the first and put together after the second
-pub after-parted : (d : Desk) (r : Stores) {w : Going} {a b whole : Desk} {after later : Stores} {old new next : List ℕ} → w ≡ going_of d →
-    Leaves (step_left (desk_of w d.account.before) r) a after old new → Leaves (step_left a after) b later new next → whole ≡ b →
-    AfterFurther d r (left_with whole later next)
-after-parted d r {later = later} {next = next} e v w f =
-    subst (λ (x : Desk). AfterFurther d r (left_with x later next)) (sym f) (after-further d r (parted-step d r e v refl) w)
 
 -- ---- a step taken back
 

@@ -8,10 +8,8 @@ ghost use Rattle.demands.specs.DeskCalls.{a_line, going_on};
 ghost use Rattle.desk_calls.specs.Single.{left_with};
 ghost use Rattle.desk_calls.specs.Several.{AfterBoth, AfterFurther, AfterSaved, AfterStepBack, AfterTurns};
 
-use desks::command::{command, make_next, make_step};
-use desks::state::{
-    DESK_ALONG, DESK_NUMBERS, DESK_OUT, DESK_RATES, DESK_SQUARES, Desk, desk_of, going_of,
-};
+use desks::command::{command, make_further, make_next};
+use desks::state::{DESK_ALONG, DESK_NUMBERS, DESK_OUT, DESK_RATES, DESK_SQUARES, Desk};
 use reckon::tables::{INFLOW_ROOM, RAIN_ROOM};
 
 // Two desks.
@@ -212,34 +210,14 @@ pub fn next_and_further(
 ) -> Desk
     ensures { AfterFurther desk (stores (rooms marks.now beds.now roughness.now rates.now depths.old rain.now inflow.now) lasts.old records.old began.old) (left_with result (stores (rooms marks.now beds.now roughness.now rates.now depths.new rain.now inflow.now) lasts.new records.new began.new) out.new) }
 {
+    let first = make_next(
+        desk, marks, beds, roughness, rates, rain, inflow, depths, lasts, records, began, out,
+    );
     let mut left = [0u32; DESK_SQUARES];
     let mut worked = [0u64; DESK_ALONG];
     let mut senders = [0u64; DESK_ALONG];
     let mut room = [0u32; DESK_SQUARES];
-    let account = desk.account;
-    let mut before = account.before;
-    let first = make_step(
-        false,
-        going_of(desk),
-        marks,
-        beds,
-        roughness,
-        rates,
-        rain,
-        inflow,
-        depths,
-        lasts,
-        records,
-        began,
-        &mut before,
-        out,
-        &mut left,
-        &mut worked,
-        &mut senders,
-        &mut room,
-    );
-    let second = make_step(
-        true,
+    make_further(
         first,
         marks,
         beds,
@@ -251,14 +229,12 @@ pub fn next_and_further(
         lasts,
         records,
         began,
-        &mut before,
         out,
         &mut left,
         &mut worked,
         &mut senders,
         &mut room,
-    );
-    desk_of(second, before)
+    )
 }
 
 // The next step of a line `step`, and a line.

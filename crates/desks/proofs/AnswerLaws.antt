@@ -7,8 +7,8 @@ use Prim.Native.Nat.{ℕ, ◌≤◌}
 use native.Mathlib.Omega.{arith}
 use lib.Dec.{eqb}
 use lib.ListN.{length, length-append}
-use borrow.Author.Tests.{eq-eqb, ne_eqb, leb-true}
-use Rattle.reckon.specs.Tests.{pick, every, refusal}
+use borrow.Author.Tests.{eq-eqb, ne_eqb, leb-true, not-true, not-false}
+use Rattle.reckon.specs.Tests.{every, refusal}
 use Rattle.reckon.proofs.TestLaws.{not_both, and_true, pick_true, pick_false, every_each}
 use Rattle.ledger.specs.Runs.{Plan}
 use Rattle.checks.specs.Given.{Given}
@@ -20,7 +20,7 @@ use Rattle.trying.specs.Lines.{Came, came, step_came, back_came, TrialLent}
 use Rattle.trying.specs.declared.given.Account.{Account}
 use Rattle.trying.specs.declared.lines.Tried.{Tried}
 use Rattle.desks.specs.State.{desk_out, kept_slots, no_series, desk_with}
-use Rattle.desks.specs.Lines.{Told, told, plainly, shown, ending_text, state_text, back_told, step_refusals, step_told, last_told, made_told, steps_left, next_told}
+use Rattle.desks.specs.Lines.{Told, told, plainly, shown, ending_text, state_text, back_told, step_refusals, step_told, last_told, one_less, made_told, steps_left, next_told}
 use Rattle.desks.specs.Inner.Lent.{Shows, Lends, StatePut, EndingPut, DeskTold, Answers}
 use Rattle.desks.specs.declared.state.Desk.{Desk}
 use Rattle.desks.specs.declared.state.Series.{Series}
@@ -153,20 +153,34 @@ module _ (t : Tried) (p : Plan) (depths lasts records began : List ℕ) where
   abbrev came_to : Came
   came_to = came t.number (evening depths lasts records began t.log) t.account
 
+  -- its end
+  module _ (every' : Bool) {d r : Desk} {old new : List ℕ} where
+    pub last-tried : every' ≡ true → DeskTold d t.log t.account no_series (ending_text t.number 0) old new r →
+        Answers (last_told p every' came_to) d r (evening depths lasts records began r.log) old new
+    last-tried e x = answers_as (sym (pick_true (plainly came_to) (shown p came_to) e)) (answers_of depths lasts records began x)
+
+    pub last-shown : every' ≡ false →
+        DeskTold d t.log t.account no_series (state_text p t.log t.account depths ++ ending_text t.number 0) old new r →
+        Answers (last_told p every' came_to) d r (evening depths lasts records began r.log) old new
+    last-shown e x = answers_as (sym (pick_false (plainly came_to) (shown p came_to) e)) (answers_of depths lasts records began x)
+
+  -- a step that was made: its frame, where each is shown
   abbrev frame : List ℕ
   frame = state_text p t.log t.account depths
 
-  -- its end: a frame unless each was shown
-  last_text : (every' : Bool) →
-      told (evening depths lasts records began t.log) t.account no_series (pick (not every') frame [] ++ ending_text t.number 0) ≡ last_told p every' came_to
-  unfolding pick
-  last_text true = refl
-  last_text false = refl
+  module _ (d : Desk) (s : Series) {s' : Series} (q : s' ≡ one_less s) {r : Desk} where
+    pub made_unshown : {old : List ℕ} → not s.every ≡ true → r ≡ desk_with d t.log t.account s' 0 →
+        Answers (made_told p s came_to) d r (evening depths lasts records began r.log) old old
+    made_unshown n e =
+        answers_as (ap (λ (x : List ℕ). told (evening depths lasts records began t.log) t.account (one_less s) x) (sym (pick_false frame [] (not-true _ n))))
+        (answers_of depths lasts records began
+        (nothing_told d t.log t.account (one_less s) (with_series d t.log t.account (one_less s) q e)))
 
-  pub last-told : (every' : Bool) {d r : Desk} {old new : List ℕ} →
-      DeskTold d t.log t.account no_series (pick (not every') frame [] ++ ending_text t.number 0) old new r →
-      Answers (last_told p every' came_to) d r (evening depths lasts records began r.log) old new
-  last-told every' x = answers_as (last_text every') (answers_of depths lasts records began x)
+    pub made_shown : {k : ℕ} {old new : List ℕ} → not s.every ≡ false → StatePut frame old new k → r ≡ desk_with d t.log t.account s' k →
+        Answers (made_told p s came_to) d r (evening depths lasts records began r.log) old new
+    made_shown n x e =
+        answers_as (ap (λ (y : List ℕ). told (evening depths lasts records began t.log) t.account (one_less s) y) (sym (pick_true frame [] (not-false _ n))))
+        (answers_of depths lasts records began (state_told d t.log t.account (one_less s) q x e))
 
 -- the next one, or the end
 module _ (p : Plan) (g : Given) (e : Evening) (a : Account) (s : Series) where

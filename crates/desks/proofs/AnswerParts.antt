@@ -1,25 +1,20 @@
 -- Laws of an answer's parts: how it ends, the frame of a state, and texts one after the other.
 -- Assumes nothing.
 use mathlib.Core.Path.{◌≡◌, sym, ap, subst, ◌∙◌}
-use mathlib.Core.Bool.{Bool, true, false}
-use mathlib.Core.List.{List, []}
+use mathlib.Core.List.{List}
 use Prim.Native.Nat.{ℕ, ◌≤◌}
 use native.Mathlib.Omega.{arith}
 use lib.ListN.{length}
 use borrow.Author.Tests.{eq-eqb, ne_eqb}
-use Rattle.reckon.specs.Tests.{pick}
 use Rattle.reckon.proofs.TestLaws.{pick_true, pick_false}
 use Rattle.ledger.specs.Runs.{Plan}
 use Rattle.ledger.specs.Account.{water}
 use Rattle.text.specs.Writing.{Wrote}
-use Rattle.text.proofs.WritingLaws.{placed_none}
 use Rattle.answer.specs.Printed.{refused_text}
 use Rattle.frames.specs.Frame.{frame_text}
 use Rattle.frames.specs.declared.frame.Figures.{Figures}
 use Rattle.hatches.specs.declared.log.Log.{Log}
-use Rattle.trying.specs.Given.{totals_of, account_of}
 use Rattle.trying.specs.declared.given.Account.{Account}
-use Rattle.trying.specs.declared.given.Totals.{Totals}
 use Rattle.desks.specs.State.{kept_slots}
 use Rattle.desks.specs.Lines.{done_text, ending_text, figures_of, state_text}
 use Rattle.desks.specs.Inner.Lent.{most_ending, EndingPut, StatePut}
@@ -60,18 +55,3 @@ module _ (p : Plan) (log : Log) (a : Account) (depths : List ℕ) {f : Figures} 
   pub state_put : {old new : List ℕ} {r : ℕ} → StatePut (frame_text f log.litres p.shape p.marks depths) old new r →
       StatePut (state_text p log a depths) old new r
   state_put {old} {new} {r} x = subst (λ (t : List ℕ). StatePut t old new r) (sym text_as) x
-
--- of an account, by its totals
-pub state-of : (p : Plan) (log : Log) (a : Account) (depths : List ℕ) {t : Totals} {old new : List ℕ} {r : ℕ} → t ≡ totals_of a →
-    ((before : List ℕ) → StatePut (state_text p log (account_of t before) depths) old new r) → StatePut (state_text p log a depths) old new r
-state-of p log a depths {old = old} {new} {r} e x =
-    subst (λ (u : Totals). StatePut (state_text p log (account_of u a.before) depths) old new r) e (x a.before)
-
--- one that is to be shown, or not
-pub none_put : (t : List ℕ) (shown : Bool) (old : List ℕ) → shown ≡ false → StatePut (pick shown t []) old old 0
-none_put t shown old e =
-    subst (λ (u : List ℕ). StatePut u old old 0) (sym (pick_false t [] e))
-    (record { wrote = record { next = omega arith; room = sym (placed_none old 0) }; short = omega arith })
-
-pub some_put : (shown : Bool) {t old new : List ℕ} {r : ℕ} → shown ≡ true → StatePut t old new r → StatePut (pick shown t []) old new r
-some_put shown {t} {old} {new} {r} e x = subst (λ (u : List ℕ). StatePut u old new r) (sym (pick_true t [] e)) x

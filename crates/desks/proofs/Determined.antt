@@ -6,25 +6,21 @@ use Prim.Native.Nat.{ℕ}
 use Rattle.reckon.specs.Outcomes.{One}
 use Rattle.reckon.proofs.OutcomeLaws.{exactly}
 use Rattle.evenings.specs.Program.{Stores}
-use Rattle.desks.specs.State.{going_of, desk_of}
 use Rattle.desks.specs.Command.{Leaves, step_left}
 use Rattle.desks.specs.Inner.Determined.{DesksDetermined, stores_after}
 use Rattle.desks.specs.declared.state.Desk.{Desk}
-use Rattle.desks.specs.declared.state.Going.{Going}
 
-step_one :
+further_one :
     (d : Desk) (r : Stores) (old : List ℕ) →
-    One {Out = Going × (List ℕ × (List ℕ × (List ℕ × (List ℕ × (List ℕ × List ℕ)))))}
-    (λ o. Leaves (step_left d r) (desk_of o.0 o.1.1.1.1.1.0) (stores_after r o.1.0 o.1.1.0 o.1.1.1.0 o.1.1.1.1.0) old
-    o.1.1.1.1.1.1)
-step_one d r old a b x y =
-    let w = x.desk_is ∙ sym y.desk_is in
+    One {Out = Desk × (List ℕ × (List ℕ × (List ℕ × (List ℕ × List ℕ))))}
+    (λ o. Leaves (step_left d r) o.0 (stores_after r o.1.0 o.1.1.0 o.1.1.1.0 o.1.1.1.1.0) old o.1.1.1.1.1)
+further_one d r old a b x y =
     let v = x.rooms_are ∙ sym y.rooms_are in
     λ j. (
-      going_of (w j),
+      (x.desk_is ∙ sym y.desk_is) j,
       (
         (v j).sheet.cells.depths,
-        ((v j).lasts, ((v j).records, ((v j).began, ((w j).account.before, (x.puts.wrote.room ∙ sym y.puts.wrote.room) j)))),
+        ((v j).lasts, ((v j).records, ((v j).began, (x.puts.wrote.room ∙ sym y.puts.wrote.room) j))),
       ),
     )
 
@@ -35,7 +31,5 @@ desks_determined =
       wanted = λ line. exactly;
       kept-slots = λ s. exactly;
       empty-desk = exactly;
-      going_of = λ d. exactly;
-      desk-of = λ w before. exactly;
-      make_step = step_one;
+      make_further = further_one;
     }

@@ -20,14 +20,13 @@ use Rattle.programs.specs.Reading.{sheet_within, ReadsWithin}
 use Rattle.text.proofs.ReadingLaws.{by_test}
 use Rattle.text.proofs.WritingLaws.{placed_none}
 use Rattle.evenings.specs.Program.{Stores, stores, given_held}
-use Rattle.desks.specs.State.{desk_text, no_series, desk_with, fresh_desk, going_of, desk_of}
+use Rattle.desks.specs.State.{desk_text, no_series, desk_with, fresh_desk}
 use Rattle.desks.specs.Lines.{ending_text, order_told, next_told, Puts}
 use Rattle.desks.specs.Command.{Left, Leaves, plan_on, evening_on, inflow_on, ready_number, start_on, first_text, untouched, sheet_left, other_left, command_left, step_left, told_on, is_sheet, wanted_by}
 use Rattle.desks.specs.Inner.Lent.{DeskTold}
 use Rattle.desks.specs.Inner.Rooms.{SheetLaid}
 use Rattle.desks.specs.declared.orders.Order.{Order}
 use Rattle.desks.specs.declared.state.Desk.{Desk}
-use Rattle.desks.specs.declared.state.Going.{Going}
 
 -- what a call leaves, said otherwise
 as_left : {l m : Left} {a : Desk} {after : Stores} {old new : List ℕ} → l ≡ m → Leaves m a after old new → Leaves l a after old new
@@ -35,13 +34,6 @@ as_left {a = a} {after} {old} {new} e w = subst (λ (x : Left). Leaves x a after
 
 untouched-left : (d : Desk) (r : Stores) (t : List ℕ) {a : Desk} {old new : List ℕ} → DeskTold d d.log d.account no_series t old new a → Leaves (untouched d r t) a r old new
 untouched-left d r t w = record { desk_is = w.desk_is; rooms_are = refl; puts = w.puts }
-
--- a desk taken apart and put together again
-pub parted-step : (d : Desk) (r : Stores) {w : Going} {a b : Desk} {after : Stores} {old new : List ℕ} → w ≡ going_of d →
-    Leaves (step_left (desk_of w d.account.before) r) b after old new → a ≡ b → Leaves (step_left d r) a after old new
-parted-step d r {a = a} {b} {after} {old} {new} e x f =
-    subst (λ (y : Desk). Leaves (step_left d r) y after old new) (sym f)
-    (subst (λ (v : Going). Leaves (step_left (desk_of v d.account.before) r) b after old new) e x)
 
 -- ---- a line other than `sheet`
 

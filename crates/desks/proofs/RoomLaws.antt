@@ -6,7 +6,7 @@ use mathlib.Core.List.{List, [], ◌++◌}
 use Prim.Native.Nat.{ℕ, ◌*◌, ◌/◌, ◌≤◌, ◌<◌}
 use native.Mathlib.Nat.{mul-div_cancel}
 use native.Mathlib.Omega.{arith}
-use lib.ListN.{length, take, drop, take-append-drop, length-append, length-drop}
+use lib.ListN.{length, take, drop, take-append-drop}
 use lib.Seq.{length-take-le}
 use Rattle.reckon.specs.Lists.{placed}
 use Rattle.reckon.specs.Tables.{rain_kind, inflow_kind}
@@ -37,10 +37,6 @@ use Rattle.desks.specs.declared.state.Desk.{Desk}
 
 pub part_long : (n : ℕ) (room : List ℕ) → n ≤ length room → n ≡ length (take n room)
 part_long n room h = sym (length-take-le n room h)
-
--- a part that was lent and written lies again in a room that is as long as before
-pub put_back : (n : ℕ) (room new : List ℕ) → length new ≡ length (take n room) → n ≤ length room → length (new ++ drop n room) ≡ length room
-put_back n room new e h = omega (arith, e, part_long n room h, length-append new (drop n room), length-drop n room)
 
 placed_first : (part old : List ℕ) {n : ℕ} → length part ≡ n → part ++ drop n old ≡ placed old 0 part
 unfolding placed

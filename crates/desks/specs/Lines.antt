@@ -44,7 +44,7 @@ ending_text number line = pick (eqb number 0) done_text (refused_text number lin
 
 -- "`frame` steps clock length out soak kept room on start given"
 abbrev pub figures_of : Log → Account → ℕ → ℕ → Figures
-figures_of log a slots ground =
+figures_of log a slots on =
     record {
       steps = log.steps;
       clock = log.run.clock;
@@ -53,7 +53,7 @@ figures_of log a slots ground =
       soaked = log.run.soaked;
       kept = log.run.kept;
       room = slots;
-      ground = ground;
+      on_ground = on;
       start = a.start;
       given = a.given;
     }

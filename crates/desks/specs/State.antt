@@ -1,6 +1,6 @@
 -- What a desk is between two lines, and the sizes of its rooms.
 -- Assumes nothing.
-use Rattle.std.specs.Prelude.{◌≡◌, Bool, true, false, List, [], ◌∷◌, ℕ, ◌*◌, ◌/◌, min, leb}
+use Rattle.std.specs.Prelude.{◌≡◌, Bool, true, false, [], ◌∷◌, ℕ, ◌*◌, ◌/◌, min, leb}
 use Rattle.reckon.specs.Tests.{every}
 use Rattle.reckon.specs.Ranges.{most_table_rows}
 use Rattle.grid.specs.Squares.{shape_fine}
@@ -12,10 +12,9 @@ use Rattle.sheet.specs.declared.reading.Heading.{Heading}
 use Rattle.hatches.specs.Log.{most_hatches, opened}
 use Rattle.hatches.specs.declared.log.Log.{Log}
 use Rattle.evenings.specs.Program.{no_heading, no_night}
-use Rattle.trying.specs.Given.{most_slots, account_opened, totals_of, account_of}
+use Rattle.trying.specs.Given.{most_slots, account_opened}
 use Rattle.trying.specs.declared.given.Account.{Account}
 use Rattle.desks.specs.declared.state.Desk.{Desk}
-use Rattle.desks.specs.declared.state.Going.{Going}
 use Rattle.desks.specs.declared.state.Series.{Series}
 
 -- "1 to 4,096 squares": a room of one number each
@@ -71,14 +70,6 @@ fresh_desk h start long =
 abbrev pub desk_with : Desk → Log → Account → Series → ℕ → Desk
 desk_with d log a s long = record { ready = d.ready; heading = d.heading; log = log; account = a; series = s; length = long }
 
--- a desk without what was given before each step kept, and with it again
-abbrev pub going_of : Desk → Going
-going_of d = record { ready = d.ready; heading = d.heading; log = d.log; totals = totals_of d.account; series = d.series; length = d.length }
-
-abbrev pub desk_of : Going → List ℕ → Desk
-desk_of w before =
-    record { ready = w.ready; heading = w.heading; log = w.log; account = account_of w.totals before; series = w.series; length = w.length }
-
 -- ---- what the public functions give
 
 abbrev pub KeptSlots : Shape → ℕ → Type 0
@@ -86,9 +77,3 @@ KeptSlots s r = r ≡ kept_slots s
 
 abbrev pub DeskEmpty : Desk → Type 0
 DeskEmpty r = r ≡ empty_desk
-
-abbrev pub DeskParted : Desk → Going → Type 0
-DeskParted d r = r ≡ going_of d
-
-abbrev pub DeskWhole : Going → List ℕ → Desk → Type 0
-DeskWhole w before r = r ≡ desk_of w before

@@ -1,9 +1,7 @@
 // A state's frame, and how an answer ends.
-ghost use Rattle.std.specs.Prelude.{◌≡◌, List, [], ℕ, ◌+◌, ◌≤◌, length};
-ghost use Rattle.reckon.specs.Tests.{pick};
+ghost use Rattle.std.specs.Prelude.{◌≡◌, ◌+◌, ◌≤◌, length};
 ghost use Rattle.ledger.specs.Runs.{plan};
 ghost use Rattle.frames.specs.Frame.{frame_text};
-ghost use Rattle.trying.specs.Given.{account_of};
 ghost use Rattle.desks.specs.Lines.{figures_of, state_text};
 ghost use Rattle.desks.specs.Inner.Lent.{EndingPut, Shows, StatePut, most_ending};
 
@@ -14,11 +12,11 @@ use frames::frame::{Figures, put_frame};
 use grid::squares::Shape;
 use hatches::log::Log;
 use text::writing::put_word;
-use trying::given::Totals;
+use trying::given::Account;
 
 // The figures of a state, of which so many steps can be kept, with so much water on the ground.
-fn figures_of(log: Log, totals: Totals, slots: usize, ground: u64) -> Figures
-    ensures { (before : List ℕ) → result ≡ figures_of log (account_of totals before) slots ground }
+fn figures_of(log: Log, account: Account, slots: usize, ground: u64) -> Figures
+    ensures { result ≡ figures_of log account slots ground }
 {
     let run = log.run;
     Figures {
@@ -29,9 +27,9 @@ fn figures_of(log: Log, totals: Totals, slots: usize, ground: u64) -> Figures
         soaked: run.soaked,
         kept: run.kept as u64,
         room: slots as u64,
-        ground: ground,
-        start: totals.start,
-        given: totals.given,
+        on_ground: ground,
+        start: account.start,
+        given: account.given,
     }
 }
 
@@ -54,37 +52,18 @@ fn put_first(
 pub(crate) fn put_state(
     out: &mut [u8],
     log: Log,
-    totals: Totals,
+    account: Account,
     shape: Shape,
     marks: &[u8],
     depths: &[u32],
 ) -> usize
     requires { Shows (plan shape marks.now) depths.now out.old }
-    ensures { (before : List ℕ) → StatePut (state_text (plan shape marks.now) log (account_of totals before) depths.now) out.old out.new result }
+    ensures { StatePut (state_text (plan shape marks.now) log account depths.now) out.old out.new result }
 {
     let ground = water_on(shape, marks, depths);
-    let figures = figures_of(log, totals, kept_slots(shape), ground);
+    let figures = figures_of(log, account, kept_slots(shape), ground);
     let litres = log.litres;
     put_first(out, figures, litres, shape, marks, depths)
-}
-
-// The frame of a state that is to be shown, else nothing.
-pub(crate) fn put_if(
-    shown: bool,
-    out: &mut [u8],
-    log: Log,
-    totals: Totals,
-    shape: Shape,
-    marks: &[u8],
-    depths: &[u32],
-) -> usize
-    requires { Shows (plan shape marks.now) depths.now out.old }
-    ensures { (before : List ℕ) → StatePut (pick shown (state_text (plan shape marks.now) log (account_of totals before) depths.now) []) out.old out.new result }
-{
-    if !shown {
-        return 0;
-    }
-    put_state(out, log, totals, shape, marks, depths)
 }
 
 // How an answer ends: `done`, or its refusal.

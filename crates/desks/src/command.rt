@@ -5,9 +5,8 @@ ghost use Rattle.grid.specs.Squares.{ShapeInRange};
 ghost use Rattle.sheet.specs.Sheet.{rooms};
 ghost use Rattle.programs.specs.Reading.{sheet_within};
 ghost use Rattle.evenings.specs.Program.{given_held, stores};
-ghost use Rattle.trying.specs.Given.{account_of};
 ghost use Rattle.desks.specs.Orders.{order};
-ghost use Rattle.desks.specs.State.{desk_of, desk_squares, desk_out, desk_text};
+ghost use Rattle.desks.specs.State.{desk_squares, desk_out, desk_text};
 ghost use Rattle.desks.specs.Lines.{ending_text, next_told, order_told};
 ghost use Rattle.desks.specs.Command.{Leaves, Wanted, command_left, evening_on, inflow_on, is_sheet, other_left, plan_on, ready_number, sheet_left, step_left, told_on, untouched, wanted_by};
 ghost use Rattle.desks.specs.Inner.Further.{FurtherSteps, StepPassesOn};
@@ -18,8 +17,8 @@ use crate::lines::{next_step, order_line, refuse_line};
 use crate::orders::{Order, order_of};
 use crate::sizes::{heading_fine, sizes_of};
 use crate::state::{
-    DESK_ALONG, DESK_NUMBERS, DESK_OUT, DESK_RATES, DESK_SQUARES, DESK_TEXT, Desk, Going, desk_of,
-    fresh_desk, going_of, going_still,
+    DESK_ALONG, DESK_NUMBERS, DESK_OUT, DESK_RATES, DESK_SQUARES, DESK_TEXT, Desk, desk_still,
+    fresh_desk,
 };
 use account::water_on;
 use evenings::program::clear;
@@ -27,7 +26,6 @@ use grid::squares::squares_of;
 use programs::reading::read_within;
 use reckon::tables::{INFLOW_ROOM, RAIN_ROOM};
 use sheet::reading::{Heading, Sheet};
-use trying::given::{MOST_SLOTS, totals_of};
 
 // How many bytes of text come after a line.
 fn wanted_by(order: Order) -> usize
@@ -89,11 +87,11 @@ fn lay_sheet(
     let start = water_on(shape, &marks[..squares], &depths[..squares]);
     let fresh = fresh_desk(heading, start, 0);
     let log = fresh.log;
-    let totals = totals_of(fresh.account);
+    let account = fresh.account;
     let at = put_state(
         out,
         log,
-        totals,
+        account,
         shape,
         &marks[..squares],
         &depths[..squares],
@@ -168,13 +166,13 @@ fn line_held(
 }
 
 // Whether a desk has a sheet on it that its rooms can hold.
-fn refused_at_once(going: Going) -> u32
-    ensures { (before : List ℕ) → result ≡ ready_number (desk_of going before) }
+fn refused_at_once(desk: Desk) -> u32
+    ensures { result ≡ ready_number desk }
 {
-    if !going.ready {
+    if !desk.ready {
         return 12;
     }
-    if !heading_fine(going.heading) {
+    if !heading_fine(desk.heading) {
         return 1;
     }
     0
@@ -196,7 +194,7 @@ fn other_line(
     requires { RoomsLong marks.now inflow.now depths.old lasts.old records.now began.now out.old }
     ensures { (beds roughness rates rain : List ℕ) → Leaves (other_left desk (stores (rooms marks.now beds roughness rates depths.old rain inflow.now) lasts.old records.now began.now) text.now order) result (stores (rooms marks.now beds roughness rates depths.new rain inflow.now) lasts.new records.now began.now) out.old out.new }
 {
-    let number = refused_at_once(going_of(desk));
+    let number = refused_at_once(desk);
     if number != 0 {
         return refuse_line(desk, number, 0, out);
     }
@@ -249,7 +247,7 @@ pub fn command(
 // A step over the sheet on the desk: each room is lent as far as it belongs to the sheet.
 fn step_held(
     checked: bool,
-    going: Going,
+    desk: Desk,
     marks: &[u8],
     beds: &[u32],
     roughness: &[u32],
@@ -260,28 +258,27 @@ fn step_held(
     lasts: &mut [u32],
     records: &mut [u32],
     began: &mut [u32],
-    before: &mut [u64; MOST_SLOTS],
     out: &mut [u8],
     left: &mut [u32],
     worked: &mut [u64],
     senders: &mut [u64],
     room: &mut [u32],
-) -> Going
+) -> Desk
     requires work_long { WorkLong left.old worked.old senders.old room.old }
-    requires before_value { (ready_number (desk_of going before.old) ≡ 0) × (RoomsLong marks.now inflow.now depths.old lasts.old records.old began.old out.old) × (GroundLong beds.now roughness.now rates.now rain.now) × (checked ≡ true → StepPassesOn (desk_of going before.old) (stores (rooms marks.now beds.now roughness.now rates.now depths.old rain.now inflow.now) lasts.old records.old began.old)) }
-    ensures { Leaves (told_on (desk_of going before.old) (stores (rooms marks.now beds.now roughness.now rates.now depths.old rain.now inflow.now) lasts.old records.old began.old) (next_told (plan_on (desk_of going before.old) (stores (rooms marks.now beds.now roughness.now rates.now depths.old rain.now inflow.now) lasts.old records.old began.old)) (given_held going.heading (stores (rooms marks.now beds.now roughness.now rates.now depths.old rain.now inflow.now) lasts.old records.old began.old)) (evening_on going.heading (stores (rooms marks.now beds.now roughness.now rates.now depths.old rain.now inflow.now) lasts.old records.old began.old) going.log) (account_of going.totals before.old) going.series)) (desk_of result before.new) (stores (rooms marks.now beds.now roughness.now rates.now depths.new rain.now inflow.now) lasts.new records.new began.new) out.old out.new }
+    requires desk_value { (ready_number desk ≡ 0) × (RoomsLong marks.now inflow.now depths.old lasts.old records.old began.old out.old) × (GroundLong beds.now roughness.now rates.now rain.now) × (checked ≡ true → StepPassesOn desk (stores (rooms marks.now beds.now roughness.now rates.now depths.old rain.now inflow.now) lasts.old records.old began.old)) }
+    ensures { Leaves (told_on desk (stores (rooms marks.now beds.now roughness.now rates.now depths.old rain.now inflow.now) lasts.old records.old began.old) (next_told (plan_on desk (stores (rooms marks.now beds.now roughness.now rates.now depths.old rain.now inflow.now) lasts.old records.old began.old)) (given_held desk.heading (stores (rooms marks.now beds.now roughness.now rates.now depths.old rain.now inflow.now) lasts.old records.old began.old)) (evening_on desk.heading (stores (rooms marks.now beds.now roughness.now rates.now depths.old rain.now inflow.now) lasts.old records.old began.old) desk.log) desk.account desk.series)) result (stores (rooms marks.now beds.now roughness.now rates.now depths.new rain.now inflow.now) lasts.new records.new began.new) out.old out.new }
 {
-    let sizes = sizes_of(going.heading);
+    let sizes = sizes_of(desk.heading);
     let squares = sizes.squares;
     let rain_end = sizes.rain;
     let inflow_end = sizes.inflow;
     let records_end = sizes.records;
     let began_end = sizes.began;
-    let shape = going.heading.shape;
+    let shape = desk.heading.shape;
     let rows = shape.rows;
     next_step(
         checked,
-        going,
+        desk,
         &marks[..squares],
         &beds[..squares],
         &roughness[..squares],
@@ -292,7 +289,6 @@ fn step_held(
         &mut lasts[..squares],
         &mut records[..records_end],
         &mut began[..began_end],
-        before,
         out,
         &mut left[..squares],
         &mut worked[..rows],
@@ -301,11 +297,10 @@ fn step_held(
     )
 }
 
-// The next step of a line `step`, or its end: its answer at the start of out. The account's ring and the working rooms are lent, once for all steps of
-// a line, and the caller may know that the step passes the checks 1 to 6: after a step that was made they still pass, and are not made again.
-pub fn make_step(
+// The next step of a line `step`, or its end, where it may be known that the step passes the checks 1 to 6.
+fn make_step(
     checked: bool,
-    going: Going,
+    desk: Desk,
     marks: &[u8; DESK_SQUARES],
     beds: &[u32; DESK_SQUARES],
     roughness: &[u32; DESK_SQUARES],
@@ -316,32 +311,30 @@ pub fn make_step(
     lasts: &mut [u32; DESK_SQUARES],
     records: &mut [u32; DESK_NUMBERS],
     began: &mut [u32; DESK_RATES],
-    before: &mut [u64; MOST_SLOTS],
     out: &mut [u8; DESK_OUT],
     left: &mut [u32; DESK_SQUARES],
     worked: &mut [u64; DESK_ALONG],
     senders: &mut [u64; DESK_ALONG],
     room: &mut [u32; DESK_SQUARES],
-) -> Going
-    requires { checked ≡ true → FurtherSteps (desk_of going before.old) (stores (rooms marks.now beds.now roughness.now rates.now depths.old rain.now inflow.now) lasts.old records.old began.old) }
-    ensures { Leaves (step_left (desk_of going before.old) (stores (rooms marks.now beds.now roughness.now rates.now depths.old rain.now inflow.now) lasts.old records.old began.old)) (desk_of result before.new) (stores (rooms marks.now beds.now roughness.now rates.now depths.new rain.now inflow.now) lasts.new records.new began.new) out.old out.new }
+) -> Desk
+    requires { checked ≡ true → FurtherSteps desk (stores (rooms marks.now beds.now roughness.now rates.now depths.old rain.now inflow.now) lasts.old records.old began.old) }
+    ensures { Leaves (step_left desk (stores (rooms marks.now beds.now roughness.now rates.now depths.old rain.now inflow.now) lasts.old records.old began.old)) result (stores (rooms marks.now beds.now roughness.now rates.now depths.new rain.now inflow.now) lasts.new records.new began.new) out.old out.new }
 {
-    let series = going.series;
+    let series = desk.series;
     if !series.on {
-        return going_still(going, 0);
+        return desk_still(desk, 0);
     }
-    let number = refused_at_once(going);
+    let number = refused_at_once(desk);
     if number != 0 {
-        let length = put_ending(out, 0, number, 0);
-        return going_still(going, length);
+        return refuse_line(desk, number, 0, out);
     }
     step_held(
-        checked, going, marks, beds, roughness, rates, rain, inflow, depths, lasts, records, began,
-        before, out, left, worked, senders, room,
+        checked, desk, marks, beds, roughness, rates, rain, inflow, depths, lasts, records, began,
+        out, left, worked, senders, room,
     )
 }
 
-// The same of a caller who has neither and knows nothing.
+// The next step of a line `step`, or its end: its answer at the start of out.
 pub fn make_next(
     desk: Desk,
     marks: &[u8; DESK_SQUARES],
@@ -362,11 +355,9 @@ pub fn make_next(
     let mut worked = [0u64; DESK_ALONG];
     let mut senders = [0u64; DESK_ALONG];
     let mut room = [0u32; DESK_SQUARES];
-    let account = desk.account;
-    let mut before = account.before;
-    let after = make_step(
+    make_step(
         false,
-        going_of(desk),
+        desk,
         marks,
         beds,
         roughness,
@@ -377,12 +368,39 @@ pub fn make_next(
         lasts,
         records,
         began,
-        &mut before,
         out,
         &mut left,
         &mut worked,
         &mut senders,
         &mut room,
-    );
-    desk_of(after, before)
+    )
+}
+
+// The same after a step that was made: what passes the checks 1 to 6 still does, and they are not made again. The working rooms are lent, once for
+// all steps of a line.
+pub fn make_further(
+    desk: Desk,
+    marks: &[u8; DESK_SQUARES],
+    beds: &[u32; DESK_SQUARES],
+    roughness: &[u32; DESK_SQUARES],
+    rates: &[u32; DESK_SQUARES],
+    rain: &[u32; RAIN_ROOM],
+    inflow: &[u32; INFLOW_ROOM],
+    depths: &mut [u32; DESK_SQUARES],
+    lasts: &mut [u32; DESK_SQUARES],
+    records: &mut [u32; DESK_NUMBERS],
+    began: &mut [u32; DESK_RATES],
+    out: &mut [u8; DESK_OUT],
+    left: &mut [u32; DESK_SQUARES],
+    worked: &mut [u64; DESK_ALONG],
+    senders: &mut [u64; DESK_ALONG],
+    room: &mut [u32; DESK_SQUARES],
+) -> Desk
+    requires { FurtherSteps desk (stores (rooms marks.now beds.now roughness.now rates.now depths.old rain.now inflow.now) lasts.old records.old began.old) }
+    ensures { Leaves (step_left desk (stores (rooms marks.now beds.now roughness.now rates.now depths.old rain.now inflow.now) lasts.old records.old began.old)) result (stores (rooms marks.now beds.now roughness.now rates.now depths.new rain.now inflow.now) lasts.new records.new began.new) out.old out.new }
+{
+    make_step(
+        true, desk, marks, beds, roughness, rates, rain, inflow, depths, lasts, records, began,
+        out, left, worked, senders, room,
+    )
 }

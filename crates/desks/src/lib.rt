@@ -5,7 +5,7 @@
 //   sizes      how much of each room belongs to the sheet on the desk
 //   answers    a state's frame, and how an answer ends
 //   lines      what each line does over a sheet's own part of the rooms
-//   command    wanted, command, make_next, make_step: the whole program short of its input and output
+//   command    wanted, command, make_next, make_further: the whole program short of its input and output
 
 #![tactic(auto)]
 

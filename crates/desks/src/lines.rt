@@ -5,18 +5,17 @@ ghost use Rattle.ledger.specs.Runs.{Plan, plan};
 ghost use Rattle.checks.specs.Given.{given, ground};
 ghost use Rattle.flood.specs.Inner.Step.{RoomsLent};
 ghost use Rattle.hatches.specs.Log.{evening};
-ghost use Rattle.trying.specs.Given.{account_of, account_opened};
+ghost use Rattle.trying.specs.Given.{account_opened};
 ghost use Rattle.trying.specs.Lines.{came, draw_tried, name_tried};
 ghost use Rattle.trying.specs.Inner.Passing.{StepPasses};
-ghost use Rattle.desks.specs.State.{desk_of, desk_squares, desk_out, no_series};
+ghost use Rattle.desks.specs.State.{desk_squares, desk_out, no_series};
 ghost use Rattle.desks.specs.Lines.{arrows_told, back_told, came_of, ending_text, entry_told, last_told, lay_told, made_told, most_told, next_told, one_less, order_told, plainly, stand_told, state_text, step_told, steps_left};
 ghost use Rattle.desks.specs.Inner.Lent.{DeskTold, Lends, Shows, most_ending, refused_in, Answers};
 
-use crate::answers::{put_ending, put_if, put_state};
+use crate::answers::{put_ending, put_state};
 use crate::orders::Order;
 use crate::state::{
-    DESK_SQUARES, DESK_TEXT, Desk, Going, Series, desk_still, desk_with, going_with, kept_slots,
-    no_series,
+    DESK_SQUARES, DESK_TEXT, Desk, Series, desk_still, desk_with, kept_slots, no_series,
 };
 use checks::bounds::{Bounds, step_bounds};
 use frames::arrows::put_arrows;
@@ -27,8 +26,8 @@ use sight::all_arrows::all_arrows;
 use stands::laying::read_stand;
 use stands::putting::put_stand;
 use stands::saved::Saved;
-use trying::given::{MOST_SLOTS, open_account, totals_of};
-use trying::lines::{Outcome, Tried, back, draw, name, step_once};
+use trying::given::open_account;
+use trying::lines::{Tried, back, draw, name, step_once};
 
 // The most steps of one line.
 const MOST_STEPS: u32 = 64;
@@ -60,8 +59,7 @@ fn shown_line(desk: Desk, tried: Tried, marks: &[u8], depths: &[u32], out: &mut 
     let shape = heading.shape;
     let log = tried.log;
     let account = tried.account;
-    let totals = totals_of(account);
-    let at = put_state(out, log, totals, shape, marks, depths);
+    let at = put_state(out, log, account, shape, marks, depths);
     let length = put_ending(out, at, tried.number, 0);
     desk_with(desk, log, account, no_series(), length)
 }
@@ -145,25 +143,21 @@ fn step_line(desk: Desk, count: u32, end: u32, every: u32, out: &mut [u8]) -> De
 }
 
 // The end of a line `step`: what stands is shown where not each step was.
-fn last_line(going: Going, outcome: Outcome, marks: &[u8], depths: &[u32], out: &mut [u8]) -> Going
-    requires { Shows (plan going.heading.shape marks.now) depths.now out.old }
-    ensures { (l c b ring before : List ℕ) → Answers (last_told (plan going.heading.shape marks.now) going.series.every (came outcome.number (evening depths.now l c b outcome.log) (account_of outcome.totals before))) (desk_of going ring) (desk_of result before) (evening depths.now l c b result.log) out.old out.new }
+fn last_line(
+    desk: Desk,
+    tried: Tried,
+    every: bool,
+    marks: &[u8],
+    depths: &[u32],
+    out: &mut [u8],
+) -> Desk
+    requires { Shows (plan desk.heading.shape marks.now) depths.now out.old }
+    ensures { (l c b : List ℕ) → Answers (last_told (plan desk.heading.shape marks.now) every (came tried.number (evening depths.now l c b tried.log) tried.account)) desk result (evening depths.now l c b result.log) out.old out.new }
 {
-    let heading = going.heading;
-    let series = going.series;
-    let log = outcome.log;
-    let totals = outcome.totals;
-    let at = put_if(
-        !series.every,
-        out,
-        log,
-        totals,
-        heading.shape,
-        marks,
-        depths,
-    );
-    let length = put_ending(out, at, outcome.number, 0);
-    going_with(going, log, totals, no_series(), length)
+    if every {
+        return tried_line(desk, tried, out);
+    }
+    shown_line(desk, tried, marks, depths, out)
 }
 
 // One step less to be made.
@@ -180,16 +174,27 @@ fn one_less(series: Series) -> Series
 }
 
 // A step that was made: it is shown where each is, and the line goes on.
-fn made_line(going: Going, outcome: Outcome, marks: &[u8], depths: &[u32], out: &mut [u8]) -> Going
-    requires { (Shows (plan going.heading.shape marks.now) depths.now out.old) × (1 ≤ going.series.left) }
-    ensures { (l c b ring before : List ℕ) → Answers (made_told (plan going.heading.shape marks.now) going.series (came outcome.number (evening depths.now l c b outcome.log) (account_of outcome.totals before))) (desk_of going ring) (desk_of result before) (evening depths.now l c b result.log) out.old out.new }
+fn made_line(
+    desk: Desk,
+    tried: Tried,
+    series: Series,
+    marks: &[u8],
+    depths: &[u32],
+    out: &mut [u8],
+) -> Desk
+    requires shows { Shows (plan desk.heading.shape marks.now) depths.now out.old }
+    requires le_left { 1 ≤ series.left }
+    ensures { (l c b : List ℕ) → Answers (made_told (plan desk.heading.shape marks.now) series (came tried.number (evening depths.now l c b tried.log) tried.account)) desk result (evening depths.now l c b result.log) out.old out.new }
 {
-    let heading = going.heading;
-    let series = going.series;
-    let log = outcome.log;
-    let totals = outcome.totals;
-    let length = put_if(series.every, out, log, totals, heading.shape, marks, depths);
-    going_with(going, log, totals, one_less(series), length)
+    let log = tried.log;
+    let account = tried.account;
+    if !series.every {
+        return desk_with(desk, log, account, one_less(series), 0);
+    }
+    let heading = desk.heading;
+    let shape = heading.shape;
+    let length = put_state(out, log, account, shape, marks, depths);
+    desk_with(desk, log, account, one_less(series), length)
 }
 
 // Whether a line `step` has steps to make.
@@ -205,7 +210,7 @@ fn steps_left(series: Series, clock: u64) -> bool
 // The next step of a line `step`, or its end, in working rooms that are lent. Where the step before it was made, the checks 1 to 6 are known to pass.
 pub(crate) fn next_step(
     checked: bool,
-    going: Going,
+    desk: Desk,
     marks: &[u8],
     beds: &[u32],
     roughness: &[u32],
@@ -216,34 +221,33 @@ pub(crate) fn next_step(
     lasts: &mut [u32],
     records: &mut [u32],
     began: &mut [u32],
-    before: &mut [u64; MOST_SLOTS],
     out: &mut [u8],
     left: &mut [u32],
     worked: &mut [u64],
     senders: &mut [u64],
     room: &mut [u32],
-) -> Going
-    requires rooms_lent { RoomsLent going.heading.shape left.old worked.old senders.old room.old }
-    requires lends { (Lends (plan going.heading.shape marks.now) depths.old lasts.old records.old began.old out.old) × (checked ≡ true → StepPasses (plan going.heading.shape marks.now) (given (ground going.heading.rules beds.now roughness.now rates.now) rain.now inflow.now) (evening depths.old lasts.old records.old began.old going.log) (account_of going.totals before.old)) }
-    ensures { Answers (next_told (plan going.heading.shape marks.now) (given (ground going.heading.rules beds.now roughness.now rates.now) rain.now inflow.now) (evening depths.old lasts.old records.old began.old going.log) (account_of going.totals before.old) going.series) (desk_of going before.old) (desk_of result before.new) (evening depths.new lasts.new records.new began.new result.log) out.old out.new }
+) -> Desk
+    requires rooms_lent { RoomsLent desk.heading.shape left.old worked.old senders.old room.old }
+    requires lends { (Lends (plan desk.heading.shape marks.now) depths.old lasts.old records.old began.old out.old) × (checked ≡ true → StepPasses (plan desk.heading.shape marks.now) (given (ground desk.heading.rules beds.now roughness.now rates.now) rain.now inflow.now) (evening depths.old lasts.old records.old began.old desk.log) desk.account) }
+    ensures { Answers (next_told (plan desk.heading.shape marks.now) (given (ground desk.heading.rules beds.now roughness.now rates.now) rain.now inflow.now) (evening depths.old lasts.old records.old began.old desk.log) desk.account desk.series) desk result (evening depths.new lasts.new records.new began.new result.log) out.old out.new }
 {
-    let heading = going.heading;
-    let log = going.log;
+    let heading = desk.heading;
+    let log = desk.log;
     let run = log.run;
-    let series = going.series;
-    let totals = going.totals;
+    let series = desk.series;
+    let account = desk.account;
     if !steps_left(series, run.clock) {
-        let stands = Outcome {
+        let stands = Tried {
             number: 0,
             log: log,
-            totals: totals,
+            account: account,
         };
-        return last_line(going, stands, marks, depths, out);
+        return last_line(desk, stands, series.every, marks, depths, out);
     }
-    let outcome = step_once(
+    let tried = step_once(
         checked,
         log,
-        totals,
+        account,
         heading.shape,
         heading.rules,
         marks,
@@ -256,16 +260,15 @@ pub(crate) fn next_step(
         lasts,
         records,
         began,
-        before,
         left,
         worked,
         senders,
         room,
     );
-    if outcome.number != 0 {
-        return last_line(going, outcome, marks, depths, out);
+    if tried.number != 0 {
+        return last_line(desk, tried, series.every, marks, depths, out);
     }
-    made_line(going, outcome, marks, depths, out)
+    made_line(desk, tried, series, marks, depths, out)
 }
 
 // `hatch` number row column.

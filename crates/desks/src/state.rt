@@ -1,8 +1,7 @@
 // What a desk is between two lines, beside what is lent.
 ghost use Rattle.std.specs.Prelude.{◌≡◌};
 ghost use Rattle.grid.specs.Squares.{ShapeInRange};
-ghost use Rattle.desks.specs.State.{DeskEmpty, DeskParted, DeskWhole, KeptSlots, desk_with, fresh_desk, no_series};
-ghost use Rattle.desks.specs.Inner.Lent.{going_with};
+ghost use Rattle.desks.specs.State.{DeskEmpty, KeptSlots, desk_with, fresh_desk, no_series};
 
 use checks::fresh::fresh_run;
 use evenings::program::no_night;
@@ -10,7 +9,7 @@ use grid::squares::Shape;
 use hatches::log::{Log, open_log};
 use ledger::record::record_size;
 use sheet::reading::Heading;
-use trying::given::{Account, MOST_SLOTS, Totals, account_of, open_account, totals_of};
+use trying::given::{Account, MOST_SLOTS, open_account};
 
 // The most squares, and rows of them, the most bytes of a text, and the numbers of the room of records.
 pub const DESK_SQUARES: usize = 4_096;
@@ -44,17 +43,6 @@ pub struct Desk {
     pub heading: Heading,
     pub log: Log,
     pub account: Account,
-    pub series: Series,
-    pub length: usize,
-}
-
-// A desk while the steps of a line are made: all of it but the account's ring, which is lent beside it, so that no step copies it.
-#[derive(Clone, Copy)]
-pub struct Going {
-    pub ready: bool,
-    pub heading: Heading,
-    pub log: Log,
-    pub totals: Totals,
     pub series: Series,
     pub length: usize,
 }
@@ -144,68 +132,4 @@ pub(crate) fn desk_still(desk: Desk, length: usize) -> Desk
     let log = desk.log;
     let account = desk.account;
     desk_with(desk, log, account, no_series(), length)
-}
-
-// A desk without the ring.
-pub fn going_of(desk: Desk) -> Going
-    ensures { DeskParted desk result }
-{
-    let heading = desk.heading;
-    let log = desk.log;
-    let series = desk.series;
-    Going {
-        ready: desk.ready,
-        heading: heading,
-        log: log,
-        totals: totals_of(desk.account),
-        series: series,
-        length: desk.length,
-    }
-}
-
-// A desk with the ring again.
-pub fn desk_of(going: Going, before: [u64; MOST_SLOTS]) -> Desk
-    ensures { DeskWhole going before result }
-{
-    let heading = going.heading;
-    let log = going.log;
-    let series = going.series;
-    Desk {
-        ready: going.ready,
-        heading: heading,
-        log: log,
-        account: account_of(going.totals, before),
-        series: series,
-        length: going.length,
-    }
-}
-
-// The same after a step: another log and other totals, and steps still to be made.
-pub(crate) fn going_with(
-    going: Going,
-    log: Log,
-    totals: Totals,
-    series: Series,
-    length: usize,
-) -> Going
-    ensures { result ≡ going_with going log totals series length }
-{
-    let heading = going.heading;
-    Going {
-        ready: going.ready,
-        heading: heading,
-        log: log,
-        totals: totals,
-        series: series,
-        length: length,
-    }
-}
-
-// The same where no step was made.
-pub(crate) fn going_still(going: Going, length: usize) -> Going
-    ensures { result ≡ going_with going going.log going.totals no_series length }
-{
-    let log = going.log;
-    let totals = going.totals;
-    going_with(going, log, totals, no_series(), length)
 }

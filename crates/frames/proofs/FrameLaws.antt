@@ -98,7 +98,7 @@ pub record FrameWords (f : Figures) (litres depths : List ℕ) : Type 0 where
   pub soaked_is : f.soaked < 2 ^ 64
   pub kept_are : f.kept < 2 ^ 64
   pub room_is : f.room < 2 ^ 64
-  pub ground_is : f.ground < 2 ^ 64
+  pub ground_is : f.on_ground < 2 ^ 64
   pub start_is : f.start < 2 ^ 64
   pub given_is : f.given < 2 ^ 64
   pub litres_are : (i : ℕ) → get_or litres i 0 < 2 ^ 32
@@ -114,7 +114,7 @@ module _ (f : Figures) (litres : List ℕ) (s : Shape) (marks depths : List ℕ)
       (long_more f.soaked 105 _ w.soaked_is
       (long_more f.kept 84 _ w.kept_are
       (long_more f.room 63 _ w.room_is
-      (long_more f.ground 42 _ w.ground_is (long_more f.start 21 _ w.start_is (long_more f.given 0 [] w.given_is no_fields)))))))))
+      (long_more f.on_ground 42 _ w.ground_is (long_more f.start 21 _ w.start_is (long_more f.given 0 [] w.given_is no_fields)))))))))
 
   figures-short : length (figures_text f) ≤ 216
   unfolding figures_text

@@ -28,7 +28,7 @@ figures_of f =
     ∷ f.soaked
     ∷ f.kept
     ∷ f.room
-    ∷ f.ground
+    ∷ f.on_ground
     ∷ f.start
     ∷ f.given
     ∷ []

@@ -35,7 +35,7 @@ figures =
       soaked = 40;
       kept = 4;
       room = 256;
-      ground = 2055;
+      on_ground = 2055;
       start = 1956;
       given = 200;
     }

@@ -22,7 +22,7 @@ pub struct Figures {
     pub soaked: u64,
     pub kept: u64,
     pub room: u64,
-    pub ground: u64,
+    pub on_ground: u64,
     pub start: u64,
     pub given: u64,
 }
@@ -108,7 +108,7 @@ fn put_figures(out: &mut [u8], at: usize, figures: Figures) -> usize
         figures.soaked,
         figures.kept,
         figures.room,
-        figures.ground,
+        figures.on_ground,
         figures.start,
         figures.given,
     ];

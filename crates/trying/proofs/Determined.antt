@@ -8,23 +8,20 @@ use Rattle.reckon.proofs.OutcomeLaws.{exactly}
 use Rattle.ledger.specs.Runs.{Plan}
 use Rattle.checks.specs.Given.{Given}
 use Rattle.hatches.specs.Log.{Evening, evening}
-use Rattle.trying.specs.Given.{account_of}
 use Rattle.trying.specs.Lines.{MakesOne, GoesBack}
 use Rattle.trying.specs.Inner.Determined.{TryingDetermined}
 use Rattle.trying.specs.declared.given.Account.{Account}
-use Rattle.trying.specs.declared.lines.Outcome.{Outcome}
 use Rattle.trying.specs.declared.lines.Tried.{Tried}
 
 step_one :
     (p : Plan) (g : Given) (e : Evening) (a : Account) →
-    One {Out = Outcome × (List ℕ × (List ℕ × (List ℕ × (List ℕ × List ℕ))))}
-    (λ o. MakesOne p g e a o.0.number (evening o.1.0 o.1.1.0 o.1.1.1.0 o.1.1.1.1.0 o.0.log)
-    (account_of o.0.totals o.1.1.1.1.1))
+    One {Out = Tried × (List ℕ × (List ℕ × (List ℕ × List ℕ)))}
+    (λ o. MakesOne p g e a o.0.number (evening o.1.0 o.1.1.0 o.1.1.1.0 o.1.1.1.1 o.0.log) o.0.account)
 step_one p g e before a b x y =
     let c = x ∙ sym y in
     λ j. (
-      record { number = (c j).number; log = (c j).evening.log; totals = record { start = (c j).account.start; given = (c j).account.given } },
-      ((c j).evening.depths, ((c j).evening.lasts, ((c j).evening.records, ((c j).evening.began, (c j).account.before)))),
+      record { number = (c j).number; log = (c j).evening.log; account = (c j).account },
+      ((c j).evening.depths, ((c j).evening.lasts, ((c j).evening.records, (c j).evening.began))),
     )
 
 back_one :
@@ -39,8 +36,6 @@ pub trying_determined : TryingDetermined
 trying_determined =
     record {
       open_account = λ start given. exactly;
-      totals-of = λ a. exactly;
-      account-of = λ t before. exactly;
       name = λ p r inflow log a n row column. exactly;
       draw = λ log a n litres. exactly;
       step-once = step_one;

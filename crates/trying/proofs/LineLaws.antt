@@ -1,6 +1,6 @@
 -- Laws of a trial's lines: what a step that was made says of its table and of the ring, and what each line comes to.
 -- Assumes nothing.
-use mathlib.Core.Path.{◌≡◌, refl, sym, ap, ap₂, subst, ◌∙◌}
+use mathlib.Core.Path.{◌≡◌, refl, sym, ap, subst, ◌∙◌}
 use mathlib.Core.Bool.{Bool, true, false}
 use mathlib.Core.List.{List}
 use Prim.Native.Nat.{ℕ, zero, suc, ◌+◌, ◌-◌, ◌≤◌, ◌<◌}
@@ -39,13 +39,10 @@ use Rattle.hatches.specs.declared.lines.Entry.TheVariants.{Back}
 use Rattle.hatches.specs.declared.log.Hatches.{Hatches}
 use Rattle.hatches.specs.declared.log.Log.{Log}
 use Rattle.stands.specs.Laying.{most_given}
-use Rattle.trying.specs.Given.{account_of, account_with, account_back}
+use Rattle.trying.specs.Given.{account_with, account_back}
 use Rattle.trying.specs.Lines.{Came, came, tried, unless_refused, try_refusals, back_refusals, given_back, nothing_given, backs, step_given, evening_next, account_next, step_came, back_came, MakesOne, GoesBack}
-use Rattle.trying.specs.Inner.Keeping.{StepKept, outcome, totals_with}
 use Rattle.trying.specs.Inner.Passing.{StepPasses}
 use Rattle.trying.specs.declared.given.Account.{Account}
-use Rattle.trying.specs.declared.given.Totals.{Totals}
-use Rattle.trying.specs.declared.lines.Outcome.{Outcome}
 use Rattle.trying.specs.declared.lines.Tried.{Tried}
 
 -- ---- a step that was made
@@ -227,30 +224,6 @@ module _ (p : Plan) (g : Given) (e : Evening) (a : Account) where
           at k b u d l c =
               came 0 (evening d l c b (log_with e.log u (e.log.steps + 1) e.log.litres))
               (account_with a (slot_after k e.log.run.newest) (tables_give p (step_given p g e a) e.log.run.clock u.clock))
-
--- ---- a step's outcome, with the ring beside it
-
-abbrev pub tried_of : Outcome → List ℕ → Tried
-tried_of o before = tried o.number o.log (account_of o.totals before)
-
-pub refused_of : (before : List ℕ) {o : Outcome} {n : ℕ} {log : Log} {t : Totals} → o ≡ outcome n log t → tried_of o before ≡ tried n log (account_of t before)
-refused_of before h = ap (λ (o : Outcome). tried_of o before) h
-
-pub kept_of : {log : Log} {t : Totals} {run : Run} {slots more : ℕ} {began before began' before' : List ℕ} {o : Outcome} →
-    StepKept log t run slots more began before o began' before' →
-    (tried_of o before' ≡ tried 0 (log_with log run (log.steps + 1) log.litres) (account_with (account_of t before) (slot_after slots log.run.newest) more)) ×
-    (began' ≡ rates_kept slots 1 log.run.newest log.litres began)
-kept_of k = (ap₂ (λ (o : Outcome) (b : List ℕ). tried_of o b) k.outcome_is k.given-kept, k.rates-kept)
-
--- it was given so much by another name
-pub kept-given : {log : Log} {t : Totals} {run : Run} {slots more more' : ℕ} {began before began' before' : List ℕ} {o : Outcome} → more ≡ more' →
-    StepKept log t run slots more began before o began' before' → StepKept log t run slots more' began before o began' before'
-kept-given {log} {t} {run} e k =
-    record {
-      outcome_is = k.outcome_is ∙ ap (λ (m : ℕ). outcome 0 (log_with log run (log.steps + 1) log.litres) (totals_with t m)) e;
-      rates-kept = k.rates-kept;
-      given-kept = k.given-kept;
-    }
 
 -- ---- what a `back` comes to
 

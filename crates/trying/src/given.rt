@@ -1,6 +1,6 @@
 // The water account of a trial: what the tables gave its standing steps, so that a take-back gives back what its steps were given.
-ghost use Rattle.std.specs.Prelude.{◌≡◌, ◌<◌};
-ghost use Rattle.trying.specs.Given.{AccountOpened, AccountParted, AccountWhole, account_back, most_slots};
+ghost use Rattle.std.specs.Prelude.{◌≡◌, ◌+◌, ◌<◌};
+ghost use Rattle.trying.specs.Given.{AccountOpened, account_back, account_with, most_slots};
 
 // As many steps are kept at most.
 pub const MOST_SLOTS: usize = 256;
@@ -13,34 +13,6 @@ pub struct Account {
     pub before: [u64; 256],
 }
 
-// An account without what was given before each step kept: what a step hands on, while the ring of the others is lent to it.
-#[derive(Clone, Copy)]
-pub struct Totals {
-    pub start: u64,
-    pub given: u64,
-}
-
-// The totals of an account.
-pub fn totals_of(account: Account) -> Totals
-    ensures { AccountParted account result }
-{
-    Totals {
-        start: account.start,
-        given: account.given,
-    }
-}
-
-// The account of totals and a ring.
-pub fn account_of(totals: Totals, before: [u64; 256]) -> Account
-    ensures { AccountWhole totals before result }
-{
-    Account {
-        start: totals.start,
-        given: totals.given,
-        before: before,
-    }
-}
-
 // The account of a state of which no step is kept.
 pub fn open_account(start: u64, given: u64) -> Account
     ensures { AccountOpened start given result }
@@ -49,6 +21,20 @@ pub fn open_account(start: u64, given: u64) -> Account
         start: start,
         given: given,
         before: [0; 256],
+    }
+}
+
+// After a step whose record lies in a slot, and which was given so much.
+pub(crate) fn account_with(account: Account, slot: usize, more: u64) -> Account
+    requires { (slot < most_slots) × (account.given + more < 18_446_744_073_709_551_616) }
+    ensures { result ≡ account_with account slot more }
+{
+    let mut before = account.before;
+    before[slot] = account.given;
+    Account {
+        start: account.start,
+        given: account.given + more,
+        before: before,
     }
 }
 

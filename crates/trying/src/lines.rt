@@ -1,21 +1,20 @@
 // What the lines of a trial do: a hatch named, a rate drawn, one step made, steps taken back.
 ghost use Rattle.std.specs.Prelude.{◌≡◌, true, List, ℕ, ◌+◌, ◌-◌, ◌<◌, ◌≤◌, length, set};
 ghost use Rattle.reckon.specs.Tests.{refusal};
-ghost use Rattle.trials.specs.Ring.{slots_in};
+ghost use Rattle.trials.specs.Ring.{slot_after, slots_in};
 ghost use Rattle.grid.specs.Squares.{ShapeInRange, squares};
 ghost use Rattle.ledger.specs.Runs.{plan};
 ghost use Rattle.checks.specs.Given.{given, ground};
 ghost use Rattle.adding.specs.Account.{tables_give};
 ghost use Rattle.adding.specs.Inner.Added.{Between, rows_apart, tables};
 ghost use Rattle.flood.specs.Inner.Step.{RoomsLent};
-ghost use Rattle.hatches.specs.Log.{evening, most_hatches};
+ghost use Rattle.hatches.specs.Log.{evening, log_with, most_hatches, rates_kept};
 ghost use Rattle.stands.specs.Laying.{most_given};
-ghost use Rattle.trying.specs.Given.{account_of, most_slots};
+ghost use Rattle.trying.specs.Given.{account_with, most_slots};
 ghost use Rattle.trying.specs.Lines.{Draws, GoesBack, MakesOne, Names, TrialLent, given_back, log_at, tried, try_refusals};
-ghost use Rattle.trying.specs.Inner.Keeping.{StepKept, outcome};
 ghost use Rattle.trying.specs.Inner.Passing.{StepPasses};
 
-use crate::given::{Account, MOST_SLOTS, Totals, account_back};
+use crate::given::{Account, account_back, account_with};
 use account::tables_give;
 use adding::added::rows_apart;
 use adding::way::Way;
@@ -39,14 +38,6 @@ pub struct Tried {
     pub number: u32,
     pub log: Log,
     pub account: Account,
-}
-
-// What came of a step: the number that it is refused with, 0 for none, the log and the account's totals after it.
-#[derive(Clone, Copy)]
-pub struct Outcome {
-    pub number: u32,
-    pub log: Log,
-    pub totals: Totals,
 }
 
 // A log at other rates; hatches may be named as long as before.
@@ -134,8 +125,8 @@ pub fn draw(log: Log, account: Account, number: u32, litres: u32) -> Tried
 }
 
 // The number that a step is refused with before it is tried, 0 for none: the table with the hatches, and what the log and the account say.
-fn try_number(log: Log, totals: Totals, inflow: usize) -> u32
-    ensures { (table before : List ℕ) → length table ≡ inflow → result ≡ refusal (try_refusals table log (account_of totals before)) }
+fn try_number(log: Log, account: Account, inflow: usize) -> u32
+    ensures { (table : List ℕ) → length table ≡ inflow → result ≡ refusal (try_refusals table log account) }
 {
     if !table_fits(inflow, log.hatches, 0) {
         return 4;
@@ -143,56 +134,40 @@ fn try_number(log: Log, totals: Totals, inflow: usize) -> u32
     if !standing_fine(log) {
         return 6;
     }
-    if MOST_GIVEN < totals.given {
+    if MOST_GIVEN < account.given {
         return 6;
     }
     0
 }
 
-// A step that is refused: nothing has changed.
-fn refused_step(log: Log, totals: Totals, number: u32) -> Outcome
-    ensures { result ≡ outcome number log totals }
-{
-    Outcome {
-        number: number,
-        log: log,
-        totals: totals,
-    }
-}
-
-// A step that was made: its rates, and what had been given before it, are kept beside its record.
+// A step that was made: its rates and what it was given are kept beside its record.
 fn keep_step(
     log: Log,
-    totals: Totals,
+    account: Account,
     run: Run,
     slots: usize,
     more: u64,
     began: &mut [u32],
-    before: &mut [u64; MOST_SLOTS],
-) -> Outcome
+) -> Tried
     requires newest_lt_slots { (log.run.newest < slots) × (slots ≤ most_slots) × (slots ≤ slots_in most_hatches (length began.old)) }
-    requires steps_bound { (log.steps + 1 < 18_446_744_073_709_551_616) × (totals.given + more < 18_446_744_073_709_551_616) }
-    ensures { StepKept log totals run slots more began.old before.old result began.new before.new }
+    requires steps_bound { (log.steps + 1 < 18_446_744_073_709_551_616) × (account.given + more < 18_446_744_073_709_551_616) }
+    ensures { (result ≡ tried 0 (log_with log run (log.steps + 1) log.litres) (account_with account (slot_after slots log.run.newest) more)) × (began.new ≡ rates_kept slots 1 log.run.newest log.litres began.old) }
 {
-    let was = log.run;
+    let before = log.run;
     let litres = log.litres;
-    keep_made(&litres, slots, was.newest, 1, began);
-    let slot = trials::slot_after(slots, was.newest);
-    before[slot] = totals.given;
-    Outcome {
+    keep_made(&litres, slots, before.newest, 1, began);
+    let slot = trials::slot_after(slots, before.newest);
+    Tried {
         number: 0,
         log: further(log, run, log.steps + 1, litres),
-        totals: Totals {
-            start: totals.start,
-            given: totals.given + more,
-        },
+        account: account_with(account, slot, more),
     }
 }
 
 // A step that was made, with what its table gave.
 fn made_step(
     log: Log,
-    totals: Totals,
+    account: Account,
     run: Run,
     way: Way,
     marks: &[u8],
@@ -200,24 +175,23 @@ fn made_step(
     table: &[u32],
     slots: usize,
     began: &mut [u32],
-    before: &mut [u64; MOST_SLOTS],
-) -> Outcome
+) -> Tried
     requires newest_lt_slots { (log.run.newest < slots) × (slots ≤ most_slots) × (slots ≤ slots_in most_hatches (length began.old)) }
-    requires steps_bound { (log.steps + 1 < 18_446_744_073_709_551_616) × (totals.given ≤ most_given) }
+    requires steps_bound { (log.steps + 1 < 18_446_744_073_709_551_616) × (account.given ≤ most_given) }
     requires apart_value { way.apart ≡ rows_apart table.now }
     requires between { Between (plan way.shape marks.now) (tables way.rules rain.now table.now) log.run.clock run.clock }
-    ensures { StepKept log totals run slots (tables_give (plan way.shape marks.now) (tables way.rules rain.now table.now) log.run.clock run.clock) began.old before.old result began.new before.new }
+    ensures { (result ≡ tried 0 (log_with log run (log.steps + 1) log.litres) (account_with account (slot_after slots log.run.newest) (tables_give (plan way.shape marks.now) (tables way.rules rain.now table.now) log.run.clock run.clock))) × (began.new ≡ rates_kept slots 1 log.run.newest log.litres began.old) }
 {
-    let was = log.run;
-    let more = tables_give(way, marks, rain, table, was.clock, run.clock);
-    keep_step(log, totals, run, slots, more, began, before)
+    let before = log.run;
+    let more = tables_give(way, marks, rain, table, before.clock, run.clock);
+    keep_step(log, account, run, slots, more, began)
 }
 
 // One step at the rates that the hatches run at, in working rooms that are lent. A caller who knows that the checks 1 to 6 pass says so.
 pub fn step_once(
     checked: bool,
     log: Log,
-    totals: Totals,
+    account: Account,
     shape: Shape,
     rules: Rules,
     marks: &[u8],
@@ -230,19 +204,18 @@ pub fn step_once(
     lasts: &mut [u32],
     records: &mut [u32],
     began: &mut [u32],
-    before: &mut [u64; MOST_SLOTS],
     left: &mut [u32],
     worked: &mut [u64],
     senders: &mut [u64],
     room: &mut [u32],
-) -> Outcome
+) -> Tried
     requires trial_lent { (TrialLent (plan shape marks.now) records.old began.old) × (RoomsLent shape left.old worked.old senders.old room.old) }
-    requires step_passes { checked ≡ true → StepPasses (plan shape marks.now) (given (ground rules beds.now roughness.now rates.now) rain.now inflow.now) (evening depths.old lasts.old records.old began.old log) (account_of totals before.old) }
-    ensures { MakesOne (plan shape marks.now) (given (ground rules beds.now roughness.now rates.now) rain.now inflow.now) (evening depths.old lasts.old records.old began.old log) (account_of totals before.old) result.number (evening depths.new lasts.new records.new began.new result.log) (account_of result.totals before.new) }
+    requires step_passes { checked ≡ true → StepPasses (plan shape marks.now) (given (ground rules beds.now roughness.now rates.now) rain.now inflow.now) (evening depths.old lasts.old records.old began.old log) account }
+    ensures { MakesOne (plan shape marks.now) (given (ground rules beds.now roughness.now rates.now) rain.now inflow.now) (evening depths.old lasts.old records.old began.old log) account result.number (evening depths.new lasts.new records.new began.new result.log) result.account }
 {
-    let number = try_number(log, totals, inflow.len());
+    let number = try_number(log, account, inflow.len());
     if number != 0 {
-        return refused_step(log, totals, number);
+        return refused(log, account, number);
     }
     let mut table = [0u32; INFLOW_ROOM];
     let litres = log.litres;
@@ -254,11 +227,11 @@ pub fn step_once(
         apart: rows_apart(&table[..length]),
     };
     let slots = trials::slots_in(record_size(shape), records.len());
-    let was = log.run;
+    let before = log.run;
     let answer = step_checked(
         checked,
         way,
-        was,
+        before,
         marks,
         beds,
         roughness,
@@ -274,10 +247,10 @@ pub fn step_once(
         room,
     );
     match answer {
-        Answer::Refused(number) => refused_step(log, totals, number),
+        Answer::Refused(number) => refused(log, account, number),
         Answer::Done(run) => made_step(
             log,
-            totals,
+            account,
             run,
             way,
             marks,
@@ -285,7 +258,6 @@ pub fn step_once(
             &table[..length],
             slots,
             began,
-            before,
         ),
     }
 }

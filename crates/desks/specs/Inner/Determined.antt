@@ -4,12 +4,11 @@ use Rattle.std.specs.Prelude.{List, ℕ}
 use Rattle.reckon.specs.Outcomes.{One}
 use Rattle.grid.specs.declared.squares.Shape.{Shape}
 use Rattle.desks.specs.Orders.{OrderRead}
-use Rattle.desks.specs.State.{KeptSlots, DeskEmpty, DeskParted, DeskWhole, desk_of}
+use Rattle.desks.specs.State.{KeptSlots, DeskEmpty}
 use Rattle.sheet.specs.Sheet.{rooms}
 use Rattle.evenings.specs.Program.{Stores, stores}
 use Rattle.desks.specs.Command.{Leaves, Wanted, step_left}
 use Rattle.desks.specs.declared.state.Desk.{Desk}
-use Rattle.desks.specs.declared.state.Going.{Going}
 
 -- the rooms with other depths, last leaving, records and rates
 abbrev pub stores_after : Stores → List ℕ → List ℕ → List ℕ → List ℕ → Stores
@@ -24,9 +23,6 @@ pub record DesksDetermined : Type 0 where
   pub wanted : (line : List ℕ) → One (Wanted line)
   pub kept-slots : (s : Shape) → One (KeptSlots s)
   pub empty-desk : One DeskEmpty
-  pub going_of : (d : Desk) → One (DeskParted d)
-  pub desk-of : (w : Going) (before : List ℕ) → One (DeskWhole w before)
-  pub make_step : (d : Desk) (r : Stores) (old : List ℕ) →
-      One {Out = Going × (List ℕ × (List ℕ × (List ℕ × (List ℕ × (List ℕ × List ℕ)))))}
-      (λ o. Leaves (step_left d r) (desk_of o.0 o.1.1.1.1.1.0) (stores_after r o.1.0 o.1.1.0 o.1.1.1.0 o.1.1.1.1.0) old
-      o.1.1.1.1.1.1)
+  pub make_further : (d : Desk) (r : Stores) (old : List ℕ) →
+      One {Out = Desk × (List ℕ × (List ℕ × (List ℕ × (List ℕ × List ℕ))))}
+      (λ o. Leaves (step_left d r) o.0 (stores_after r o.1.0 o.1.1.0 o.1.1.1.0 o.1.1.1.1.0) old o.1.1.1.1.1)

@@ -12,10 +12,8 @@ use Rattle.hatches.specs.Log.{Evening, most_hatches}
 use Rattle.desks.specs.State.{desk_out, kept_slots, desk_with}
 use Rattle.desks.specs.Lines.{Told, ending_text, Puts}
 use Rattle.trying.specs.declared.given.Account.{Account}
-use Rattle.trying.specs.declared.given.Totals.{Totals}
 use Rattle.hatches.specs.declared.log.Log.{Log}
 use Rattle.desks.specs.declared.state.Desk.{Desk}
-use Rattle.desks.specs.declared.state.Going.{Going}
 use Rattle.desks.specs.declared.state.Series.{Series}
 
 -- a plan, the water on it and a room for the answer
@@ -56,10 +54,6 @@ refused_in NotBounded = 0
 refused_in (Bounded b) = 0
 
 -- ---- what a line's own part gives
-
--- a desk whose ring is lent, after a step
-abbrev pub going_with : Going → Log → Totals → Series → ℕ → Going
-going_with w log t s long = record { ready = w.ready; heading = w.heading; log = log; totals = t; series = s; length = long }
 
 -- the desk with another log, account and steps to be made, and the answer
 pub record DeskTold (d : Desk) (log : Log) (a : Account) (s : Series) (t old new : List ℕ) (r : Desk) : Type 0 where

@@ -1,10 +1,6 @@
 use native.Mathlib.Omega.{arith}
 use Rattle.answer.proofs.PrintLaws.{refused-short}
 use Rattle.desks.proofs.AnswerParts.{ending-refused, ending_done}
-use Rattle.desks.proofs.answers.put_ending.Reads as reads
-use Rattle.desks.proofs.answers.put_ending.Lts as lts
-use Rattle.answer.proofs.printing.put_refused.Reads as put-refused-reads
-use Rattle.text.proofs.writing.put_word.Reads as put-word-reads
 use Rattle.desks.proofs.answers.put_ending.Goals as goal
 
 -- src/answers.rt:69:9

@@ -4,9 +4,6 @@ use mir.Syntax.{w32}
 use mir.Val.{Fits}
 use Rattle.frames.proofs.FrameLaws.{FrameWords, frame_short}
 use borrow.Author.Rules.{rules}
-use Rattle.desks.proofs.answers.put_first.Reads as reads
-use Rattle.desks.proofs.answers.put_first.Lts as lts
-use Rattle.frames.proofs.frame.put_frame.Reads as put-frame-reads
 use Rattle.desks.proofs.answers.put_first.Goals as goal
 
 -- src/answers.rt:50:5

@@ -3,13 +3,6 @@ use Rattle.evenings.specs.Program.{stores}
 use mathlib.Core.Path.{ap, ◌∙◌}
 use Rattle.desks.specs.Command.{is_sheet, wanted_by}
 use Rattle.desks.proofs.LeftLaws.{command_sheet, command_other}
-use Rattle.desks.proofs.command.command.Reads as reads
-use Rattle.desks.proofs.command.command.Lts as lts
-use Rattle.desks.proofs.command.is_sheet.Reads as is-sheet-reads
-use Rattle.desks.proofs.command.other_line.Reads as other-line-reads
-use Rattle.desks.proofs.command.sheet_line.Reads as sheet-line-reads
-use Rattle.desks.proofs.command.wanted_by.Reads as wanted-by-reads
-use Rattle.desks.proofs.orders.order_of.Reads as order-of-reads
 use Rattle.desks.proofs.command.command.Goals as goal
 
 -- src/command.rt:257:9

@@ -1,7 +1,5 @@
 use Rattle.desks.specs.Command.{is_sheet}
 use borrow.Author.Rules.{rules}
-use Rattle.desks.proofs.command.is_sheet.Reads as reads
-use Rattle.desks.proofs.command.is_sheet.Lts as lts
 use Rattle.desks.proofs.command.is_sheet.Goals as goal
 
 -- src/command.rt:62:1

@@ -1,18 +1,6 @@
-use mathlib.Core.List.{[]}
 use native.Mathlib.Omega.{arith}
-use lib.ListN.{take}
-use Rattle.ledger.specs.Runs.{plan}
 use Rattle.desks.proofs.RoomLaws.{part_long}
-use Rattle.desks.proofs.AnswerParts.{state-of}
 use Rattle.desks.proofs.SheetLaid.{laid_shows, laid-water, laid_whole}
-use Rattle.desks.proofs.command.lay_sheet.Reads as reads
-use Rattle.desks.proofs.command.lay_sheet.Lts as lts
-use Rattle.account.proofs.water_on.Reads as water-on-reads
-use Rattle.desks.proofs.answers.put_ending.Reads as put-ending-reads
-use Rattle.desks.proofs.answers.put_state.Reads as put-state-reads
-use Rattle.desks.proofs.state.fresh_desk.Reads as fresh-desk-reads
-use Rattle.evenings.proofs.program.clear.Reads as clear_reads
-use Rattle.grid.proofs.squares.squares_of.Reads as squares-of-reads
 use Rattle.desks.proofs.command.lay_sheet.Goals as goal
 
 -- src/command.rt:68:33
@@ -48,8 +36,8 @@ pub put_ending-length-requires : goal.put_ending-length-requires
 put_ending-length-requires c =
     omega (
       arith,
-      (c.put_state-at.ensures []).short,
-      (c.put_state-at.ensures []).wrote.next,
+      c.put_state-at.ensures.short,
+      c.put_state-at.ensures.wrote.next,
       c.put_state-at.auto.out,
       c.requires.3,
     )
@@ -66,9 +54,5 @@ shape_of-lasts c = c.clear.auto.room
 pub returns : goal.returns
 returns c =
     let a = c.args in
-    let n = c.squares_of-squares.result in
-    let state =
-    state-of (plan a.heading.shape (take n a.marks.now)) c.fresh_desk-fresh.result.log c.fresh_desk-fresh.result.account (take n a.depths.now)
-    c.totals_of-totals.ensures c.put_state-at.ensures in
     laid_whole a.heading a.marks.now a.depths.now c.squares_of-squares.ensures c.water_on-start.ensures c.fresh_desk-fresh.ensures
-    c.requires.3 state c.put_ending-length.ensures c.fresh_desk.ensures c.clear.ensures
+    c.requires.3 c.put_state-at.ensures c.put_ending-length.ensures c.fresh_desk.ensures c.clear.ensures

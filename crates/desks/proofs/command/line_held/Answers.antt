@@ -1,10 +1,6 @@
 use mathlib.Core.Path.{sym, ◌∙◌}
 use native.Mathlib.Omega.{arith}
 use Rattle.desks.proofs.RoomLaws.{part_long, ready_fine, lends, held_line}
-use Rattle.desks.proofs.command.line_held.Reads as reads
-use Rattle.desks.proofs.command.line_held.Lts as lts
-use Rattle.desks.proofs.lines.order_line.Reads as order-line-reads
-use Rattle.desks.proofs.sizes.sizes_of.Reads as sizes-of-reads
 use Rattle.desks.proofs.command.line_held.Goals as goal
 
 -- src/command.rt:138:9

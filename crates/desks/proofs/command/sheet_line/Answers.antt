@@ -2,11 +2,6 @@ use native.Mathlib.Omega.{arith}
 use Rattle.sheet.specs.Sheet.{rooms}
 use Rattle.evenings.specs.Program.{stores}
 use Rattle.desks.proofs.LeftLaws.{read_shape, sheet_short, sheet_refused, sheet_read}
-use Rattle.desks.proofs.command.sheet_line.Reads as reads
-use Rattle.desks.proofs.command.sheet_line.Lts as lts
-use Rattle.desks.proofs.command.lay_sheet.Reads as lay-sheet-reads
-use Rattle.desks.proofs.lines.refuse_line.Reads as refuse-line-reads
-use Rattle.programs.proofs.reading.read_within.Reads as read-within-reads
 use Rattle.desks.proofs.command.sheet_line.Goals as goal
 
 -- src/command.rt:135:9
@@ -21,11 +16,11 @@ returns-then-text-bytes c =
 -- src/command.rt:150:33
 pub lay_sheet-requires : goal.lay_sheet-requires
 lay_sheet-requires c = (
-      read_shape c.read_within-sheet.ensures c.in-Read.is,
-      omega (arith, c.requires.marks_long, c.read_within-sheet.auto.marks),
-      omega (arith, c.requires.depths_long, c.read_within-sheet.auto.depths),
-      omega (arith, c.requires.out_long),
-    )
+  read_shape c.read_within-sheet.ensures c.in-Read.is,
+  omega (arith, c.requires.marks_long, c.read_within-sheet.auto.marks),
+  omega (arith, c.requires.depths_long, c.read_within-sheet.auto.depths),
+  omega (arith, c.requires.out_long),
+)
 
 -- src/command.rt:117:1
 pub shape_of-marks-in-Refused : goal.shape_of-marks-in-Refused

@@ -4,57 +4,51 @@ use mathlib.Core.Path.{sym, ◌∙◌}
 use Prim.Native.Nat.{◌≤◌}
 use native.Mathlib.Omega.{arith}
 use lib.ListN.{length}
-use Rattle.desks.specs.State.{desk_of}
-use Rattle.desks.specs.declared.state.Desk.{Desk}
-use Rattle.desks.proofs.RoomLaws.{part_long, put_back, work_lent, ready_fine, lends, held_passes, held-step}
+use Rattle.desks.proofs.RoomLaws.{part_long, work_lent, ready_fine, lends, held_passes, held-step}
 use Rattle.desks.proofs.command.step_held.Goals as goal
-use Rattle.desks.proofs.command.step_held.Goals.{After-sizes_of-sizes, Start}
+use Rattle.desks.proofs.command.step_held.Goals.{After-sizes_of-sizes}
 
 -- ---- the places, each by one after it
-
--- the desk, with the ring that was lent
-abbrev d : Start → Desk
-d s = desk_of s.args.going s.args.before.now
 
 -- ---- each room is long enough
 
 marks-fit : (c : After-sizes_of-sizes) → c.sizes_of-sizes.result.squares ≤ length c.args.marks.now
-marks-fit c = omega (arith, c.requires.before_value.1.marks_long, c.sizes_of-sizes.ensures.squares_fit)
+marks-fit c = omega (arith, c.requires.desk_value.1.marks_long, c.sizes_of-sizes.ensures.squares_fit)
 
 beds-fit : (c : After-sizes_of-sizes) → c.sizes_of-sizes.result.squares ≤ length c.args.beds.now
-beds-fit c = omega (arith, c.requires.before_value.2.beds_long, c.sizes_of-sizes.ensures.squares_fit)
+beds-fit c = omega (arith, c.requires.desk_value.2.beds_long, c.sizes_of-sizes.ensures.squares_fit)
 
 roughness-fit : (c : After-sizes_of-sizes) → c.sizes_of-sizes.result.squares ≤ length c.args.roughness.now
-roughness-fit c = omega (arith, c.requires.before_value.2.roughness_long, c.sizes_of-sizes.ensures.squares_fit)
+roughness-fit c = omega (arith, c.requires.desk_value.2.roughness_long, c.sizes_of-sizes.ensures.squares_fit)
 
 rates-fit : (c : After-sizes_of-sizes) → c.sizes_of-sizes.result.squares ≤ length c.args.rates.now
-rates-fit c = omega (arith, c.requires.before_value.2.rates_long, c.sizes_of-sizes.ensures.squares_fit)
+rates-fit c = omega (arith, c.requires.desk_value.2.rates_long, c.sizes_of-sizes.ensures.squares_fit)
 
 rain-fit : (c : After-sizes_of-sizes) → c.sizes_of-sizes.result.rain ≤ length c.args.rain.now
-rain-fit c = omega (arith, c.requires.before_value.2.rain_long, c.sizes_of-sizes.ensures.rain_fits)
+rain-fit c = omega (arith, c.requires.desk_value.2.rain_long, c.sizes_of-sizes.ensures.rain_fits)
 
 inflow-fit : (c : After-sizes_of-sizes) → c.sizes_of-sizes.result.inflow ≤ length c.args.inflow.now
-inflow-fit c = omega (arith, c.requires.before_value.1.inflow_long, c.sizes_of-sizes.ensures.inflow_fits)
+inflow-fit c = omega (arith, c.requires.desk_value.1.inflow_long, c.sizes_of-sizes.ensures.inflow_fits)
 
 depths-fit : (c : After-sizes_of-sizes) → c.sizes_of-sizes.result.squares ≤ length c.args.depths.now
-depths-fit c = omega (arith, c.requires.before_value.1.depths_long, c.sizes_of-sizes.ensures.squares_fit)
+depths-fit c = omega (arith, c.requires.desk_value.1.depths_long, c.sizes_of-sizes.ensures.squares_fit)
 
 lasts_fit : (c : After-sizes_of-sizes) → c.sizes_of-sizes.result.squares ≤ length c.args.lasts.now
-lasts_fit c = omega (arith, c.requires.before_value.1.lasts_long, c.sizes_of-sizes.ensures.squares_fit)
+lasts_fit c = omega (arith, c.requires.desk_value.1.lasts_long, c.sizes_of-sizes.ensures.squares_fit)
 
 records_fit : (c : After-sizes_of-sizes) → c.sizes_of-sizes.result.records ≤ length c.args.records.now
-records_fit c = omega (arith, c.requires.before_value.1.records_long, c.sizes_of-sizes.ensures.records_fit)
+records_fit c = omega (arith, c.requires.desk_value.1.records_long, c.sizes_of-sizes.ensures.records_fit)
 
 began_fit : (c : After-sizes_of-sizes) → c.sizes_of-sizes.result.began ≤ length c.args.began.now
-began_fit c = omega (arith, c.requires.before_value.1.began_long, c.sizes_of-sizes.ensures.began_fits)
+began_fit c = omega (arith, c.requires.desk_value.1.began_long, c.sizes_of-sizes.ensures.began_fits)
 
 left-fit : (c : After-sizes_of-sizes) → c.sizes_of-sizes.result.squares ≤ length c.args.left.now
 left-fit c = omega (arith, c.requires.work_long.left_long, c.sizes_of-sizes.ensures.squares_fit)
 
-worked_fit : (c : After-sizes_of-sizes) → c.args.going.heading.shape.rows ≤ length c.args.worked.now
+worked_fit : (c : After-sizes_of-sizes) → c.args.desk.heading.shape.rows ≤ length c.args.worked.now
 worked_fit c = omega (arith, c.requires.work_long.worked_long, c.sizes_of-sizes.ensures.fine.rows_high)
 
-senders_fit : (c : After-sizes_of-sizes) → c.args.going.heading.shape.rows ≤ length c.args.senders.now
+senders_fit : (c : After-sizes_of-sizes) → c.args.desk.heading.shape.rows ≤ length c.args.senders.now
 senders_fit c = omega (arith, c.requires.work_long.senders_long, c.sizes_of-sizes.ensures.fine.rows_high)
 
 room-fit : (c : After-sizes_of-sizes) → c.sizes_of-sizes.result.squares ≤ length c.args.room.now
@@ -63,7 +57,7 @@ room-fit c = omega (arith, c.requires.work_long.room_long, c.sizes_of-sizes.ensu
 -- ---- the answers
 
 pub sizes_of-sizes-requires : goal.sizes_of-sizes-requires
-sizes_of-sizes-requires c = ready_fine (d (goal.at.sizes_of-sizes-requires c).Start) c.requires.before_value.0
+sizes_of-sizes-requires c = ready_fine c.args.desk c.requires.desk_value.0
 
 pub slice_bounds-next_step-end : goal.slice_bounds-next_step-end
 slice_bounds-next_step-end c = part_long _ _ (marks-fit (goal.at.slice_bounds-next_step-end c).After-sizes_of-sizes)
@@ -133,44 +127,20 @@ slice_bounds-next_step-end-22 c = part_long _ _ (room-fit (goal.at.slice_bounds-
 
 pub next_step-requires : goal.next_step-requires
 next_step-requires c = record {
-      rooms_lent = work_lent c.args.going.heading c.sizes_of-sizes.ensures c.requires.work_long;
-      lends = (
-        lends c.args.going.heading c.sizes_of-sizes.ensures c.requires.before_value.1,
-        λ y.
-            held_passes (d (goal.at.next_step-requires c).Start) c.sizes_of-sizes.ensures c.args.marks.now c.args.beds.now c.args.roughness.now c.args.rates.now
-            c.args.depths.now c.args.rain.now c.args.inflow.now c.args.lasts.now c.args.records.now c.args.began.now
-            (c.requires.before_value.3 y),
-      );
-    }
-
-pub shape_of-depths : goal.shape_of-depths
-shape_of-depths c = put_back c.sizes_of-sizes.result.squares c.args.depths.now c.next_step.new.depths c.next_step.auto.depths (depths-fit (goal.at.shape_of-depths c).After-sizes_of-sizes)
-
-pub shape_of-lasts : goal.shape_of-lasts
-shape_of-lasts c = put_back c.sizes_of-sizes.result.squares c.args.lasts.now c.next_step.new.lasts c.next_step.auto.lasts (lasts_fit (goal.at.shape_of-lasts c).After-sizes_of-sizes)
-
-pub shape_of-records : goal.shape_of-records
-shape_of-records c = put_back c.sizes_of-sizes.result.records c.args.records.now c.next_step.new.records c.next_step.auto.records (records_fit (goal.at.shape_of-records c).After-sizes_of-sizes)
-
-pub shape_of-began : goal.shape_of-began
-shape_of-began c = put_back c.sizes_of-sizes.result.began c.args.began.now c.next_step.new.began c.next_step.auto.began (began_fit (goal.at.shape_of-began c).After-sizes_of-sizes)
-
-pub shape_of-left : goal.shape_of-left
-shape_of-left c = put_back c.sizes_of-sizes.result.squares c.args.left.now c.next_step.new.left c.next_step.auto.left (left-fit (goal.at.shape_of-left c).After-sizes_of-sizes)
-
-pub shape_of-worked : goal.shape_of-worked
-shape_of-worked c = put_back c.args.going.heading.shape.rows c.args.worked.now c.next_step.new.worked c.next_step.auto.worked (worked_fit (goal.at.shape_of-worked c).After-sizes_of-sizes)
-
-pub shape_of-senders : goal.shape_of-senders
-shape_of-senders c = put_back c.args.going.heading.shape.rows c.args.senders.now c.next_step.new.senders c.next_step.auto.senders (senders_fit (goal.at.shape_of-senders c).After-sizes_of-sizes)
-
-pub shape_of-room : goal.shape_of-room
-shape_of-room c = put_back c.sizes_of-sizes.result.squares c.args.room.now c.next_step.new.room c.next_step.auto.room (room-fit (goal.at.shape_of-room c).After-sizes_of-sizes)
+  rooms_lent = work_lent c.args.desk.heading c.sizes_of-sizes.ensures c.requires.work_long;
+  lends = (
+    lends c.args.desk.heading c.sizes_of-sizes.ensures c.requires.desk_value.1,
+    λ y.
+        held_passes c.args.desk c.sizes_of-sizes.ensures c.args.marks.now c.args.beds.now c.args.roughness.now c.args.rates.now
+        c.args.depths.now c.args.rain.now c.args.inflow.now c.args.lasts.now c.args.records.now c.args.began.now
+        (c.requires.desk_value.3 y),
+  );
+}
 
 pub returns : goal.returns
 returns c =
     let kept = c.next_step.auto in
-    held-step (d (goal.at.returns c).Start) c.sizes_of-sizes.ensures c.args.marks.now c.args.beds.now c.args.roughness.now c.args.rates.now
+    held-step c.args.desk c.sizes_of-sizes.ensures c.args.marks.now c.args.beds.now c.args.roughness.now c.args.rates.now
     c.args.depths.now c.args.rain.now c.args.inflow.now c.args.lasts.now c.args.records.now c.args.began.now
     (kept.depths ∙ sym (part_long _ _ (depths-fit (goal.at.returns c).After-sizes_of-sizes))) (kept.lasts ∙ sym (part_long _ _ (lasts_fit (goal.at.returns c).After-sizes_of-sizes))) (kept.records ∙ sym (part_long _ _ (records_fit (goal.at.returns c).After-sizes_of-sizes)))
     (kept.began ∙ sym (part_long _ _ (began_fit (goal.at.returns c).After-sizes_of-sizes))) c.next_step.ensures

@@ -1,7 +1,5 @@
 use Rattle.desks.specs.Command.{wanted_by}
 use borrow.Author.Rules.{rules}
-use Rattle.desks.proofs.command.wanted_by.Reads as reads
-use Rattle.desks.proofs.command.wanted_by.Lts as lts
 use Rattle.desks.proofs.command.wanted_by.Goals as goal
 
 -- src/command.rt:44:1

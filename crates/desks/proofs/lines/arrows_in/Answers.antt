@@ -2,13 +2,6 @@ use native.Mathlib.Omega.{arith}
 use Rattle.ledger.specs.Runs.{plan}
 use Rattle.sight.specs.AllArrows.{sights}
 use Rattle.desks.proofs.OtherLaws.{ending_fits, text_told, most_arrows, seen-short, arrows_refused, arrows_shown}
-use Rattle.desks.proofs.lines.arrows_in.Reads as reads
-use Rattle.desks.proofs.lines.arrows_in.Lts as lts
-use Rattle.desks.proofs.answers.put_ending.Reads as put-ending-reads
-use Rattle.desks.proofs.lines.refuse_line.Reads as refuse-line-reads
-use Rattle.desks.proofs.state.desk_still.Reads as desk-still-reads
-use Rattle.frames.proofs.arrows.put_arrows.Reads as put-arrows-reads
-use Rattle.sight.proofs.all_arrows.all_arrows.Reads as all-arrows-reads
 use Rattle.desks.proofs.lines.arrows_in.Goals as goal
 
 -- src/lines.rt:358:9
@@ -23,9 +16,9 @@ returns-then-number-ne0 c =
 -- src/lines.rt:360:9
 pub put_arrows-at-requires : goal.put_arrows-at-requires
 put_arrows-at-requires c = record {
-      shape_in_range = (c.requires.0.fine, omega (arith, c.all_arrows-number.auto.kinds, c.requires.1), omega (arith, c.all_arrows-number.auto.east, c.requires.2), omega (arith, c.all_arrows-number.auto.north, c.requires.3));
-      north_in_bounds = omega (arith, (seen-short c.args.desk.heading.shape c.requires.0.fine (sights c.all_arrows-number.new.kinds c.all_arrows-number.new.east c.all_arrows-number.new.north) (record { east_fits = c.slice_known-6-1.given; north_fits = c.slice_known-7-1.given })), c.requires.0.out_long);
-    }
+  shape_in_range = (c.requires.0.fine, omega (arith, c.all_arrows-number.auto.kinds, c.requires.1), omega (arith, c.all_arrows-number.auto.east, c.requires.2), omega (arith, c.all_arrows-number.auto.north, c.requires.3));
+  north_in_bounds = omega (arith, (seen-short c.args.desk.heading.shape c.requires.0.fine (sights c.all_arrows-number.new.kinds c.all_arrows-number.new.east c.all_arrows-number.new.north) (record { east_fits = c.slice_known-6-1.given; north_fits = c.slice_known-7-1.given })), c.requires.0.out_long);
+}
 
 -- src/lines.rt:361:9
 pub put_ending-length-requires : goal.put_ending-length-requires

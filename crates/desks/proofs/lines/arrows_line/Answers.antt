@@ -1,10 +1,5 @@
 use mathlib.Core.Path.{sym, ◌∙◌}
 use Rattle.desks.proofs.OtherLaws.{room_part}
-use Rattle.desks.proofs.lines.arrows_line.Reads as reads
-use Rattle.desks.proofs.lines.arrows_line.Lts as lts
-use Rattle.desks.proofs.lines.arrows_in.Reads as arrows-in-reads
-use Rattle.desks.proofs.lines.no_kinds.Reads as no-kinds-reads
-use Rattle.desks.proofs.lines.no_speeds.Reads as no-speeds-reads
 use Rattle.desks.proofs.lines.arrows_line.Goals as goal
 
 -- src/lines.rt:385:9
@@ -26,8 +21,8 @@ slice_bounds-arrows_in-end-3 c =
 -- src/lines.rt:380:5
 pub arrows_in-requires : goal.arrows_in-requires
 arrows_in-requires c = (
-      c.requires,
-      room_part c.requires c.no_kinds-kinds.result c.no_kinds-kinds.ensures,
-      room_part c.requires c.no_speeds-east.result c.no_speeds-east.ensures,
-      room_part c.requires c.no_speeds-north.result c.no_speeds-north.ensures,
-    )
+  c.requires,
+  room_part c.requires c.no_kinds-kinds.result c.no_kinds-kinds.ensures,
+  room_part c.requires c.no_speeds-east.result c.no_speeds-east.ensures,
+  room_part c.requires c.no_speeds-north.result c.no_speeds-north.ensures,
+)

@@ -2,11 +2,6 @@ use Rattle.ledger.specs.Runs.{plan}
 use Rattle.hatches.specs.Log.{evening}
 use native.Mathlib.Omega.{arith}
 use Rattle.desks.proofs.AnswerLaws.{trial_lent, shows_on, back_refused, back_shown}
-use Rattle.desks.proofs.lines.back_line.Reads as reads
-use Rattle.desks.proofs.lines.back_line.Lts as lts
-use Rattle.desks.proofs.lines.shown_line.Reads as shown-line-reads
-use Rattle.desks.proofs.lines.tried_line.Reads as tried-line-reads
-use Rattle.trying.proofs.lines.back.Reads as back-reads
 use Rattle.desks.proofs.lines.back_line.Goals as goal
 
 -- src/lines.rt:110:9

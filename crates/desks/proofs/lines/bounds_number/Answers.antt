@@ -1,7 +1,5 @@
 use mathlib.Core.Path.{sym, ap}
 use Rattle.desks.specs.Inner.Lent.{refused_in}
-use Rattle.desks.proofs.lines.bounds_number.Reads as reads
-use Rattle.desks.proofs.lines.bounds_number.Lts as lts
 use Rattle.desks.proofs.lines.bounds_number.Goals as goal
 
 -- src/lines.rt:360:1

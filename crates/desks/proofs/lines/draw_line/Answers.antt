@@ -1,8 +1,4 @@
 use Rattle.desks.proofs.OtherLaws.{plainly-told}
-use Rattle.desks.proofs.lines.draw_line.Reads as reads
-use Rattle.desks.proofs.lines.draw_line.Lts as lts
-use Rattle.desks.proofs.lines.tried_line.Reads as tried-line-reads
-use Rattle.trying.proofs.lines.draw.Reads as draw-reads
 use Rattle.desks.proofs.lines.draw_line.Goals as goal
 
 -- src/lines.rt:305:1

@@ -1,10 +1,5 @@
 use Rattle.desks.specs.Lines.{entry_told}
 use Rattle.desks.proofs.OtherLaws.{as_told, entry_as}
-use Rattle.desks.proofs.lines.entry_line.Reads as reads
-use Rattle.desks.proofs.lines.entry_line.Lts as lts
-use Rattle.desks.proofs.lines.back_line.Reads as back-line-reads
-use Rattle.desks.proofs.lines.hatch_line.Reads as hatch-line-reads
-use Rattle.desks.proofs.lines.refuse_line.Reads as refuse-line-reads
 use Rattle.desks.proofs.lines.entry_line.Goals as goal
 
 -- src/lines.rt:449:1

@@ -1,9 +1,5 @@
 use Rattle.ledger.specs.Runs.{plan}
 use Rattle.desks.proofs.OtherLaws.{account_as}
-use Rattle.desks.proofs.lines.laid_line.Reads as reads
-use Rattle.desks.proofs.lines.laid_line.Lts as lts
-use Rattle.desks.proofs.lines.shown_line.Reads as shown-line-reads
-use Rattle.trying.proofs.given.open_account.Reads as open-account-reads
 use Rattle.desks.proofs.lines.laid_line.Goals as goal
 
 -- src/lines.rt:403:1

@@ -2,12 +2,6 @@ use mathlib.Core.Path.{◌∙◌}
 use native.Mathlib.Omega.{arith}
 use Rattle.ledger.specs.Runs.{plan}
 use Rattle.desks.proofs.OtherLaws.{slots_some, lay_uncounted, lay_too_long, lay_refused, lay_laid}
-use Rattle.desks.proofs.lines.lay_line.Reads as reads
-use Rattle.desks.proofs.lines.lay_line.Lts as lts
-use Rattle.desks.proofs.lines.laid_line.Reads as laid-line-reads
-use Rattle.desks.proofs.lines.refuse_line.Reads as refuse-line-reads
-use Rattle.desks.proofs.state.kept_slots.Reads as kept-slots-reads
-use Rattle.stands.proofs.laying.read_stand.Reads as read-stand-reads
 use Rattle.desks.proofs.lines.lay_line.Goals as goal
 
 -- src/lines.rt:432:9

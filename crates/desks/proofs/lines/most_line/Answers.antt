@@ -2,14 +2,6 @@ use mathlib.Core.Path.{sym}
 use native.Mathlib.Omega.{arith}
 use Rattle.frames.specs.Bounds.{most_bounds}
 use Rattle.desks.proofs.OtherLaws.{ending_fits, most_short, most-told, text_told}
-use borrow.Author.Rules.{rules}
-use Rattle.desks.proofs.lines.most_line.Reads as reads
-use Rattle.desks.proofs.lines.most_line.Lts as lts
-use Rattle.checks.proofs.bounds.step_bounds.Reads as step-bounds-reads
-use Rattle.desks.proofs.answers.put_ending.Reads as put-ending-reads
-use Rattle.desks.proofs.lines.bounds_number.Reads as bounds-number-reads
-use Rattle.desks.proofs.state.desk_still.Reads as desk-still-reads
-use Rattle.frames.proofs.bounds.put_bounds.Reads as put-bounds-reads
 use Rattle.desks.proofs.lines.most_line.Goals as goal
 
 -- src/lines.rt:380:9

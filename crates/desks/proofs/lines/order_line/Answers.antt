@@ -1,17 +1,6 @@
 use Rattle.ledger.specs.Runs.{plan}
 use Rattle.desks.specs.Lines.{order_told}
 use Rattle.desks.proofs.OtherLaws.{as_told, order_as}
-use Rattle.desks.proofs.lines.order_line.Reads as reads
-use Rattle.desks.proofs.lines.order_line.Lts as lts
-use Rattle.desks.proofs.lines.arrows_line.Reads as arrows-line-reads
-use Rattle.desks.proofs.lines.draw_line.Reads as draw-line-reads
-use Rattle.desks.proofs.lines.entry_line.Reads as entry-line-reads
-use Rattle.desks.proofs.lines.lay_line.Reads as lay-line-reads
-use Rattle.desks.proofs.lines.most_line.Reads as most-line-reads
-use Rattle.desks.proofs.lines.refuse_line.Reads as refuse-line-reads
-use Rattle.desks.proofs.lines.show_line.Reads as show-line-reads
-use Rattle.desks.proofs.lines.stand_line.Reads as stand-line-reads
-use Rattle.desks.proofs.lines.step_line.Reads as step-line-reads
 use Rattle.desks.proofs.lines.order_line.Goals as goal
 
 -- src/lines.rt:480:1

@@ -1,9 +1,5 @@
 use mathlib.Core.Path.{refl}
 use Rattle.desks.proofs.AnswerLaws.{ending-told}
-use Rattle.desks.proofs.lines.refuse_line.Reads as reads
-use Rattle.desks.proofs.lines.refuse_line.Lts as lts
-use Rattle.desks.proofs.answers.put_ending.Reads as put-ending-reads
-use Rattle.desks.proofs.state.desk_still.Reads as desk-still-reads
 use Rattle.desks.proofs.lines.refuse_line.Goals as goal
 
 -- src/lines.rt:47:1

@@ -1,6 +1,3 @@
-use Rattle.desks.proofs.lines.show_line.Reads as reads
-use Rattle.desks.proofs.lines.show_line.Lts as lts
-use Rattle.desks.proofs.lines.shown_line.Reads as shown-line-reads
 use Rattle.desks.proofs.lines.show_line.Goals as goal
 
 -- src/lines.rt:90:5

@@ -2,11 +2,6 @@ use native.Mathlib.Omega.{arith}
 use Rattle.ledger.specs.Runs.{plan}
 use Rattle.stands.specs.Texts.{most_stand}
 use Rattle.desks.proofs.OtherLaws.{ending_fits, text_told, stand-told}
-use Rattle.desks.proofs.lines.stand_line.Reads as reads
-use Rattle.desks.proofs.lines.stand_line.Lts as lts
-use Rattle.desks.proofs.answers.put_ending.Reads as put-ending-reads
-use Rattle.desks.proofs.state.desk_still.Reads as desk-still-reads
-use Rattle.stands.proofs.putting.put_stand.Reads as put-stand-reads
 use Rattle.desks.proofs.lines.stand_line.Goals as goal
 
 -- src/lines.rt:397:9

@@ -3,10 +3,6 @@ use borrow.Author.Tests.{le-leb, lt-leb}
 use mathlib.Core.Path.{◌∙◌}
 use Rattle.reckon.proofs.TestLaws.{refusal_here, refusal_later, passed_refusal}
 use Rattle.desks.proofs.AnswerLaws.{step-refused, step-begun}
-use Rattle.desks.proofs.lines.step_line.Reads as reads
-use Rattle.desks.proofs.lines.step_line.Lts as lts
-use Rattle.desks.proofs.lines.refuse_line.Reads as refuse-line-reads
-use Rattle.desks.proofs.state.desk_with.Reads as desk-with-reads
 use Rattle.desks.proofs.lines.step_line.Goals as goal
 
 -- src/lines.rt:133:9

@@ -3,8 +3,6 @@ use borrow.Author.Tests.{le-leb, lt-leb}
 use Rattle.reckon.proofs.TestLaws.{every_fails}
 use Rattle.desks.specs.Lines.{steps_left}
 use Rattle.desks.proofs.AnswerLaws.{both_hold}
-use Rattle.desks.proofs.lines.steps_left.Reads as reads
-use Rattle.desks.proofs.lines.steps_left.Lts as lts
 use Rattle.desks.proofs.lines.steps_left.Goals as goal
 
 -- src/lines.rt:216:9

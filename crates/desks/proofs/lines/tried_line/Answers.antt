@@ -1,9 +1,4 @@
 use Rattle.desks.proofs.AnswerLaws.{ending-told}
-use Rattle.desks.proofs.lines.tried_line.Reads as reads
-use Rattle.desks.proofs.lines.tried_line.Lts as lts
-use Rattle.desks.proofs.answers.put_ending.Reads as put-ending-reads
-use Rattle.desks.proofs.state.desk_with.Reads as desk-with-reads
-use Rattle.desks.proofs.state.no_series.Reads as no-series-reads
 use Rattle.desks.proofs.lines.tried_line.Goals as goal
 
 -- src/lines.rt:56:1

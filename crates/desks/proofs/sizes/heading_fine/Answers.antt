@@ -5,9 +5,6 @@ use borrow.Author.Tests.{le-leb, lt-leb}
 use Rattle.reckon.proofs.TestLaws.{every_fails}
 use Rattle.checks.proofs.CheckLaws.{fails_by, holds_by, every_decided}
 use Rattle.desks.specs.State.{heading_fine}
-use Rattle.desks.proofs.sizes.heading_fine.Reads as reads
-use Rattle.desks.proofs.sizes.heading_fine.Lts as lts
-use Rattle.grid.proofs.squares.shape_fine.Reads as shape-fine-reads
 use Rattle.desks.proofs.sizes.heading_fine.Goals as goal
 
 -- src/sizes.rt:29:9

@@ -6,11 +6,6 @@ use Rattle.ledger.specs.Runs.{plan}
 use Rattle.ledger.specs.Record.{record_size}
 use Rattle.desks.specs.State.{kept_slots}
 use Rattle.desks.proofs.StateLaws.{fine_is, slots_fit, slots_most, sizes_made}
-use Rattle.desks.proofs.sizes.sizes_of.Reads as reads
-use Rattle.desks.proofs.sizes.sizes_of.Lts as lts
-use Rattle.desks.proofs.state.kept_slots.Reads as kept-slots-reads
-use Rattle.grid.proofs.squares.squares_of.Reads as squares-of-reads
-use Rattle.ledger.proofs.record.record_size.Reads as record-size-reads
 use Rattle.desks.proofs.sizes.sizes_of.Goals as goal
 
 -- src/sizes.rt:41:9

@@ -1,10 +1,6 @@
 use mathlib.Core.Path.{ap, ◌∙◌}
 use Rattle.desks.specs.State.{desk_with}
 use Rattle.desks.specs.declared.state.Series.{Series}
-use Rattle.desks.proofs.state.desk_still.Reads as reads
-use Rattle.desks.proofs.state.desk_still.Lts as lts
-use Rattle.desks.proofs.state.desk_with.Reads as desk-with-reads
-use Rattle.desks.proofs.state.no_series.Reads as no-series-reads
 use Rattle.desks.proofs.state.desk_still.Goals as goal
 
 -- src/state.rt:153:1

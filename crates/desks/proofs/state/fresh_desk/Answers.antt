@@ -1,12 +1,5 @@
 use native.Mathlib.Omega.{arith}
 use Rattle.desks.proofs.StateLaws.{slots_some, desk_fresh}
-use Rattle.desks.proofs.state.fresh_desk.Reads as reads
-use Rattle.desks.proofs.state.fresh_desk.Lts as lts
-use Rattle.checks.proofs.fresh.fresh_run.Reads as fresh-run-reads
-use Rattle.desks.proofs.state.kept_slots.Reads as kept-slots-reads
-use Rattle.desks.proofs.state.no_series.Reads as no-series-reads
-use Rattle.hatches.proofs.log.open_log.Reads as open-log-reads
-use Rattle.trying.proofs.given.open_account.Reads as open-account-reads
 use Rattle.desks.proofs.state.fresh_desk.Goals as goal
 
 -- src/state.rt:120:9

@@ -1,7 +1,4 @@
 use Rattle.desks.proofs.StateLaws.{slots_many, slots_few}
-use Rattle.desks.proofs.state.kept_slots.Reads as reads
-use Rattle.desks.proofs.state.kept_slots.Lts as lts
-use Rattle.ledger.proofs.record.record_size.Reads as record-size-reads
 use Rattle.desks.proofs.state.kept_slots.Goals as goal
 
 -- src/state.rt:56:9

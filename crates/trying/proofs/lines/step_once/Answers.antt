@@ -11,10 +11,9 @@ use Rattle.ledger.specs.Record.{room_slots}
 use Rattle.checks.specs.Given.{Given, given, ground}
 use Rattle.hatches.specs.Log.{Evening, evening}
 use Rattle.hatches.proofs.RefusalLaws.{slots_are}
-use Rattle.trying.specs.Given.{account_of}
 use Rattle.trying.specs.Lines.{try_refusals}
 use Rattle.trying.specs.declared.given.Account.{Account}
-use Rattle.trying.proofs.LineLaws.{refused_of, kept_of, try_fits, try_given, step_unfit, used_fits, used_long, used_passes, used_refused, used_newest, used_steps, used_between, used_done}
+use Rattle.trying.proofs.LineLaws.{try_fits, try_given, step_unfit, used_fits, used_long, used_passes, used_refused, used_newest, used_steps, used_between, used_done}
 use Rattle.trying.proofs.lines.step_once.Goals as goal
 use Rattle.trying.proofs.lines.step_once.Goals.{After-slots_in-slots, After-try_number-number, Else-number-ne0, Start}
 
@@ -32,12 +31,12 @@ abbrev e : Start → Evening
 e s = evening s.args.depths.now s.args.lasts.now s.args.records.now s.args.began.now s.args.log
 
 abbrev a : Start → Account
-a s = account_of s.args.totals s.args.before.now
+a s = s.args.account
 
-number_is : (c : After-try_number-number) → c.try_number-number.result ≡ refusal (try_refusals c.args.inflow.now c.args.log (a (goal.at.After-try_number-number c).Start))
-number_is c = c.try_number-number.ensures c.args.inflow.now c.args.before.now refl
+number_is : (c : After-try_number-number) → c.try_number-number.result ≡ refusal (try_refusals c.args.inflow.now c.args.log c.args.account)
+number_is c = c.try_number-number.ensures c.args.inflow.now refl
 
-passed : (c : Else-number-ne0) → refusal (try_refusals c.args.inflow.now c.args.log (a (goal.at.Else-number-ne0 c).Start)) ≡ 0
+passed : (c : Else-number-ne0) → refusal (try_refusals c.args.inflow.now c.args.log c.args.account) ≡ 0
 passed c = sym (number_is (goal.at.Else-number-ne0 c).After-try_number-number) ∙ c.if-number-ne0.false
 
 slots : (c : After-slots_in-slots) → c.slots_in-slots.result ≡ room_slots (p (goal.at.After-slots_in-slots c).Start) c.args.records.now
@@ -46,7 +45,7 @@ slots c = slots_are (p (goal.at.After-slots_in-slots c).Start) c.args.records.no
 -- ---- the answers
 
 pub returns-then-number-ne0 : goal.returns-then-number-ne0
-returns-then-number-ne0 c = step_unfit (p (goal.at.returns-then-number-ne0 c).Start) (g (goal.at.returns-then-number-ne0 c).Start) (e (goal.at.returns-then-number-ne0 c).Start) (a (goal.at.returns-then-number-ne0 c).Start) (refused_of c.args.before.now c.refused_step.ensures) (number_is (goal.at.returns-then-number-ne0 c).After-try_number-number) (λ z. c.if-number-ne0.true z)
+returns-then-number-ne0 c = step_unfit (p (goal.at.returns-then-number-ne0 c).Start) (g (goal.at.returns-then-number-ne0 c).Start) (e (goal.at.returns-then-number-ne0 c).Start) (a (goal.at.returns-then-number-ne0 c).Start) c.refused.ensures (number_is (goal.at.returns-then-number-ne0 c).After-try_number-number) (λ z. c.if-number-ne0.true z)
 
 pub fill_table-length-requires : goal.fill_table-length-requires
 fill_table-length-requires c = omega (arith, try_fits c.args.inflow.now c.args.log (a (goal.at.fill_table-length-requires c).Start) (passed (goal.at.fill_table-length-requires c).Else-number-ne0), length-replicate {A = ℕ} (table_room inflow_kind) 0)
@@ -101,7 +100,7 @@ made_step-requires c =
 pub returns-in-Refused : goal.returns-in-Refused
 returns-in-Refused c =
     used_refused (p (goal.at.returns-in-Refused c).Start) (g (goal.at.returns-in-Refused c).Start) (e (goal.at.returns-in-Refused c).Start) (a (goal.at.returns-in-Refused c).Start) (number_is (goal.at.returns-in-Refused c).After-try_number-number) c.if-number-ne0.false c.fill_table-length.ensures c.step_checked-answer.ensures
-    c.in-Refused.is (refused_of c.args.before.now c.refused_step-in-Refused.ensures)
+    c.in-Refused.is c.refused-in-Refused.ensures
 
 pub shape_of-depths-in-Done : goal.shape_of-depths-in-Done
 shape_of-depths-in-Done c = c.step_checked-answer.auto.depths
@@ -118,4 +117,4 @@ shape_of-left-in-Done c = c.step_checked-answer.auto.left
 pub returns-in-Done : goal.returns-in-Done
 returns-in-Done c =
     used_done (p (goal.at.returns-in-Done c).Start) (g (goal.at.returns-in-Done c).Start) (e (goal.at.returns-in-Done c).Start) (a (goal.at.returns-in-Done c).Start) (number_is (goal.at.returns-in-Done c).After-try_number-number) c.if-number-ne0.false c.fill_table-length.ensures c.step_checked-answer.ensures
-    c.in-Done.is (slots (goal.at.returns-in-Done c).After-slots_in-slots) (kept_of c.made_step.ensures)
+    c.in-Done.is (slots (goal.at.returns-in-Done c).After-slots_in-slots) c.made_step.ensures
