@@ -1,7 +1,6 @@
 -- Demand 1 holds: each call reads its table row by row, and a run is followed step by step.
 -- Assumes nothing.
 use mathlib.Core.Path.{refl, sym, ◌∙◌}
-use Prim.Native.Nat.{◌-◌}
 use borrow.Author.Tests.{ne_eqb}
 use Rattle.reckon.proofs.TestLaws.{pick_false}
 use Rattle.ledger.specs.Runs.{Plan}

@@ -216,8 +216,8 @@ module _ (p : Plan) (g : Given) where
             order_told (B.other.plan_is j) (sym B.other.standing.at_is j) (sym B.other.standing.account_is j) (B.other.ground_is j).lie.rules (B.other.ground_is j).inflow
             text o
 
-    step_left : LeftAlike (step_left d r) (step_left d' r')
-    step_left = by_test d.series.on going idle
+    step_left_lem : LeftAlike (step_left d r) (step_left d' r')
+    step_left_lem = by_test d.series.on going idle
       where
         idle : d.series.on ≡ false → LeftAlike (step_left d r) (step_left d' r')
         idle q =
@@ -240,7 +240,7 @@ module _ (p : Plan) (g : Given) where
 
     call_left : (c : Call) → Tries c → NoArrows c → AllWithin p g (deeds_of c d') y → LeftAlike (called c d r) (called c d' r')
     call_left (a_line line text) t z w = line_left text (order line) t z w
-    call_left going_on t z w = step_left
+    call_left going_on t z w = step_left_lem
 
     beside_next : (c : Call) → Tries c → NoArrows c → AllWithin p g (deeds_of c d') y →
         Beside (called c d r).desk (called c d r).rooms (desk_after p g (deeds_of c d') x) (called c d' r').desk (called c d' r').rooms (desk_after p g (deeds_of c d') y)

@@ -15,14 +15,14 @@ use Rattle.reckon.proofs.TestLaws.{pick_true, pick_false, pick_both, not_both, e
 use Rattle.trials.specs.Ring.{slot_before, slot_ago}
 use Rattle.trials.specs.Room.{record_in}
 use Rattle.trials.proofs.RingLaws.{ago_below}
-use Rattle.ledger.specs.Runs.{Plan, World, Seen, world, seen_of}
+use Rattle.ledger.specs.Runs.{Plan, World, Seen, seen_of}
 use Rattle.ledger.specs.Record.{room_slots}
 use Rattle.ledger.specs.TakeBack.{back_number, taken_back}
 use Rattle.ledger.specs.declared.runs.Run.{Run}
 use Rattle.checks.specs.Given.{Given}
 use Rattle.flood.specs.Run.{Ended, go_on, run_to}
 use Rattle.answer.specs.Printed.{totals_text, made_text}
-use Rattle.hatches.specs.Log.{Evening, evening, most_hatches, rates_kept, line_fine, entry_refusals, rates_back}
+use Rattle.hatches.specs.Log.{Evening, most_hatches, rates_kept, line_fine, entry_refusals, rates_back}
 use Rattle.evenings.specs.Taking.{world_of, drawn, entry_number, steps_number, line_run, further, back_from, after_hatch, after_rate, after_back, entered, after_entry}
 use Rattle.evenings.specs.Shown.{stands_text}
 use Rattle.hatches.proofs.RefusalLaws.{entered_is, back_kept}

@@ -12,7 +12,6 @@ use Rattle.checks.specs.Refusals.{check_refusals}
 use Rattle.text.proofs.ReadingLaws.{by_test}
 use Rattle.sheet.specs.Sheet.{checks_in, heading_of, judged}
 use Rattle.sheet.specs.Written.{sheet_written}
-use Rattle.sheet.specs.declared.reading.Sheet.TheVariants as sheet
 use Rattle.survey.specs.Sets.{Set, set_bad, all_agree, set_says, set_number, Outcome, moved_out, to_survey, moved_back, all_short, set_answer, from_survey}
 use Rattle.survey.specs.Sets.Outcome.{moved, refused}
 use Rattle.survey.specs.Moving.{room_after}

@@ -4,7 +4,7 @@
 use Rattle.std.specs.Prelude.{◌≡◌, List, ◌++◌, ℕ, ◌≤◌, ◌<◌, length}
 use Rattle.reckon.specs.Tests.{refusal}
 use Rattle.rule.specs.declared.rules.Rules.{Rules}
-use Rattle.ledger.specs.Runs.{Plan, World, world, seen_of}
+use Rattle.ledger.specs.Runs.{Plan, World, seen_of}
 use Rattle.ledger.specs.After.{late_refusals}
 use Rattle.ledger.specs.TakeBack.{back_refusals, back_number, taken_back}
 use Rattle.ledger.specs.Record.{ring_of}
