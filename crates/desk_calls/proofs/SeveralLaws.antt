@@ -25,7 +25,7 @@ use Rattle.demands.proofs.DeskWalls.{desk_walls}
 use Rattle.demands.proofs.SavedCalls.{stand_read_back}
 use Rattle.desk_calls.specs.Single.{left_with}
 use Rattle.desk_calls.specs.Several.{WallsAsk, AfterBoth, AfterFurther, AfterTurns, AfterStepBack, AfterSaved}
-use Rattle.desk_calls.proofs.SingleLaws.{command_told, command-left, step_left}
+use Rattle.desk_calls.proofs.SingleLaws.{command_told, command-left, step_left_lem}
 
 -- ---- one call at two desks
 
@@ -73,7 +73,7 @@ after_line line text d r d' r' v w =
 pub after_next_both : (d : Desk) (r : Stores) (d' : Desk) (r' : Stores) {a b : Desk} {after there : Stores} {old new past last : List ℕ} →
     Leaves (step_left d r) a after old new → Leaves (step_left d' r') b there past last →
     AfterBoth going_on d r d' r' (left_with a after new) (left_with b there last)
-after_next_both d r d' r' v w = after_both going_on d r d' r' (step_left d r v) (step_left d' r' w)
+after_next_both d r d' r' v w = after_both going_on d r d' r' (step_left_lem d r v) (step_left_lem d' r' w)
 
 -- ---- two desks
 
@@ -93,7 +93,7 @@ after_turns d r line text d' r' line' text' {a} {a'} {b} {after} {later} {there}
     L = command_left d r text (order line)
 
     one : left_with a' later next ≡ step_left L.desk L.rooms
-    one = step_left a after u ∙ ap₂ step_left v.desk_is v.rooms_are
+    one = step_left_lem a after u ∙ ap₂ step_left v.desk_is v.rooms_are
 
     other : left_with b there last ≡ command_left d' r' text' (order line')
     other = command-left d' r' text' (order line') w
@@ -102,7 +102,7 @@ after_turns d r line text d' r' line' text' {a} {a'} {b} {after} {later} {there}
 
 pub after-further : (d : Desk) (r : Stores) {a b : Desk} {after later : Stores} {old new next : List ℕ} → Leaves (step_left d r) a after old new →
     Leaves (step_left a after) b later new next → AfterFurther d r (left_with b later next)
-after-further d r {a} {b} {after} v w = record { is_call = step_left a after w ∙ ap₂ step_left v.desk_is v.rooms_are }
+after-further d r {a} {b} {after} v w = record { is_call = step_left_lem a after w ∙ ap₂ step_left v.desk_is v.rooms_are }
 
 -- ---- a step taken back
 

@@ -78,8 +78,8 @@ pub command-left : (d : Desk) (r : Stores) (text : List ℕ) (o : Order) {a : De
     Leaves (command_left d r text o) a after old new → left_with a after new ≡ command_left d r text o
 command-left d r text o w = left_is (command_long d r text o) w
 
-pub step_left : (d : Desk) (r : Stores) {a : Desk} {after : Stores} {old new : List ℕ} → Leaves (step_left d r) a after old new → left_with a after new ≡ step_left d r
-step_left d r w = left_is (step_long d r) w
+pub step_left_lem : (d : Desk) (r : Stores) {a : Desk} {after : Stores} {old new : List ℕ} → Leaves (step_left d r) a after old new → left_with a after new ≡ step_left d r
+step_left_lem d r w = left_is (step_long d r) w
 
 pub after_command : (d : Desk) (r : Stores) (line text : List ℕ) {a : Desk} {after : Stores} {old new : List ℕ} →
     Leaves (command_left d r text (order line)) a after old new → AfterCommand d r line text (left_with a after new)
@@ -96,5 +96,5 @@ after_command d r line text w =
 pub after_next : (d : Desk) (r : Stores) {a : Desk} {after : Stores} {old new : List ℕ} → Leaves (step_left d r) a after old new → AfterNext d r (left_with a after new)
 unfolding is_sheet
 after_next d r w =
-    subst (AfterNext d r) (sym (step_left d r w))
+    subst (AfterNext d r) (sym (step_left_lem d r w))
     (record { is_call = refl; does = λ on nine. desk_lines.each_step d r on nine; not_ready = λ z. (desk_lines.not_ready d r z [] Show refl).1 })

@@ -1,0 +1,7 @@
+-- `calls::exported::after_flood_fresh` meets its contract: what the call promises is what its caller has.
+-- Assumes nothing.
+use Rattle.calls.proofs.ExportedLaws.{after_flood_fresh}
+use Rattle.calls.proofs.exported.after_flood_fresh.Goals as goal
+
+pub returns : goal.returns
+returns c = search after_flood_fresh

@@ -1,0 +1,8 @@
+-- `calls::exported::after_flood_run_to` meets its contract: what the call promises is what its caller has.
+-- Assumes nothing.
+use Rattle.grid.specs.declared.walks.Walk.TheVariants.{All}
+use Rattle.calls.proofs.ExportedLaws.{after_flood_run}
+use Rattle.calls.proofs.exported.after_flood_run_to.Goals as goal
+
+pub returns : goal.returns
+returns c = search (after_flood_run All)
