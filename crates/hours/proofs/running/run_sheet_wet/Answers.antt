@@ -1,6 +1,5 @@
 -- `hours::running::run_sheet_wet` meets its contract: the run starts from nothing, and its checks have passed.
 -- Assumes nothing.
-use borrow.Author.Rules.{rules}
 use Rattle.ledger.specs.Runs.{Plan, World, plan, world}
 use Rattle.checks.specs.Given.{Given, ground, given}
 use Rattle.checks.proofs.CheckLaws.{run_checks_step, run_checks_end, end_is}

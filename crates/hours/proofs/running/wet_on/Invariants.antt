@@ -1,7 +1,6 @@
 use mathlib.Core.Path.{◌≡◌}
 use Prim.Native.Nat.{◌-◌}
 use lib.ListN.{length}
-use borrow.Author.Rules.{rules}
 use Rattle.grid.specs.Squares.{most_along, most_squares}
 use Rattle.ledger.specs.Runs.{plan, world}
 use Rattle.checks.specs.Given.{ground, given}
