@@ -32,10 +32,10 @@ bounds-times-square-in-loop-square c = omega (arith, added_long _ _ _ _ c.loop-s
 
 pub loop-square-preserved : goal.loop-square-preserved
 loop-square-preserved c = (
-      omega arith,
-      added_more c.args.lasted c.args.marks.now c.args.depths.now c.args.times.now c.loop-square.square
-          (omega (arith, c.loop-square-test.true, c.requires.depths_len.1)) c.loop-square.invariant.1 (ap (λ (k : ℕ). get_or c.loop-square.times c.loop-square.square 0 + k) c.wet_for-wet.ensures),
-    )
+  omega arith,
+  added_more c.args.lasted c.args.marks.now c.args.depths.now c.args.times.now c.loop-square.square
+      (omega (arith, c.loop-square-test.true, c.requires.depths_len.1)) c.loop-square.invariant.1 (ap (λ (k : ℕ). get_or c.loop-square.times c.loop-square.square 0 + k) c.wet_for-wet.ensures),
+)
 
 pub shape_of-times : goal.shape_of-times
 shape_of-times c = added_long _ _ _ _ c.loop-square.invariant.1

@@ -49,16 +49,16 @@ squares_of-squares-requires c = passed_fine c.requires.passes
 
 pub loop-at-init : goal.loop-at-init
 loop-at-init c = (
-      running_starts (p (goal.at.loop-at-init c).Start) (g (goal.at.loop-at-init c).Start) c.args.end (w (goal.at.loop-at-init c).Start) c.requires.passes.checked,
-      wetted_starts (p (goal.at.loop-at-init c).Start) (g (goal.at.loop-at-init c).Start) (w (goal.at.loop-at-init c).Start) c.requires.times_value,
-      refl,
-      refl,
-      refl,
-      length-replicate {A = ℕ} most_squares 0,
-      length-replicate {A = ℕ} most_along 0,
-      length-replicate {A = ℕ} most_along 0,
-      length-replicate {A = ℕ} most_squares 0,
-    )
+  running_starts (p (goal.at.loop-at-init c).Start) (g (goal.at.loop-at-init c).Start) c.args.end (w (goal.at.loop-at-init c).Start) c.requires.passes.checked,
+  wetted_starts (p (goal.at.loop-at-init c).Start) (g (goal.at.loop-at-init c).Start) (w (goal.at.loop-at-init c).Start) c.requires.times_value,
+  refl,
+  refl,
+  refl,
+  length-replicate {A = ℕ} most_squares 0,
+  length-replicate {A = ℕ} most_along 0,
+  length-replicate {A = ℕ} most_along 0,
+  length-replicate {A = ℕ} most_squares 0,
+)
 
 pub slice_bounds-left-end : goal.slice_bounds-left-end
 slice_bounds-left-end c = omega (arith, squares_fit (goal.at.slice_bounds-left-end c).In-loop-at, c.loop-at.invariant.5)
@@ -105,9 +105,9 @@ shape_of-times-then-refused-ne0 c = wetted_long _ _ _ c.loop-at.invariant.1 ∙ 
 
 pub returns-then-refused-ne0 : goal.returns-then-refused-ne0
 returns-then-refused-ne0 c = record {
-      ends = running_refused (p (goal.at.returns-then-refused-ne0 c).Start) (g (goal.at.returns-then-refused-ne0 c).Start) c.args.end c.loop-at.invariant.0 c.loop-at-test.true c.step_on-made.ensures c.if-refused-ne0.true;
-      times_are = c.loop-at.invariant.1.times_are;
-    }
+  ends = running_refused (p (goal.at.returns-then-refused-ne0 c).Start) (g (goal.at.returns-then-refused-ne0 c).Start) c.args.end c.loop-at.invariant.0 c.loop-at-test.true c.step_on-made.ensures c.if-refused-ne0.true;
+  times_are = c.loop-at.invariant.1.times_are;
+}
 
 -- the run goes on after a step that was made
 goes_on :
