@@ -116,8 +116,9 @@ SHEETS = {
     "overflowing": drawn(pools(100_000_000, 7), SECOND, 1).text(SECOND),
     "overflowing alone": after(A_HATCH)(level(1, 1, depth=100_000_000).text(SECOND)),
 }
-# names of odd bytes, each a file with the low pools
-ODD_NAMES = [b"two words", b" before", b"after ", b"a\ttab", b"carriage\r", b"-n", b"\xc3\xa9t\xc3\xa9", b"\xff\xfe", b"\x01\x7f", b"1000", b"*", b"$HOME"]
+# names of odd bytes, each a file with the low pools; one is not UTF-8, and counts as a file that cannot be opened (docs/DECISIONS.md, "a name")
+NO_TEXT = b"\xff\xfe"
+ODD_NAMES = [b"two words", b" before", b"after ", b"a\ttab", b"carriage\r", b"-n", b"\xc3\xa9t\xc3\xa9", NO_TEXT, b"\x01\x7f", b"1000", b"*", b"$HOME"]
 
 # a name, and the number that it is refused with in every place of a list
 REFUSED = [
@@ -356,9 +357,9 @@ def no_numbers():
 
 
 def odd_names():
-    """Names are bytes: all of them in one list."""
-    many = len(ODD_NAMES)
-    yield "odd-names", "names of odd bytes", listed(2_000, *ODD_NAMES, b"high"), told(both((1, 50_300, many + 1), (many + 1, 20_200, 1)), many + 1)
+    """Names of all bytes in one list: each is opened but the one that is no text, which is refused in its place."""
+    many, none = len(ODD_NAMES), ODD_NAMES.index(NO_TEXT) + 1
+    yield "odd-names", "names of odd bytes", listed(2_000, *ODD_NAMES, b"high"), told(both((1, 50_300, many + 1), (many, 20_200, 1)), many, (none, 12))
 
 
 def table():

@@ -1,9 +1,10 @@
-"""Files by their names at a program's standard input, each name being bytes as the system takes them."""
+"""Files by their names at a program's standard input, each name being bytes, which are text: Rattle's library opens none that is not UTF-8."""
 
 
 def opened(name):
     """The bytes of the file of a name; None where it cannot be opened, or not be read."""
     try:
+        name.decode("utf-8")
         with open(name, "rb") as file:
             return file.read()
     except (OSError, ValueError):

@@ -10,6 +10,7 @@ from ..sheets.reading import MOST_BYTES, meadow_of, read
 def unopened(path):
     """Why a file cannot be opened or read; None where it can."""
     try:
+        str(path).encode("utf-8", "surrogateescape").decode("utf-8")
         Path(path).read_bytes()
     except (OSError, ValueError) as fault:
         return getattr(fault, "strerror", None) or str(fault)
