@@ -124,6 +124,9 @@ def quiet(text):
 
 
 def main():
+    if sys.argv[1:]:
+        print(__doc__.strip())
+        return 0 if sys.argv[1] in ("-h", "--help") else 2
     root = "crates"
     names, words = declared(root)
     new = table(names, words)
