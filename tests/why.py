@@ -475,6 +475,14 @@ LISTS = [
             "0 sheets run, 1 refused",
         ],
     ),
+    (
+        "1",
+        [os.fsdecode(drowned.NO_TEXT), "dry"],
+        [
+            r"sheet 1, \xff\xfe: refused by 12: it cannot be opened: its name is not UTF-8",
+            "1 sheet run, 1 refused; under 0.1 mm deep or deeper: no square in any sheet",
+        ],
+    ),
     ("0", ["lo\nw"], ["a name has a newline in it, and is taken for two: give the file another name", "0 sheets run, 2 refused"]),
 ]
 

@@ -75,4 +75,5 @@ def sheets_reasons(names, tally):
     first_name = next((name for turn, name in enumerate(names, 1) if turn not in refused), None)
     for turn, number in tally.refused:
         name = names[turn - 1]
-        yield f"sheet {turn}, {name}: refused by {number}: {sheet_reason(name, number, first_name)}"
+        shown = name.encode("utf-8", "surrogateescape").decode("utf-8", "backslashreplace")
+        yield f"sheet {turn}, {shown}: refused by {number}: {sheet_reason(name, number, first_name)}"

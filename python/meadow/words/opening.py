@@ -12,6 +12,8 @@ def unopened(path):
     try:
         str(path).encode("utf-8", "surrogateescape").decode("utf-8")
         Path(path).read_bytes()
+    except UnicodeDecodeError:
+        return "its name is not UTF-8"
     except (OSError, ValueError) as fault:
         return getattr(fault, "strerror", None) or str(fault)
     return None
