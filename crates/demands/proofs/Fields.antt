@@ -145,9 +145,9 @@ sheet_told =
     record {
       read = λ s before after h R. stands_fields (read_stands s before after h R);
       run_on = λ s lent h e. stands_fields (said_stands s lent h (sym e));
-      one_text = λ s t before after other-before other_After h R Q same.
+      one_text = λ s t before after other-before other_after h R Q same.
           stands_written (read_stands s before after h R)
-          ∙ (written_same h after other_After same ∙ sym (stands_written (read_stands t other-before other_After h Q)));
+          ∙ (written_same h after other_after same ∙ sym (stands_written (read_stands t other-before other_after h Q)));
     }
 
 -- ---- what is printed

@@ -100,8 +100,8 @@ pub record SheetTold : Type 0 where
   -- of what `meadow` runs on
   pub run_on : (s : List ℕ) (lent : Rooms) (h : Heading) → sheet_of s lent ≡ Read h → SheetFields s h (said s)
   -- nothing of a sheet is lost: two that say the same are the same text
-  pub one_text : (s t : List ℕ) (before after other-before other_After : Rooms) (h : Heading) → Reads s before (Read h) after →
-      Reads t other-before (Read h) other_After → SaysSame h after other_After → s ≡ t
+  pub one_text : (s t : List ℕ) (before after other-before other_after : Rooms) (h : Heading) → Reads s before (Read h) after →
+      Reads t other-before (Read h) other_after → SaysSame h after other_after → s ≡ t
 
 -- ---- what is printed
 
