@@ -6,10 +6,9 @@
 mod reference;
 mod winter;
 
-use std::ffi::OsStr;
 use std::fs::read;
-use std::os::unix::ffi::OsStrExt;
 use std::process::exit;
+use std::str::from_utf8;
 
 fn bytes(path: &str) -> Vec<u8> {
     read(path).unwrap_or_else(|fault| {
@@ -22,7 +21,8 @@ fn bytes(path: &str) -> Vec<u8> {
 fn worked_and_stored(path: &str) -> (Vec<u8>, Vec<u8>) {
     match path.strip_suffix(".sheet") {
         Some(name) => (winter::highest(&bytes(path)), bytes(&format!("{}.highest", name))),
-        None => (winter::drowned(&bytes(path), |name| read(OsStr::from_bytes(name)).ok()), bytes(&format!("{}.out", path))),
+        // a name that is not UTF-8 opens nothing
+        None => (winter::drowned(&bytes(path), |name| from_utf8(name).ok().and_then(|text| read(text).ok())), bytes(&format!("{}.out", path))),
     }
 }
 
