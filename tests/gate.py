@@ -124,30 +124,6 @@ def verdicts(checks, room):
     checks.hold((room.top / "there").read_text().split() == sorted([path.name for path in room.top.iterdir() if not path.name.startswith(".")]), "rt ci runs elsewhere, or something is away meanwhile")
 
 
-def to_come(checks, room):
-    """While PORTING-LEFT.md is there, tests whose crates are not listed are left out and named; without it, none is."""
-    room.stand_in("rt", f'echo "{PROVED}"; echo "{VERDICT}"')
-    room.write("bin/setup", "exit 0")
-    room.write("tests/outside/build.sh", "tools() { :; }; archive() { :; }")
-    room.write("tests/linters.py", LINTED)
-    room.write("tests/one.py", PASSES)
-    room.write("tests/two.sh", 'echo "two: 0 checks, 0 skipped, 1 failed"; exit 1')
-    (room.top / "crates.txt").write_text("# tool: low\nlow:\nbound staticlib: low\n")
-    needs = room.top / "tests" / "support" / "needs.txt"
-    needs.write_text("# what tests need\none: low bound\ntwo: low tool bound nosuch\n")
-    failed = "gate: tests/two.sh did not pass: status 1"
-    hold_gate(checks, room, "all is there", False, [failed])
-    (room.top / "PORTING-LEFT.md").write_text("tool\n")
-    said = "gate: left out for now, by PORTING-LEFT.md: tests/two.sh, which needs tool nosuch"
-    hold_gate(checks, room, "some are to come", True, [said, "gate: 2 tests, 5 checks, 0 skipped; 1 tests left out for now", VERDICT])
-    needs.write_text("one: low bound\ntwo: low bound\n")
-    hold_gate(checks, room, "some are to come that no test needs", False, [failed])
-    wanted = sorted(path.stem for path in (TOP / "tests").iterdir() if path.suffix in (".py", ".sh"))
-    own = TOP / "tests" / "support" / "needs.txt"
-    told = [line.partition(":")[0] for line in own.read_text().splitlines() if not line.startswith("#")] if own.exists() else []
-    checks.hold(len(told) == len(set(told)) and set(told) <= set(wanted), f"tests/support/needs.txt names {sorted(set(told) - set(wanted))}, or a test twice")
-
-
 def two_at_a_time(checks, room):
     """Tests on two cores: each sees the other begun, and what they print comes whole and in their order, whichever ends first."""
     room.stand_in("nproc", "echo 2")
@@ -274,7 +250,7 @@ def without_sources(checks, path, room):
 
 def main():
     checks = Checks("gate")
-    for part in (gate, to_come, two_at_a_time, crates_at_once, setup, runner):
+    for part in (gate, two_at_a_time, crates_at_once, setup, runner):
         with tempfile.TemporaryDirectory() as folder:
             part(checks, Room(folder))
     checks.end()
