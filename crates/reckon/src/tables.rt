@@ -76,12 +76,9 @@ pub fn rain_by(rows: &[u32], t: u64) -> u64
     requires { Fits rain_kind rows.now t }
     ensures { RainBy rows.now t result }
 {
-    let n = rows.len() / RAIN_WIDTH;
     let mut sum: u64 = 0;
-    let mut j: usize = 0;
-    while j < n {
+    for j in 0..rows.len() / RAIN_WIDTH {
         sum += row_gives(rows, RAIN_WIDTH * j, t);
-        j += 1;
     }
     sum / HOUR
 }
@@ -114,12 +111,9 @@ pub fn inflow_by(rows: &[u32], r: u64, c: u64, side: u64, t: u64) -> u64
     requires side_nonzero { (0 < side) × (side ≤ most_side) }
     ensures { InflowBy rows.now r c side t result }
 {
-    let n = rows.len() / INFLOW_WIDTH;
     let mut sum: u64 = 0;
-    let mut j: usize = 0;
-    while j < n {
+    for j in 0..rows.len() / INFLOW_WIDTH {
         sum += inflow_row(rows, j, r, c, t);
-        j += 1;
     }
     sum / (side * side)
 }
@@ -155,12 +149,9 @@ pub fn inflow_added(rows: &[u32], r: u64, c: u64, side: u64, start: u64, end: u6
     requires start_le_end { (start ≤ end) × (0 < side) × (side ≤ most_side) }
     ensures { InflowAdded rows.now r c side start end result }
 {
-    let n = rows.len() / INFLOW_WIDTH;
     let mut sums = Sums { start: 0, end: 0 };
-    let mut j: usize = 0;
-    while j < n {
+    for j in 0..rows.len() / INFLOW_WIDTH {
         sums = sums_with(sums, rows, j, r, c, start, end);
-        j += 1;
     }
     sums.end / (side * side) - sums.start / (side * side)
 }
@@ -193,12 +184,10 @@ fn table_fine(kind: Kind, rows: &[u32]) -> bool
     if MOST_TABLE_ROWS < n {
         return false;
     }
-    let mut j: usize = 0;
-    while j < n {
+    for j in 0..n {
         if !row_fine(kind.most, rows, width * j + kind.lead) {
             return false;
         }
-        j += 1;
     }
     true
 }
