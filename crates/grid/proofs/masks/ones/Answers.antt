@@ -1,2 +1,0 @@
--- `grid::masks::ones` meets its contract: the machine counts set digits, at most 64 of them.
--- Assumes nothing.

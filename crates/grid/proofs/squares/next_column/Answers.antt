@@ -1,2 +1,0 @@
--- `grid::squares::next_column` meets its contract: after the last column comes the first.
--- Assumes nothing.

@@ -1,2 +1,0 @@
--- `grid::squares::square_at` meets its contract: a row and a column that the grid has lie on a square below the number of squares.
--- Assumes nothing.

@@ -1,2 +1,0 @@
--- `grid::walks::row_below` meets its contract: past the last row every number reads 0.
--- Assumes nothing.
