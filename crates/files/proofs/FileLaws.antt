@@ -44,9 +44,6 @@ put_came {t} {old} {new} {at} {r} h w =
 pub came_fits : (long at got most : ℕ) (s : List ℕ) → at ≤ long → most ≤ long - at → got ≤ most → at + length (take got s) ≤ long
 came_fits long at got most s h f k = omega (arith, length-take got s)
 
-pub none_came : (old : List ℕ) (at : ℕ) → at ≤ length old → CameOn at at old old
-none_came old at h = record { long = refl; on = omega arith; within = h; rest = refl }
-
 pub more_came : {old mid new : List ℕ} {from at to : ℕ} → CameOn from at old mid → CameOn at to mid new → CameOn from to old new
 more_came {old} {mid} {new} {from} {at} {to} a b =
     let on : at + (to - at) ≡ to = omega (arith, b.on) in
@@ -59,17 +56,6 @@ more_came {old} {mid} {new} {from} {at} {to} a b =
           ∙ (sym (ap (λ (k : ℕ). drop k mid) on)
           ∙ (sym (drop-drop (to - at) at mid)
           ∙ (ap (drop (to - at)) a.rest ∙ (drop-drop (to - at) at old ∙ ap (λ (k : ℕ). drop k old) on))));
-    }
-
--- what came from a room's start
-pub all_came : {old new : List ℕ} {n : ℕ} (r : Came) → CameOn 0 n old new → r.length ≡ n → InputCame old new r
-all_came {old} {new} {n} r a e =
-    let within : r.length ≤ length new = omega (arith, a.within, a.long) in
-    record {
-      long = a.long;
-      within = within;
-      counted = sym (length-take-le r.length new within);
-      rest = rw e a.rest;
     }
 
 -- a line lies in the names
