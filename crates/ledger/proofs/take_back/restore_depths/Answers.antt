@@ -16,8 +16,6 @@ use Rattle.ledger.proofs.WalkLaws.{walk_none, walk_stands, walk_next, filled_lon
 use Rattle.ledger.proofs.BackLaws.{restores_of, restores_own, before_own}
 use Rattle.ledger.proofs.take_back.restore_depths.Goals as goal
 
--- ---- the answers
-
 pub loop-square-init : goal.loop-square-init
 loop-square-init c = (walk_none _ c.squares_of-square-end.ensures, filled_none _ _ _)
 
