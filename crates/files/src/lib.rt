@@ -27,6 +27,7 @@ use text::writing::put_word;
 
 // What a read of a whole file came to: how many bytes came, and whether that is all of them, or all that the room holds. It is not where the
 // file cannot be opened, or where a read of it fails, as a directory's does: what came before that may read well, and is not the file.
+// No Result: most callers go on with the bytes that came, whole or not.
 #[derive(Clone, Copy)]
 pub struct Came {
     pub whole: bool,

@@ -80,11 +80,7 @@ fn row_below(rows: &[u64], row: usize) -> u64
     requires { row < length rows.now }
     ensures { result ≡ get_or rows.now (row + 1) 0 }
 {
-    let below = row + 1;
-    if below < rows.len() {
-        return rows[below];
-    }
-    0
+    rows.get(row + 1).copied().unwrap_or(0)
 }
 
 // The columns of a row that are set, or lie beside a set one of the row, of the row above or of the row below.

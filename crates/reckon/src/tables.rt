@@ -56,8 +56,7 @@ pub(crate) const HOUR: u64 = 3_600_000;
 fn row_ran(from: u64, to: u64, t: u64) -> u64
     ensures { result ≡ ran from to t }
 {
-    let end = lesser(t, to);
-    if from < end { end - from } else { 0 }
+    lesser(t, to).saturating_sub(from)
 }
 
 // What the row whose from, to and amount stand at a place has table_gives by clock t.
