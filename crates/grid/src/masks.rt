@@ -63,8 +63,5 @@ pub fn next_set(mask: u64, column: usize) -> usize
         return BITS;
     }
     let next = column + u64::trailing_zeros(mask >> column) as usize;
-    if next < BITS {
-        return next;
-    }
-    BITS
+    next.min(BITS)
 }

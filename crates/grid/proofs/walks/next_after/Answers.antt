@@ -5,8 +5,5 @@ use native.Mathlib.Omega.{arith}
 use Rattle.grid.proofs.WalkLaws.{after_by_zeros}
 use Rattle.grid.proofs.walks.next_after.Goals as goal
 
-pub returns-then-columns-next : goal.returns-then-columns-next
-returns-then-columns-next c = omega (arith, c.if-columns-next.true, after_by_zeros c.args.mask c.args.column c.args.columns c.requires.0 c.requires.1 refl)
-
 pub returns : goal.returns
-returns c = omega (arith, c.if-columns-next.false, after_by_zeros c.args.mask c.args.column c.args.columns c.requires.0 c.requires.1 refl)
+returns c = omega (arith, after_by_zeros c.args.mask c.args.column c.args.columns c.requires.0 c.requires.1 refl)
