@@ -1,4 +1,4 @@
--- Laws of a root's places, the powers of ten: one place up and one down, that what the search forms with them fits, and where it begins and ends.
+-- Laws of a root's places, the powers of ten: one place up and one down, that what the search forms with them fits, and where it begins.
 -- Assumes nothing.
 use mathlib.Core.Path.{◌≡◌, refl, sym, ◌∙◌, ap, subst}
 use Prim.Native.Nat.{ℕ, zero, suc, ◌+◌, ◌*◌, ◌/◌, ◌^◌, ◌≤◌, ◌<◌}

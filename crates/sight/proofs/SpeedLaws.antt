@@ -3,8 +3,9 @@
 use mathlib.Core.Path.{◌≡◌, sym, ap, subst, ◌∙◌}
 use mathlib.Core.Bool.{Bool, true, false, cond, true≢false}
 use Prim.Native.Nat.{ℕ, zero, suc, ◌-◌, ◌*◌, ◌^◌, ◌≤◌, ◌<◌}
-use native.Mathlib.Nat.{mul-one, mul-pos, zero-mul, lt_irrefl, mul_assoc, mul_comm, zero-lt-suc}
-use lib.Dec.{eqb, eqb-suc-zero}
+use native.Mathlib.Nat.{mul-one, mul-pos, zero-mul, lt_irrefl, mul_assoc, mul_comm, mul-le-mul, le_trans, zero-lt-suc}
+use native.Mathlib.Omega.{arith}
+use lib.Dec.{eqb, eqb-suc-zero, lit≤}
 use lib.IntN.{pos}
 use lib.Ieee as Ieee
 use lib.Ieee.{Float, nan, inf, fin, Format, binary64, up, down}
@@ -15,6 +16,7 @@ use lib.Ieee.Scale.{round_same}
 use borrow.Author.Tests.{eq-eqb, ne_eqb, lt-ltb, le-ltb}
 use Rattle.reckon.proofs.TestLaws.{pick_true, pick_false}
 use Rattle.sight.specs.Speeds.{zero64, quotient_of, pace, side_speed, arrow_of}
+use Rattle.sight.specs.Inner.Arrows.{Ranged}
 use Rattle.sight.specs.declared.speeds.Through.{Through}
 
 -- ---- a quotient
@@ -54,6 +56,23 @@ pub quotient_is :
 unfolding quotient_of Ieee.of_int
 quotient_is n m p q h =
     div-at binary64 (Ieee.of_int binary64 (pos n)) (Ieee.of_int binary64 (pos m)) n m h (round_whole binary64 false n p) (round_whole binary64 false m q)
+
+-- ---- what is divided, and by what, is below 2 ^ 53
+
+pub above_le : {D : ℕ} (x y : ℕ) → x < 2 ^ 32 → D ≤ 100 → 2000 * (x - y) * D ≤ 858_993_459_200_000
+above_le x y h g = mul-le-mul {n₁ = 2000 * (x - y)} {n₂ = 8_589_934_592_000} (omega arith) g
+
+module _ {D lasted : ℕ} {t : Through} (r : Ranged D lasted t) where
+  pub below_le : t.deep * lasted ≤ 12_000_000_000_000
+  below_le = mul-le-mul {n₁ = t.deep} {n₂ = 200_000_000} r.deep_to r.lasted_to
+
+  pub below_pos : 0 < t.deep * lasted
+  below_pos = mul-pos r.deep_some r.lasted_some
+
+  -- what the quotient asks, of what left less what came back and the other way round
+  pub exact :
+      (x y : ℕ) → x < 2 ^ 32 → (2000 * (x - y) * D ≤ 2 ^ 53) × (t.deep * lasted ≤ 2 ^ 53) × (0 < t.deep * lasted)
+  exact x y h = (le_trans (above_le x y h r.side_to) (lit≤ tt), le_trans below_le (lit≤ tt), below_pos)
 
 -- ---- a speed: net 0, net out, net back
 
