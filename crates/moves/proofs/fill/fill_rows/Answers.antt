@@ -67,14 +67,8 @@ offset_bounds-senders-row c = record { fits = omega (arith, c.requires.fills.flo
 pub bounds-senders-row : goal.bounds-senders-row
 bounds-senders-row c = omega (arith, long (goal.at.bounds-senders-row c).At-loop-row, c.loop-row-test.true)
 
-pub overflow_add-row : goal.overflow_add-row
-overflow_add-row c = omega (arith, c.requires.fills.flows.lies.sited.fine.rows_high, c.loop-row-test.true)
-
 pub overflow_add-first : goal.overflow_add-first
 overflow_add-first c = omega (arith, row_fits c.args.way.shape c.loop-row-test.true, c.requires.fills.flows.lies.sited.fine.few, c.loop-row.invariant.0.begins)
-
-pub loop-row-smaller : goal.loop-row-smaller
-loop-row-smaller c = omega (arith, c.loop-row-test.true)
 
 pub loop-row-preserved : goal.loop-row-preserved
 loop-row-preserved c =

@@ -30,14 +30,8 @@ offset_bounds-worked-row c = omega (arith, c.requires.fine.rows_high, c.loop-row
 pub bounds-worked-row : goal.bounds-worked-row
 bounds-worked-row c = omega (arith, rowed_long _ _ _ _ c.loop-row.invariant.1, c.requires.rows_long, c.loop-row-test.true)
 
-pub overflow_add-row : goal.overflow_add-row
-overflow_add-row c = omega (arith, c.requires.fine.rows_high, c.loop-row-test.true)
-
 pub overflow_add-first : goal.overflow_add-first
 overflow_add-first c = omega (arith, row_fits c.args.shape c.loop-row-test.true, c.requires.fine.few, c.loop-row.invariant.0.begins)
-
-pub loop-row-smaller : goal.loop-row-smaller
-loop-row-smaller c = omega (arith, c.loop-row-test.true)
 
 pub loop-row-preserved : goal.loop-row-preserved
 loop-row-preserved c = (

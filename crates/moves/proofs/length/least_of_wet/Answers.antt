@@ -42,14 +42,8 @@ least_in_row-best-requires c = record {
   longer_value = c.loop-row.invariant.1;
 }
 
-pub overflow_add-row : goal.overflow_add-row
-overflow_add-row c = omega (arith, c.requires.sited.fine.rows_high, c.loop-row-test.true)
-
 pub overflow_add-first : goal.overflow_add-first
 overflow_add-first c = omega (arith, row_fits c.args.way.shape c.loop-row-test.true, c.requires.sited.fine.few, c.loop-row.invariant.0.begins)
-
-pub loop-row-smaller : goal.loop-row-smaller
-loop-row-smaller c = omega (arith, c.loop-row-test.true)
 
 pub loop-row-preserved : goal.loop-row-preserved
 loop-row-preserved c = (

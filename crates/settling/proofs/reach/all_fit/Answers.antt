@@ -45,14 +45,8 @@ returns-then-not-row_fits c =
     (fails_beyond c.args.marks.now c.args.room.now (in_row (goal.at.returns-then-not-row_fits c).In-loop-row).fits
     (sym c.row_fits.ensures ∙ c.if-not-row_fits.true))
 
-pub overflow_add-row : goal.overflow_add-row
-overflow_add-row c = omega (arith, c.loop-row-test.true, c.requires.shape_in_range.0.rows_high)
-
 pub overflow_add-first : goal.overflow_add-first
 overflow_add-first c = omega (arith, (in_row (goal.at.overflow_add-first c).In-loop-row).fits, c.requires.shape_in_range.0.few)
-
-pub loop-row-smaller : goal.loop-row-smaller
-loop-row-smaller c = omega (arith, c.loop-row-test.true)
 
 pub loop-row-preserved : goal.loop-row-preserved
 loop-row-preserved c = (

@@ -53,14 +53,8 @@ cover_row-requires c = record {
       c.loop-row.invariant.2.kept (c.loop-row.first + k) (λ x y. absurd (omega arith)) ∙ same_at (goal.at.cover_row-requires c).After-reached-columns_reached k l b o);
 }
 
-pub overflow_add-row : goal.overflow_add-row
-overflow_add-row c = omega (arith, c.loop-row-test.true, c.requires.shape_in_range.0.rows_high)
-
 pub overflow_add-first : goal.overflow_add-first
 overflow_add-first c = omega (arith, (in_row (goal.at.overflow_add-first c).In-loop-row).fits, c.requires.shape_in_range.0.few)
-
-pub loop-row-smaller : goal.loop-row-smaller
-loop-row-smaller c = omega (arith, c.loop-row-test.true)
 
 pub loop-row-preserved : goal.loop-row-preserved
 loop-row-preserved c =

@@ -62,14 +62,8 @@ spread_row-lost-requires c = record {
   );
 }
 
-pub overflow_add-row : goal.overflow_add-row
-overflow_add-row c = omega (arith, c.loop-row-test.true, c.requires.spreads.0.recorded.fine.rows_high)
-
 pub overflow_add-first : goal.overflow_add-first
 overflow_add-first c = omega (arith, (in_row (goal.at.overflow_add-first c).In-loop-row).fits, c.requires.spreads.0.recorded.fine.few)
-
-pub loop-row-smaller : goal.loop-row-smaller
-loop-row-smaller c = omega (arith, c.loop-row-test.true)
 
 pub loop-row-preserved : goal.loop-row-preserved
 loop-row-preserved c = (
