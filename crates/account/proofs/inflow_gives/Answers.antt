@@ -15,12 +15,6 @@ use Rattle.account.proofs.inflow_gives.Goals.{After-poured_once-sum}
 pub loop-j-init : goal.loop-j-init
 loop-j-init c = (omega arith, sym (sum_none _))
 
-pub poured_once-sum-requires : goal.poured_once-sum-requires
-poured_once-sum-requires c = record {
-  apart_value = (c.requires.0, omega (arith, c.loop-j-test.true));
-  fits = (c.requires.1, c.requires.2, c.requires.3, c.requires.4);
-}
-
 -- what the row counts for, and how many rows there are
 small : (c : After-poured_once-sum) → c.poured_once-sum.result ≤ most_poured
 small c =

@@ -13,14 +13,8 @@ use Rattle.account.proofs.open_squares.Goals.{After-one_if_open-count}
 
 -- ---- the start, from a turn of the loop
 
-pub squares_of-square-end-requires : goal.squares_of-square-end-requires
-squares_of-square-end-requires c = c.requires.0
-
 pub loop-square-init : goal.loop-square-init
 loop-square-init c = (omega arith, sym (sum_none _))
-
-pub one_if_open-count-requires : goal.one_if_open-count-requires
-one_if_open-count-requires c = omega (arith, c.requires.1, c.squares_of-square-end.ensures, c.loop-square-test.true)
 
 small : (c : After-one_if_open-count) → c.one_if_open-count.result ≤ 1
 small c = omega (arith, c.one_if_open-count.ensures, one_small (closed c.args.marks.now c.loop-square.square))

@@ -12,17 +12,8 @@ use Rattle.account.proofs.water_on.Goals as goal
 
 -- ---- the start, from a turn of the loop
 
-pub squares_of-square-end-requires : goal.squares_of-square-end-requires
-squares_of-square-end-requires c = c.requires.fine
-
 pub loop-square-init : goal.loop-square-init
 loop-square-init c = (omega arith, sym (sum_none _))
-
-pub water_in-sum-requires : goal.water_in-sum-requires
-water_in-sum-requires c = (
-  omega (arith, c.requires.marks_long, c.squares_of-square-end.ensures, c.loop-square-test.true),
-  omega (arith, c.requires.depths_long, c.squares_of-square-end.ensures, c.loop-square-test.true),
-)
 
 pub overflow_add-sum : goal.overflow_add-sum
 overflow_add-sum c =

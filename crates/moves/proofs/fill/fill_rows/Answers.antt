@@ -43,12 +43,6 @@ loop-row-init c = (
   rowed_none _ _ _,
 )
 
-pub offset_bounds-worked-row : goal.offset_bounds-worked-row
-offset_bounds-worked-row c = record { fits = omega (arith, c.requires.fills.flows.lies.sited.fine.rows_high, c.loop-row-test.true) }
-
-pub bounds-worked-row : goal.bounds-worked-row
-bounds-worked-row c = omega (arith, c.requires.unstirred_by.1, c.loop-row-test.true)
-
 pub fill_row-requires : goal.fill_row-requires
 unfolding bit_of
 fill_row-requires c = record {
@@ -61,15 +55,6 @@ fill_row-requires c = record {
   );
 }
 
-pub offset_bounds-senders-row : goal.offset_bounds-senders-row
-offset_bounds-senders-row c = record { fits = omega (arith, c.requires.fills.flows.lies.sited.fine.rows_high, c.loop-row-test.true) }
-
-pub bounds-senders-row : goal.bounds-senders-row
-bounds-senders-row c = omega (arith, long (goal.at.bounds-senders-row c).At-loop-row, c.loop-row-test.true)
-
-pub overflow_add-first : goal.overflow_add-first
-overflow_add-first c = omega (arith, row_fits c.args.way.shape c.loop-row-test.true, c.requires.fills.flows.lies.sited.fine.few, c.loop-row.invariant.0.begins)
-
 pub loop-row-preserved : goal.loop-row-preserved
 loop-row-preserved c =
     let inv = c.loop-row.invariant in (
@@ -81,15 +66,6 @@ loop-row-preserved c =
           c.loop-row.row inv.0.begins refl inv.4 c.fill_row.ensures,
       rowed_more _ _ _ _ inv.5 inv.0.begins (omega (arith, c.requires.unstirred_by.3, c.loop-row-test.true)) c.fill_row.ensures.senders_are,
     )
-
-pub shape_of-rec : goal.shape_of-rec
-shape_of-rec c = c.loop-row.invariant.1
-
-pub shape_of-left : goal.shape_of-left
-shape_of-left c = c.loop-row.invariant.2
-
-pub shape_of-senders : goal.shape_of-senders
-shape_of-senders c = rowed_long _ _ _ _ c.loop-row.invariant.5
 
 pub returns : goal.returns
 returns c =

@@ -25,31 +25,12 @@ o s = firm s.args.way.rules s.args.beds.now s.args.roughness.now
 pub loop-row-init : goal.loop-row-init
 loop-row-init c = (rows_begin _ _, below_none (p (goal.at.loop-row-init c).Start) (o (goal.at.loop-row-init c).Start) c.args.depths.now c.args.way.rules.longest refl)
 
-pub row_mask-wet-requires : goal.row_mask-wet-requires
-row_mask-wet-requires c =
-    let fits = row_fits c.args.way.shape c.loop-row-test.true in
-    let sited = c.requires.sited in
-    record {
-      columns_high = sited.fine.columns_high;
-      marks_long = omega (arith, fits, sited.marks_long, c.loop-row.invariant.0.begins);
-      depths_long = omega (arith, fits, sited.depths_long, c.loop-row.invariant.0.begins);
-    }
-
 pub least_in_row-best-requires : goal.least_in_row-best-requires
 least_in_row-best-requires c = record {
   meadow_in_range = c.requires;
   in_row = (row_here c.args.way.shape c.loop-row.invariant.0 c.loop-row-test.true, c.row_mask-wet.ensures);
   longer_value = c.loop-row.invariant.1;
 }
-
-pub overflow_add-first : goal.overflow_add-first
-overflow_add-first c = omega (arith, row_fits c.args.way.shape c.loop-row-test.true, c.requires.sited.fine.few, c.loop-row.invariant.0.begins)
-
-pub loop-row-preserved : goal.loop-row-preserved
-loop-row-preserved c = (
-  row_next c.loop-row.invariant.0 c.loop-row-test.true,
-  c.least_in_row-best.ensures,
-)
 
 pub returns : goal.returns
 returns c = below_all (p (goal.at.returns c).Start) (o (goal.at.returns c).Start) c.args.depths.now c.loop-row.invariant.1 (rows_end c.args.way.shape c.loop-row.invariant.0 c.loop-row-test.false)
