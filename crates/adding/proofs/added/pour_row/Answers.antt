@@ -15,8 +15,6 @@ use Rattle.adding.specs.Inner.Added.{amount_at, row_square}
 use Rattle.adding.proofs.added.pour_row.Goals as goal
 use Rattle.adding.proofs.added.pour_row.Goals.{After-poured, After-square_at-square, Start}
 
--- ---- the places, each by the one before it
-
 -- ---- what is known there
 
 -- the square of the row, and what is added to it

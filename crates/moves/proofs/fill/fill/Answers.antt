@@ -16,8 +16,6 @@ use Rattle.moves.proofs.WetLaws.{idle_by, left-kept}
 use Rattle.moves.proofs.fill.fill.Goals as goal
 use Rattle.moves.proofs.fill.fill.Goals.{After-put_head, Start}
 
--- ---- the places, each by the one before it
-
 -- ---- what is known there
 
 abbrev p : Start → Plan

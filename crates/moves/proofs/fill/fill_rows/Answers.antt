@@ -1,13 +1,13 @@
 -- `moves::fill::fill_rows` meets its contract: row after row, the squares passed are the record's, what left them is kept, and the rows passed
 -- are the senders'.
 -- Assumes nothing.
-use mathlib.Core.Path.{◌≡◌, refl, ◌∙◌, subst}
+use mathlib.Core.Path.{refl, ◌∙◌, subst}
 use Prim.Native.Nat.{ℕ}
 use native.Mathlib.Omega.{arith}
-use lib.ListN.{length, get_or}
+use lib.ListN.{get_or}
 use Rattle.grid.specs.Walks.{bit_of}
-use Rattle.grid.proofs.MaskLaws.{rowed_none, rowed_long, rowed_more}
-use Rattle.grid.proofs.SquareLaws.{row_fits, rows_begin, row_here, row_next, rows_end}
+use Rattle.grid.proofs.MaskLaws.{rowed_none, rowed_more}
+use Rattle.grid.proofs.SquareLaws.{rows_begin, row_here, row_next, rows_end}
 use Rattle.grid.proofs.WalkLaws.{by_row}
 use Rattle.ledger.specs.Runs.{Plan, plan}
 use Rattle.checks.specs.Given.{Ground, ground}
@@ -17,8 +17,6 @@ use Rattle.moves.proofs.WetLaws.{left_none, left-row, rows_told}
 use Rattle.moves.proofs.fill.fill_rows.Goals as goal
 use Rattle.moves.proofs.fill.fill_rows.Goals.{At-loop-row, Start}
 
--- ---- the places, each by the one before it
-
 -- ---- what is known there
 
 abbrev p : Start → Plan
@@ -26,10 +24,6 @@ p s = plan s.args.way.shape s.args.marks.now
 
 abbrev o : Start → Ground
 o s = ground s.args.way.rules s.args.beds.now s.args.roughness.now s.args.rates.now
-
--- the room of senders has a number for each row
-long : (c : At-loop-row) → length c.loop-row.senders ≡ c.args.way.shape.rows
-long c = rowed_long _ _ _ _ c.loop-row.invariant.5 ∙ c.requires.unstirred_by.3
 
 -- ---- the answers
 

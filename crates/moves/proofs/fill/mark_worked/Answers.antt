@@ -1,12 +1,10 @@
 -- `moves::fill::mark_worked` meets its contract: row after row, what is filled so far is the masks of the rows passed.
 -- Assumes nothing.
 use native.Mathlib.Omega.{arith}
-use Rattle.grid.proofs.MaskLaws.{rowed_none, rowed_long, rowed_more}
-use Rattle.grid.proofs.SquareLaws.{row_fits, rows_begin, row_next}
+use Rattle.grid.proofs.MaskLaws.{rowed_none, rowed_more}
+use Rattle.grid.proofs.SquareLaws.{rows_begin, row_next}
 use Rattle.moves.proofs.WetLaws.{rows_marked}
 use Rattle.moves.proofs.fill.mark_worked.Goals as goal
-
--- ---- the places, each by the one before it
 
 -- ---- the answers
 

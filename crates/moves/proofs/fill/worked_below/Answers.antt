@@ -1,10 +1,8 @@
 -- `moves::fill::worked_below` meets its contract: from the last column down, what stands is the mask of the columns passed.
 -- Assumes nothing.
 use native.Mathlib.Omega.{arith}
-use Rattle.grid.proofs.MaskLaws.{row_small, bit_fits, row_more, row_whole}
+use Rattle.grid.proofs.MaskLaws.{row_small, bit_fits, row_more}
 use Rattle.moves.proofs.fill.worked_below.Goals as goal
-
--- ---- the places, each by the one before it
 
 -- ---- the answers
 

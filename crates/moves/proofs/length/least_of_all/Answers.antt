@@ -3,15 +3,13 @@
 use mathlib.Core.Path.{sym}
 use native.Mathlib.Nat.{zero-mod}
 use native.Mathlib.Omega.{arith}
-use Rattle.grid.proofs.SquareLaws.{carried, column-within}
+use Rattle.grid.proofs.SquareLaws.{carried}
 use Rattle.ledger.specs.Runs.{Plan, plan}
 use Rattle.checks.specs.Given.{Ground}
 use Rattle.moves.specs.Inner.Fill.{firm}
 use Rattle.moves.proofs.LengthLaws.{least_begin, least_more, least_all}
 use Rattle.moves.proofs.length.least_of_all.Goals as goal
 use Rattle.moves.proofs.length.least_of_all.Goals.{Start}
-
--- ---- the places, each by the one before it
 
 -- ---- what is known there
 

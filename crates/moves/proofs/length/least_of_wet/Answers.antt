@@ -1,16 +1,13 @@
 -- `moves::length::least_of_wet` meets its contract: row after row, the least of the squares passed.
 -- Assumes nothing.
 use mathlib.Core.Path.{refl}
-use native.Mathlib.Omega.{arith}
-use Rattle.grid.proofs.SquareLaws.{row_fits, rows_begin, row_here, row_next, rows_end}
+use Rattle.grid.proofs.SquareLaws.{rows_begin, row_here, rows_end}
 use Rattle.ledger.specs.Runs.{Plan, plan}
 use Rattle.checks.specs.Given.{Ground}
 use Rattle.moves.specs.Inner.Fill.{firm}
 use Rattle.moves.proofs.WetLaws.{below_none, below_all}
 use Rattle.moves.proofs.length.least_of_wet.Goals as goal
 use Rattle.moves.proofs.length.least_of_wet.Goals.{Start}
-
--- ---- the places, each by the one before it
 
 -- ---- what is known there
 
