@@ -1,18 +1,15 @@
 -- `flood::run::run_on` meets its contract: where the loop has come to, the run from there is the whole run.
 -- Assumes nothing.
-use mathlib.Core.Path.{refl, sym, ◌∙◌}
-use Prim.Native.Nat.{ℕ, ◌≤◌}
+use mathlib.Core.Path.{sym, ◌∙◌}
+use Prim.Native.Nat.{◌≤◌}
 use native.Mathlib.Omega.{arith}
-use lib.ListN.{length-replicate}
 use Rattle.grid.specs.Squares.{ShapeInRange, most_along, most_squares}
 use Rattle.ledger.specs.Runs.{Plan, World, plan, world}
 use Rattle.checks.specs.Given.{Given, ground, given}
 use Rattle.flood.proofs.StepLaws.{is_ready, part, refilled}
-use Rattle.flood.proofs.RunToLaws.{running_starts, running_on, running_further, running_refused, running_ends}
+use Rattle.flood.proofs.RunToLaws.{running_on, running_further, running_refused, running_ends}
 use Rattle.flood.proofs.run.run_on.Goals as goal
 use Rattle.flood.proofs.run.run_on.Goals.{In-loop-at, Start}
-
--- ---- the places, each by the one before it
 
 -- ---- what is known there
 
@@ -39,18 +36,6 @@ rows_fit c = (fine (goal.at.In-loop-at c).Start).rows_high
 
 pub squares_of-squares-requires : goal.squares_of-squares-requires
 squares_of-squares-requires c = fine (goal.at.squares_of-squares-requires c).Start
-
-pub loop-at-init : goal.loop-at-init
-loop-at-init c = (
-  running_starts (p (goal.at.loop-at-init c).Start) (g (goal.at.loop-at-init c).Start) c.args.end (w (goal.at.loop-at-init c).Start) c.requires.passes.checked,
-  refl,
-  refl,
-  refl,
-  length-replicate {A = ℕ} most_squares 0,
-  length-replicate {A = ℕ} most_along 0,
-  length-replicate {A = ℕ} most_along 0,
-  length-replicate {A = ℕ} most_squares 0,
-)
 
 pub slice_bounds-left-end : goal.slice_bounds-left-end
 slice_bounds-left-end c = omega (arith, squares_fit (goal.at.slice_bounds-left-end c).In-loop-at, c.loop-at.invariant.4)
@@ -99,9 +84,6 @@ returns-then-refused-ne0 c = record {
       c.if-refused-ne0.true;
 }
 
-pub overflow_add-steps : goal.overflow_add-steps
-overflow_add-steps c = omega (arith, c.loop-at.invariant.0.few, c.requires.apart_value.1, c.loop-at-test.true)
-
 pub loop-at-smaller : goal.loop-at-smaller
 loop-at-smaller c =
     omega (
@@ -123,15 +105,6 @@ loop-at-preserved c =
       refilled c.step_on-made.new.senders c.loop-at.senders c.step_on-made.auto.senders inv.6 (rows_fit (goal.at.loop-at-preserved c).In-loop-at),
       refilled c.step_on-made.new.room c.loop-at.room c.step_on-made.auto.room inv.7 (squares_fit (goal.at.loop-at-preserved c).In-loop-at),
     )
-
-pub shape_of-depths : goal.shape_of-depths
-shape_of-depths c = c.loop-at.invariant.1
-
-pub shape_of-lasts : goal.shape_of-lasts
-shape_of-lasts c = c.loop-at.invariant.2
-
-pub shape_of-records : goal.shape_of-records
-shape_of-records c = c.loop-at.invariant.3
 
 pub returns : goal.returns
 returns c = record { ends = running_ends (p (goal.at.returns c).Start) (g (goal.at.returns c).Start) c.args.end c.loop-at.invariant.0 c.loop-at-test.false }

@@ -10,8 +10,6 @@ use Rattle.flood.proofs.RunToLaws.{run_checked, run_passed}
 use Rattle.flood.proofs.run.run_to.Goals as goal
 use Rattle.flood.proofs.run.run_to.Goals.{Else-number-ne0, Start}
 
--- ---- the places, each by the one before it
-
 -- ---- what is known there
 
 abbrev p : Start → Plan
