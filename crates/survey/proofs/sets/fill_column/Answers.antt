@@ -4,20 +4,11 @@ use mathlib.Core.Path.{ap, ◌∙◌}
 use native.Mathlib.Omega.{arith}
 use Rattle.raster.specs.declared.reading.Entry.{Entry}
 use Rattle.raster.specs.declared.reading.Head.{Head}
-use Rattle.survey.proofs.SetLaws.{place_first, entry_is, place_more, filling_none, filling_more, filling_all}
+use Rattle.survey.proofs.SetLaws.{place_first, entry_is, place_more, filling_none, filling_more}
 use Rattle.survey.proofs.sets.fill_column.Goals as goal
 
 pub loop-square-init : goal.loop-square-init
 loop-square-init c = (ap (λ (h : Head). h.next) c.head_of-head.ensures ∙ place_first _ _ _ _, filling_none _ _)
-
-pub nonzero_rem-square : goal.nonzero_rem-square
-nonzero_rem-square c = omega (arith, c.requires.0.columns_low)
-
-pub offset_bounds-room-square : goal.offset_bounds-room-square
-offset_bounds-room-square c = omega (arith, c.squares_of-squares.ensures, c.requires.0.few)
-
-pub bounds-room-square : goal.bounds-room-square
-bounds-room-square c = omega (arith, c.squares_of-squares.ensures, c.requires.1)
 
 pub loop-square-preserved : goal.loop-square-preserved
 loop-square-preserved c =
@@ -26,6 +17,3 @@ loop-square-preserved c =
       filling_more _ _ l.1 (omega (arith, c.squares_of-squares.ensures, c.requires.1))
           (ap (λ (e : Entry). e.value) (entry_is _ _ _ _ _ l.0 c.entry_at-entry.ensures)),
     )
-
-pub returns : goal.returns
-returns c = filling_all _ _ c.loop-square.invariant.1 (omega (arith, c.squares_of-squares.ensures))

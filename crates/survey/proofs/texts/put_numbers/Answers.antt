@@ -1,12 +1,8 @@
 -- `survey::texts::put_numbers` meets its contract: what is left, put from here on, makes the whole.
 -- Assumes nothing.
 use native.Mathlib.Omega.{arith}
-use Rattle.text.proofs.WritingLaws.{left_all}
 use Rattle.survey.proofs.PutLaws.{number_fits, number_put, numbers_put}
 use Rattle.survey.proofs.texts.put_numbers.Goals as goal
-
-pub loop-i-init : goal.loop-i-init
-loop-i-init c = left_all _ _ _ c.requires.k_in_bounds
 
 pub put_field-next-requires : goal.put_field-next-requires
 put_field-next-requires c = number_fits c.args.table.now c.args.first c.args.width (omega arith) c.number.ensures c.loop-i.invariant

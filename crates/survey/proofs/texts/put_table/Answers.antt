@@ -1,7 +1,7 @@
 -- `survey::texts::put_table` meets its contract: the lines so far stand at the place.
 -- Assumes nothing.
 use native.Mathlib.Omega.{arith}
-use Rattle.text.proofs.JoinedLaws.{none_written, line_fits, line_written, lines_whole}
+use Rattle.text.proofs.JoinedLaws.{none_written, line_fits, line_written}
 use Rattle.sheet.proofs.RoomLaws.{table_fits}
 use Rattle.survey.proofs.texts.put_table.Goals as goal
 
@@ -16,6 +16,3 @@ put_row-next-requires c = record {
 
 pub loop-row-preserved : goal.loop-row-preserved
 loop-row-preserved c = line_written _ _ _ _ c.requires.table_in_bounds _ c.loop-row.invariant (omega arith) c.put_row-next.ensures
-
-pub returns : goal.returns
-returns c = lines_whole _ (omega arith) c.loop-row.invariant
