@@ -116,17 +116,7 @@ fn put_rates(out: &mut [u8], at: usize, litres: [u32; 9]) -> usize
     requires { at + length (rates_text litres) ≤ length out.old }
     ensures { Wrote (rates_text litres) at out.old out.new result }
 {
-    let values = [
-        litres[0] as u64,
-        litres[1] as u64,
-        litres[2] as u64,
-        litres[3] as u64,
-        litres[4] as u64,
-        litres[5] as u64,
-        litres[6] as u64,
-        litres[7] as u64,
-        litres[8] as u64,
-    ];
+    let values = litres.map(|rate| rate as u64);
     put_line(out, at, b"rates", &values)
 }
 
