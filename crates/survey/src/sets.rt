@@ -184,13 +184,9 @@ pub(crate) fn fill_column(grid: &[u8], scale: Scale, shape: Shape, room: &mut [u
 pub(crate) fn looked_heading(heading: Heading) -> Heading
     ensures { result ≡ looked_heading heading }
 {
-    let shape = heading.shape;
-    let rules = heading.rules;
     Heading {
-        shape: shape,
-        rules: rules,
-        end: heading.end,
         rain_rows: heading.rain_rows.min(LOOKED_ROWS),
         inflow_rows: heading.inflow_rows.min(LOOKED_ROWS),
+        ..heading
     }
 }

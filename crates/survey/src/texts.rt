@@ -152,8 +152,8 @@ fn put_numbers(out: &mut [u8], at: usize, table: &[u32], first: usize, width: us
     ensures { Wrote (fields_text (tabulate width (λ k. get_or table.now (first + k) 0))) at out.old out.new result }
 {
     let mut next = at;
-    for i in 0..width {
-        next = put_field(out, next, number(table, first + i));
+    for value in &table[first..first + width] {
+        next = put_field(out, next, *value as u64);
     }
     next
 }

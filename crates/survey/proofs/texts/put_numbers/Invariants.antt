@@ -4,5 +4,5 @@ use Rattle.text.proofs.WritingLaws.{Left}
 use Rattle.survey.proofs.PutLaws.{numbers}
 use Rattle.survey.proofs.texts.put_numbers.Given as goal
 
-abbrev pub invariant-loop-i : goal.invariant-loop-i
-invariant-loop-i l = Left (fields_text (drop l.i (numbers l.table l.first l.width))) l.next l.out (fields_text (numbers l.table l.first l.width)) l.at l.initial.out
+abbrev pub invariant-loop-value : goal.invariant-loop-value
+invariant-loop-value l = Left (fields_text (drop l.value-index (numbers l.table l.first l.width))) l.next l.out (fields_text (numbers l.table l.first l.width)) l.at l.initial.out
