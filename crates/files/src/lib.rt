@@ -65,19 +65,13 @@ fn not_read() -> Came
     }
 }
 
-fn least(a: usize, b: usize) -> usize
-    ensures { (result ≤ a) × (result ≤ b) }
-{
-    if a < b { a } else { b }
-}
-
 // One read of a file into a room at a position, as much of it as fits; by way of a room of its own, so that the rest of the lent one stays.
 fn read_on<R: Read>(file: &mut R, room: &mut [u8], at: usize) -> Next
     requires { at ≤ length room.old }
     ensures { ReadOn at room.old room.new result }
 {
     let mut chunk = [0u8; CHUNK];
-    let fits = least(CHUNK, room.len() - at);
+    let fits = CHUNK.min(room.len() - at);
     match file.read(&mut chunk[..fits]) {
         Err(_) => Next {
             failed: true,
