@@ -1,5 +1,5 @@
 // A run to an end that shows each of its states to boards.
-ghost use Rattle.std.specs.Prelude.{◌≡◌, ◌||◌, ◌≤◌, max, leb, length};
+ghost use Rattle.std.specs.Prelude.{◌≡◌, ◌≤◌, leb, length};
 ghost use Rattle.reckon.specs.Ranges.{last_clock};
 ghost use Rattle.reckon.specs.Tests.{pick};
 ghost use Rattle.grid.specs.Marks.{Marked};
