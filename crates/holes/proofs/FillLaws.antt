@@ -12,7 +12,7 @@ use borrow.Author.Tests.{eq-eqb, ne_eqb, le-ltb, lt-ltb, le-leb, lt-leb}
 use Rattle.reckon.specs.Tests.{pick}
 use Rattle.reckon.specs.Lists.{tabulate, filled}
 use Rattle.reckon.proofs.TestLaws.{not_both, pick_true, pick_false, and_both, and_false, failing_at, failing_none}
-use Rattle.reckon.proofs.ListLaws.{length-tabulate, is_tabulate, length-filled, filled_in, filled_past, filled_skipped, filled_store, filled_keep, is_filled}
+use Rattle.reckon.proofs.ListLaws.{is_tabulate, length-filled, filled_in, filled_past, filled_skipped, filled_store, filled_keep, is_filled}
 use Rattle.grid.specs.Squares.{squares, within, beside, north, east, south, west}
 use Rattle.grid.specs.Marks.{closed}
 use Rattle.grid.specs.declared.squares.Shape.{Shape}
@@ -156,10 +156,6 @@ module _ (shape : Shape) (marks beds : List ℕ) (seen : BedsSeen shape marks be
   pub going_long : {old : List ℕ} {r : ℕ} {now turns : List ℕ} → Going shape marks beds old r now turns → (length now ≡ size) × (length turns ≡ length old)
   going_long {old} {r} g =
       (ap length g.beds_are ∙ long shape marks beds seen r, ap length g.turns_are ∙ length-filled size _ (round_filling shape marks beds) old)
-
-  pub round_long : (l : List ℕ) → length (round_of shape marks l) ≡ squares shape
-  unfolding round_of
-  round_long l = length-tabulate (squares shape) _
 
   -- a square after one round more
   turn_more :
