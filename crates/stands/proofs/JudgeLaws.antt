@@ -3,7 +3,6 @@
 use mathlib.Core.Path.{◌≡◌}
 use mathlib.Core.Bool.{Bool, true, false, ◌||◌, not}
 
--- the square of a hatch has a mark
 pub unnamed_fine : (named b : Bool) → named ≡ false → true ≡ (not named || b)
 unnamed_fine named b e = rw e
 
