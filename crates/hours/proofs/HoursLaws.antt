@@ -18,17 +18,12 @@ use Rattle.flood.proofs.RunToLaws.{run_passed}
 use Rattle.text.specs.Writing.{Wrote}
 use Rattle.sheet.specs.Sheet.{Rooms, plan_in, given_in, start_in, no_lasts, no_records, checks_in}
 use Rattle.sheet.specs.declared.reading.Heading.{Heading}
-use Rattle.sheet.specs.declared.reading.Sheet.{Sheet}
-use Rattle.sheet.specs.declared.reading.Sheet.TheVariants.{Read, Refused}
 use Rattle.sheet.proofs.JudgeLaws.{judge_is, one_slot, world_same}
 use Rattle.answer.specs.Printed.{refused_text, made_text}
-use Rattle.programs.specs.Reading.{ReadsWithin}
-use Rattle.programs.specs.Program.{most_text, program_rooms, program_squares, most_printed, ended_text, ran_text, PutRan, Prints}
-use Rattle.programs.specs.Inner.Held.{parts_of}
+use Rattle.programs.specs.Program.{program_squares, most_printed, ended_text, ran_text, PutRan, Prints}
 use Rattle.programs.proofs.EndedLaws.{prints}
-use Rattle.programs.proofs.HeldLaws.{parts_at, parts_said}
 use Rattle.programs.proofs.RunLaws.{runs_sheet}
-use Rattle.hours.specs.Hours.{wet_times, hours_run_text, hours_sheet_text, hours_text}
+use Rattle.hours.specs.Hours.{wet_times, hours_run_text}
 use Rattle.hours.specs.Inner.Wet.{WetsOn, RunsSheetWet}
 
 -- ---- the run of a sheet starts from nothing, and passes its checks
@@ -79,27 +74,9 @@ hours_are h held f =
     (ap (λ (x : Ended). x.world.run) same)
 
 pub hours_printed :
-    (h : Heading) (held : Rooms) {n : ℕ} {a : Ran} {depths lasts records times shown old new : List ℕ} {r : ℕ} → n ≡ squares h.shape →
-    squares h.shape ≤ program_squares → most_printed ≤ length old → shown ≡ times → RunsSheetWet h (parts_at n h held) a depths lasts records times →
-    PutRan (plan_in h.shape h.rules (parts_at n h held)) shown a 0 old new r → Prints (hours_run_text h (parts_of h held)) old new r
-hours_printed h held {n} {a} {old = old} {new} {r} e few l d f w =
-    let same =
-    ap (λ (x : List ℕ). ran_text (plan_in h.shape h.rules (parts_at n h held)) x a) d
-    ∙ (hours_are h (parts_at n h held) f ∙ ap (λ (k : ℕ). hours_run_text h (parts_at k h held)) e) in
-    prints l (omega (arith, ap (λ (x : List ℕ). length x) same, w.fits, few)) (subst (λ (t : List ℕ). Wrote t 0 old new r) same w.wrote)
-
-module _ (s : List ℕ) {after : Rooms} {old new : List ℕ} {r : ℕ} where
-  answered : {a : Sheet} → ReadsWithin most_text s program_rooms a after → Prints (hours_sheet_text s a) old new r → Prints (hours_text s) old new r
-  unfolding hours_text
-  answered f w = subst (λ (t : List ℕ). Prints t old new r) (ap (hours_sheet_text s) f.answer) w
-
-  pub hours_refused :
-      {number line : ℕ} → ReadsWithin most_text s program_rooms (Refused number line) after → Prints (refused_text number line) old new r →
-      Prints (hours_text s) old new r
-  unfolding hours_sheet_text
-  hours_refused f w = answered f w
-
-  pub hours_run :
-      {h : Heading} → ReadsWithin most_text s program_rooms (Read h) after → Prints (hours_run_text h (parts_of h after)) old new r → Prints (hours_text s) old new r
-  unfolding hours_sheet_text
-  hours_run {h} f w = answered f (subst (λ (z : Rooms). Prints (hours_run_text h z) old new r) (parts_said most_text program_squares s f) w)
+    (h : Heading) (parts : Rooms) {a : Ran} {depths lasts records times shown old new : List ℕ} {r : ℕ} → squares h.shape ≤ program_squares →
+    most_printed ≤ length old → shown ≡ times → RunsSheetWet h parts a depths lasts records times →
+    PutRan (plan_in h.shape h.rules parts) shown a 0 old new r → Prints (hours_run_text h parts) old new r
+hours_printed h parts {a} {old = old} {new} {r} few l d f w =
+    let same = ap (λ (x : List ℕ). ran_text (plan_in h.shape h.rules parts) x a) d ∙ hours_are h parts f in
+    prints l (omega (arith, ap length same, w.fits, few)) (subst (λ (t : List ℕ). Wrote t 0 old new r) same w.wrote)
