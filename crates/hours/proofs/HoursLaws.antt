@@ -2,7 +2,7 @@
 -- Assumes nothing.
 use mathlib.Core.Path.{◌≡◌, refl, sym, ap, subst, ◌∙◌}
 use mathlib.Core.List.{List}
-use Prim.Native.Nat.{ℕ, ◌≤◌}
+use Prim.Native.Nat.{ℕ, ◌-◌, ◌≤◌}
 use native.Mathlib.Omega.{arith}
 use lib.Dec.{eqb}
 use lib.ListN.{length}
@@ -12,7 +12,7 @@ use Rattle.ledger.specs.Runs.{Plan, World, world}
 use Rattle.ledger.specs.declared.runs.Run.{Run}
 use Rattle.checks.specs.Fresh.{fresh_run}
 use Rattle.checks.specs.Refusals.{run_checks}
-use Rattle.flood.specs.Run.{Ended}
+use Rattle.flood.specs.Run.{Ended, ended, run_from}
 use Rattle.flood.specs.declared.run.Ran.{Ran}
 use Rattle.flood.proofs.RunToLaws.{run_passed}
 use Rattle.text.specs.Writing.{Wrote}
@@ -24,7 +24,7 @@ use Rattle.programs.specs.Program.{program_squares, most_printed, ended_text, ra
 use Rattle.programs.proofs.EndedLaws.{prints}
 use Rattle.programs.proofs.RunLaws.{runs_sheet}
 use Rattle.hours.specs.Hours.{wet_times, hours_run_text}
-use Rattle.hours.specs.Inner.Wet.{WetsOn, RunsSheetWet}
+use Rattle.hours.specs.Inner.Wet.{RunsSheetWet}
 
 -- ---- the run of a sheet starts from nothing, and passes its checks
 
@@ -41,16 +41,16 @@ module _
 
   pub sheet_wet :
       {a : Ran} {depths lasts records times : List ℕ} → checks_in h.shape h.rules held h.end ≡ 0 →
-      WetsOn (plan_in h.shape h.rules held) (given_in h.shape h.rules held) h.end W a depths lasts records times →
-      RunsSheetWet h held a depths lasts records times
-  sheet_wet {a} z o =
+      ended a.refused a.steps (world depths lasts records a.run) ≡ run_from (plan_in h.shape h.rules held) (given_in h.shape h.rules held) h.end (h.end - W.run.clock) 0 W →
+      times ≡ wet_times (plan_in h.shape h.rules held) (given_in h.shape h.rules held) W a.steps → RunsSheetWet h held a depths lasts records times
+  sheet_wet {a} z ends times_are =
       let run =
       runs_sheet h held l c f
-      (record { ends = run_passed (plan_in h.shape h.rules held) (given_in h.shape h.rules held) h.end W (sym (sheet_passes z)) refl o.ends }) in
+      (record { ends = run_passed (plan_in h.shape h.rules held) (given_in h.shape h.rules held) h.end W (sym (sheet_passes z)) refl ends }) in
       record {
         run = run;
         times_are =
-            o.times_are
+            times_are
             ∙ (ap (λ (x : World). wet_times (plan_in h.shape h.rules held) (given_in h.shape h.rules held) x a.steps)
             (world_same l c (f ∙ ap (fresh_run h.rules) (sym (one_slot h.shape h.rules held))))
             ∙ ap (wet_times (plan_in h.shape h.rules held) (given_in h.shape h.rules held) (start_in h.shape h.rules held))
