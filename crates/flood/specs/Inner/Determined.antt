@@ -17,8 +17,7 @@ pub record FloodDetermined : Type 1 where
   pub step_checked : (p : Plan) (g : Given) (w : World) →
       One {Out = Answer × (List ℕ × (List ℕ × List ℕ))} (λ o. Steps p g w o.0 o.1.0 o.1.1.0 o.1.1.1)
   -- where each step leaves one thing that is kept
-  pub run_kept :
-      {K : Type 0} (keeps : Plan → List ℕ → ℕ → ℕ → K → K → Type 0) (p : Plan) →
+  pub run_kept : {K : Type 0} (keeps : Plan → List ℕ → ℕ → ℕ → K → K → Type 0) (p : Plan) →
       ((depths : List ℕ) (before clock : ℕ) (k : K) → One {Out = K} (λ k'. keeps p depths before clock k k')) →
       (g : Given) (end : ℕ) (w : World) (k : K) →
       One {Out = (Ran × (List ℕ × (List ℕ × List ℕ))) × K} (λ o. RunsKept keeps p g end w k o.0.0 o.0.1.0 o.0.1.1.0 o.0.1.1.1 o.1)
