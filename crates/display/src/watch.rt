@@ -10,16 +10,15 @@ ghost use Rattle.adding.specs.Inner.Added.{rows_apart};
 ghost use Rattle.flood.specs.Step.{Passes};
 ghost use Rattle.display.specs.Boards.{board_fine, boards_fine, listed};
 ghost use Rattle.display.specs.Watch.{WatchesHeld};
-ghost use Rattle.display.specs.Inner.Refreshed.{BoardsOn, WatchesOn, cleared, looked_at, refreshed, seen_at, shown_with};
+ghost use Rattle.display.specs.Inner.Refreshed.{BoardsOn, WatchesOn, cleared, looked_at, refreshed, seen_after, seen_at, shown_with};
 
 use crate::boards::{Board, Boards, MOST_BOARDS, Shown};
 use adding::added::rows_apart;
 use adding::way::Way;
 use checks::refusals::check;
-use flood::run::Ran;
-use flood::step::step_on;
+use flood::run::{Keeper, Ran, run_kept};
 use grid::marks::is_closed;
-use grid::squares::{MOST_ALONG, MOST_SQUARES, Shape, square_at, squares_of};
+use grid::squares::{Shape, square_at};
 use grid::walks::Walk;
 use ledger::runs::Run;
 use reckon::ranges::MOST_DEPTH;
@@ -137,6 +136,17 @@ fn shown_with(refused: u32, steps: u64, run: Run, boards: Boards) -> Shown
     }
 }
 
+// Boards see the state after each step.
+impl Keeper for Boards {
+    ghost fits = { λ p clock boards. BoardsOn p.shape boards };
+
+    ghost keeps = { seen_after };
+
+    fn keep(&mut self, shape: Shape, marks: &[u8], depths: &[u32], before: u64, clock: u64) {
+        *self = refresh(*self, false, clock, shape, depths);
+    }
+}
+
 // Steps while the clock is below the end, up to a step that is refused, with every board after the first state and after each step.
 fn watch_on(
     boards: Boards,
@@ -157,43 +167,15 @@ fn watch_on(
     requires boards_on { (BoardsOn way.shape boards) × (way.apart ≡ rows_apart inflow.now) × (end ≤ last_clock) }
     ensures { WatchesOn (plan way.shape marks.now) (given (ground way.rules beds.now roughness.now rates.now) rain.now inflow.now) end (world depths.old lasts.old records.old run) boards result depths.new lasts.new records.new }
 {
-    let squares = squares_of(way.shape);
-    let rows = way.shape.rows;
-    let mut left = [0u32; MOST_SQUARES];
-    let mut worked = [0u64; MOST_ALONG];
-    let mut senders = [0u64; MOST_ALONG];
-    let mut room = [0u32; MOST_SQUARES];
     let mut shown = refresh(boards, true, run.clock, way.shape, depths);
-    let mut at = run;
-    let mut steps: u64 = 0;
-    while at.clock < end {
-        let made = step_on(
-            way,
-            at,
-            marks,
-            beds,
-            roughness,
-            rates,
-            rain,
-            inflow,
-            depths,
-            lasts,
-            records,
-            &mut left[..squares],
-            &mut worked[..rows],
-            &mut senders[..rows],
-            &mut room[..squares],
-        );
-        let refused = made.refused;
-        let after = made.run;
-        if refused != 0 {
-            return shown_with(refused, steps, after, shown);
-        }
-        shown = refresh(shown, false, after.clock, way.shape, depths);
-        at = after;
-        steps += 1;
+    let ran = run_kept(
+        &mut shown, way, run, end, marks, beds, roughness, rates, rain, inflow, depths, lasts,
+        records,
+    );
+    Shown {
+        ran: ran,
+        boards: shown,
     }
-    shown_with(0, steps, at, shown)
 }
 
 // A run to an end by the wet walk as `flood::run::run_to` makes it, with the boards refreshed at its start and after each step; or a refusal.

@@ -157,6 +157,7 @@ fn put_repaired(out: &mut [u8], text: &[u8], shape: Shape, marks: &[u8], beds: &
 }
 
 // What is printed of a text, at the start of out; the answer is its length.
+// No `Printer`: what it reads is a text of its own making, and it goes by the marks and beds of that alone.
 pub fn repair_of(text: &[u8], out: &mut [u8; REPAIR_ROOM]) -> usize
     ensures { PrintsRepair text.now out.old out.new result }
 {
