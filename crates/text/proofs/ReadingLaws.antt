@@ -12,9 +12,9 @@ use Rattle.std.proofs.Common.{Option, Some, None}
 use lib.Dec.{eqb, ltb, leb}
 use lib.ListN.{length, get_or, set, drop, length-set, length-append, drop_of_length-le, get_or-eq_default, get_or-append}
 use lib.Seq.{drop-cons, get_or-set_same, get_or-set_other, get_or-append_seam}
-use borrow.Author.Tests.{lt-ltb, le-ltb, le-leb, lt-leb, eq-eqb, ltb-true, ltb-false, leb-true, eqb-true}
+use borrow.Author.Tests.{lt-ltb, le-ltb, le-leb, lt-leb, eq-eqb, ne_eqb, ltb-true, ltb-false, leb-true, eqb-true}
 use Rattle.reckon.specs.Tests.{all_below}
-use Rattle.reckon.proofs.TestLaws.{not_both, pick_true, pick_false, and_left, and_right, and_both}
+use Rattle.reckon.proofs.TestLaws.{not_both, pick_true, pick_false, and_left, and_right, and_both, and_false, all_fails}
 use Rattle.reckon.proofs.ListLaws.{length-tabulate, get_or-tabulate, is_tabulate}
 use Rattle.text.specs.Reading.{newline, most_number, most_fields, is_byte, same_at, word_at, is_digit, digits_of, value_from, well_formed, number, number_from, number_at, field_at, Reading, before, with_number, read_fields, line_ended, padded, as_fields}
 use Rattle.text.specs.Reading.Reading.{read, unread}
@@ -53,6 +53,11 @@ module _ (s : List ℕ) (p : ℕ) (word : List ℕ) where
   pub word_past : length s < p + length word → word_at s p word ≡ false
   unfolding word_at
   word_past h = rw (lt-leb _ _ h)
+
+  pub word_differs : (i : ℕ) → i < length word → (get_or s (p + i) 0 ≡ get_or word i 0 → ⊥) → word_at s p word ≡ false
+  unfolding word_at
+  word_differs i h d =
+      and_false (leb (p + length word) (length s)) _ (all_fails (length word) (same_at s p word) i h (ne_eqb _ _ d))
 
   pub word_same : p + length word ≤ length s → all_below (length word) (same_at s p word) ≡ true → word_at s p word ≡ true
   unfolding word_at
