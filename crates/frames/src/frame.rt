@@ -52,10 +52,8 @@ fn put_squares(
     ensures { Wrote (joined columns (λ c. square_text marks.now depths.now (first + c))) at out.old out.new result }
 {
     let mut next = at;
-    let mut column: usize = 0;
-    while column < columns {
+    for column in 0..columns {
         next = put_square(out, next, marks, depths, first + column);
-        column += 1;
     }
     next
 }
@@ -87,10 +85,8 @@ fn put_rows(out: &mut [u8], at: usize, shape: Shape, marks: &[u8], depths: &[u32
     let rows = shape.rows;
     let columns = shape.columns;
     let mut next = at;
-    let mut row: usize = 0;
-    while row < rows {
+    for row in 0..rows {
         next = put_row(out, next, marks, depths, row * columns, columns);
-        row += 1;
     }
     next
 }

@@ -5,7 +5,6 @@ use mathlib.Core.Bool.{Bool, true, false}
 use mathlib.Core.List.{List}
 use Prim.Native.Nat.{ℕ, ◌+◌, ◌*◌, ◌/◌, ◌%◌, ◌≤◌, ◌<◌}
 use native.Mathlib.Nat.{not-suc-le-zero, mul-suc, mul-le-mul_left}
-use native.Mathlib.Numerals.{add-one}
 use native.Mathlib.Decide.{ℕ_discrete}
 use native.Mathlib.Omega.{arith}
 use lib.Dec.{eqb}
@@ -15,7 +14,7 @@ use borrow.Author.Count.{below_more}
 use Rattle.reckon.specs.Tests.{pick, first_failing}
 use Rattle.reckon.specs.Lists.{filled, placed}
 use Rattle.reckon.proofs.TestLaws.{not_both, pick_false, no_more, failing_at, failing_none, failing_before}
-use Rattle.reckon.proofs.ListLaws.{length-tabulate, length-filled, filled_none, filled_store, filled_keep, joined_none, joined_more, length-joined, length-placed}
+use Rattle.reckon.proofs.ListLaws.{length-tabulate, filled_none, filled_store, filled_keep, joined_none, joined_more, length-joined}
 use Rattle.grid.specs.Squares.{squares}
 use Rattle.grid.specs.declared.squares.Shape.{Shape}
 use Rattle.text.specs.Reading.{Reading, most_fields, line_of, next_line, line_from, padded, as_fields, read_line}
@@ -102,33 +101,6 @@ filling_none s p columns old =
     }
 
 module _ (s : List ℕ) (p columns : ℕ) {next i : ℕ} {old new : Cells} (a : Filling s p columns next i old new) where
-  -- a room is as long as it was
-  long :
-      (room : Cells → List ℕ) (skipped : ℕ → Bool) (f : ℕ → ℕ) → room (cells_filled s p columns i old) ≡ filled i skipped f (room old) →
-      length (room new) ≡ length (room old)
-  long room skipped f e =
-      ap (λ (r : Cells). length (room r)) a.rooms_are ∙ (ap length e ∙ length-filled i skipped f (room old))
-
-  pub long_marks : length new.marks ≡ length old.marks
-  unfolding cells_filled
-  long_marks = long (λ r. r.marks) _ _ refl
-
-  pub long_beds : length new.beds ≡ length old.beds
-  unfolding cells_filled
-  long_beds = long (λ r. r.beds) _ _ refl
-
-  pub long_roughness : length new.roughness ≡ length old.roughness
-  unfolding cells_filled
-  long_roughness = long (λ r. r.roughness) _ _ refl
-
-  pub long_rates : length new.rates ≡ length old.rates
-  unfolding cells_filled
-  long_rates = long (λ r. r.rates) _ _ refl
-
-  pub long_depths : length new.depths ≡ length old.depths
-  unfolding cells_filled
-  long_depths = long (λ r. r.depths) _ _ refl
-
   module _ {c : CellLine} (e : c ≡ cell_line s next (i / columns) (i % columns)) where
     this : c ≡ cell_from s p columns i
     this = e ∙ ap (λ (q : ℕ). cell_line s q (i / columns) (i % columns)) a.lines.here
@@ -179,19 +151,20 @@ module _ (s : List ℕ) (p columns : ℕ) {next i : ℕ} {old new : Cells} (a : 
         }
 
   pub filling_all :
-      (shape : Shape) → columns ≡ shape.columns → i ≡ squares shape → CellsRead s p shape (record { count = i; next = next }) old new
+      (shape : Shape) → columns ≡ shape.columns → {count : ℕ} → count ≡ squares shape → i ≡ count →
+      CellsRead s p shape (record { count = count; next = next }) old new
   unfolding cells_read
-  filling_all shape h e =
+  filling_all shape h c e =
       record {
         count_is =
-            e
+            c
             ∙ subst (λ (w : ℕ). squares shape ≡ first_failing (squares shape) (λ j. (cell_from s p w j).found)) h
             (sym
             (failing_none (squares shape) (λ j. (cell_from s p columns j).found)
-            (λ j l. a.lines.so_far j (omega (arith, e, l)))));
-        next_is = a.lines.here;
-        rooms_are = subst (λ (w : ℕ). new ≡ cells_filled s p w i old) h a.rooms_are;
-        passed = a.lines.passed;
+            (λ j l. a.lines.so_far j (omega (arith, c, e, l)))));
+        next_is = rw (← e) a.lines.here;
+        rooms_are = rw (← e) (subst (λ (w : ℕ). new ≡ cells_filled s p w i old) h a.rooms_are);
+        passed = omega (arith, e, a.lines.passed);
       }
 
 -- ---- lines of a table
@@ -251,10 +224,6 @@ values_long s p word width = go (read_line s p word width)
     go (read vs q) = length-tabulate most_fields _
     go unread = length-tabulate most_fields _
 
-pub values-at :
-    (s : List ℕ) (p : ℕ) (word : List ℕ) (width : ℕ) {f : Fields} → f ≡ line_of s p word width → length f.values ≡ most_fields
-values-at s p word width e = ap (λ (z : Fields). length z.values) e ∙ values_long s p word width
-
 module _ (s : List ℕ) (p : ℕ) (word : List ℕ) (width : ℕ) (few : width ≤ most_fields) where
   pub row_long : (j : ℕ) → length (take width (row_line s p word width j).values) ≡ width
   row_long j = length-take-le width _ (omega (arith, few, values_long s (line_from s p j) word width))
@@ -268,20 +237,16 @@ module _ (s : List ℕ) (p : ℕ) (word : List ℕ) (width : ℕ) (few : width �
   table_none old = sym (ap (placed old 0) (joined_none _) ∙ placed_none old 0)
 
   module _ (old : List ℕ) (i : ℕ) (fits : width * i + width ≤ length old) where
-    pub table-room : {room : List ℕ} → room ≡ placed old 0 (table_rows s p word width i) → length room ≡ length old
-    table-room e = ap length e ∙ length-placed old 0 (table_rows s p word width i) (omega (arith, fits, table_long i))
-
     pub table_more :
-        {next used : ℕ} {room new : List ℕ} {f : Fields} → next ≡ line_from s p i → used ≡ width * i →
-        room ≡ placed old 0 (table_rows s p word width i) → f ≡ line_of s next word width →
-        new ≡ placed room used (take width f.values) → new ≡ placed old 0 (table_rows s p word width (i + 1))
+        {next : ℕ} {room new : List ℕ} {f : Fields} → next ≡ line_from s p i → room ≡ placed old 0 (table_rows s p word width i) →
+        f ≡ line_of s next word width → new ≡ placed room (width * i) (take width f.values) → new ≡ placed old 0 (table_rows s p word width (i + 1))
     unfolding table_rows
-    table_more {next} {used} {room} {new} {f} h u e g n =
+    table_more {next} {room} {new} {f} h e g n =
         let row : f ≡ row_line s p word width i = g ∙ ap (λ (q : ℕ). line_of s q word width) h in
-        let at : used ≡ 0 + length (table_rows s p word width i) = omega (arith, u, table_long i) in
+        let at : width * i ≡ 0 + length (table_rows s p word width i) = omega (arith, table_long i) in
         n
-        ∙ (ap (λ (z : Fields). placed room used (take width z.values)) row
-        ∙ (ap (λ (l : List ℕ). placed l used (take width (row_line s p word width i).values)) e
+        ∙ (ap (λ (z : Fields). placed room (width * i) (take width z.values)) row
+        ∙ (ap (λ (l : List ℕ). placed l (width * i) (take width (row_line s p word width i).values)) e
         ∙ (ap (λ (q : ℕ). placed (placed old 0 (table_rows s p word width i)) q (take width (row_line s p word width i).values)) at
         ∙ (placed_both old 0 (table_rows s p word width i) (take width (row_line s p word width i).values)
         (omega (arith, fits, table_long i, row_long i))
@@ -290,16 +255,6 @@ module _ (s : List ℕ) (p : ℕ) (word : List ℕ) (width : ℕ) (few : width �
 -- one row more fits
 pub table_fits : (width : ℕ) {i count long : ℕ} → i < count → width * count ≤ long → width * i + width ≤ long
 table_fits width {i} l h = omega (arith, mul-le-mul_left width l, mul-suc width i, h)
-
-pub used_more : (width i : ℕ) {used : ℕ} → used ≡ width * i → used + width ≡ width * (i + 1)
-used_more width i e = rw (add-one i) (omega (arith, e, mul-suc width i))
-
-pub rows_length :
-    (s : List ℕ) (p : ℕ) (word : List ℕ) (width : ℕ) → width ≤ most_fields → (old : List ℕ) {i count : ℕ} → i ≤ count →
-    width * count ≤ length old → {room : List ℕ} → room ≡ placed old 0 (table_rows s p word width i) → length room ≡ length old
-rows_length s p word width few old {i} l h e =
-    ap length e
-    ∙ length-placed old 0 (table_rows s p word width i) (omega (arith, mul-le-mul_left width l, h, table_long s p word width few i))
 
 -- a row below the number of rows is found
 pub row_read :

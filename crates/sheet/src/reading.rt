@@ -1,12 +1,12 @@
 // Reading a sheet: the text and the checks decide with nothing lent written, and then the rooms are filled.
-ghost use Rattle.std.specs.Prelude.{◌≡◌, true, [], ◌∷◌, ◌*◌, ◌+◌, ◌≤◌, min, leb, length};
+ghost use Rattle.std.specs.Prelude.{◌≡◌, true, [], ◌∷◌, ◌*◌, ◌+◌, ◌≤◌, leb, length};
 ghost use Rattle.reckon.specs.Tests.{every};
 ghost use Rattle.reckon.specs.Ranges.{side_fine};
 ghost use Rattle.reckon.specs.Tables.{inflow_kind, rain_kind, table_room};
 ghost use Rattle.grid.specs.Squares.{ShapeInRange, shape_fine, squares};
 ghost use Rattle.sheet.specs.Lines.{grid_line};
 ghost use Rattle.sheet.specs.Sheet.{Reads, cells_rooms, checks_in, checks_of, rooms, said, shape_of};
-ghost use Rattle.sheet.specs.Inner.Reading.{BodyIs, Decided, TextRead, looked_rows};
+ghost use Rattle.sheet.specs.Inner.Reading.{BodyIs, Decided, TextRead};
 
 use crate::lines::{GridLine, grid_line, run_line};
 use crate::rooms::{count_rows, fill_cells, fill_rows};
@@ -161,16 +161,6 @@ fn read_body(
     }
 }
 
-// The rows of a table that are looked at.
-fn looked_at(rows: usize) -> usize
-    ensures { result ≡ min rows looked_rows }
-{
-    if MOST_TABLE_ROWS < rows {
-        return LOOKED_ROWS;
-    }
-    rows
-}
-
 // The first of 1 to 6 that applies to a run to the end from a fresh run, 0 for none.
 pub fn judge(
     shape: Shape,
@@ -224,8 +214,8 @@ fn judge_body(
 {
     let mut rain = [0u32; RAIN_LOOKED];
     let mut inflow = [0u32; INFLOW_LOOKED];
-    let rain_rows = looked_at(body.rain_rows);
-    let inflow_rows = looked_at(body.inflow_rows);
+    let rain_rows = body.rain_rows.min(LOOKED_ROWS);
+    let inflow_rows = body.inflow_rows.min(LOOKED_ROWS);
     fill_rows(
         text,
         body.rain_at,

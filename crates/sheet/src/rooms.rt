@@ -66,8 +66,7 @@ pub(crate) fn fill_cells(
     let squares = squares_of(shape);
     let columns = shape.columns;
     let mut next = at;
-    let mut square: usize = 0;
-    while square < squares {
+    for square in 0..squares {
         let cell = cell_line(text, next, square / columns, square % columns);
         if !cell.found {
             return Scan {
@@ -77,10 +76,9 @@ pub(crate) fn fill_cells(
         }
         put_cell(cell, square, marks, beds, roughness, rates, depths);
         next = cell.next;
-        square += 1;
     }
     Scan {
-        count: square,
+        count: squares,
         next: next,
     }
 }
@@ -124,14 +122,10 @@ pub fn fill_rows(text: &[u8], at: usize, word: &[u8], width: usize, count: usize
     ensures { room.new ≡ placed room.old 0 (table_rows text.now at word.now width count) }
 {
     let mut next = at;
-    let mut used: usize = 0;
-    let mut row: usize = 0;
-    while row < count {
+    for row in 0..count {
         let line = line_of(text, next, word, width);
         let values = line.values;
-        put_row(&values, width, used, room);
+        put_row(&values, width, width * row, room);
         next = line.next;
-        used += width;
-        row += 1;
     }
 }

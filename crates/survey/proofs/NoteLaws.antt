@@ -160,12 +160,12 @@ module _ (s : List ℕ) (p : ℕ) (shape : Shape) {next i : ℕ} (a : Marking s 
         passed = a.lines.passed;
       }
 
-  pub marks_all : i ≡ squares shape → MarksCounted s p shape (record { count = i; next = next })
+  pub marks_all : i ≡ squares shape → MarksCounted s p shape (record { count = squares shape; next = next })
   marks_all e =
       record {
-        count_is = e ∙ sym (failing_none (squares shape) (marked s p shape.columns) (λ k l. a.lines.so_far k (omega (arith, l, e))));
-        next_is = a.lines.here;
-        passed = a.lines.passed;
+        count_is = sym (failing_none (squares shape) (marked s p shape.columns) (λ k l. a.lines.so_far k (omega (arith, l, e))));
+        next_is = rw (← e) a.lines.here;
+        passed = omega (arith, e, a.lines.passed);
       }
 
 -- ---- a note

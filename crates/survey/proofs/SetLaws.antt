@@ -13,7 +13,7 @@ use borrow.Author.Tests.{eq-eqb, ne_eqb}
 use Rattle.reckon.specs.Tests.{all_below}
 use Rattle.reckon.specs.Lists.{filled}
 use Rattle.reckon.proofs.TestLaws.{every_fails, all_of, all_fails}
-use Rattle.reckon.proofs.ListLaws.{length-filled, filled_none, filled_store}
+use Rattle.reckon.proofs.ListLaws.{filled_none, filled_store}
 use Rattle.grid.specs.Squares.{squares}
 use Rattle.grid.specs.declared.squares.Shape.{Shape}
 use Rattle.text.specs.Reading.{most_number, next_line, line_from}
@@ -203,9 +203,6 @@ module _ (f : ℕ → ℕ) (old : List ℕ) where
   filling_none = record { same_as = filled_none (λ j. false) f old }
 
   module _ {i : ℕ} {new : List ℕ} (a : Filling f old i new) where
-    pub filling_long : length new ≡ length old
-    filling_long = ap length a.same_as ∙ length-filled i (λ j. false) f old
-
     pub filling_more : i < length old → {v : ℕ} → v ≡ f i → Filling f old (i + 1) (set new i v)
     filling_more h {v} e = record { same_as = ap (λ (l : List ℕ). set l i v) a.same_as ∙ filled_store (λ j. false) f old i h refl e }
 

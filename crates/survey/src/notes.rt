@@ -58,8 +58,7 @@ fn count_marks(text: &[u8], at: usize, shape: Shape) -> Scan
     let columns = shape.columns;
     let squares = shape.rows * columns;
     let mut next = at;
-    let mut square: usize = 0;
-    while square < squares {
+    for square in 0..squares {
         if mark_at(text, next, columns, square) == NO_MARK {
             return Scan {
                 count: square,
@@ -67,10 +66,9 @@ fn count_marks(text: &[u8], at: usize, shape: Shape) -> Scan
             };
         }
         next = next_line(text, next);
-        square += 1;
     }
     Scan {
-        count: square,
+        count: squares,
         next: next,
     }
 }

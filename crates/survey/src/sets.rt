@@ -1,12 +1,12 @@
 // A set as it is read: its text judged, its grids compared with its note, and what they say put into rooms.
-ghost use Rattle.std.specs.Prelude.{◌≡◌, false, [], ◌∷◌, ◌≤◌, min, length};
+ghost use Rattle.std.specs.Prelude.{◌≡◌, false, [], ◌∷◌, ◌≤◌, length};
 ghost use Rattle.reckon.specs.Lists.{filled};
 ghost use Rattle.grid.specs.Squares.{ShapeInRange, squares};
 ghost use Rattle.text.specs.Reading.{most_number};
 ghost use Rattle.raster.specs.Raster.{entry_from, grid_bad, head_of};
 ghost use Rattle.raster.specs.declared.amounts.Scale.TheVariants.{Metres, Whole};
 ghost use Rattle.survey.specs.Sets.{agrees, all_agree, all_short, first_of, five_files};
-ghost use Rattle.survey.specs.Inner.Notes.{NoteIs, closed_agree, closed_same, looked_heading, looked_rows, mark_from, noted};
+ghost use Rattle.survey.specs.Inner.Notes.{NoteIs, closed_agree, closed_same, looked_heading, mark_from, noted};
 
 use crate::moving::MOST_FILE;
 use crate::notes::{Note, mark_at};
@@ -93,15 +93,13 @@ fn closed_agree(
     let squares = shape.rows * columns;
     let mut line = cells_at;
     let mut next = at;
-    let mut square: usize = 0;
-    while square < squares {
+    for square in 0..squares {
         let entry = entry_at(grid, next, scale, (square + 1) % columns == 0);
         if !closed_same(entry.closed, mark_at(note, line, columns, square)) {
             return false;
         }
         line = next_line(note, line);
         next = entry.next;
-        square += 1;
     }
     true
 }
@@ -160,11 +158,9 @@ pub(crate) fn fill_marks(note: &[u8], at: usize, shape: Shape, marks: &mut [u8])
     let columns = shape.columns;
     let squares = squares_of(shape);
     let mut line = at;
-    let mut square: usize = 0;
-    while square < squares {
+    for square in 0..squares {
         marks[square] = mark_at(note, line, columns, square);
         line = next_line(note, line);
-        square += 1;
     }
 }
 
@@ -177,23 +173,11 @@ pub(crate) fn fill_column(grid: &[u8], scale: Scale, shape: Shape, room: &mut [u
     let squares = squares_of(shape);
     let head = head_of(grid);
     let mut next = head.next;
-    let mut square: usize = 0;
-    while square < squares {
+    for square in 0..squares {
         let entry = entry_at(grid, next, scale, (square + 1) % columns == 0);
         room[square] = entry.value;
         next = entry.next;
-        square += 1;
     }
-}
-
-// The rows of a table that are looked at.
-fn looked_at(rows: usize) -> usize
-    ensures { result ≡ min rows looked_rows }
-{
-    if MOST_TABLE_ROWS < rows {
-        return LOOKED_ROWS;
-    }
-    rows
 }
 
 // A heading with as many rows as are looked at.
@@ -206,7 +190,7 @@ pub(crate) fn looked_heading(heading: Heading) -> Heading
         shape: shape,
         rules: rules,
         end: heading.end,
-        rain_rows: looked_at(heading.rain_rows),
-        inflow_rows: looked_at(heading.inflow_rows),
+        rain_rows: heading.rain_rows.min(LOOKED_ROWS),
+        inflow_rows: heading.inflow_rows.min(LOOKED_ROWS),
     }
 }

@@ -8,9 +8,6 @@ use Rattle.sheet.proofs.rooms.count_rows.Goals as goal
 pub loop-next-init : goal.loop-next-init
 loop-next-init c = (omega arith, passed_none _ _ _)
 
-pub line_of-line-requires : goal.line_of-line-requires
-line_of-line-requires c = c.requires.0
-
 pub returns-then-not-line : goal.returns-then-not-line
 returns-then-not-line c =
     rows_stop _ _ _ _ c.requires.0 c.requires.1 c.loop-next.invariant.1 c.line_of-line.ensures

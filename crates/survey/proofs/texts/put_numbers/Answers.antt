@@ -1,31 +1,16 @@
 -- `survey::texts::put_numbers` meets its contract: what is left, put from here on, makes the whole.
 -- Assumes nothing.
 use native.Mathlib.Omega.{arith}
-use Rattle.text.proofs.WritingLaws.{left_all}
 use Rattle.survey.proofs.PutLaws.{number_fits, number_put, numbers_put}
 use Rattle.survey.proofs.texts.put_numbers.Goals as goal
 
-pub loop-i-init : goal.loop-i-init
-loop-i-init c = (omega arith, left_all _ _ _ c.requires.k_in_bounds)
-
-pub overflow_add-first : goal.overflow_add-first
-overflow_add-first c = omega (arith, c.requires.width_in_bounds)
-
-pub number-requires : goal.number-requires
-number-requires c = omega (arith, c.requires.width_in_bounds)
-
 pub put_field-next-requires : goal.put_field-next-requires
-put_field-next-requires c = number_fits c.args.table.now c.args.first c.args.width (omega arith) c.number.ensures c.loop-i.invariant.1
+put_field-next-requires c = number_fits c.args.table.now c.args.first c.args.width (omega arith) c.number.ensures c.loop-i.invariant
 
 pub loop-i-preserved : goal.loop-i-preserved
-loop-i-preserved c = (
-  omega arith,
-  number_put c.args.table.now c.args.first c.args.width (omega arith) c.number.ensures c.loop-i.invariant.1
-      c.put_field-next.ensures,
-)
-
-pub shape_of-out : goal.shape_of-out
-shape_of-out c = c.loop-i.invariant.1.long
+loop-i-preserved c =
+    number_put c.args.table.now c.args.first c.args.width (omega arith) c.number.ensures c.loop-i.invariant
+    c.put_field-next.ensures
 
 pub returns : goal.returns
-returns c = numbers_put c.args.table.now c.args.first c.args.width c.loop-i.i (omega arith) c.loop-i.invariant.1
+returns c = numbers_put c.args.table.now c.args.first c.args.width c.loop-i.i (omega arith) c.loop-i.invariant

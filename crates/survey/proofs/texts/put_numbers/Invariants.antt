@@ -1,4 +1,3 @@
-use Prim.Native.Nat.{◌-◌, ◌≤◌}
 use lib.ListN.{drop}
 use Rattle.text.specs.Writing.{fields_text}
 use Rattle.text.proofs.WritingLaws.{Left}
@@ -6,7 +5,4 @@ use Rattle.survey.proofs.PutLaws.{numbers}
 use Rattle.survey.proofs.texts.put_numbers.Given as goal
 
 abbrev pub invariant-loop-i : goal.invariant-loop-i
-invariant-loop-i l = (l.i ≤ l.width) × Left (fields_text (drop l.i (numbers l.table l.first l.width))) l.next l.out (fields_text (numbers l.table l.first l.width)) l.at l.initial.out
-
-abbrev pub decreases-loop-i : goal.decreases-loop-i
-decreases-loop-i l = l.width - l.i
+invariant-loop-i l = Left (fields_text (drop l.i (numbers l.table l.first l.width))) l.next l.out (fields_text (numbers l.table l.first l.width)) l.at l.initial.out
