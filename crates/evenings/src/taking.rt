@@ -173,8 +173,7 @@ fn take_backs(
 {
     let most = count as u64;
     let mut at = run;
-    let mut steps: u64 = 0;
-    while steps < most {
+    for steps in 0..most {
         let back = back_once(at, shape, marks, depths, lasts, records);
         let refused = back.refused;
         let before = back.run;
@@ -186,11 +185,10 @@ fn take_backs(
             };
         }
         at = before;
-        steps += 1;
     }
     Ran {
         refused: 0,
-        steps: steps,
+        steps: most,
         run: at,
     }
 }

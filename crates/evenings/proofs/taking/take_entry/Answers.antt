@@ -5,7 +5,6 @@ use Rattle.reckon.specs.Tests.{refusal}
 use Rattle.ledger.specs.Runs.{Plan, plan}
 use Rattle.checks.specs.Given.{Given, ground, given}
 use Rattle.hatches.specs.Log.{Evening, evening, entry_refusals, line_fine}
-use Rattle.hatches.specs.declared.lines.Entry.{Entry}
 use Rattle.hatches.proofs.RefusalLaws.{entered_is, entered_back, hatch_number}
 use Rattle.evenings.proofs.TakeLaws.{take-refused, took_hatch, took_rate, took_back, took_none}
 use Rattle.evenings.proofs.taking.take_entry.Goals as goal
@@ -32,9 +31,6 @@ pub name_hatch-requires : goal.name_hatch-requires
 name_hatch-requires c =
     hatch_number c.args.rules c.args.log _ _ _
     (ap (line_fine c.args.rules c.args.log) (sym c.in-Hatch.is) ∙ (entered_is (P (goal.at.name_hatch-requires c).Start) (G (goal.at.name_hatch-requires c).Start) (E (goal.at.name_hatch-requires c).Start) _ (passed (goal.at.name_hatch-requires c).Else-refused-ne0)).line)
-
-pub run_line-requires : goal.run_line-requires
-run_line-requires c = ap (λ (x : Entry). refusal (entry_refusals (P (goal.at.run_line-requires c).Start) (G (goal.at.run_line-requires c).Start) (E (goal.at.run_line-requires c).Start) x)) (sym c.in-Rate.is) ∙ (passed (goal.at.run_line-requires c).Else-refused-ne0)
 
 pub back_line-requires : goal.back_line-requires
 back_line-requires c = let h = entered_back (P (goal.at.back_line-requires c).Start) (G (goal.at.back_line-requires c).Start) (E (goal.at.back_line-requires c).Start) (passed (goal.at.back_line-requires c).Else-refused-ne0) c.in-Back.is in record { shape_in_range = h.0; log_value = h.1 }
