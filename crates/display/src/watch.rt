@@ -1,5 +1,5 @@
 // A run to an end that shows each of its states to boards.
-ghost use Rattle.std.specs.Prelude.{◌≡◌, ◌||◌, ◌≤◌, max, leb, length};
+ghost use Rattle.std.specs.Prelude.{◌≡◌, ◌≤◌, leb, length};
 ghost use Rattle.reckon.specs.Ranges.{last_clock};
 ghost use Rattle.reckon.specs.Tests.{pick};
 ghost use Rattle.grid.specs.Marks.{Marked};
@@ -33,33 +33,11 @@ fn clear(board: Board) -> Board
     ensures { result ≡ cleared board }
 {
     Board {
-        row: board.row,
-        column: board.column,
-        mark: board.mark,
         highest: 0,
         reached: false,
         first: 0,
+        ..board
     }
-}
-
-// The highest depth seen, after one more.
-fn highest_with(board: Board, depth: u32) -> u32
-    ensures { result ≡ max board.highest depth }
-{
-    if board.highest < depth {
-        return depth;
-    }
-    board.highest
-}
-
-// Whether the mark was reached, after one more state so deep.
-fn reached_with(board: Board, depth: u32) -> bool
-    ensures { result ≡ (board.reached || leb board.mark depth) }
-{
-    if board.reached {
-        return true;
-    }
-    board.mark <= depth
 }
 
 // When it first was, after one more state so deep at a clock.
@@ -79,16 +57,11 @@ fn first_with(board: Board, depth: u32, clock: u64) -> u64
 fn seen(board: Board, depth: u32, clock: u64) -> Board
     ensures { result ≡ seen_at depth clock board }
 {
-    let highest = highest_with(board, depth);
-    let reached = reached_with(board, depth);
-    let first = first_with(board, depth, clock);
     Board {
-        row: board.row,
-        column: board.column,
-        mark: board.mark,
-        highest: highest,
-        reached: reached,
-        first: first,
+        highest: board.highest.max(depth),
+        reached: board.reached || board.mark <= depth,
+        first: first_with(board, depth, clock),
+        ..board
     }
 }
 
@@ -110,16 +83,12 @@ fn refresh(boards: Boards, starting: bool, clock: u64, shape: Shape, depths: &[u
     requires { (BoardsOn shape boards) × (length depths.now ≡ squares shape) }
     ensures { result ≡ refreshed shape depths.now starting clock boards }
 {
-    let count = boards.count;
     let mut list = boards.list;
-    let mut at: usize = 0;
-    while at < count {
-        let board = list[at];
-        list[at] = looked(board, starting, clock, shape, depths);
-        at += 1;
+    for board in &mut list[..boards.count] {
+        *board = looked(*board, starting, clock, shape, depths);
     }
     Boards {
-        count: count,
+        count: boards.count,
         list: list,
     }
 }
@@ -146,20 +115,12 @@ fn boards_fine(boards: Boards, shape: Shape, marks: &[u8]) -> bool
     requires { Marked shape marks.now }
     ensures { result ≡ boards_fine (plan shape marks.now) boards.count (listed boards) }
 {
-    let count = boards.count;
-    if MOST_BOARDS < count {
+    if MOST_BOARDS < boards.count {
         return false;
     }
-    let list = boards.list;
-    let mut at: usize = 0;
-    while at < count {
-        let board = list[at];
-        if !board_fine(board, shape, marks) {
-            return false;
-        }
-        at += 1;
-    }
-    true
+    boards.list[..boards.count]
+        .iter()
+        .all(|board| board_fine(*board, shape, marks))
 }
 
 // What a run came to, and the boards after it.

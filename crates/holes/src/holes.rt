@@ -1,5 +1,5 @@
 // The `?` beds of a sheet's text, and the text with other beds in their places.
-ghost use Rattle.std.specs.Prelude.{◌≡◌, ◌+◌, ◌≤◌, ◌<◌, length};
+ghost use Rattle.std.specs.Prelude.{◌≡◌, ◌+◌, ◌≤◌, length};
 ghost use Rattle.text.specs.Writing.{Wrote};
 ghost use Rattle.sheet.specs.Sheet.{cells_at};
 ghost use Rattle.holes.specs.Holes.{line_with};
@@ -103,8 +103,7 @@ fn put_from(
 {
     let mut start = cells;
     let mut next = at;
-    let mut square: usize = 0;
-    while square < squares {
+    for square in 0..squares {
         let bed = number(beds, square);
         next = put_line_with(
             out,
@@ -116,7 +115,6 @@ fn put_from(
             bed,
         );
         start = next_line(text, start);
-        square += 1;
     }
     put_word(out, next, &text[start..])
 }

@@ -42,8 +42,7 @@ fn mark_holes(text: &[u8], columns: usize, squares: usize, beds: &mut [u32])
     ensures { beds.new ≡ filled squares (λ i. not (is_hole text.now i)) (λ i. no_bed) beds.old }
 {
     let mut start = cells_at(text);
-    let mut square: usize = 0;
-    while square < squares {
+    for square in 0..squares {
         mark_hole(
             text,
             start,
@@ -53,7 +52,6 @@ fn mark_holes(text: &[u8], columns: usize, squares: usize, beds: &mut [u32])
             square,
         );
         start = next_line(text, start);
-        square += 1;
     }
 }
 
@@ -108,8 +106,7 @@ fn put_list(
 {
     let mut start = cells_at(text);
     let mut next = at;
-    let mut square: usize = 0;
-    while square < squares {
+    for square in 0..squares {
         let bed = number(beds, square);
         let turn = number(turns, square);
         next = put_hole(
@@ -123,7 +120,6 @@ fn put_list(
             turn,
         );
         start = next_line(text, start);
-        square += 1;
     }
     next
 }

@@ -44,11 +44,8 @@ fn add_wet(lasted: u32, marks: &[u8], depths: &[u32], times: &mut [u32])
     requires by_index { (i : ℕ) → i < length marks.now → get_or times.old i 0 + lasted < 4_294_967_296 }
     ensures { times.new ≡ times_after lasted marks.now depths.now times.old }
 {
-    let mut square: usize = 0;
-    while square < marks.len() {
-        let wet = wet_for(lasted, marks, depths, square);
-        times[square] = times[square] + wet;
-        square += 1;
+    for (square, time) in times.iter_mut().enumerate() {
+        *time += wet_for(lasted, marks, depths, square);
     }
 }
 

@@ -36,15 +36,13 @@ fn count_names(text: &[u8], at: usize) -> usize
 {
     let mut count: usize = 0;
     let mut begun = false;
-    let mut p = at;
-    while p < text.len() {
+    for p in at..text.len() {
         if text[p] == NEWLINE {
             count += 1;
             begun = false;
         } else {
             begun = true;
         }
-        p += 1;
     }
     if begun {
         return count + 1;

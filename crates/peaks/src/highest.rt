@@ -63,10 +63,8 @@ fn put_highs(
 {
     let squares = squares_of(shape);
     let mut next = at;
-    let mut square: usize = 0;
-    while square < squares {
+    for square in 0..squares {
         next = put_high(out, next, shape, marks, peaks, clocks, square);
-        square += 1;
     }
     next
 }

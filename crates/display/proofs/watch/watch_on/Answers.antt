@@ -98,15 +98,6 @@ step_on-made-requires c =
       );
     }
 
-pub shape_of-depths-then-refused-ne0 : goal.shape_of-depths-then-refused-ne0
-shape_of-depths-then-refused-ne0 c = c.step_on-made.auto.depths ∙ c.loop-at.invariant.2
-
-pub shape_of-lasts-then-refused-ne0 : goal.shape_of-lasts-then-refused-ne0
-shape_of-lasts-then-refused-ne0 c = c.step_on-made.auto.lasts ∙ c.loop-at.invariant.3
-
-pub shape_of-records-then-refused-ne0 : goal.shape_of-records-then-refused-ne0
-shape_of-records-then-refused-ne0 c = c.step_on-made.auto.records ∙ c.loop-at.invariant.4
-
 pub returns-then-refused-ne0 : goal.returns-then-refused-ne0
 returns-then-refused-ne0 c =
     told_with (p (goal.at.returns-then-refused-ne0 c).Start) (g (goal.at.returns-then-refused-ne0 c).Start) c.args.end (w (goal.at.returns-then-refused-ne0 c).Start) c.args.boards c.shown_with.ensures
@@ -120,9 +111,6 @@ refresh-shown-requires-in-loop-at c =
     running_on (p (goal.at.refresh-shown-requires-in-loop-at c).Start) (g (goal.at.refresh-shown-requires-in-loop-at c).Start) c.args.end c.loop-at.invariant.0 c.loop-at-test.true c.step_on-made.ensures c.if-refused-ne0.false in
     let on = first_on (p (goal.at.refresh-shown-requires-in-loop-at c).Start) (g (goal.at.refresh-shown-requires-in-loop-at c).Start) (w (goal.at.refresh-shown-requires-in-loop-at c).Start) c.args.boards c.refresh-shown.ensures c.requires.boards_on.0 in
     (still_on (p (goal.at.refresh-shown-requires-in-loop-at c).Start) (g (goal.at.refresh-shown-requires-in-loop-at c).Start) (w (goal.at.refresh-shown-requires-in-loop-at c).Start) _ c.loop-at.invariant.1 on, (is_ready (p (goal.at.refresh-shown-requires-in-loop-at c).Start) (g (goal.at.refresh-shown-requires-in-loop-at c).Start) _ now.valid).flows.lies.sited.depths_long)
-
-pub overflow_add-steps : goal.overflow_add-steps
-overflow_add-steps c = omega (arith, c.loop-at.invariant.0.few, c.requires.boards_on.2, c.loop-at-test.true)
 
 pub loop-at-smaller : goal.loop-at-smaller
 loop-at-smaller c =
@@ -146,15 +134,6 @@ loop-at-preserved c =
       refilled c.step_on-made.new.senders c.loop-at.senders c.step_on-made.auto.senders inv.7 (rows_fit (goal.at.loop-at-preserved c).In-loop-at),
       refilled c.step_on-made.new.room c.loop-at.room c.step_on-made.auto.room inv.8 (squares_fit (goal.at.loop-at-preserved c).In-loop-at),
     )
-
-pub shape_of-depths : goal.shape_of-depths
-shape_of-depths c = c.loop-at.invariant.2
-
-pub shape_of-lasts : goal.shape_of-lasts
-shape_of-lasts c = c.loop-at.invariant.3
-
-pub shape_of-records : goal.shape_of-records
-shape_of-records c = c.loop-at.invariant.4
 
 pub returns : goal.returns
 returns c =

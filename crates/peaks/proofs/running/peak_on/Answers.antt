@@ -133,12 +133,6 @@ step_on-made-requires c =
       );
     }
 
-pub shape_of-peaks-then-refused-ne0 : goal.shape_of-peaks-then-refused-ne0
-shape_of-peaks-then-refused-ne0 c = (peaked_long _ _ _ _ _ c.loop-at.invariant.1).0 ∙ long-peaks (goal.at.shape_of-peaks-then-refused-ne0 c).After-raise
-
-pub shape_of-clocks-then-refused-ne0 : goal.shape_of-clocks-then-refused-ne0
-shape_of-clocks-then-refused-ne0 c = (peaked_long _ _ _ _ _ c.loop-at.invariant.1).1 ∙ long-clocks (goal.at.shape_of-clocks-then-refused-ne0 c).After-raise
-
 pub returns-then-refused-ne0 : goal.returns-then-refused-ne0
 returns-then-refused-ne0 c =
     let r = peaked_whole (p (goal.at.returns-then-refused-ne0 c).Start) (g (goal.at.returns-then-refused-ne0 c).Start) (w (goal.at.returns-then-refused-ne0 c).Start) (starting (goal.at.returns-then-refused-ne0 c).After-raise) c.loop-at.invariant.1 in
@@ -170,9 +164,6 @@ raise-requires-in-loop-at c =
       long.1 ∙ (long-clocks (goal.at.raise-requires-in-loop-at c).After-raise ∙ even.2),
     )
 
-pub overflow_add-steps : goal.overflow_add-steps
-overflow_add-steps c = omega (arith, c.loop-at.invariant.0.few, c.requires.apart_value.1, c.loop-at-test.true)
-
 pub loop-at-smaller : goal.loop-at-smaller
 loop-at-smaller c =
     omega (
@@ -199,21 +190,6 @@ loop-at-preserved c =
     )
 
 -- ---- at the end
-
-pub shape_of-depths : goal.shape_of-depths
-shape_of-depths c = c.loop-at.invariant.2
-
-pub shape_of-lasts : goal.shape_of-lasts
-shape_of-lasts c = c.loop-at.invariant.3
-
-pub shape_of-records : goal.shape_of-records
-shape_of-records c = c.loop-at.invariant.4
-
-pub shape_of-peaks : goal.shape_of-peaks
-shape_of-peaks c = (peaked_long _ _ _ _ _ c.loop-at.invariant.1).0 ∙ long-peaks (goal.at.shape_of-peaks c).After-raise
-
-pub shape_of-clocks : goal.shape_of-clocks
-shape_of-clocks c = (peaked_long _ _ _ _ _ c.loop-at.invariant.1).1 ∙ long-clocks (goal.at.shape_of-clocks c).After-raise
 
 pub returns : goal.returns
 returns c =
