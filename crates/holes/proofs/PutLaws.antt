@@ -17,8 +17,8 @@ use Rattle.text.specs.Writing.{decimal, field_text, fields_text, rest_text, Wrot
 use Rattle.text.proofs.ReadingLaws.{by_test, word_within}
 use Rattle.text.proofs.StandLaws.{stands_word, stands_both, stands_first, stands_second, word_stands}
 use Rattle.text.proofs.WritingLaws.{Left, left_all, left_fits, left_step, left_none, written_as, placed_none, wrote_length, wrote_both, fields_text_short}
-use Rattle.sheet.specs.Lines.{cell_word, letter_of, line_head}
-use Rattle.sheet.specs.Sheet.{line_one, cells_at}
+use Rattle.sheet.specs.Lines.{grid_line, cell_word, letter_of, line_head}
+use Rattle.sheet.specs.Sheet.{cells_at}
 use Rattle.sheet.proofs.JudgeLaws.{take_put}
 use Rattle.holes.specs.Rounds.{no_bed}
 use Rattle.holes.specs.Holes.{question, between, up_to_bed, hole_at, bed_at, line_with, looked_at, start_of, is_hole, with_beds}
@@ -274,7 +274,7 @@ module _ (s : List ℕ) (p row column bed turn : ℕ) where
 module _ {s : List ℕ} {columns n : ℕ} (look : Looked s columns n) where
   pub columns_some : {i : ℕ} → i < n → 0 < columns
   columns_some {i} l =
-      let f = looked_some (line_one s) {i = i} (omega (arith, l, look.squares_are)) in
+      let f = looked_some (grid_line s) {i = i} (omega (arith, l, look.squares_are)) in
       omega (arith, f.shape.columns_low, look.columns_are)
 
   module _ (i : ℕ) {start : ℕ} (at-line : start ≡ start_of s i) where

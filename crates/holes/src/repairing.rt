@@ -4,6 +4,7 @@ ghost use Rattle.reckon.specs.Tests.{pick};
 ghost use Rattle.reckon.specs.Lists.{filled};
 ghost use Rattle.text.specs.Writing.{Wrote};
 ghost use Rattle.holes.specs.Rounds.{no_bed};
+ghost use Rattle.sheet.specs.Sheet.{grid_or};
 ghost use Rattle.holes.specs.Holes.{hole_at, is_hole, looked_in};
 ghost use Rattle.holes.specs.Repaired.{PrintsRepair, given_text, hole_text, most_repaired};
 ghost use Rattle.holes.specs.Inner.Steps.{Looked, PutsRepaired, Repairable, listed};
@@ -124,13 +125,26 @@ fn put_list(
     next
 }
 
+// The shape that line 1 says, one of no squares where it cannot be read.
+fn shape_in(top: Option<GridLine>) -> Shape
+    ensures { result ≡ (grid_or top).shape }
+{
+    match top {
+        Some(top) => top.shape,
+        None => Shape {
+            rows: 0,
+            columns: 0,
+        },
+    }
+}
+
 // How many squares' lines are looked at: none where line 1 cannot be read or its shape is refused.
-fn looked_in(top: GridLine) -> usize
+fn looked_in(top: Option<GridLine>) -> usize
     ensures { result ≡ looked_in top }
 {
-    if !top.found {
+    let Some(top) = top else {
         return 0;
-    }
+    };
     if !shape_fine(top.shape) {
         return 0;
     }
@@ -164,7 +178,7 @@ pub fn repair_of(text: &[u8], out: &mut [u8; REPAIR_ROOM]) -> usize
         return put_refused(out, 0, 12, 0);
     }
     let top = grid_line(text);
-    let shape = top.shape;
+    let shape = shape_in(top);
     let squares = looked_in(top);
     let zeros = [0u32; PROGRAM_SQUARES];
     let mut plugged = [0u8; MOST_TEXT];
