@@ -9,7 +9,7 @@ ghost use Rattle.holes.specs.Holes.{hole_at, is_hole, looked_in};
 ghost use Rattle.holes.specs.Repaired.{PrintsRepair, given_text, hole_text, most_repaired};
 ghost use Rattle.holes.specs.Inner.Steps.{Looked, PutsRepaired, Repairable, listed};
 
-use crate::holes::{Hole, cells_at, hole_at, put_with_beds};
+use crate::holes::{cells_at, hole_at, put_with_beds};
 use crate::rounds::{NO_BED, fill_rounds};
 use answer::printing::put_refused;
 use grid::squares::{Shape, shape_fine, squares_of};
@@ -31,7 +31,7 @@ fn mark_hole(text: &[u8], start: usize, row: usize, column: usize, beds: &mut [u
     requires { square < length beds.old }
     ensures { beds.new ≡ pick (not (hole_at text.now start row column)) beds.old (set beds.old square no_bed) }
 {
-    let Hole::At(_spot) = hole_at(text, start, row, column) else {
+    let Some(_spot) = hole_at(text, start, row, column) else {
         return;
     };
     beds[square] = NO_BED;
@@ -85,7 +85,7 @@ fn put_hole(
     requires { at + length (hole_text text.now start row column bed turn) ≤ length out.old }
     ensures { Wrote (hole_text text.now start row column bed turn) at out.old out.new result }
 {
-    let Hole::At(_spot) = hole_at(text, start, row, column) else {
+    let Some(_spot) = hole_at(text, start, row, column) else {
         return at;
     };
     put_given(out, at, row, column, bed, turn)
