@@ -1,6 +1,6 @@
 -- Laws of the squares' lines: one line, one square more, the first that cannot be read, and the rooms filled.
 -- Assumes nothing.
-use mathlib.Core.Path.{◌≡◌, refl, sym, ap, ap₂, ◌∙◌}
+use mathlib.Core.Path.{◌≡◌, refl, sym, ap, ap₂, subst, ◌∙◌}
 use mathlib.Core.Bool.{Bool, true, false, ◌||◌}
 use mathlib.Core.List.{List}
 use Prim.Native.Nat.{ℕ, ◌+◌, ◌≤◌, ◌<◌}
@@ -118,14 +118,15 @@ module _ (s : List ℕ) (q : ℕ) (marks : List ℕ) where
           few = omega (arith, a.few);
         }
 
-  pub passing_all : {next lines i : ℕ} (a : Passing next lines i) (n : ℕ) → i ≡ n → SquaresPassed s q marks n (record { count = i; lines = lines; next = next })
+  pub passing_all : {next lines i : ℕ} (a : Passing next lines i) (m n : ℕ) → i ≡ m → m ≡ n → SquaresPassed s q marks n (record { count = m; lines = lines; next = next })
   unfolding squares_read
-  passing_all {next} {lines} {i} a n b =
+  passing_all {next} {lines} a m n e b =
+      let all : Passing next lines m = subst (Passing next lines) e a in
       record {
-        count_is = b ∙ sym (failing_none n (λ k. (square_from s q marks k).found) (λ k l. a.so_far k (omega (arith, b, l))));
-        lines_are = a.counted;
-        next_is = a.here;
-        few = omega (arith, a.few, b);
+        count_is = b ∙ sym (failing_none n (λ k. (square_from s q marks k).found) (λ k l. all.so_far k (omega (arith, b, l))));
+        lines_are = all.counted;
+        next_is = all.here;
+        few = omega (arith, all.few, b);
       }
 
 -- ---- 3

@@ -66,10 +66,8 @@ pub(crate) fn read_hatches(text: &[u8], at: usize) -> Named
     ensures { result ≡ named_from text.now at most_hatches }
 {
     let mut named = none_named(at);
-    let mut hatch: usize = 0;
-    while hatch < MOST_HATCHES {
+    for hatch in 0..MOST_HATCHES {
         named = with_hatch(text, named, hatch);
-        hatch += 1;
     }
     named
 }

@@ -87,8 +87,7 @@ pub(crate) fn pass_squares(text: &[u8], at: usize, shape: Shape, marks: &[u8]) -
     let squares = squares_of(shape);
     let mut next = at;
     let mut lines: usize = 0;
-    let mut square: usize = 0;
-    while square < squares {
+    for square in 0..squares {
         let line = square_line(text, next, marks, square);
         if !line.found {
             return Scan {
@@ -99,10 +98,9 @@ pub(crate) fn pass_squares(text: &[u8], at: usize, shape: Shape, marks: &[u8]) -
         }
         lines += line.lines;
         next = line.next;
-        square += 1;
     }
     Scan {
-        count: square,
+        count: squares,
         lines: lines,
         next: next,
     }
@@ -115,14 +113,12 @@ pub(crate) fn waters_read(text: &[u8], at: usize, shape: Shape, marks: &[u8]) ->
 {
     let squares = squares_of(shape);
     let mut next = at;
-    let mut square: usize = 0;
-    while square < squares {
+    for square in 0..squares {
         let line = square_line(text, next, marks, square);
         if !water_fine(line.depth, line.last) {
             return false;
         }
         next = line.next;
-        square += 1;
     }
     true
 }
@@ -155,11 +151,9 @@ pub(crate) fn store_squares(
 {
     let squares = squares_of(shape);
     let mut next = at;
-    let mut square: usize = 0;
-    while square < squares {
+    for square in 0..squares {
         let line = square_line(text, next, marks, square);
         put_water(marks, line, square, depths, lasts);
         next = line.next;
-        square += 1;
     }
 }
