@@ -22,7 +22,7 @@ use Rattle.flood.proofs.RunToLaws.{checks_passed}
 use Rattle.hatches.specs.Log.{Evening, evening, rates_kept, rates_back, log_with, hatch_named, entry_refusals}
 use Rattle.evenings.specs.Taking.{rates_with, line_run, line_back, further, slots, after_hatch, after_rate, after_back, entered, steps_number, entry_number, after_entry, TakesEntry}
 use Rattle.hatches.specs.declared.lines.Entry.{Entry}
-use Rattle.hatches.specs.declared.lines.Entry.TheVariants.{Hatch, Rate, Back, Unread}
+use Rattle.hatches.specs.declared.lines.Entry.TheVariants.{Hatch, Rate, Back}
 use Rattle.hatches.specs.declared.log.Log.{Log}
 use Rattle.evenings.proofs.RingSteps.{run_made}
 
@@ -131,7 +131,3 @@ module _ (p : Plan) (g : Given) (e : Evening) {entry : Entry} (z : refusal (entr
       (number ≡ (line_back p g e count).number) × (after ≡ after_back p g e count) → TakesEntry p g entry e number after
   unfolding steps_number entered
   took_back h t = take_made p g e entry z (t.0 ∙ ap (steps_number p g e) (sym h)) (t.1 ∙ ap (entered p g e) (sym h))
-
-  pub took_none : entry ≡ Unread → TakesEntry p g entry e 0 e
-  unfolding steps_number entered
-  took_none h = take_made p g e entry z (ap (steps_number p g e) (sym h)) (ap (entered p g e) (sym h))

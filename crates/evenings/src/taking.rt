@@ -256,9 +256,5 @@ pub fn take_entry(
             depths, lasts, records, began,
         ),
         Entry::Back(count) => back_line(log, count, shape, marks, depths, lasts, records, began),
-        Entry::Unread => EntryTaken {
-            number: 0,
-            log: log,
-        },
     }
 }

@@ -72,7 +72,6 @@ fn line_fine(entry: Entry, log: Log, rules: Rules) -> bool
         Entry::Hatch(number, row, column) => hatch_line_fine(log, number),
         Entry::Rate(clock, number, litres) => rate_line_fine(log, clock, number, rules),
         Entry::Back(count) => true,
-        Entry::Unread => false,
     }
 }
 
@@ -154,7 +153,6 @@ fn draw_fine(entry: Entry, log: Log, shape: Shape, marks: &[u8], inflow: &[u32])
         ),
         Entry::Rate(clock, number, litres) => rate_draw_fine(log, litres, inflow),
         Entry::Back(count) => true,
-        Entry::Unread => true,
     }
 }
 
@@ -178,7 +176,6 @@ fn kept_fine(entry: Entry, log: Log) -> bool
         Entry::Hatch(number, row, column) => true,
         Entry::Rate(clock, number, litres) => true,
         Entry::Back(count) => count as usize <= run.kept,
-        Entry::Unread => true,
     }
 }
 

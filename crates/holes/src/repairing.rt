@@ -4,11 +4,12 @@ ghost use Rattle.reckon.specs.Tests.{pick};
 ghost use Rattle.reckon.specs.Lists.{filled};
 ghost use Rattle.text.specs.Writing.{Wrote};
 ghost use Rattle.holes.specs.Rounds.{no_bed};
+ghost use Rattle.sheet.specs.Sheet.{grid_or};
 ghost use Rattle.holes.specs.Holes.{hole_at, is_hole, looked_in};
 ghost use Rattle.holes.specs.Repaired.{PrintsRepair, given_text, hole_text, most_repaired};
 ghost use Rattle.holes.specs.Inner.Steps.{Looked, PutsRepaired, Repairable, listed};
 
-use crate::holes::{Hole, cells_at, hole_at, put_with_beds};
+use crate::holes::{cells_at, hole_at, put_with_beds};
 use crate::rounds::{NO_BED, fill_rounds};
 use answer::printing::put_refused;
 use grid::squares::{Shape, shape_fine, squares_of};
@@ -30,7 +31,7 @@ fn mark_hole(text: &[u8], start: usize, row: usize, column: usize, beds: &mut [u
     requires { square < length beds.old }
     ensures { beds.new ≡ pick (not (hole_at text.now start row column)) beds.old (set beds.old square no_bed) }
 {
-    let Hole::At(_spot) = hole_at(text, start, row, column) else {
+    let Some(_spot) = hole_at(text, start, row, column) else {
         return;
     };
     beds[square] = NO_BED;
@@ -84,7 +85,7 @@ fn put_hole(
     requires { at + length (hole_text text.now start row column bed turn) ≤ length out.old }
     ensures { Wrote (hole_text text.now start row column bed turn) at out.old out.new result }
 {
-    let Hole::At(_spot) = hole_at(text, start, row, column) else {
+    let Some(_spot) = hole_at(text, start, row, column) else {
         return at;
     };
     put_given(out, at, row, column, bed, turn)
@@ -124,13 +125,26 @@ fn put_list(
     next
 }
 
+// The shape that line 1 says, one of no squares where it cannot be read.
+fn shape_in(top: Option<GridLine>) -> Shape
+    ensures { result ≡ (grid_or top).shape }
+{
+    match top {
+        Some(top) => top.shape,
+        None => Shape {
+            rows: 0,
+            columns: 0,
+        },
+    }
+}
+
 // How many squares' lines are looked at: none where line 1 cannot be read or its shape is refused.
-fn looked_in(top: GridLine) -> usize
+fn looked_in(top: Option<GridLine>) -> usize
     ensures { result ≡ looked_in top }
 {
-    if !top.found {
+    let Some(top) = top else {
         return 0;
-    }
+    };
     if !shape_fine(top.shape) {
         return 0;
     }
@@ -165,7 +179,7 @@ pub fn repair_of(text: &[u8], out: &mut [u8; REPAIR_ROOM]) -> usize
         return put_refused(out, 0, 12, 0);
     }
     let top = grid_line(text);
-    let shape = top.shape;
+    let shape = shape_in(top);
     let squares = looked_in(top);
     let zeros = [0u32; PROGRAM_SQUARES];
     let mut plugged = [0u8; MOST_TEXT];

@@ -4,7 +4,7 @@ ghost use Rattle.lists.specs.Names.{ListRead, list_after, list_number, list_refu
 
 use programs::limits::MOST_TEXT;
 use reckon::ranges::MOST_DEPTH;
-use text::reading::{NEWLINE, Number, byte_is, number_at};
+use text::reading::{NEWLINE, byte_is, number_at};
 
 // "up to 200 sheets' file names"
 pub const MOST_SHEETS: usize = 200;
@@ -86,7 +86,7 @@ pub fn read_list(text: &[u8]) -> Listed
         return refused(0);
     }
     match number_at(text, 0) {
-        Number::Not => refused(1),
-        Number::Is(wet, end) => list_after(text, wet, end),
+        None => refused(1),
+        Some(wet) => list_after(text, wet.value, wet.next),
     }
 }

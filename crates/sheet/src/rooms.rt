@@ -67,13 +67,12 @@ pub(crate) fn fill_cells(
     let columns = shape.columns;
     let mut next = at;
     for square in 0..squares {
-        let cell = cell_line(text, next, square / columns, square % columns);
-        if !cell.found {
+        let Some(cell) = cell_line(text, next, square / columns, square % columns) else {
             return Scan {
                 count: square,
                 next: next,
             };
-        }
+        };
         put_cell(cell, square, marks, beds, roughness, rates, depths);
         next = cell.next;
     }
@@ -90,21 +89,11 @@ pub fn count_rows(text: &[u8], at: usize, word: &[u8], width: usize) -> Scan
 {
     let mut next = at;
     let mut count: usize = 0;
-    while next < text.len() {
-        let line = line_of(text, next, word, width);
-        if !line.found {
-            return Scan {
-                count: count,
-                next: next,
-            };
-        }
+    while let Some(line) = line_of(text, next, word, width) {
         next = line.next;
         count += 1;
     }
-    Scan {
-        count: count,
-        next: next,
-    }
+    Scan { count, next }
 }
 
 // The first numbers of a line into a room.
@@ -123,9 +112,10 @@ pub fn fill_rows(text: &[u8], at: usize, word: &[u8], width: usize, count: usize
 {
     let mut next = at;
     for row in 0..count {
-        let line = line_of(text, next, word, width);
-        let values = line.values;
-        put_row(&values, width, width * row, room);
+        let Some(line) = line_of(text, next, word, width) else {
+            return;
+        };
+        put_row(&line.values, width, width * row, room);
         next = line.next;
     }
 }

@@ -39,10 +39,9 @@ fn with_hatch(text: &[u8], so_far: Named, hatch: usize) -> Named
     requires { (hatch < most_hatches) × (so_far.lines < most_hatches) }
     ensures { result ≡ with_hatch text.now so_far hatch }
 {
-    let line = line_of(text, so_far.next, b"hatch", HATCH_FIELDS);
-    if !line.found {
+    let Some(line) = line_of(text, so_far.next, b"hatch", HATCH_FIELDS) else {
         return so_far;
-    }
+    };
     let values = line.values;
     if values[0] as usize != hatch + 1 {
         return so_far;

@@ -6,7 +6,7 @@ use Rattle.ledger.specs.Runs.{Plan, plan}
 use Rattle.checks.specs.Given.{Given, ground, given}
 use Rattle.hatches.specs.Log.{Evening, evening, entry_refusals, line_fine}
 use Rattle.hatches.proofs.RefusalLaws.{entered_is, entered_back, hatch_number}
-use Rattle.evenings.proofs.TakeLaws.{take-refused, took_hatch, took_rate, took_back, took_none}
+use Rattle.evenings.proofs.TakeLaws.{take-refused, took_hatch, took_rate, took_back}
 use Rattle.evenings.proofs.taking.take_entry.Goals as goal
 use Rattle.evenings.proofs.taking.take_entry.Goals.{Else-refused-ne0, Start}
 
@@ -43,6 +43,3 @@ returns-in-Rate c = took_rate (P (goal.at.returns-in-Rate c).Start) (G (goal.at.
 
 pub returns-in-Back : goal.returns-in-Back
 returns-in-Back c = took_back (P (goal.at.returns-in-Back c).Start) (G (goal.at.returns-in-Back c).Start) (E (goal.at.returns-in-Back c).Start) (passed (goal.at.returns-in-Back c).Else-refused-ne0) c.in-Back.is (c.back_line.ensures (G (goal.at.returns-in-Back c).Start))
-
-pub returns-in-Unread : goal.returns-in-Unread
-returns-in-Unread c = took_none (P (goal.at.returns-in-Unread c).Start) (G (goal.at.returns-in-Unread c).Start) (E (goal.at.returns-in-Unread c).Start) (passed (goal.at.returns-in-Unread c).Else-refused-ne0) c.in-Unread.is

@@ -8,7 +8,3 @@ use Rattle.hatches.proofs.refusals.draw_fine.Goals as goal
 pub returns-in-Back : goal.returns-in-Back
 unfolding draw_fine
 returns-in-Back c = ap (draw_fine (plan c.args.shape c.args.marks.now) c.args.inflow.now c.args.log) (sym c.in-Back.is)
-
-pub returns-in-Unread : goal.returns-in-Unread
-unfolding draw_fine
-returns-in-Unread c = ap (draw_fine (plan c.args.shape c.args.marks.now) c.args.inflow.now c.args.log) (sym c.in-Unread.is)

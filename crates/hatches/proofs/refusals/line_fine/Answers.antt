@@ -7,7 +7,3 @@ use Rattle.hatches.proofs.refusals.line_fine.Goals as goal
 pub returns-in-Back : goal.returns-in-Back
 unfolding line_fine
 returns-in-Back c = ap (line_fine c.args.rules c.args.log) (sym c.in-Back.is)
-
-pub returns-in-Unread : goal.returns-in-Unread
-unfolding line_fine
-returns-in-Unread c = ap (line_fine c.args.rules c.args.log) (sym c.in-Unread.is)
