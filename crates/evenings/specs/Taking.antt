@@ -7,7 +7,7 @@ use Rattle.ledger.specs.Record.{room_slots}
 use Rattle.ledger.specs.TakeBack.{back_number, taken_back}
 use Rattle.checks.specs.Given.{Given, given}
 use Rattle.flood.specs.Run.{Ended, ended, go_on, run_to}
-use Rattle.hatches.specs.Log.{Evening, evening, table_with, rates_kept, rates_back, entry_refusals, hatch_named, log_with}
+use Rattle.hatches.specs.Log.{Evening, evening, table_with, rates_kept, rates_back, entry_refusals, hatch_named, log_with, line_refusal}
 use Rattle.hatches.specs.declared.lines.Entry.{Entry}
 use Rattle.hatches.specs.declared.lines.Entry.TheVariants.{Hatch, Rate, Back}
 use Rattle.hatches.specs.declared.log.Hatches.{Hatches}
@@ -82,7 +82,7 @@ module _ (p : Plan) (g : Given) (e : Evening) where
 -- the same of a line of the log: "a log line that can't be read" is 12, and changes nothing
 abbrev pub read_number : Plan → Given → Evening → Option Entry → ℕ
 read_number p g e (Some entry) = entry_number p g e entry
-read_number p g e None = 12
+read_number p g e None = line_refusal p g e None
 
 abbrev pub after_read : Plan → Given → Evening → Option Entry → Evening
 after_read p g e (Some entry) = after_entry p g e entry

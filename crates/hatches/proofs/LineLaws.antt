@@ -11,7 +11,8 @@ use Rattle.text.specs.Reading.Reading.{read, unread}
 use Rattle.text.specs.declared.reading.Fields.{Fields}
 use Rattle.text.specs.declared.reading.Number.{Number}
 use Rattle.std.proofs.Common.{Option, Some, None, is_some, unwrap_or}
-use Rattle.hatches.specs.Lines.{hatch_word, hatch_fields, back_word, back_fields, rate_fields, as_hatch, as_back, as_rate, read_rate, handed, entry_from, unread_at, log_line}
+use Rattle.hatches.specs.Lines.{hatch_word, hatch_fields, back_word, back_fields, rate_fields, as_hatch, as_back, as_rate, read_rate, entry_from, unread_at, log_line}
+use Rattle.hatches.specs.Inner.Lines.{handed}
 use Rattle.hatches.specs.declared.lines.Entry.{Entry}
 use Rattle.hatches.specs.declared.lines.Entry.TheVariants.{Hatch, Rate, Back}
 use Rattle.hatches.specs.declared.lines.LogLine.{LogLine}

@@ -38,11 +38,6 @@ read_rate s p = with_number (number_at s p) unread (λ clock q. before (clock �
 abbrev pub as_rate : List ℕ → Entry
 as_rate vs = Rate (get_or vs 0 0) (get_or vs 1 0) (get_or vs 2 0)
 
--- what a reading says, as it is handed back
-abbrev pub handed : Reading → (List ℕ → Entry) → Option LogLine
-handed (read vs q) make = Some (record { entry = Some (make vs); next = q })
-handed unread make = None
-
 -- what a reading says, or else another line
 abbrev pub entry_from : Reading → (List ℕ → Entry) → LogLine → LogLine
 entry_from (read vs q) make other = record { entry = Some (make vs); next = q }

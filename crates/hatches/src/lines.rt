@@ -1,6 +1,7 @@
 // The kinds of line of a log, each with its fields in their order.
 ghost use Rattle.std.specs.Prelude.{◌≡◌};
-ghost use Rattle.hatches.specs.Lines.{LineRead, handed, read_rate, as_rate};
+ghost use Rattle.hatches.specs.Lines.{LineRead, as_rate, read_rate};
+ghost use Rattle.hatches.specs.Inner.Lines.{handed};
 
 use text::reading::{line_of, number_at, rest_of_line};
 
