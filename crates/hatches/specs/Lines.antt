@@ -1,6 +1,6 @@
 -- Document 02, #107, "The hatch log": the kinds of line of a log, each with its fields in their order.
 -- Assumes nothing.
-use Rattle.std.specs.Prelude.{◌≡◌, List, [], ◌∷◌, ℕ, get_or, Option, Some, None}
+use Rattle.std.specs.Prelude.{◌≡◌, List, [], ◌∷◌, ℕ, get_or, Some, None}
 use Rattle.text.specs.Reading.{Reading, number_at, with_number, before, read_rest, read_line}
 use Rattle.text.specs.Reading.Reading.{read, unread}
 use Rattle.hatches.specs.declared.lines.Entry.{Entry}
