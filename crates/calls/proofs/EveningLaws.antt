@@ -8,9 +8,8 @@ use Rattle.reckon.specs.Tests.{refusal}
 use Rattle.reckon.proofs.TestLaws.{pick_true, pick_false}
 use Rattle.ledger.specs.Runs.{Plan}
 use Rattle.checks.specs.Given.{Given}
-use Rattle.hatches.specs.Lines.{log_line}
 use Rattle.hatches.specs.Log.{Evening, entry_refusals}
-use Rattle.evenings.specs.Taking.{entry_number, after_entry, TakesEntry}
+use Rattle.evenings.specs.Taking.{entry_number, after_entry, read_number, after_read, TakesEntry}
 use Rattle.evenings.specs.Shown.{TakesLine}
 use Rattle.evenings.specs.Program.{Stores, Begins, GoesOn}
 use Rattle.hatches.specs.declared.lines.Entry.{Entry}
@@ -47,7 +46,9 @@ pub after_line :
     TakesLine p g s at line e a after old new → AfterLine p g s at line e a after old new
 after_line p g s at line e t =
     record {
-      entry_taken = after-entry p g (log_line s at).entry e (record { number_is = t.number_is; evening_is = t.evening_is });
+      entry_taken = λ entry h.
+          after-entry p g entry e (record { number_is = t.number_is ∙ ap (read_number p g e) h; evening_is = t.evening_is ∙ ap (after_read p g e) h });
+      unread = λ h. (t.number_is ∙ ap (read_number p g e) h, t.evening_is ∙ ap (after_read p g e) h);
       next_is = t.next_is;
       prints = t.prints;
     }

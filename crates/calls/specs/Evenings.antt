@@ -1,6 +1,6 @@
 -- What the caller of the hatch log's calls has, in document 02's words (#107).
 -- Assumes nothing.
-use Rattle.std.specs.Prelude.{◌≡◌, true, List, [], ◌∷◌, ◌++◌, ℕ, take}
+use Rattle.std.specs.Prelude.{◌≡◌, true, List, [], ◌∷◌, ◌++◌, ℕ, take, Some, None}
 use Rattle.reckon.specs.Tests.{refusal}
 use Rattle.ledger.specs.Runs.{Plan}
 use Rattle.checks.specs.Given.{Given}
@@ -27,7 +27,9 @@ pub record AfterEntry (p : Plan) (g : Given) (entry : Entry) (e : Evening) (numb
 
 -- the same of the line at a position, and what is printed of it
 pub record AfterLine (p : Plan) (g : Given) (s : List ℕ) (at line : ℕ) (e : Evening) (a : LineTaken) (after : Evening) (old new : List ℕ) : Type 0 where
-  pub entry_taken : AfterEntry p g (log_line s at).entry e a.number after
+  pub entry_taken : (entry : Entry) → (log_line s at).entry ≡ Some entry → AfterEntry p g entry e a.number after
+  -- a line that can't be read is 12, and nothing changes
+  pub unread : (log_line s at).entry ≡ None → (a.number ≡ 12) × (after ≡ e)
   pub next_is : a.next ≡ (log_line s at).next
   pub prints : Prints (line_shown p g s at line e) old new a.length
 

@@ -117,14 +117,12 @@ fn bad_note(line: usize) -> Note
 pub(crate) fn read_note(text: &[u8]) -> Note
     ensures { NoteRead text.now result }
 {
-    let top = grid_line(text);
-    if !top.found {
+    let Some(top) = grid_line(text) else {
         return bad_note(1);
-    }
-    let run = run_line(text, top.next, top.side);
-    if !run.found {
+    };
+    let Some(run) = run_line(text, top.next, top.side) else {
         return bad_note(2);
-    }
+    };
     let shape = top.shape;
     let squares = shape.rows * shape.columns;
     let cells = count_marks(text, run.next, shape);

@@ -3,7 +3,7 @@ ghost use Rattle.std.specs.Prelude.{◌≡◌, false, [], ◌∷◌, ◌≤◌, 
 ghost use Rattle.reckon.specs.Lists.{filled};
 ghost use Rattle.grid.specs.Squares.{ShapeInRange, squares};
 ghost use Rattle.text.specs.Reading.{most_number};
-ghost use Rattle.raster.specs.Raster.{entry_from, grid_bad, head_of};
+ghost use Rattle.raster.specs.Raster.{entry_from, grid_bad, head_in, head_or, is_shut, next_of, value_of};
 ghost use Rattle.raster.specs.declared.amounts.Scale.TheVariants.{Metres, Whole};
 ghost use Rattle.survey.specs.Sets.{agrees, all_agree, all_short, first_of, five_files};
 ghost use Rattle.survey.specs.Inner.Notes.{NoteIs, closed_agree, closed_same, looked_heading, mark_from, noted};
@@ -12,7 +12,7 @@ use crate::moving::MOST_FILE;
 use crate::notes::{Note, mark_at};
 use grid::squares::{Shape, squares_of};
 use raster::amounts::Scale;
-use raster::reading::{entry_at, grid_bad, head_of};
+use raster::reading::{Entry, Head, entry_at, grid_bad, head_of};
 use reckon::ranges::MOST_TABLE_ROWS;
 use sheet::reading::Heading;
 use text::lines::next_line;
@@ -67,6 +67,53 @@ pub(crate) fn set_bad(note: usize, bed: &[u8], depth: &[u8], roughness: &[u8], r
     grid_bad(rate, Scale::Whole)
 }
 
+// A header that was read, or one of no squares, from where the reading stopped.
+fn head_or(head: Result<Head, usize>) -> Head
+    ensures { result ≡ head_or head }
+{
+    match head {
+        Ok(head) => head,
+        Err(at) => Head {
+            shape: Shape {
+                rows: 0,
+                columns: 0,
+            },
+            side: 0,
+            next: at,
+        },
+    }
+}
+
+// A square that was read is closed.
+fn is_shut(entry: Option<Entry>) -> bool
+    ensures { result ≡ is_shut entry }
+{
+    match entry {
+        Some(entry) => entry.value.is_none(),
+        None => false,
+    }
+}
+
+// A square's number, 0 where it is closed.
+fn value_of(entry: Option<Entry>) -> u32
+    ensures { result ≡ value_of entry }
+{
+    match entry {
+        Some(entry) => entry.value.unwrap_or(0),
+        None => 0,
+    }
+}
+
+// Where the square after the one at a position starts.
+fn next_of(at: usize, entry: Option<Entry>) -> usize
+    ensures { result ≡ next_of at entry }
+{
+    match entry {
+        Some(entry) => entry.next,
+        None => at,
+    }
+}
+
 // A square is closed in a grid as it is in the note.
 fn closed_same(closed: bool, mark: u8) -> bool
     ensures { result ≡ closed_same closed mark }
@@ -95,11 +142,11 @@ fn closed_agree(
     let mut next = at;
     for square in 0..squares {
         let entry = entry_at(grid, next, scale, (square + 1) % columns == 0);
-        if !closed_same(entry.closed, mark_at(note, line, columns, square)) {
+        if !closed_same(is_shut(entry), mark_at(note, line, columns, square)) {
             return false;
         }
         line = next_line(note, line);
-        next = entry.next;
+        next = next_of(next, entry);
     }
     true
 }
@@ -109,7 +156,7 @@ fn grid_agrees(note: &[u8], read: Note, grid: &[u8], scale: Scale) -> bool
     requires { NoteIs note.now read }
     ensures { result ≡ agrees (noted note.now) scale grid.now }
 {
-    let head = head_of(grid);
+    let head = head_or(head_of(grid));
     let found = head.shape;
     let heading = read.heading;
     let shape = heading.shape;
@@ -167,16 +214,16 @@ pub(crate) fn fill_marks(note: &[u8], at: usize, shape: Shape, marks: &mut [u8])
 // The numbers of a grid into a room, 0 at closed squares.
 pub(crate) fn fill_column(grid: &[u8], scale: Scale, shape: Shape, room: &mut [u32])
     requires { (ShapeInRange shape) × (squares shape ≤ length room.old) }
-    ensures { room.new ≡ filled (squares shape) (λ i. false) (λ i. (entry_from scale grid.now (head_of grid.now).next shape.columns i).value) room.old }
+    ensures { room.new ≡ filled (squares shape) (λ i. false) (λ i. value_of (entry_from scale grid.now (head_in grid.now).next shape.columns i)) room.old }
 {
     let columns = shape.columns;
     let squares = squares_of(shape);
-    let head = head_of(grid);
+    let head = head_or(head_of(grid));
     let mut next = head.next;
     for square in 0..squares {
         let entry = entry_at(grid, next, scale, (square + 1) % columns == 0);
-        room[square] = entry.value;
-        next = entry.next;
+        room[square] = value_of(entry);
+        next = next_of(next, entry);
     }
 }
 
