@@ -74,7 +74,7 @@ shown_lent p g e entry h z = go (refusal (entry_refusals p g e entry)) refl
 module _ (p : Plan) (g : Given) (s : List ℕ) (at line : ℕ) (e : Evening) {l : LogLine} (h : l ≡ log_line s at) where
   pub shown_whole :
       {entry : Entry} {number r : ℕ} {after : Evening} {log : Log} {old new : List ℕ} → l.entry ≡ Some entry →
-      TakesEntry p g entry e number after → Prints (entry_text p number entry line after) old new r →
+      TakesEntry p g (Some entry) e number after → Prints (entry_text p number entry line after) old new r →
       TakesLine p g s at line e (record { number = number; next = l.next; length = r; log = log }) after old new
   shown_whole {entry} {number} {r} {after} {log} {old} {new} q t w =
       let k : Some entry ≡ (log_line s at).entry = sym q ∙ ap (λ (x : LogLine). x.entry) h in

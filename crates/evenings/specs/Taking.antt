@@ -91,6 +91,6 @@ after_read p g e None = e
 -- ---- what the public function gives
 
 -- the number and the evening afterwards, of what a line says
-pub record TakesEntry (p : Plan) (g : Given) (entry : Entry) (e : Evening) (number : ℕ) (after : Evening) : Type 0 where
-  pub number_is : number ≡ entry_number p g e entry
-  pub evening_is : after ≡ after_entry p g e entry
+pub record TakesEntry (p : Plan) (g : Given) (entry : Option Entry) (e : Evening) (number : ℕ) (after : Evening) : Type 0 where
+  pub number_is : number ≡ read_number p g e entry
+  pub evening_is : after ≡ after_read p g e entry

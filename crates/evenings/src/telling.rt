@@ -94,8 +94,20 @@ pub fn take_line(
         };
     };
     let came = take_entry(
-        entry, log, shape, rules, marks, beds, roughness, rates, rain, inflow, depths, lasts,
-        records, began,
+        Some(entry),
+        log,
+        shape,
+        rules,
+        marks,
+        beds,
+        roughness,
+        rates,
+        rain,
+        inflow,
+        depths,
+        lasts,
+        records,
+        began,
     );
     let number = came.number;
     let after = came.log;

@@ -1,4 +1,4 @@
--- `evenings::taking::take_entry` meets its contract: the checks, and then what the kind of line does.
+-- `evenings::taking::take_said` meets its contract: the checks, and then what the kind of line does.
 -- Assumes nothing.
 use mathlib.Core.Path.{◌≡◌, sym, ap, ◌∙◌}
 use Rattle.reckon.specs.Tests.{refusal}
@@ -7,8 +7,8 @@ use Rattle.checks.specs.Given.{Given, ground, given}
 use Rattle.hatches.specs.Log.{Evening, evening, entry_refusals, line_fine}
 use Rattle.hatches.proofs.RefusalLaws.{entered_is, entered_back, hatch_number}
 use Rattle.evenings.proofs.TakeLaws.{take-refused, took_hatch, took_rate, took_back}
-use Rattle.evenings.proofs.taking.take_entry.Goals as goal
-use Rattle.evenings.proofs.taking.take_entry.Goals.{Else-refused-ne0, Start}
+use Rattle.evenings.proofs.taking.take_said.Goals as goal
+use Rattle.evenings.proofs.taking.take_said.Goals.{Else-refused-ne0, Start}
 
 -- what the arguments are
 abbrev P : Start → Plan
@@ -21,7 +21,7 @@ abbrev E : Start → Evening
 E s = evening s.args.depths.now s.args.lasts.now s.args.records.now s.args.began.now s.args.log
 
 -- no row refuses the line before its steps
-passed : (c : Else-refused-ne0) → refusal (entry_refusals (P (goal.at.Else-refused-ne0 c).Start) (G (goal.at.Else-refused-ne0 c).Start) (E (goal.at.Else-refused-ne0 c).Start) c.args.entry) ≡ 0
+passed : (c : Else-refused-ne0) → refusal (entry_refusals (P (goal.at.Else-refused-ne0 c).Start) (G (goal.at.Else-refused-ne0 c).Start) (E (goal.at.Else-refused-ne0 c).Start) c.args.said) ≡ 0
 passed c = sym (c.entry_number-refused.ensures _ _ _ _ _) ∙ c.if-refused-ne0.false
 
 pub returns-then-refused-ne0 : goal.returns-then-refused-ne0

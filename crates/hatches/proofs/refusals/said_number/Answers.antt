@@ -1,4 +1,4 @@
--- `hatches::refusals::entry_number` meets its contract: the tests are made in the table's order, and the first that fails is given.
+-- `hatches::refusals::said_number` meets its contract: the tests are made in the table's order, and the first that fails is given.
 -- Assumes nothing.
 use mathlib.Core.Path.{ap}
 use mathlib.Core.Bool.{not}
@@ -7,7 +7,7 @@ use Rattle.reckon.proofs.TestLaws.{refusal_here, refusal_later, passed_refusal}
 use Rattle.checks.proofs.CheckLaws.{fails_by, holds_by}
 use Rattle.hatches.specs.Log.{entry_refusals}
 use Rattle.hatches.proofs.RefusalLaws.{lent_is}
-use Rattle.hatches.proofs.refusals.entry_number.Goals as goal
+use Rattle.hatches.proofs.refusals.said_number.Goals as goal
 
 pub returns-then-not-line_fine : goal.returns-then-not-line_fine
 unfolding entry_refusals
