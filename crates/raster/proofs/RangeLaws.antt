@@ -1,7 +1,7 @@
 -- How great what is read can be: a number is at most the most, so that a grid's squares can be counted.
 -- Assumes nothing.
 use mathlib.Core.Path.{◌≡◌, refl, sym, subst}
-use mathlib.Core.Bool.{Bool, true, false}
+use mathlib.Core.Bool.{Bool, true}
 use mathlib.Core.List.{List}
 use Prim.Native.Nat.{ℕ, zero, suc, ◌*◌, ◌≤◌, ◌<◌}
 use native.Mathlib.Nat.{mul-zero}
@@ -13,10 +13,9 @@ use Rattle.text.specs.Bytes.{bytes_of}
 use Rattle.text.specs.Reading.{newline, most_number, is_byte, number, number_at, with_number}
 use Rattle.text.specs.declared.reading.Number.{Number}
 use Rattle.std.proofs.Common.{Option, Some, None, Err}
-use Rattle.std.specs.Prelude.{is_none, unwrap_or}
 use Rattle.text.proofs.ReadingLaws.{by_test}
 use Rattle.raster.specs.Amounts.{places_of, up_to_most, decimals_after, amount_at}
-use Rattle.raster.specs.Raster.{line_end_after, head_line, only_zero, no_data_at, head_of, head_or, head_in, bare_entry, parted, entry_at}
+use Rattle.raster.specs.Raster.{line_end_after, head_line, only_zero, no_data_at, head_of, head_or, head_in, value_of, is_shut, bare_entry, parted, entry_at}
 use Rattle.raster.specs.declared.amounts.Scale.{Scale}
 use Rattle.raster.specs.declared.amounts.Scale.TheVariants.{Metres, Whole}
 use Rattle.raster.specs.declared.reading.Entry.{Entry}
@@ -85,15 +84,6 @@ head_small s =
     (λ n. rw (ea, eb, n) (none_small b))) (λ n. rw (ea, n) (none_small a))) (λ n. rw n (none_small 0))
 
 -- ---- squares
-
--- a square's number, which is 0 where it is closed or cannot be read, and whether it is closed
-abbrev pub value_of : Option Entry → ℕ
-value_of (Some e) = unwrap_or e.value 0
-value_of None = 0
-
-abbrev pub is_shut : Option Entry → Bool
-is_shut (Some e) = is_none e.value
-is_shut None = false
 
 -- its number is at most the most, and 0 where it is closed
 record Told (e : Option Entry) : Type 0 where

@@ -1,6 +1,6 @@
 -- Document 02, #104: "the ESRI ASCII grid (ncols, nrows, xllcorner, yllcorner, cellsize, NODATA_value, then rows from the north)".
 -- Assumes nothing.
-use Rattle.std.specs.Prelude.{◌≡◌, Bool, ◌&&◌, List, [], ◌∷◌, ◌++◌, ℕ, zero, suc, ◌+◌, ◌%◌, eqb, ltb, leb, length, get_or, drop, Option, Some, None, Result, Ok, Err, is_some, is_ok}
+use Rattle.std.specs.Prelude.{◌≡◌, Bool, false, ◌&&◌, List, [], ◌∷◌, ◌++◌, ℕ, zero, suc, ◌+◌, ◌%◌, eqb, ltb, leb, length, get_or, drop, Option, Some, None, Result, Ok, Err, is_some, is_none, is_ok, unwrap_or}
 use Rattle.reckon.specs.Tests.{pick, first_failing}
 use Rattle.reckon.specs.Lists.{joined, sum_below}
 use Rattle.grid.specs.Squares.{squares}
@@ -97,7 +97,15 @@ head_or (Err p) = record { shape = record { rows = 0; columns = 0 }; side = 0; n
 abbrev pub head_in : List ℕ → Head
 head_in s = head_or (head_of s)
 
--- where the next square starts, after one at p
+-- a square's number, which is 0 where it is closed or cannot be read; whether it is closed; where the next one starts, after one at p
+abbrev pub value_of : Option Entry → ℕ
+value_of (Some e) = unwrap_or e.value 0
+value_of None = 0
+
+abbrev pub is_shut : Option Entry → Bool
+is_shut (Some e) = is_none e.value
+is_shut None = false
+
 abbrev pub next_of : ℕ → Option Entry → ℕ
 next_of p (Some e) = e.next
 next_of p None = p
