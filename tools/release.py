@@ -21,7 +21,7 @@ LEFT_OUT = {"docs/RELEASE.md", "docs/PORT.md", "docs/DESIGN-PASS.md", "docs/man"
 LEFT_OUT |= {f"bin/{name}" for name in ("release", "setup", "speed", "test")}
 LEFT_OUT |= {
     f"tools/{name}.py"
-    for name in ("architecture", "believed", "dev", "edits", "header", "manual", "pictures", "places", "program_speed", "release", "spelling", "speed", "unused", "walks")
+    for name in ("architecture", "believed", "dev", "edits", "forms", "header", "manual", "pictures", "places", "program_speed", "release", "spelling", "speed", "unused", "walks")
 }
 # what stands elsewhere in the archive: its folder there, and the files here
 MOVED = {
